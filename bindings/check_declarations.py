@@ -33,7 +33,7 @@ class Interface(NamedTuple):
 
 
 PYTHON = "bindings/python/langtag/_library.py"
-STRUCTS = {"Span": "langtag_span", "Parts": "langtag_parts", "Repeated": "langtag_repeated"}
+STRUCTS = {"Span": "langtag_span", "Parts": "langtag_parts", "Repeated": "langtag_repeated", "BestMatch": "langtag_best_match"}
 INTEGERS = {"usize": "size_t", "u64": "uint64_t", "u32": "uint32_t", "i32": "int32_t", "bool": "bool", "": "void"}
 
 

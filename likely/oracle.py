@@ -5,7 +5,8 @@ request and the names of POSIX locales.
 usage: oracle.py forms < TAGS                          prints for each tag its maximal and its minimal form, tab separated
        oracle.py distance < PAIRS                      prints for each desired and supported tag, space separated, their distance
        oracle.py rows < ROWS                           prints each row with its answer, in the form of those in rows/: of
-                                                       maximized, minimized, right-to-left, distance, best, posix
+                                                       maximized, minimized, right-to-left, distance, best, best-match,
+                                                       posix
        oracle.py COLUMN --compare ANSWERS < LINES      counts the lines whose answer differs from that of a program
 
 questions.py has lines to ask.
@@ -238,19 +239,37 @@ def nearest(wish, near, tags):
     return min(near, key=lambda index: unlikely(tags[index])) if found is None else near[found]
 
 
-def best(header, tags):
-    """The index of the tag that the reader wants, or None."""
+def best_match(header, tags):
+    """The index of the tag that the reader wants, and the place of the range for which it is chosen; or None."""
     items = header.split(",")
     elements = [found for found in map(element, items, items[1:] + [""]) if found]
-    wishes = [wish for wish, weight in sorted(elements, key=lambda found: -found[1]) if weight > 0 and wish != "*"]
+    order = sorted(range(len(elements)), key=lambda place: -elements[place][1])
+    places = [place for place in order if elements[place][1] > 0 and elements[place][0] != "*"]
     have = [index for index, tag in enumerate(tags) if is_tag(tag) and not is_refused(tag, elements)]
     for limit in (16, 50):
-        for wish in wishes:
+        for place in places:
+            wish = elements[place][0]
             far = [between(wish, tags[index]) for index in have]
             if min(far, default=limit) < limit:
-                return nearest(wish, [index for index, distance in zip(have, far) if distance == min(far)], tags)
-    found = (look_up(wish, [tags[index] for index in have]) for wish in wishes)
-    return next((have[place] for place in found if place is not None), None)
+                return nearest(wish, [index for index, distance in zip(have, far) if distance == min(far)], tags), place
+    found = ((look_up(elements[place][0], [tags[index] for index in have]), place) for place in places)
+    return next(((have[index], place) for index, place in found if index is not None), None)
+
+
+def best(header, tags):
+    """The index of the tag that the reader wants, or None."""
+    found = best_match(header, tags)
+    return found and found[0]
+
+
+def told_match(header, tags):
+    """The index of that tag, its distance from the range, and the range as the header has it."""
+    found = best_match(header, tags)
+    if found is None:
+        return "-"
+    index, place = found
+    written = [re.split("[.@]", item.split(";")[0].strip(" \t"))[0] for item in header.split(",") if element(item)]
+    return f"{index} {between(written[place].replace('_', '-'), tags[index])} {written[place]}"
 
 
 PARADIGMS = {tuple(most) for row in rows("paradigms.txt") for most in [add_likely(Tag(row[0]).fields)]}
@@ -313,6 +332,8 @@ def answer(row):
         tags = texts[1].split()
         index = best(texts[0], tags)
         told = "-" if index is None else tags[index]
+    elif call == "best-match":
+        return row + " | " + told_match(texts[0], texts[1].split())
     elif call == "distance":
         told = distance(" ".join(texts))
     else:

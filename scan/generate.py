@@ -28,13 +28,13 @@ STAGES = ["Start", "Language 0", "Language 3", "Extended 1", "Extended 2", "Exte
 KINDS = ["Empty", "Mark", "Letters", "Digits", "LetterFirst", "DigitFirst"]
 LONGEST = 8
 
-# The place of the part that ends with a stage, among the ends of the parts; the last place is that of no part.
-PARTS = {"Start": 6, "Language": 0, "Extended": 0, "AfterScript": 1, "AfterRegion": 2, "AfterVariant": 3, "AfterSingleton": 4, "InExtension": 4,
+# The place of the part that ends with a stage, among the ends of the parts. In the last place nothing is kept: private use ends with the text.
+PARTS = {"Start": 5, "Language": 0, "Extended": 0, "AfterScript": 1, "AfterRegion": 2, "AfterVariant": 3, "AfterSingleton": 4, "InExtension": 4,
          "AfterMark": 5, "InPrivate": 5, "AfterFirstMark": 5, "InPrivateTag": 5}
-NO_PART = 6
+NO_PART = 5
 
-# What a text is that ends in a state. An irregular text has its index in the table after these.
-NO_TAG, NORMAL, PRIVATE_USE, FIRST_IRREGULAR = 0, 1, 2, 3
+# What a text is that ends in a state: a normal tag, by the place of its last part, or one of these. An irregular text has its index after them.
+NO_TAG, PRIVATE_USE, FIRST_IRREGULAR = 6, 7, 8
 
 WIDTH = 120
 
@@ -111,7 +111,7 @@ def ending(position):
     """What a text is that ends at a position."""
     stage = position.begun and stage_after(position.begun)
     if stage and stage not in ("AfterSingleton", "AfterMark", "AfterFirstMark"):
-        return PRIVATE_USE if stage == "InPrivateTag" else NORMAL
+        return PRIVATE_USE if stage == "InPrivateTag" else PARTS[stage.split()[0]]
     return FIRST_IRREGULAR + IRREGULAR.index(position.irregular) if position.irregular in IRREGULAR else NO_TAG
 
 
@@ -141,9 +141,10 @@ class States:
         first = {}
         for position in positions:
             first.setdefault(group[position], position)
-        # The one of no tag is the state 0, and that before the first byte is 1. Then come those after a hyphen.
-        self.firsts = sorted(first.values(), key=lambda p: (p != NOWHERE, p != START, part_before(p) == NO_PART, positions.index(p)))
-        number = {group[position]: k for k, position in enumerate(self.firsts)}
+        # Where no tag begins so there is no state: that is the number after the last.
+        self.firsts = [position for position in first.values() if position != NOWHERE]
+        self.none = len(self.firsts)
+        number = {group[position]: k for k, position in enumerate([*self.firsts, NOWHERE])}
         self.numbers = {position: number[group[position]] for position in positions}
         self.steps = steps
 
@@ -152,9 +153,9 @@ class States:
         return [self.numbers[self.steps[position, byte]] for position in self.firsts]
 
     def of_begun(self, stage, kind):
-        """The states of subtags of a kind, by their size, where no irregular text is possible. 0 stands for a size that none has."""
-        sizes = [self.numbers.get(Position(Begun(stage, kind, size), None), 0) for size in range(LONGEST + 1)]
-        while sizes and sizes[-1] == 0:
+        """The states of subtags of a kind, by their size, where no irregular text is possible. A size that none has is no state."""
+        sizes = [self.numbers.get(Position(Begun(stage, kind, size), None), self.none) for size in range(LONGEST + 1)]
+        while sizes and sizes[-1] == self.none:
             sizes.pop()
         return sizes
 
@@ -187,19 +188,19 @@ def table(doc, name, kind, rows):
 
 
 def tables(states):
-    count, classes = len(states.firsts), len(CLASSES)
+    count, classes = states.none, len(CLASSES)
     following = [line for byte in CLASSES for line in ("    [", *wrapped(states.after(byte), " " * 8), "    ],")]
     return "\n".join([
         "//! The states of the recogniser, in tables (RFC 5646 section 2.1). Written by scan/generate.py. Do not edit.\n",
-        f"/// The class of a hyphen. A letter has its place in the alphabet as its class, a digit {class_of(48)}, and a byte that no tag has {classes - 1}.\n"
-        f"pub(crate) const HYPHEN: usize = {CLASSES.index('-')};\n",
         f"/// The state before the first byte.\npub(crate) const START: usize = {states.numbers[START]};\n",
-        table("The class of each byte.", "CLASSES", "[u8; 256]", wrapped(map(class_of, range(256)), "    ")),
-        table("The state after one byte more, by its class and the state before it: 0 where no tag begins so.", "NEXT", f"[[u8; {count}]; {classes}]", following),
-        table(f"The place of the part that has ended before the hyphen that led to a state, or {NO_PART}: the parts in the order of their ends.", "PARTS",
+        f"/// The number of no state: no tag begins so. The numbers of states are smaller.\npub(crate) const NONE: usize = {count};\n",
+        table(f"The class of each byte: a letter has its place in the alphabet, a digit {class_of(48)}, the hyphen {class_of(45)}, and a byte that no tag has {classes - 1}.",
+              "CLASSES", "[u8; 256]", wrapped(map(class_of, range(256)), "    ")),
+        table(f"The state after one byte more, by its class and the state before it, or {count} if no tag begins so.", "NEXT", f"[[u8; {count}]; {classes}]", following),
+        table(f"The place of the part that has ended before the hyphen that led to a state, in the order of the ends, or {NO_PART} if none has.", "PARTS",
               f"[u8; {count}]", wrapped(map(part_before, states.firsts), "    ")),
-        table(f"What a text is that ends in a state: {NO_TAG} no tag, {NORMAL} a normal one, {PRIVATE_USE} one for private use, and from {FIRST_IRREGULAR} on an irregular one.",
-              "KINDS", f"[u8; {count}]", wrapped(map(ending, states.firsts), "    ")),
+        table(f"What a text is that ends in a state: a normal tag, by the place of its last part, {NO_TAG} no tag, {PRIVATE_USE} a tag for private use, "
+              f"and from {FIRST_IRREGULAR} on an irregular one.", "KINDS", f"[u8; {count}]", wrapped(map(ending, states.firsts), "    ")),
     ])
 
 

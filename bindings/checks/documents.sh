@@ -8,4 +8,10 @@ if has sqlite3 && echo '#include <sqlite3ext.h>' | cc -E - >/dev/null 2>&1; then
 else
     not_run "documents: SQLite" "there is no sqlite3, or its headers are not installed"
 fi
+if [ -d "$work/dist" ]; then
+    export LANGTAG_DIST="$work/dist"
+    check "documents: the commands that install" examples_of install
+else
+    not_run "documents: the commands that install" "there are no packages"
+fi
 check "documents: planted false results are seen" env LANGTAG_ARCHIVE="$work/lib/liblangtag_c.a" LANGTAG_JS="$work/bindings/js" python3 "$root/.ci/test_examples"

@@ -17,6 +17,14 @@ subtitles() {
 }
 check "C++: the subtitle editor, over the installed header" subtitles
 
+player() {
+    c++ -std=c++17 -Wall -Wextra -Wpedantic -Wshadow -Wconversion -Werror -g -fsanitize=address,undefined -I"$work/usr/include" \
+        examples/player.cc "$work/usr/lib/liblangtag_verified.a" -o "$work/built/player" &&
+        python3 examples/test_sites.py "$work/built/player"
+}
+check "C++ and Flask: what a viewer and a reader pick" player
+python3 -c 'import flask' 2>/dev/null || not_run "Python: the Flask site" "Flask is not there"
+
 count_tags() { python3 examples/count_tags.py | diff - <(wanted_counts); }
 wanted_counts() { env -i PATH="$PATH" PYTHONPATH="$PYTHONPATH" LANGTAG_LIBRARY="$LANGTAG_LIBRARY" python3 -S examples/count_tags.py; }
 check "the example counts a million rows by pandas, where it is there, as without" count_tags

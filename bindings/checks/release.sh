@@ -82,6 +82,13 @@ check "release: C by the tarball's own archive and examples" by_itself
 if has pkg-config; then check "release: C by pkg-config" by_pkg_config; else not_run "release: C by pkg-config" "it is not there"; fi
 if has cmake; then check "release: C by find_package" by_cmake; else not_run "release: C by find_package" "there is no cmake"; fi
 
+# As a program for Windows, by mingw and wine, whose lines end with CR LF.
+windows_released() {
+    away 'export WINEDEBUG=-all WINEPREFIX=$PWD/prefix; python3 -m zipfile -e ../dist/*-windows.zip .; cd langtag-verified-*-windows
+        x86_64-w64-mingw32-gcc ../parts.c -Iinclude lib/liblangtag.dll.a -o bin/parts.exe; '"$wine"' bin/parts.exe zh-Hant-TW | tr -d "\r"'
+}
+if [ -n "${wine:-}" ]; then check "release: C by the DLL for Windows" windows_released; else not_run "release: the DLL for Windows" "there is no mingw, or no wine64"; fi
+
 # The crate names serde, which cargo looks up even where it is off.
 crate() {
     away 'tar -xzf ../dist/*.crate; cargo new -q --vcs none first; cp parts.rs first/src/main.rs; cd first

@@ -5,22 +5,26 @@
  *     cc -O2 -fPIC -shared sqlite_langtag.c -o sqlite_langtag.so $(pkg-config --cflags --libs langtag_verified)
  *     sqlite> .load ./sqlite_langtag
  *     sqlite> SELECT langtag_part('zh-Hant-TW', 'script');          -- Hant
+ *     sqlite> SELECT langtag_keyword('ar-u-ca-islamic-nu-latn', 'ca'); -- islamic
  *     sqlite> SELECT langtag_canonical('iw-Hebr');                   -- he-Hebr
  *     sqlite> SELECT langtag_is_valid('de-1996-1996');               -- 0
  *     sqlite> SELECT langtag_maximize('zh-TW');                      -- zh-Hant-TW
  *     sqlite> SELECT langtag_best_for_header('zh-TW,zh;q=0.9', 'en', 'zh-Hans', 'zh-Hant'); -- zh-Hant
+ *     sqlite> SELECT langtag_match_for_header('tlh', 'de', 'en') ->> 'distance'; -- 30
  *     sqlite> SELECT * FROM texts WHERE langtag_matches_basic('de', tag);
  *     sqlite> SELECT * FROM texts WHERE tag = 'ZH-hant' COLLATE langtag;
  *
  * Each function returns NULL if an argument is NULL.
  *
  * langtag_part(tag, part) returns NULL if the text is not a tag, or the part is absent. The parts are language, script, region,
- * variants, extensions and private_use. These return NULL if a text is not a tag:
+ * variants, extensions and private_use. langtag_keyword(tag, key) returns the value of a key of the extension u (RFC 6067), which is
+ * empty if the key has none, and NULL if the key is absent. These return NULL if a text is not a tag:
  *
  *   - langtag_canonical(tag) and langtag_is_valid(tag) (RFC 5646 sections 4.5 and 2.2.9), by langtag_registry_date
  *   - langtag_maximize(tag), langtag_minimize(tag), langtag_is_right_to_left(tag), langtag_distance(desired, supported) (UTS #35)
  *
- * langtag_best_for_header(header, tag, ..) returns the best tag for a header, or NULL if none is suitable.
+ * langtag_best_for_header(header, tag, ..) returns the best tag for a header, or NULL if none is suitable. langtag_match_for_header
+ * returns it as JSON, with its index, the range of the header that it serves, and its distance from that.
  * langtag_matches_basic(range, tag) and langtag_matches_extended(range, tag) return 0 if a text is not a range, or not a tag
  * (RFC 4647 sections 3.3.1 and 3.3.2). In the collation a tag sorts after every longer tag that begins with it. For alphabetical
  * order use ORDER BY lower(tag).
@@ -54,6 +58,15 @@ static void part(sqlite3_context *context, int count, sqlite3_value **values) {
     if (!span) sqlite3_result_error(context, "langtag_part: no part has that name", -1);
     else if (kind != LANGTAG_NONE && span->len > 0)
         sqlite3_result_text(context, tag + span->start, (int)span->len, SQLITE_TRANSIENT);
+}
+
+static void keyword(sqlite3_context *context, int count, sqlite3_value **values) {
+    (void)count;
+    const char *tag = (const char *)sqlite3_value_text(values[0]), *key = (const char *)sqlite3_value_text(values[1]);
+    size_t tag_len = (size_t)sqlite3_value_bytes(values[0]), key_len = (size_t)sqlite3_value_bytes(values[1]);
+    langtag_span value;
+    if (tag && key && langtag_keyword(tag, tag_len, key, key_len, &value))
+        sqlite3_result_text64(context, tag + value.start, value.len, SQLITE_TRANSIENT, SQLITE_UTF8); /* else NULL */
 }
 
 typedef size_t writer(const char *tag, size_t len, char *buffer, size_t buffer_len);
@@ -103,20 +116,16 @@ static void is_right_to_left(sqlite3_context *context, int count, sqlite3_value 
     if (tag && langtag_kind(tag, len)) sqlite3_result_int(context, langtag_is_right_to_left(tag, len)); /* else NULL */
 }
 
-/* The tags as spans of one text, in one block. */
-static void best_for_header(sqlite3_context *context, int count, sqlite3_value **values) {
-    if (count < 1) {
-        sqlite3_result_error(context, "langtag_best_for_header: a header is wanted", -1);
-        return;
-    }
+/* The tag that is chosen, by its place among the arguments: 0 where there is none. The tags are spans of one text, in one block. */
+static size_t chosen(sqlite3_context *context, int count, sqlite3_value **values, langtag_best_match *match) {
     const char *header = (const char *)sqlite3_value_text(values[0]);
     size_t tags = (size_t)count - 1, header_len = (size_t)sqlite3_value_bytes(values[0]), len = 0;
-    if (!header) return; /* NULL */
+    if (!header) return 0;
     for (size_t k = 1; k <= tags; k++) len += sqlite3_value_text(values[k]) ? (size_t)sqlite3_value_bytes(values[k]) : 0;
     langtag_span *spans = sqlite3_malloc64(tags * sizeof *spans + len + 1);
     if (!spans) {
         sqlite3_result_error_nomem(context);
-        return;
+        return 0;
     }
     char *text = (char *)(spans + tags);
     for (size_t k = 0, at = 0; k < tags; k++) {
@@ -125,9 +134,35 @@ static void best_for_header(sqlite3_context *context, int count, sqlite3_value *
         if (tag) memcpy(text + at, tag, spans[k].len);
         at += spans[k].len;
     }
-    size_t best = langtag_best_for_header(header, header_len, text, len, spans, tags);
-    if (best < tags) sqlite3_result_value(context, values[best + 1]); /* else NULL */
+    size_t best = langtag_match_for_header(header, header_len, text, len, spans, tags, match);
     sqlite3_free(spans);
+    return best < tags ? best + 1 : 0;
+}
+
+static void best_for_header(sqlite3_context *context, int count, sqlite3_value **values) {
+    langtag_best_match match;
+    if (count < 1) {
+        sqlite3_result_error(context, "langtag_best_for_header: a header is wanted", -1);
+        return;
+    }
+    size_t best = chosen(context, count, values, &match);
+    if (best) sqlite3_result_value(context, values[best]); /* else NULL */
+}
+
+/* An object of JSON. What stands in a tag and in a range needs no escape there. */
+static void match_for_header(sqlite3_context *context, int count, sqlite3_value **values) {
+    langtag_best_match match;
+    if (count < 1) {
+        sqlite3_result_error(context, "langtag_match_for_header: a header is wanted", -1);
+        return;
+    }
+    size_t best = chosen(context, count, values, &match);
+    if (!best) return; /* NULL */
+    const char *header = (const char *)sqlite3_value_text(values[0]), *tag = (const char *)sqlite3_value_text(values[best]);
+    char *json = sqlite3_mprintf("{\"index\":%d,\"tag\":\"%s\",\"distance\":%u,\"range\":\"%.*s\"}", (int)best - 1, tag,
+                                 (unsigned)match.distance, (int)match.range.len, header + match.range.start);
+    if (json) sqlite3_result_text(context, json, -1, sqlite3_free);
+    else sqlite3_result_error_nomem(context);
 }
 
 static void is_valid(sqlite3_context *context, int count, sqlite3_value **values) {
@@ -170,6 +205,7 @@ int sqlite3_sqlitelangtag_init(sqlite3 *db, char **message, const sqlite3_api_ro
         void (*call)(sqlite3_context *context, int count, sqlite3_value **values);
     } functions[] = {
         {"langtag_part", 2, part},
+        {"langtag_keyword", 2, keyword},
         {"langtag_canonical", 1, canonical},
         {"langtag_is_valid", 1, is_valid},
         {"langtag_maximize", 1, maximize},
@@ -177,6 +213,7 @@ int sqlite3_sqlitelangtag_init(sqlite3 *db, char **message, const sqlite3_api_ro
         {"langtag_distance", 2, distance},
         {"langtag_is_right_to_left", 1, is_right_to_left},
         {"langtag_best_for_header", -1, best_for_header},
+        {"langtag_match_for_header", -1, match_for_header},
         {"langtag_matches_basic", 2, matches_basic},
         {"langtag_matches_extended", 2, matches_extended},
     };

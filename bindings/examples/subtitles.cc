@@ -84,8 +84,8 @@ static void tidy(std::vector<track> &tracks) {
 static const track &pick(const std::vector<track> &tracks, std::string_view header) {
     std::vector<langtag::tag> tags;
     for (const track &it : tracks) tags.push_back(it.tag.view());
-    const auto best = langtag::best_for_header(header, tags).value_or(tags.front());
-    return *std::find_if(tracks.begin(), tracks.end(), [&](const track &it) { return it.tag.view() == best; });
+    const auto best = langtag::match_for_header(header, tags);
+    return tracks[best ? best->index : 0];
 }
 
 static void write(const std::string &name, const std::vector<track> &tracks) {

@@ -1,6 +1,7 @@
 #!/usr/bin/env python3
 """Tests of the extension for SQLite: test_sqlite.py EXTENSION. It asks the rows that the tests of all languages read, and
 beside them what only SQL has."""
+import json
 import re
 import subprocess
 import sys
@@ -31,6 +32,7 @@ def shown(expression):
 # A call of the rows as a statement, whose answer is one line.
 QUERIES = {
     "tag": lambda tag: f"SELECT {','.join(shown(f'langtag_part({text(tag)}, {name!r})') for name in PARTS)}",
+    "keyword": lambda tag, key: f"SELECT {shown(f'langtag_keyword({text(tag)}, {text(key)})')}",
     "canonical": lambda tag: f"SELECT {shown(f'langtag_canonical({text(tag)})')}",
     "maximized": lambda tag: f"SELECT {shown(f'langtag_maximize({text(tag)})')}",
     "minimized": lambda tag: f"SELECT {shown(f'langtag_minimize({text(tag)})')}",
@@ -38,6 +40,8 @@ QUERIES = {
     "right-to-left": lambda tag: f"SELECT langtag_is_right_to_left({text(tag)})",
     "best": lambda header, tags:
         f"SELECT coalesce(langtag_best_for_header({', '.join(map(text, [header, *tags.split()]))}), '-')",
+    "best-match": lambda header, tags:
+        f"SELECT coalesce(langtag_match_for_header({', '.join(map(text, [header, *tags.split()]))}), '-')",
     "validity": lambda tag: f"SELECT coalesce(langtag_is_valid({text(tag)}), 'none')",
     "match": lambda range, tag: f"SELECT langtag_matches_basic({text(range)}, {text(tag)}),"
                                 f" langtag_matches_extended({text(range)}, {text(tag)})",
@@ -55,15 +59,24 @@ def answer_tag(said):
     return "".join(f"\n  {name} {part}" for name, part in found if part is not None)
 
 
+def answer_match(said):
+    if said == "-":
+        return said
+    found = json.loads(said)
+    return f"{found['index']} {found['distance']} {found['range']}"
+
+
 # What a line says, in the words of the rows.
 ANSWERS = {
     "tag": answer_tag,
+    "keyword": lambda said: "-" if said == "NULL" else bytes_of(said) or "''",
     "canonical": lambda said: bytes_of(said) or "-",
     "maximized": lambda said: bytes_of(said) or "-",
     "minimized": lambda said: bytes_of(said) or "-",
     "distance": lambda said: said or "-",
     "right-to-left": {"": "-", "1": "yes", "0": "no"}.get,
     "best": lambda said: said,
+    "best-match": answer_match,
     "validity": {"none": "none", "1": "valid", "0": "invalid"}.get,
     "match": {"1|1": "both", "1|0": "basic", "0|1": "extended", "0|0": "neither"}.get,
     "order": {"1|0|0": "before", "0|1|0": "equal", "0|0|1": "after"}.get,
@@ -80,13 +93,14 @@ def adapted(row):
     return "".join(f"\n  {name} {'-'.join(subtags)}" for name, *subtags in lines if name in PARTS)
 
 
-FLOORS = {"table.txt": 255, "likely.txt": 250, "distance.txt": 140, "direction.txt": 325, "choices.txt": 260}
+FLOORS = {"table.txt": 255, "likely.txt": 250, "distance.txt": 140, "direction.txt": 325, "choices.txt": 285, "unicode.txt": 25}
 
 TABLE = "CREATE TABLE texts (tag TEXT PRIMARY KEY COLLATE langtag); INSERT INTO texts VALUES ('zh-Hant'), ('de'), ('zh'), ('');"
 # Statements, and what SQLite says to them.
 STATEMENTS = [
     ("SELECT langtag_part(NULL, 'script') IS NULL, langtag_part('zh-Hant', NULL) IS NULL;", "1|1"),
     ("SELECT langtag_canonical(NULL) IS NULL, langtag_is_valid(NULL) IS NULL;", "1|1"),
+    ("SELECT langtag_keyword(NULL, 'ca') IS NULL, langtag_keyword('de-u-ca', NULL) IS NULL, langtag_keyword('de-u-ca', 'ca');", "1|1|"),
     ("SELECT langtag_matches_basic('de', NULL) IS NULL, langtag_matches_extended(NULL, 'de') IS NULL;", "1|1"),
     ("SELECT langtag_part('zh-Hant', 'script'), typeof(langtag_canonical('iw')), typeof(langtag_is_valid('iw'));",
      "Hant|text|integer"),
@@ -96,6 +110,9 @@ STATEMENTS = [
     ("SELECT langtag_best_for_header('zh-TW', NULL, 'zh-Hant'), langtag_best_for_header('zh-TW', NULL, NULL, 'de', 'zh-Hant', NULL);", "zh-Hant|zh-Hant"),
     ("SELECT langtag_best_for_header('de', NULL) IS NULL, langtag_best_for_header('', NULL, 'de') IS NULL;", "1|1"),
     ("SELECT langtag_best_for_header('fi', 'en') IS NULL, langtag_best_for_header('fi') IS NULL;", "1|1"),
+    ("SELECT langtag_match_for_header('fi, de_AT;q=0.5', NULL, 'en', 'de');", '{"index":2,"tag":"de","distance":4,"range":"de_AT"}'),
+    ("SELECT langtag_match_for_header(NULL, 'de') IS NULL, langtag_match_for_header('fi', 'en') IS NULL, langtag_match_for_header('fi') IS NULL;",
+     "1|1|1"),
     (TABLE + "CREATE INDEX forms ON texts (langtag_canonical(tag), langtag_part(tag, 'script')); SELECT 1;", "1"),
     (TABLE + "CREATE INDEX valid ON texts (langtag_is_valid(tag), langtag_matches_basic('de', tag)); SELECT 1;", "1"),
     (TABLE + "SELECT tag FROM texts WHERE tag = 'ZH-hant';", "zh-Hant"),
@@ -129,6 +146,7 @@ class Sqlite(unittest.TestCase):
         numbers = "WITH RECURSIVE n(k) AS (SELECT 1 UNION ALL SELECT k + 1 FROM n WHERE k < {})"
         calls = ("langtag_best_for_header('de', 'en', 'de-x-a' || k)", "langtag_maximize('de-x-a' || k)",
                  "langtag_part('de-x-a' || k, 'private_use')", "langtag_canonical('iw-x-a' || k)", "langtag_is_valid('de' || k)",
+                 "langtag_keyword('de-u-ca-a' || k, 'ca')",
                  "langtag_matches_basic('de', 'de-x-a' || k)", "langtag_matches_extended('de', 'de-x-a' || k)")
         asked = ", ".join(f"count({call})" for call in calls)
         statements = "".join(f"{numbers.format(count)} SELECT {asked} FROM n;\n" for count in (100, 20_000))

@@ -9,7 +9,8 @@
  * Each function is proved to return and write what its comment says, for every input, to end, and to touch only the memory of
  * its arguments. No function allocates, keeps state between calls, calls back, prints, exits or sets errno. So they may be
  * called from any thread, several at once, and from signal handlers. Time grows linearly with the length of the texts, except
- * for langtag_repeats, langtag_best_for_header and langtag_tag_for_header.
+ * for langtag_repeats, langtag_best_for_header, langtag_match_for_header and langtag_tag_for_header. langtag_next_keyword and
+ * langtag_next_field compare each key with the subtags before it.
  *
  * Only langtag_validity, langtag_canonical and langtag_is_canonical depend on what is registered.
  *
@@ -20,7 +21,7 @@
  *   2. No pointer is NULL, not even that of an empty text: pass "" instead. langtag_bytes turns NULL into a valid pointer.
  *   3. A pointer to a struct is aligned as C requires, and its memory is writable. Arguments that a comment calls "out" are only
  *      written, so they need not be initialised.
- *   4. Memory that a call may write through one argument (an out struct, `rest`, a buffer, the bytes of langtag_fold and
+ *   4. Memory that a call may write through one argument (an out struct, `rest`, `passed`, a buffer, the bytes of langtag_fold and
  *      langtag_recommend) does not overlap the memory of any other argument. Texts that are only read may overlap.
  *   5. An x86-64 processor has SSE4.2 (x86-64-v2). Any aarch64 processor will do. Calls follow the C calling convention of the
  *      platform. 4 KiB of the stack is free for each call, and 96 KiB for langtag_repeats.
@@ -191,6 +192,58 @@ bool langtag_next_subtag(const char *bytes, size_t len, langtag_span *rest, lang
  */
 bool langtag_next_extension(const char *bytes, size_t len, langtag_span *rest, langtag_span *extension);
 
+/*
+ * Returns whether the extension u has a key (RFC 6067 section 2.1), ignoring case, and writes where its value is (out).
+ *
+ *     const char *text = "ar-EG-u-ca-islamic-civil-nu-latn";
+ *     langtag_span value;
+ *     if (langtag_keyword(text, strlen(text), "ca", 2, &value))
+ *         printf("%.*s\n", (int)value.len, text + value.start); // islamic-civil
+ *
+ * The value is empty if the key has none, such as kn in de-u-kn. An empty value means true. If a key or the extension is
+ * repeated, the first one counts.
+ *
+ * Returns false and leaves `value` unchanged if the key is not there, or the text is not a tag.
+ */
+bool langtag_keyword(const char *bytes, size_t len, const char *key, size_t key_len, langtag_span *value);
+
+/*
+ * Writes where the next keyword of the extension u is (out): its key, and its value, which may be empty. Each key comes once,
+ * with its first value. `passed` counts the subtags of u that are behind; begin with 0, and let the calls change it:
+ *
+ *     const char *text = "ar-u-ca-islamic-civil-nu-latn";
+ *     size_t passed = 0, len = strlen(text);
+ *     langtag_span key, value;
+ *     while (langtag_next_keyword(text, len, &passed, &key, &value))
+ *         printf("%.*s=%.*s ", (int)key.len, text + key.start, (int)value.len, text + value.start); // ca=islamic-civil nu=latn
+ *
+ * Returns false and leaves all three unchanged if no keyword is left, or the text is not a tag.
+ */
+bool langtag_next_keyword(const char *bytes, size_t len, size_t *passed, langtag_span *key, langtag_span *value);
+
+/*
+ * Writes where the attributes of the extension u are (out), which come before its first key (RFC 6067 section 2.1): attr-foo in
+ * de-u-attr-foo-ca-buddhist. langtag_next_subtag takes them one by one. A repeated attribute, which has no meaning, is not left
+ * out.
+ *
+ * Returns false, and writes an empty span, if there are none.
+ */
+bool langtag_attributes(const char *bytes, size_t len, langtag_span *attributes);
+
+/*
+ * Returns whether a tag has the extension t (RFC 6497 section 2.2), and writes where the language of t is (out), before its first
+ * field: ja-latn in und-t-ja-latn-m0-hepburn. The language is empty if there is none, and it need not be a tag.
+ *
+ * Returns false and leaves `language` unchanged if there is no t.
+ */
+bool langtag_transform(const char *bytes, size_t len, langtag_span *language);
+
+/* Finds the value of a field of the extension t, in the way of langtag_keyword: hepburn for m0 in und-t-ja-m0-hepburn. */
+bool langtag_field(const char *bytes, size_t len, const char *key, size_t key_len, langtag_span *value);
+
+/* Writes the next field of the extension t, in the way of langtag_next_keyword. */
+bool langtag_next_field(const char *bytes, size_t len, size_t *passed, langtag_span *key, langtag_span *value);
+
 /* The parts of a normal tag, by number. */
 enum langtag_part {
     LANGTAG_PART_LANGUAGE = 0,   /* zh-yue */
@@ -329,9 +382,9 @@ LANGTAG_PURE bool langtag_is_right_to_left(const char *bytes, size_t len);
  * zh-Hant, 4 from de-AT to de, 10 from yue to zh-HK, 84 from de to en, and at most 134.
  *
  * Up to 15 the languages are nearly the same. Below 50 most readers of the desired language understand the supported one.
- * Deprecated regions and the languages arb, cmn, in, iw, ji, jw, mo, sh and tl are replaced first. Variants, extensions and
- * private use do not count, nor does what else follows: en-GB-oed is as far as en-GB. The distance is 255 if either tag is und
- * only, for private use as a whole, or begins with i-, and the two are not equal.
+ * Languages and regions that CLDR replaces count as what replaces them: iw as he, ger and deu as de. Variants, extensions and private
+ * use do not count, nor does what else follows: en-GB-oed is as far as en-GB. The distance is 255 if either tag is und only, for
+ * private use as a whole, or begins with i-, and the two are not equal.
  *
  * Returns LANGTAG_NO_DISTANCE if one of the texts is not a tag.
  */
@@ -360,6 +413,28 @@ LANGTAG_PURE uint32_t langtag_distance(const char *desired, size_t desired_len, 
  */
 LANGTAG_PURE size_t langtag_best_for_header(const char *header, size_t header_len, const char *bytes, size_t len,
                                             const langtag_span *tags, size_t tags_len);
+
+/* Which range of a header the best tag serves, and how well. */
+typedef struct langtag_best_match {
+    langtag_span range; /* in the header, as it is written there: de_CH of "de_CH.UTF-8;q=0.5" */
+    uint32_t distance;  /* from that range to the tag, as langtag_distance returns it */
+} langtag_best_match;
+
+/*
+ * Returns what langtag_best_for_header returns, and writes which range the tag serves and how far the tag is from it (out). A
+ * distance of 50 or more means that the tag was found by look-up only.
+ *
+ *     const char *header = "tlh, gsw;q=0.5", *have = "en de";
+ *     const langtag_span tags[] = {{0, 2}, {3, 2}};
+ *     langtag_best_match match;
+ *     size_t best = langtag_match_for_header(header, strlen(header), have, strlen(have), tags, 2, &match);
+ *     printf("%zu, for %.*s at %u\n", best, (int)match.range.len, header + match.range.start, match.distance); // 1, for gsw at 8
+ *
+ * If no tag is suitable, the range is empty, at the end of the header, and the distance is LANGTAG_NO_DISTANCE. `found` is always
+ * written.
+ */
+size_t langtag_match_for_header(const char *header, size_t header_len, const char *bytes, size_t len,
+                                const langtag_span *tags, size_t tags_len, langtag_best_match *found);
 
 /*
  * Writes the tag for the name of a POSIX locale to `buffer` (IEEE Std 1003.1, section 8.2), and returns its length: pt_BR.UTF-8

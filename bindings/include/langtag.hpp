@@ -95,6 +95,14 @@ inline constexpr std::string_view grandfathered_tags[] = {
     "i-navajo",    "i-pwn",  "i-tao",  "i-tay",     "i-tsu",      "sgn-BE-FR", "sgn-BE-NL",  "sgn-CH-DE", "art-lojban",
     "cel-gaulish", "no-bok", "no-nyn", "zh-guoyu",  "zh-hakka",   "zh-min",    "zh-min-nan", "zh-xiang"};
 
+/* A keyword of the extension u, or a field of the extension t. The value is empty if the key has none. */
+struct key_value {
+    std::string_view key, value;
+
+    friend bool operator==(const key_value &a, const key_value &b) noexcept { return a.key == b.key && a.value == b.value; }
+    friend bool operator!=(const key_value &a, const key_value &b) noexcept { return !(a == b); }
+};
+
 /* A temporary string, for which functions that keep a view have a deleted overload. */
 template <class Allocator> using temporary_string = const std::basic_string<char, std::char_traits<char>, Allocator> &&;
 
@@ -130,6 +138,32 @@ public:
     /* Return the first variant, and the first singleton, that equals an earlier one, ignoring case. Empty if there is none. */
     std::string_view repeated_variant() const noexcept { return cut(repeated().variant); }
     std::string_view repeated_singleton() const noexcept { return cut(repeated().singleton); }
+
+    /* Returns the value of a key of the extension u, ignoring case: islamic-civil for ca in ar-u-ca-islamic-civil. The value is
+     * empty if the key has none, which means true. Returns std::nullopt if the key is not there. */
+    std::optional<std::string_view> keyword(std::string_view key) const noexcept { return value_of(langtag_keyword, key); }
+
+    /* Returns the keywords of the extension u, in order. Each key comes once, with its first value. */
+    std::vector<key_value> keywords() const { return pairs(langtag_next_keyword); }
+
+    /* Returns the attributes of the extension u, which come before its first key: attr-foo in de-u-attr-foo-ca-buddhist. */
+    std::string_view attributes() const noexcept {
+        langtag_span found;
+        langtag_attributes(text_.data(), text_.size(), &found);
+        return cut(found);
+    }
+
+    /* Returns the language of the extension t: ja-latn in und-t-ja-latn-m0-hepburn. It is empty if there is none. Returns
+     * std::nullopt if the tag has no extension t. */
+    std::optional<std::string_view> transform() const noexcept {
+        langtag_span found;
+        if (!langtag_transform(text_.data(), text_.size(), &found)) return std::nullopt;
+        return cut(found);
+    }
+
+    /* Return the value of a field of the extension t, and all fields, as keyword and keywords do. */
+    std::optional<std::string_view> field(std::string_view key) const noexcept { return value_of(langtag_field, key); }
+    std::vector<key_value> fields() const { return pairs(langtag_next_field); }
 
     /* Returns the text of the tag with one part changed; an empty text removes the part. Returns std::nullopt if the tag is not
      * a normal one, or the text is not such a part. */
@@ -191,6 +225,21 @@ private:
 
     /* No bounds are checked: langtag_parse guarantees that each span is within the text. */
     std::string_view cut(langtag_span span) const noexcept { return {text_.data() + span.start, span.len}; }
+
+    std::optional<std::string_view> value_of(bool (*find)(const char *, std::size_t, const char *, std::size_t, langtag_span *),
+                                             std::string_view key) const noexcept {
+        langtag_span found;
+        if (!find(text_.data(), text_.size(), langtag_bytes(key.data()), key.size(), &found)) return std::nullopt;
+        return cut(found);
+    }
+
+    std::vector<key_value> pairs(bool (*next)(const char *, std::size_t, std::size_t *, langtag_span *, langtag_span *)) const {
+        std::vector<key_value> found;
+        std::size_t passed = 0;
+        langtag_span key, value;
+        while (next(text_.data(), text_.size(), &passed, &key, &value)) found.push_back({cut(key), cut(value)});
+        return found;
+    }
 
     langtag_repeated repeated() const noexcept {
         langtag_repeated found;
@@ -344,7 +393,15 @@ inline std::string_view text_of(std::string_view text) noexcept { return text; }
 inline std::string_view text_of(const tag &tag) noexcept { return tag.text(); }
 inline std::string_view text_of(const owned_tag &tag) noexcept { return tag.text(); }
 
-/* The tags of a list as the library reads them: their texts, one behind the other, and where each one stands. */
+/* What match_for_header returns. */
+struct best_match {
+    std::size_t index; /* in the list of tags */
+    langtag::tag tag;
+    std::string_view range; /* as it is written in the header, such as de_CH; a view of the header */
+    std::uint32_t distance; /* from the range to the tag, as distance() returns it; from 50 on the tag was found by look-up only */
+};
+
+/* The tags of a list as the library reads them: their texts, one after another, and where each one is. */
 class listed_tags {
 public:
     template <class Tags> explicit listed_tags(const Tags &tags) {
@@ -353,19 +410,31 @@ public:
             spans_.push_back({text_.size(), given_.back().size()});
             text_.append(given_.back());
         }
-        spans_.push_back({0, 0}); /* so that there is one to point at */
+        spans_.push_back({0, 0}); /* so that data() is not null */
     }
 
     using choice = std::size_t (*)(const char *, std::size_t, const char *, std::size_t, const langtag_span *, std::size_t);
 
     /* Returns the tag that a call chooses for a header, or std::nullopt. */
     std::optional<tag> chosen(choice choose, std::string_view header) const {
-        const std::size_t index = choose(langtag_bytes(header.data()), header.size(), text_.data(), text_.size(), spans_.data(),
-                                         given_.size());
-        return index < given_.size() ? tag::parse(given_[index]) : std::nullopt;
+        return at(choose(langtag_bytes(header.data()), header.size(), text_.data(), text_.size(), spans_.data(), given_.size()));
+    }
+
+    /* Returns the best tag for a header, with its index, range and distance, or std::nullopt. */
+    std::optional<best_match> matched(std::string_view header) const {
+        langtag_best_match match;
+        const std::size_t index = langtag_match_for_header(langtag_bytes(header.data()), header.size(), text_.data(), text_.size(),
+                                                           spans_.data(), given_.size(), &match);
+        const std::optional<tag> best = at(index);
+        if (!best) return std::nullopt;
+        return best_match{index, *best, header.substr(match.range.start, match.range.len), match.distance};
     }
 
 private:
+    std::optional<tag> at(std::size_t index) const {
+        return index < given_.size() ? tag::parse(given_[index]) : std::nullopt;
+    }
+
     std::string text_;
     std::vector<langtag_span> spans_;
     std::vector<std::string_view> given_;
@@ -535,6 +604,18 @@ std::optional<tag> best_for_header(std::string_view header, Tags &&tags) {
 inline std::optional<tag> best_for_header(std::string_view header, const std::vector<tag> &tags) {
     return best_for_header<const std::vector<tag> &>(header, tags);
 }
+
+/* Returns the best tag for a header, as best_for_header does, with its index, the range that it serves, and how far it is from that.
+ * A player whose tracks have tags needs the index, and can see by the distance whether a language was found or only one near it. */
+template <class Tags = texts, std::enable_if_t<stays<Tags>, int> = 0>
+std::optional<best_match> match_for_header(std::string_view header, Tags &&tags) {
+    return listed_tags(tags).matched(header);
+}
+inline std::optional<best_match> match_for_header(std::string_view header, const std::vector<tag> &tags) {
+    return match_for_header<const std::vector<tag> &>(header, tags);
+}
+template <class Allocator, class Tags = texts>
+std::optional<best_match> match_for_header(temporary_string<Allocator>, Tags &&) = delete;
 
 /* Returns the best tag for a list of ranges, the most wanted first, as best_for_header does for a header of them. The ranges are a
  * list of range, strings or views. An extended range counts without its *. A text that no element of a header can have, such as

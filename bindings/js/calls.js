@@ -200,6 +200,44 @@ export function withPart(tag, part, text) {
     return close(read(made, length));
 }
 
+/** Where the value of a key is: offset and length. undefined if the key is not there. */
+function valueOf(name, text, key) {
+    open(text.length + key.length);
+    write(text, texts);
+    write(key, texts + text.length);
+    const second = BigInt(texts + text.length);
+    const isThere = calls[name](textsAddress, BigInt(text.length), second, BigInt(key.length), outAddress);
+    return close(isThere ? [written(0), written(1)] : undefined);
+}
+
+export const keyword = (text, key) => valueOf("langtag_keyword", text, key);
+export const field = (text, key) => valueOf("langtag_field", text, key);
+
+/** Where each key and its value are: offset and length of both. */
+function pairsOf(name, text) {
+    open(text.length);
+    write(text, texts);
+    view.setBigUint64(out, 0n, true); // how many subtags have passed
+    const length = BigInt(text.length), key = BigInt(out + 16), value = BigInt(out + 32);
+    const pairs = [];
+    while (calls[name](textsAddress, length, outAddress, key, value)) pairs.push([written(2), written(3), written(4), written(5)]);
+    return close(pairs);
+}
+
+export const keywords = (text) => pairsOf("langtag_next_keyword", text);
+export const fields = (text) => pairsOf("langtag_next_field", text);
+
+/** Where what comes before the first key is: offset and length. undefined if it is not there. */
+function beforeKeys(name, text) {
+    open(text.length);
+    write(text, texts);
+    const isThere = calls[name](textsAddress, BigInt(text.length), outAddress);
+    return close(isThere ? [written(0), written(1)] : undefined);
+}
+
+export const attributes = (text) => beforeKeys("langtag_attributes", text);
+export const transform = (text) => beforeKeys("langtag_transform", text);
+
 /** Where a range and each of its fallbacks ends. */
 export function fallbackEnds(range) {
     open(range.length);
@@ -224,8 +262,8 @@ export function accepted(header) {
     }
 }
 
-/** The index of the tag that a call chooses for a header, or how many tags there are. */
-function chosen(name, header, tags) {
+/** The index of the tag that a call chooses for a header, or how many tags there are; and what more the call writes. */
+function chosen(name, header, tags, ...more) {
     const joined = tags.join("");
     const at = (header.length + joined.length + 7) & -8;
     open(at + 16 * tags.length);
@@ -237,8 +275,15 @@ function chosen(name, header, tags) {
         start += tag.length;
     }
     const [second, spans] = [BigInt(texts + header.length), BigInt(texts + at)];
-    return close(Number(calls[name](textsAddress, BigInt(header.length), second, BigInt(start), spans, BigInt(tags.length))));
+    const length = BigInt(header.length), count = BigInt(tags.length);
+    return close(Number(calls[name](textsAddress, length, second, BigInt(start), spans, count, ...more)));
 }
 
 export const bestForHeader = (header, tags) => chosen("langtag_best_for_header", header, tags);
+/** That index; where the range stands in the header: offset and length; and the distance. */
+export function matchForHeader(header, tags) {
+    const index = chosen("langtag_match_for_header", header, tags, outAddress);
+    return [index, written(0), written(1), written(2)];
+}
+
 export const tagForHeader = (header, tags) => chosen("langtag_tag_for_header_lenient", header, tags);

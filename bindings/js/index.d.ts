@@ -59,6 +59,14 @@ export interface Parts {
     privateUse?: string | null | undefined;
 }
 
+/** What the extension t says (RFC 6497 section 2.2). */
+export interface Transform {
+    /** The language of the text that was transformed, such as ja-latn. */
+    readonly language: string | undefined;
+    /** The value of each field, by lowercase keys such as m0. */
+    readonly fields: Map<string, string>;
+}
+
 /** A well-formed language tag (RFC 5646 section 2.1). It is immutable. In JSON it is its text. */
 export class LanguageTag {
     /** Parses a tag; throws InvalidTag if the text is not a tag. */
@@ -90,6 +98,17 @@ export class LanguageTag {
     get variants(): string[];
     /** The subtags of each extension by its lowercase singleton. If a singleton is repeated, the first one counts. */
     get extensions(): Map<string, string[]>;
+    /**
+     * Returns the value of a key of the extension u (RFC 6067), ignoring case, or undefined if the key is not there: islamic-civil for
+     * ca in ar-u-ca-islamic-civil. The value is "" if the key has none, which means true. If a key is repeated, the first one counts.
+     */
+    keyword(key: string): string | undefined;
+    /** The keywords of the extension u, by lowercase keys. If a key is repeated, the first one counts. */
+    get keywords(): Map<string, string>;
+    /** The attributes of the extension u, which come before its first key. A repeated attribute comes once. */
+    get attributes(): string[];
+    /** What the extension t says (RFC 6497), or undefined if the tag has none. */
+    get transform(): Transform | undefined;
     /** The private-use part with its x, such as x-mine. For a private-use tag it is the whole text. */
     get privateUse(): string | undefined;
     /** The registered spelling if the tag is grandfathered (ignoring case), otherwise undefined. */
@@ -209,6 +228,26 @@ export function distance(desired: Text, supported: Text): number;
 export function bestForHeader<Tag extends Text, Otherwise = undefined>(
     header: Header, tags: Iterable<Tag>, otherwise?: Otherwise,
 ): Tag | Otherwise;
+
+/** The best tag for a header: what `matchForHeader` returns. */
+export interface BestMatch<Tag> {
+    /** Its index in the list. */
+    readonly index: number;
+    /** The tag, as it is in the list. */
+    readonly tag: Tag;
+    /** How far it is from the range, as `distance` says it. From 50 on the tag was found by look-up only. */
+    readonly distance: number;
+    /** The range that it serves, as the header has it. */
+    readonly range: string;
+}
+
+/**
+ * Returns the best tag for a header, as bestForHeader does, with its index, range and distance, or undefined. The distance tells
+ * whether the language was found, or only one that is near it.
+ *
+ *     matchForHeader("tlh", ["de", "en"]); // { index: 1, tag: "en", distance: 30, range: "tlh" }
+ */
+export function matchForHeader<Tag extends Text>(header: Header, tags: Iterable<Tag>): BestMatch<Tag> | undefined;
 
 /**
  * Returns the best tag for a list of ranges, the most wanted first, such as `navigator.languages`. An extended range counts without its

@@ -206,6 +206,35 @@ export class LanguageTag {
         return found;
     }
 
+    keyword(key) {
+        const found = calls.keyword(this.text, textOf(key));
+        return found && this.#at(...found);
+    }
+
+    get keywords() {
+        return this.#mapOf(calls.keywords(this.text));
+    }
+
+    get attributes() {
+        const found = new Map();
+        for (const attribute of this.#at(...(calls.attributes(this.text) ?? [0, 0])).split("-")) {
+            const key = attribute.toLowerCase();
+            if (key !== "" && !found.has(key)) found.set(key, attribute);
+        }
+        return [...found.values()];
+    }
+
+    get transform() {
+        const language = calls.transform(this.text);
+        if (language === undefined) return undefined;
+        return { language: this.#at(...language) || undefined, fields: this.#mapOf(calls.fields(this.text)) };
+    }
+
+    /** Values by lowercase keys, of which each comes once. */
+    #mapOf(pairs) {
+        return new Map(pairs.map(([start, length, ...value]) => [this.#at(start, length).toLowerCase(), this.#at(...value)]));
+    }
+
     get privateUse() {
         return this.#part(5) || undefined;
     }
@@ -413,6 +442,12 @@ export function distance(desired, supported) {
 
 export function bestForHeader(header, tags, otherwise) {
     return chosen(calls.bestForHeader, header, tags, otherwise);
+}
+
+export function matchForHeader(header, tags) {
+    const list = [...several(tags, "tags")], text = headerText(header);
+    const [index, start, length, distance] = calls.matchForHeader(text, list.map((tag) => tagOf(tag).text));
+    return index < list.length ? { index, tag: list[index], distance, range: text.slice(start, start + length) } : undefined;
 }
 
 export function viableLength(text) {

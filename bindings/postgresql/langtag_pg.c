@@ -13,11 +13,13 @@
 
 #include <langtag.h>
 
+#include "access/htup_details.h"
 #include "access/stratnum.h"
 #include "catalog/pg_am_d.h"
 #include "catalog/pg_type_d.h"
 #include "common/hashfn.h"
 #include "fmgr.h"
+#include "funcapi.h"
 #include "libpq/pqformat.h"
 #include "mb/pg_wchar.h"
 #include "miscadmin.h"
@@ -343,6 +345,35 @@ Datum pg_langtag_extensions(PG_FUNCTION_ARGS) {
     return list(fcinfo, tag, parts.extensions, langtag_next_extension);
 }
 
+/* The value of a key, which is empty if the key has none; NULL if the key is absent. */
+PG_FUNCTION_INFO_V1(pg_langtag_keyword);
+Datum pg_langtag_keyword(PG_FUNCTION_ARGS) {
+    struct varlena *tag = PG_GETARG_VARLENA_PP(0);
+    text *key = PG_GETARG_TEXT_PP(1);
+    langtag_span value;
+    if (!langtag_keyword(BYTES(tag), LEN(tag), BYTES(key), LEN(key), &value)) PG_RETURN_NULL();
+    PG_RETURN_TEXT_P(cstring_to_text_with_len(BYTES(tag) + value.start, (int)value.len));
+}
+
+/* Each key once, with its first value: an array of rows, each a key and its value. */
+PG_FUNCTION_INFO_V1(pg_langtag_keywords);
+Datum pg_langtag_keywords(PG_FUNCTION_ARGS) {
+    struct varlena *tag = PG_GETARG_VARLENA_PP(0);
+    ArrayBuildState *found = NULL;
+    size_t passed = 0, count = 0;
+    langtag_span span[2];
+    int sizes[2], lower[2] = {1, 1};
+    while (langtag_next_keyword(BYTES(tag), LEN(tag), &passed, &span[0], &span[1])) {
+        for (int k = 0; k < 2; k++)
+            found = accumArrayResult(found, PointerGetDatum(cstring_to_text_with_len(BYTES(tag) + span[k].start, (int)span[k].len)),
+                                     false, TEXTOID, CurrentMemoryContext);
+        count++;
+    }
+    if (found == NULL) PG_RETURN_ARRAYTYPE_P(construct_empty_array(TEXTOID));
+    sizes[0] = (int)count, sizes[1] = 2;
+    return makeMdArrayResult(found, 2, sizes, lower, CurrentMemoryContext, true);
+}
+
 /* The labels of the enum langtag_kind, by the numbers of the library. */
 static const char *const kinds[] = {[LANGTAG_NORMAL] = "normal", [LANGTAG_PRIVATE_USE] = "private use",
                                     [LANGTAG_IRREGULAR] = "irregular"};
@@ -577,19 +608,21 @@ Datum pg_langtag_extended_support(PG_FUNCTION_ARGS) { return support(fcinfo, tru
 
 /* ---- which tag a request gets ---- */
 
-/* The tags of an array, or the texts, which have to be tags; without its NULLs. */
-static struct varlena **tags_of(ArrayType *array, int *count) {
+/* The tags of an array, or the texts, which have to be tags; without its NULLs. Where each stands is written, unless `places` is NULL. */
+static struct varlena **tags_of(ArrayType *array, int *count, int **places) {
     struct varlena **tags;
     Datum *values;
     bool *nulls;
     int all;
     deconstruct_array(array, ARR_ELEMTYPE(array), -1, false, TYPALIGN_INT, &values, &nulls, &all);
     tags = palloc(all * sizeof *tags);
+    if (places != NULL) *places = palloc(all * sizeof **places);
     *count = 0;
     for (int k = 0; k < all; k++) {
         struct varlena *tag = nulls[k] ? NULL : PG_DETOAST_DATUM_PACKED(values[k]);
         if (tag == NULL) continue;
         if (ARR_ELEMTYPE(array) == TEXTOID) check_tag(BYTES(tag), LEN(tag));
+        if (places != NULL) (*places)[*count] = k;
         tags[(*count)++] = tag;
     }
     return tags;
@@ -620,25 +653,31 @@ static int chosen_of(choice *choose, text *header, struct varlena **tags, int co
 
 /* The tag so far stands before the next tags: which of two tags goes before the other rests on no third one, and of two that are
  * alike the first one stays. */
-static Datum chosen(FunctionCallInfo fcinfo, choice *choose) {
-    int count;
-    struct varlena **tags = tags_of(PG_GETARG_ARRAYTYPE_P(0), &count), *best = NULL;
-    text *header = PG_GETARG_TEXT_PP(1);
+static int chosen_index(choice *choose, text *header, struct varlena **tags, int count) {
+    int best = -1;
     for (int next = 0; next < count;) {
         struct varlena *some[TAGS_AT_ONCE];
+        int first, taken = 0, found;
         size_t bytes = 0;
-        int taken = 0, found;
         CHECK_FOR_INTERRUPTS();
-        if (best != NULL) some[taken++] = best;
+        if (best >= 0) some[taken++] = tags[best];
+        first = next - taken;
         while (taken < TAGS_AT_ONCE && next < count && (bytes == 0 || bytes + LEN(tags[next]) <= BYTES_AT_ONCE)) {
             bytes += LEN(tags[next]);
             some[taken++] = tags[next++];
         }
         found = chosen_of(choose, header, some, taken);
-        if (found < taken) best = some[found];
+        if (found < taken && (found > 0 || best < 0)) best = first + found;
     }
-    if (best == NULL) PG_RETURN_NULL();
-    PG_RETURN_POINTER(best);
+    return best;
+}
+
+static Datum chosen(FunctionCallInfo fcinfo, choice *choose) {
+    int count;
+    struct varlena **tags = tags_of(PG_GETARG_ARRAYTYPE_P(0), &count, NULL);
+    int best = chosen_index(choose, PG_GETARG_TEXT_PP(1), tags, count);
+    if (best < 0) PG_RETURN_NULL();
+    PG_RETURN_POINTER(tags[best]);
 }
 
 PG_FUNCTION_INFO_V1(pg_langtag_tag_for_header);
@@ -647,11 +686,37 @@ Datum pg_langtag_tag_for_header(PG_FUNCTION_ARGS) { return chosen(fcinfo, langta
 /* So long may the header be, for which distances are computed. */
 #define LONGEST_HEADER 8192
 
-PG_FUNCTION_INFO_V1(pg_langtag_best_for_header);
-Datum pg_langtag_best_for_header(PG_FUNCTION_ARGS) {
-    text *header = PG_GETARG_TEXT_PP(1);
+static void check_header(text *header) {
     if (LEN(header) > LONGEST_HEADER)
         ereport(ERROR, (errcode(ERRCODE_PROGRAM_LIMIT_EXCEEDED),
                         errmsg("the header has %zu bytes, and may have %d", LEN(header), LONGEST_HEADER)));
+}
+
+PG_FUNCTION_INFO_V1(pg_langtag_best_for_header);
+Datum pg_langtag_best_for_header(PG_FUNCTION_ARGS) {
+    check_header(PG_GETARG_TEXT_PP(1));
     return chosen(fcinfo, langtag_best_for_header);
+}
+
+/* The row of the best tag. Among all tags it serves the range that it serves alone, since of one tag the best range rests on no other. */
+PG_FUNCTION_INFO_V1(pg_langtag_match_for_header);
+Datum pg_langtag_match_for_header(PG_FUNCTION_ARGS) {
+    text *header = PG_GETARG_TEXT_PP(1);
+    int count, best, *places;
+    struct varlena **tags = tags_of(PG_GETARG_ARRAYTYPE_P(0), &count, &places);
+    TupleDesc row;
+    langtag_best_match match;
+    Datum values[4];
+    bool nulls[4] = {false, false, false, false};
+    check_header(header);
+    if (get_call_result_type(fcinfo, NULL, &row) != TYPEFUNC_COMPOSITE) elog(ERROR, "a row is wanted");
+    best = chosen_index(langtag_best_for_header, header, tags, count);
+    if (best < 0) PG_RETURN_NULL();
+    langtag_match_for_header(BYTES(header), LEN(header), BYTES(tags[best]), LEN(tags[best]), &(langtag_span){.start = 0, .len = LEN(tags[best])}, 1,
+                             &match);
+    values[0] = Int32GetDatum(places[best] + 1);
+    values[1] = PointerGetDatum(tags[best]);
+    values[2] = Int32GetDatum((int32)match.distance);
+    values[3] = PointerGetDatum(cstring_to_text_with_len(BYTES(header) + match.range.start, (int)match.range.len));
+    PG_RETURN_DATUM(HeapTupleGetDatum(heap_form_tuple(BlessTupleDesc(row), values, nulls)));
 }

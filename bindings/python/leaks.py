@@ -65,6 +65,14 @@ def read():
             getattr(tag, name)
 
 
+def extensions():
+    for tag in (Tag("ar-t-ja-m0-din-u-attr-ca-islamic-civil-kn"), Tag("de"), Tag("x-a"), Tag("de-u-ca-CA-attr")):
+        tag.keyword("ca"), tag.keyword(b"zz"), tag.keywords, tag.attributes, tag.transform
+        refused(tag.keyword), refused(tag.keyword, 5), refused(tag._value_of, 0), refused(tag._pairs, "u"), refused(tag._before_keys, None)
+    made = Tag.__new__(Tag)
+    refused(made.keyword, "ca"), refused(made._pairs, 0), refused(made._before_keys, 1)
+
+
 def make():
     for tag in (Tag(LONG), Tag("iw"), Tag("de-" + "heploc-" * 60 + "1996"), Tag(b"DE")):
         tag.recommended(), tag.canonical(), tag.folded(), tag.fnv1a(), hash(tag), str(tag), repr(tag), tag.maximized(), tag.minimized(), f"{tag:>9}", tag.key()
@@ -109,7 +117,7 @@ def ask():
 
 def main(times):
     kept, count = [], getattr(sys, "gettotalrefcount", lambda: 0)
-    for group in (construct, refuse, read, make, replace, compare, match, negotiate, ask):
+    for group in (construct, refuse, read, extensions, make, replace, compare, match, negotiate, ask):
         for _ in range(50):
             group()
         gc.collect()

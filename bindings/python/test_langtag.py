@@ -429,7 +429,8 @@ class Edits(unittest.TestCase):
 class Memory(unittest.TestCase):
     def calls(self, number):
         """Each call that keeps something, once, with texts that no other number has."""
-        tag = Tag(f"iw-BU-heploc-u-co-x-a{number}")
+        tag = Tag(f"iw-BU-heploc-t-de-m0-u{number}-u-attr-co-a{number:02}-x-a{number}")
+        tag.keyword("co"), tag.keyword("zz"), tag.keywords, tag.attributes, tag.transform
         tag.canonical(), tag.recommended(), tag.folded(), tag.replace(script="Latn"), hash(tag), repr(tag), tag.is_valid
         Tag.from_parts("de", private_use=f"x-a{number}"), Range(f"de-{number}").matches_extended(tag), tag == Tag("de")
         tag_for_header_lenient(f"de-x-a{number}, d!;q=2, fr;q=0.5", [tag, Tag("fr")], None)

@@ -3,6 +3,7 @@ answers to other calls."""
 import os
 import pathlib
 import pickle
+import re
 import unittest
 
 import langtag
@@ -58,6 +59,8 @@ def answer_tag(text):
 
 def adapted(row):
     """Of a tag, the extensions that a dict holds, by small singletons, the first of each; and no offsets of repeats."""
+    if row.call in ("keywords", "transform"):
+        return re.sub(r"\w\w=", lambda key: key[0].lower(), row.wanted)  # a dict has small keys
     if row.call != "tag":
         return row.wanted
     lines = []
@@ -250,8 +253,43 @@ def answer_best(header, tags):
     return found
 
 
+def answer_keyword(text, key):
+    value = Tag(text).keyword(key)
+    return "-" if value is None else value or "''"
+
+
+def said(pairs):
+    return " ".join(f"{key}={value}" for key, value in pairs.items())
+
+
+def answer_keywords(text):
+    tag = Tag(text)
+    assert all(tag.keyword(key) == value for key, value in tag.keywords.items())
+    return said(tag.keywords) or "-"
+
+
+def answer_transform(text):
+    transform = Tag(text).transform
+    return "-" if transform is None else f"{transform.language or chr(39) * 2} {said(transform.fields)}".rstrip()
+
+
+def answer_best_match(header, tags):
+    texts = tags.decode().split()
+    found = langtag.match_for_header(header, texts)
+    again = langtag.match_for_header(header, map(Tag, texts))
+    if found is None or again is None:
+        assert found is again
+        return "-"
+    assert (again.index, again.tag, again.distance, again.range) == (found.index, Tag(found.tag), found.distance, found.range)
+    assert found.tag is texts[found.index] and found.tag == langtag.best_for_header(header, texts)
+    return f"{found.index} {found.distance} {found.range}"
+
+
 ANSWERS = {
+    "keyword": answer_keyword, "keywords": answer_keywords, "transform": answer_transform,
+    "attributes": lambda text: " ".join(Tag(text).attributes) or "-",
     "refused": answer_refused, "distance": answer_distance, "right-to-left": answer_direction, "posix": answer_posix, "best": answer_best,
+    "best-match": answer_best_match,
     "maximized": lambda text: likely(text, Tag.maximized), "minimized": lambda text: likely(text, Tag.minimized),
     "tag": answer_tag, "scan": answer_scan, "recommended": answer_recommended, "validity": answer_validity,
     "canonical": answer_canonical, "grandfathered": answer_grandfathered,
@@ -259,7 +297,7 @@ ANSWERS = {
     "order": answer_order, "header": answer_header, "ranges": answer_ranges, "edit": answer_edit,
 }
 FLOORS = {"table.txt": 360, "texts.txt": 710, "negotiation.txt": 102, "edits.txt": 125, "likely.txt": 250,
-          "refused.txt": 60, "distance.txt": 140, "direction.txt": 325, "posix.txt": 80, "choices.txt": 260}
+          "refused.txt": 60, "distance.txt": 140, "direction.txt": 325, "posix.txt": 80, "choices.txt": 285, "unicode.txt": 400}
 
 
 class Rows(unittest.TestCase):

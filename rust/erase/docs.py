@@ -1,5 +1,6 @@
 """Doc comments: the examples become code that rustdoc runs, and names are those of the Rust crate."""
 import re
+import textwrap
 
 from crates import MODULES, public_path_of
 
@@ -12,7 +13,7 @@ ASSERTED = re.compile(rf"(?P<code>(?!let ).*\S);\s+// (?P<value>{VALUE})(?:[:,.;
 def erase_docs(code, module):
     for token in code.tokens:
         if "///" in token.before or "//!" in token.before:
-            before = with_examples(with_names(token.before, module))
+            before = with_examples(with_claims(with_names(token.before, module), module))
             token.before = with_links(before) if token.text in ("pub", "#") and "//!" not in before else before
 
 
@@ -25,6 +26,37 @@ def with_names(text, module):
 def name_of(word, module, is_link):
     path = public_path_of(module.crate if word == "crate" else word) or word
     return path.replace("langtag", "crate") if is_link else path
+
+
+# A claim in a sentence, such as ": `Script::new("Lat")?.as_str()` is `"Lat"`.", of a public type.
+CLAIM = re.compile(r":[ \n]`(?P<code>[A-Z]\w*::[^`]+)`[ \n]is[ \n]`(?P<value>[^`]+)`\.")
+
+
+def with_claims(before, module):
+    """Moves the claims of a doc comment that has no example into one, which runs."""
+    lines = before.split("\n")
+    marks = [re.match(r"(\s*///)(?: |$)", line) for line in lines]
+    if "```" in before or not any(marks) or not public_path_of(module.crate):
+        return before
+    first = next(at for at, mark in enumerate(marks) if mark)
+    last = max(at for at, mark in enumerate(marks) if mark)
+    mark, claims, text = marks[first][1], [], []
+    for paragraph in "\n".join(line.strip()[4:] for line in lines[first : last + 1]).split("\n\n"):
+        rest = CLAIM.sub(lambda it: claims.append((it["code"].replace("\n", " "), it["value"])) or ".", paragraph)
+        text.append(rest if rest == paragraph else "\n".join(wrapped(rest.replace("\n", " "), 116 - len(mark))))
+    if not claims:
+        return before
+    names = sorted({name for code, value in claims for name in re.findall(r"\b([A-Z]\w*)(?=::|\()", f"{code} {value}") if name not in ("Ok", "Err", "Some")})
+    use = f"use {public_path_of(module.crate)}::{names[0] if len(names) == 1 else '{' + ', '.join(names) + '}'};"
+    example = ["```", use, "", *(f"{code}{'.is_ok(); // true' if value == 'Ok' else f'; // {value}'}" for code, value in claims), "```"]
+    new = "\n\n".join(text).split("\n") + [""] + example
+    return "\n".join(lines[:first] + [f"{mark} {line}".rstrip() for line in new] + lines[last + 1 :])
+
+
+def wrapped(text, width):
+    """The lines of a text, in which code is not broken."""
+    text = re.sub(r"`[^`]*`", lambda code: code[0].replace(" ", "\0"), text)
+    return [line.replace("\0", " ") for line in textwrap.wrap(text, width, break_long_words=False, break_on_hyphens=False)]
 
 
 SECTION = re.compile(r"(?<![\[`])RFC (\d{4}) section (\d+(?:\.\d+)*)(?![\]`])")

@@ -1,4 +1,4 @@
-//! How a map by tags is asked by a text.
+//! How to look a text up in a map whose keys are tags.
 use core::borrow::Borrow;
 use core::cmp::Ordering;
 use core::fmt;
@@ -13,7 +13,7 @@ use crate::*;
 /// allocating.
 ///
 /// Each text, borrowed or owned, and each tag implements it. A map whose keys are [`LangTagBuf`](crate::LangTagBuf) cannot be
-/// asked by `&LangTag`, since no key holds a `LangTag` to lend, nor by `&str`, which is hashed with its case.
+/// asked by `&LangTag`, because no key contains a `LangTag` to borrow, nor by `&str`, which is hashed with its case.
 ///
 /// ```
 /// # #[cfg(feature = "alloc")] {

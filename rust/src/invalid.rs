@@ -1,4 +1,4 @@
-//! The errors for texts that are refused: compared, kept longer than the text, and explained.
+//! The errors for refused texts: they can be compared, converted to own their text, and explained.
 use core::fmt;
 
 use crate::matching::InvalidLanguageRange;
@@ -50,7 +50,7 @@ compared!(InvalidSingleton, InvalidGrandfatheredTag);
 for_text_types!(errors);
 
 impl<T: AsRef<str>> InvalidLangTag<T> {
-    /// Returns where the text goes wrong. `None` only of an error that was made of a tag.
+    /// Returns where the text is wrong. It is `None` only if the error was made from a text that is a tag.
     ///
     /// ```
     /// use langtag::{LangTag, RefusalKind};
@@ -64,7 +64,7 @@ impl<T: AsRef<str>> InvalidLangTag<T> {
         Refusal::of(self.0.as_ref().as_bytes())
     }
 
-    /// Returns the reason for the refusal in words, to be displayed.
+    /// Returns the reason in words, as a value that can be displayed.
     ///
     /// ```
     /// use langtag::LangTag;

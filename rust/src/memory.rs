@@ -1,4 +1,4 @@
-//! Memory that may be refused: what Rattle's std has and Rust's has not. Rust's own calls end the program then.
+//! Allocation that can fail, as in Rattle's std. Rust's own calls abort instead.
 use alloc::string::String;
 use alloc::vec::Vec;
 use core::fmt;
@@ -36,14 +36,14 @@ pub(crate) fn try_string(text: &str) -> Result<String, AllocError> {
     Ok(owned)
 }
 
-/// Returns an empty text with room for so many bytes.
+/// Returns an empty text with room for `room` bytes.
 pub(crate) fn try_string_with_capacity(room: usize) -> Result<String, AllocError> {
     let mut owned = String::new();
     owned.try_reserve_exact(room)?;
     Ok(owned)
 }
 
-/// Returns a list of one byte, so many times.
+/// Returns a list of `len` times one byte.
 pub(crate) fn try_vec(byte: u8, len: usize) -> Result<Vec<u8>, AllocError> {
     let mut bytes = Vec::new();
     bytes.try_reserve_exact(len)?;
@@ -51,7 +51,7 @@ pub(crate) fn try_vec(byte: u8, len: usize) -> Result<Vec<u8>, AllocError> {
     Ok(bytes)
 }
 
-/// What makes a text longer.
+/// The calls that make a text longer.
 pub(crate) trait TryText {
     fn try_push_str(&mut self, text: &str) -> Result<(), AllocError>;
     fn try_replace_range(
@@ -79,7 +79,7 @@ impl TryText for String {
     }
 }
 
-/// What makes a list longer, or needs another beside it.
+/// The calls that make a list longer, or sort it with a second list.
 pub(crate) trait TryItems<T> {
     fn try_push(&mut self, item: T) -> Result<(), AllocError>;
 

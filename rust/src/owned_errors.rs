@@ -1,4 +1,4 @@
-//! The errors that have more than a text, as values that own what they have: they outlive what was read.
+//! Owned forms of the errors that contain more than a text. They outlive the text that was read.
 use alloc::string::String;
 use core::error::Error;
 use core::fmt;

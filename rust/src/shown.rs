@@ -1,4 +1,4 @@
-//! `Debug` of what a recogniser reads and of what it finds.
+//! `Debug` of the types that a recogniser reads and returns.
 use core::fmt;
 
 use crate::{ByteSource, Found, Metered};

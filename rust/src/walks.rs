@@ -1,4 +1,4 @@
-//! What Rust programs expect of lists and of walks over them: `for` over a list, and that a walk which ended stays at its end.
+//! Traits of lists and iterators that Rust programs expect: `for` over a list, and iterators that stay at their end.
 use core::iter::FusedIterator;
 
 use crate::matching::{Fallbacks, Filtered};

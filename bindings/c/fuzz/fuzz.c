@@ -231,7 +231,7 @@ static void check_posix(slice name, pages out) {
          are_alike(name, (slice){"posix", 5}));
 }
 
-/* langtag_distance, langtag_is_right_to_left and langtag_best_for_header */
+/* langtag_distance, langtag_is_right_to_left, langtag_best_for_header and langtag_match_for_header */
 static void check_choice(slice text, slice other, slice header) {
     bool is_tag = read_tag(text).kind != 0, are_tags = is_tag && read_tag(other).kind != 0;
     uint32_t distance = langtag_distance(text.at, text.len, other.at, other.len);
@@ -243,7 +243,13 @@ static void check_choice(slice text, slice other, slice header) {
     for (int k = 0; k < 4; k++) tags[k] = (langtag_span){below(2) * below(text.len + 2), below(text.len + 2)};
     size_t count = below(5), index = langtag_best_for_header(header.at, header.len, text.at, text.len, tags, count);
     SAME(index <= count);
+    langtag_best_match match;
+    SAME(langtag_match_for_header(header.at, header.len, text.at, text.len, tags, count, &match) == index);
+    SAME(match.range.start <= header.len && match.range.len <= header.len - match.range.start);
+    SAME((match.range.len == 0) == (index == count) && (match.distance == LANGTAG_NO_DISTANCE) == (index == count));
     if (index == count) return;
+    slice wish = at(header, match.range), found = at(text, tags[index]);
+    if (read_tag(wish).kind != 0) SAME(langtag_distance(wish.at, wish.len, found.at, found.len) == match.distance);
     SAME(tags[index].start <= text.len && tags[index].len <= text.len - tags[index].start);
     SAME(read_tag(at(text, tags[index])).kind != 0);
 }

@@ -5,6 +5,7 @@
 static langtag_parts parts;
 static langtag_span rest, found;
 static langtag_repeated repeated;
+static langtag_best_match match;
 static uint32_t weight;
 static size_t offset;
 static char buffer[2 * sizeof text];
@@ -35,6 +36,13 @@ FUNCTION(next_subtag, rest = (langtag_span){0, len};
          while (langtag_next_subtag(text, len, &rest, &found)) result = found.len)
 FUNCTION(next_extension, rest = (langtag_span){0, len};
          while (langtag_next_extension(text, len, &rest, &found)) result = found.len)
+FUNCTION(keyword, result = langtag_keyword(text, len, "zz", 2, &found))
+FUNCTION(next_keyword, offset = 0;
+         while (langtag_next_keyword(text, len, &offset, &found, &rest)) result = found.len)
+FUNCTION(attributes, result = langtag_attributes(text, len, &found))
+FUNCTION(transform, result = langtag_transform(text, len, &found))
+FUNCTION(field, result = langtag_field(text, len, "m0", 2, &found))
+FUNCTION(next_field, offset = 0; while (langtag_next_field(text, len, &offset, &found, &rest)) result = found.len)
 FUNCTION(repeats, result = langtag_repeats(text, len, &repeated))
 FUNCTION(validity, result = langtag_validity(text, len, &found))
 FUNCTION(canonical, result = langtag_canonical(text, len, buffer, sizeof buffer))
@@ -46,6 +54,7 @@ FUNCTION(distance, result = langtag_distance(text, len, other, len))
 FUNCTION(best_for_header, found = (langtag_span){0, len};
          result = langtag_best_for_header(text, len, "de-DE", 5, &(langtag_span){0, 5}, 1) +
                   langtag_best_for_header("de", 2, text, len, &found, 1))
+FUNCTION(match_for_header, result = langtag_match_for_header(text, len, "de-DE", 5, &(langtag_span){0, 5}, 1, &match) + match.range.len)
 FUNCTION(best_of_tags, result = best_among("fr, aaaaaaaa;q=0.5, x-1;q=0, aaaaaaaa-DE;q=0"))
 FUNCTION(tag_for_header, result = langtag_tag_for_header(text, len, "de-DE", 5, &(langtag_span){0, 5}, 1, &offset, &found))
 FUNCTION(tag_for_header_lenient, found = (langtag_span){0, len};
@@ -79,6 +88,12 @@ static const struct function functions[] = {
     {"recommend", recommend},
     {"next_subtag", next_subtag},
     {"next_extension", next_extension},
+    {"keyword", keyword},
+    {"next_keyword", next_keyword},
+    {"attributes", attributes},
+    {"transform", transform},
+    {"field", field},
+    {"next_field", next_field},
     {"repeats", repeats},
     {"validity", validity},
     {"canonical", canonical},
@@ -88,6 +103,7 @@ static const struct function functions[] = {
     {"is_right_to_left", is_right_to_left},
     {"distance", distance},
     {"best_for_header", best_for_header},
+    {"match_for_header", match_for_header},
     {"best_of_tags", best_of_tags},
     {"tag_for_header", tag_for_header},
     {"tag_for_header_lenient", tag_for_header_lenient},

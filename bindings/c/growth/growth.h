@@ -25,6 +25,7 @@ static const struct {
     {"extension", "de-a", "-bbbbbbbb", 0},
     {"extensions", "de", "-a-bb-A-cc", 0},
     {"singletons", "de", "-#-bb", 0},
+    {"keywords", "de-u", "-##-bbb", 0},
     {"private", "x", "-aaaaaaaa", 0},
     {"singles", "de-x", "-a", 0},
     {"wildcards", "*", "-*-aa", 0},

@@ -147,6 +147,15 @@ static size_t choice(size_t header_len) {
     return langtag_best_for_header(text, header_len, "en,de-CH,ja", 11, (langtag_span[]){{0, 2}, {3, 5}, {9, 2}}, 3);
 }
 
+/* The same, with a range of the header that is as far as its distance says. Its first five bytes tell: of these de_CH alone is no tag. */
+static bool is_matched(size_t header_len) {
+    langtag_best_match match;
+    size_t best = langtag_match_for_header(text, header_len, "en,de-CH,ja", 11, (langtag_span[]){{0, 2}, {3, 5}, {9, 2}}, 3, &match);
+    if (best != 1 || match.range.len < 2 || match.range.start + match.range.len > header_len) return false;
+    uint32_t distance = langtag_distance(text + match.range.start, match.range.len < 5 ? match.range.len : 5, "de-CH", 5);
+    return match.distance == (distance == LANGTAG_NO_DISTANCE ? 0 : distance);
+}
+
 /* Headers that find the second by look-up. */
 static const struct shape looked_up[] = {
     {"", "fr;q=0.5,", "de-ch-1996;q=0.1"}, {"", " ", "de-CH"}, {"de-CH", "-a", ""}, {"", ",", "DE-ch"}, {"", "d!,", "de-ch;q=0.1"},
@@ -171,7 +180,10 @@ static void sweep_choices(void) {
     static const struct shape many = {"", "en,", "DE-ch"};
     static const char *const wish = "fr, de-ch-1996;q=0.9", *const zero = "de, de-CH;q=0";
     for (size_t row = 0; row < LENGTH(headers); row++)
-        for (size_t times = 0, len = 0; grow(&headers[row], &times, &len);) check("best_for_header", len, choice(len) == 1);
+        for (size_t times = 0, len = 0; grow(&headers[row], &times, &len);) {
+            check("best_for_header", len, choice(len) == 1);
+            check("match_for_header", len, is_matched(len));
+        }
     for (size_t times = 0, len = 0; grow(&many, &times, &len);) {
         for (size_t tag = 0; tag <= times; tag++) spans[tag] = (langtag_span){3 * tag, tag < times ? 2 : 5};
         check("best_for_header", len, langtag_best_for_header(wish, strlen(wish), text, len, spans, times + 1) == times);

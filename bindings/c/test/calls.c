@@ -351,7 +351,77 @@ static void answer_ranges(text *to, const text *arguments) {
     free(header.at);
 }
 
+typedef bool find_value(const char *, size_t, const char *, size_t, langtag_span *);
+typedef bool next_pair(const char *, size_t, size_t *, langtag_span *, langtag_span *);
+
+static void answer_keyword(text *to, const text *arguments) {
+    text tag = arguments[0], key = arguments[1];
+    langtag_span value = {1, 2};
+    if (langtag_keyword(tag.at, tag.len, key.at, key.len, &value)) put_bytes(to, tag.at + value.start, value.len);
+    else put_word(to, value.start == 1 && value.len == 2 ? " -" : " - with a span");
+}
+
+/* KEY=VALUE of each, and whether each is found by its key. */
+static int put_pairs(text *to, text tag, next_pair *next, find_value *find) {
+    size_t passed = 0;
+    langtag_span key, value, found;
+    int count = 0;
+    for (; next(tag.at, tag.len, &passed, &key, &value); count++) {
+        put_bytes(to, tag.at + key.start, key.len), put_word(to, "=");
+        if (value.len > 0) put(to, tag.at + value.start, value.len);
+        if (!find(tag.at, tag.len, tag.at + key.start, key.len, &found) || found.start != value.start || found.len != value.len)
+            put_word(to, " which has another value");
+    }
+    return count;
+}
+
+static void answer_keywords(text *to, const text *arguments) {
+    if (put_pairs(to, arguments[0], langtag_next_keyword, langtag_keyword) == 0) put_word(to, " -");
+}
+
+/* Each once: those that equal an earlier one are left out. */
+static void answer_attributes(text *to, const text *arguments) {
+    text tag = arguments[0];
+    langtag_span rest, one, earlier, before, all;
+    if (!langtag_attributes(tag.at, tag.len, &all)) put_word(to, all.len == 0 ? " -" : " - with a span");
+    for (rest = all; langtag_next_subtag(tag.at, tag.len, &rest, &one);) {
+        bool is_new = true;
+        for (before = all; langtag_next_subtag(tag.at, tag.len, &before, &earlier) && earlier.start < one.start;)
+            if (langtag_eq(tag.at + earlier.start, earlier.len, tag.at + one.start, one.len)) is_new = false;
+        if (is_new) put_bytes(to, tag.at + one.start, one.len);
+    }
+}
+
+static void answer_transform(text *to, const text *arguments) {
+    text tag = arguments[0];
+    langtag_span language = {1, 2};
+    if (!langtag_transform(tag.at, tag.len, &language)) {
+        put_word(to, language.start == 1 && language.len == 2 ? " -" : " - with a span");
+        return;
+    }
+    put_bytes(to, tag.at + language.start, language.len);
+    put_pairs(to, tag, langtag_next_field, langtag_field);
+}
+
 static void answer_best(text *to, const text *arguments) { put_chosen(to, langtag_best_for_header, arguments[0], arguments[1]); }
+
+/* The index, the distance and the range; all is written also where there is none. */
+static void answer_best_match(text *to, const text *arguments) {
+    langtag_span tags[MOST_TAGS];
+    text header = arguments[0], words = arguments[1];
+    size_t count = find_tags(words, tags);
+    langtag_best_match match = {{1, 2}, 3};
+    size_t index = langtag_match_for_header(header.at, header.len, words.at, words.len, tags, count, &match);
+    if (index != langtag_best_for_header(header.at, header.len, words.at, words.len, tags, count)) put_word(to, " another tag");
+    if (index < count) {
+        put_number(to, "", index), put_number(to, "", match.distance);
+        put_word(to, " "), put(to, header.at + match.range.start, match.range.len);
+        return;
+    }
+    put_word(to, " -");
+    if (index != count || match.range.start != header.len || match.range.len != 0 || match.distance != LANGTAG_NO_DISTANCE)
+        put_word(to, " and a match");
+}
 
 call calls[] = {
     {"tag", answer_tag, 0, 0},
@@ -374,5 +444,10 @@ call calls[] = {
     {"header", answer_header, 0, 0},
     {"ranges", answer_ranges, 0, 0},
     {"best", answer_best, 0, 0},
+    {"keyword", answer_keyword, 0, 0},
+    {"keywords", answer_keywords, 0, 0},
+    {"attributes", answer_attributes, 0, 0},
+    {"transform", answer_transform, 0, 0},
+    {"best-match", answer_best_match, 0, 0},
     {NULL, NULL, 0, 0},
 };

@@ -7,6 +7,7 @@
 
 #include <cstdio>
 #include <fstream>
+#include <functional>
 #include <iostream>
 #include <map>
 
@@ -293,6 +294,60 @@ static std::string best_of(const strings &asked) {
     return found_or_default(best);
 }
 
+static std::string keyword_of(const strings &asked) {
+    const auto one = tag::parse(asked[0]);
+    const auto value = one ? one->keyword(asked[1]) : std::nullopt;
+    return !value ? "-" : value->empty() ? "''" : std::string(*value);
+}
+
+/* KEY=VALUE of each, and whether each is found by its key. */
+static std::string said_of(const std::vector<langtag::key_value> &pairs,
+                           const std::function<std::optional<std::string_view>(std::string_view)> &find) {
+    std::string out;
+    for (const auto &[key, value] : pairs) {
+        out.append(" ").append(key).append("=").append(value);
+        if (find(key) != value) out += " which has another value";
+    }
+    return out;
+}
+
+static std::string keywords_of(const strings &asked) {
+    const auto one = tag::parse(asked[0]);
+    if (!one || one->keywords().empty()) return "-";
+    return said_of(one->keywords(), [&](std::string_view key) { return one->keyword(key); }).substr(1);
+}
+
+/* Each once. */
+static std::string attributes_of(const strings &asked) {
+    const auto one = tag::parse(asked[0]);
+    strings seen;
+    std::string out;
+    for (std::string_view attribute : langtag::subtags(one ? one->attributes() : std::string_view())) {
+        const std::string key = langtag::folded(attribute);
+        if (std::find(seen.begin(), seen.end(), key) != seen.end()) continue;
+        seen.push_back(key);
+        out.append(out.empty() ? "" : " ").append(attribute);
+    }
+    return out.empty() ? "-" : out;
+}
+
+static std::string transform_of(const strings &asked) {
+    const auto one = tag::parse(asked[0]);
+    const auto language = one ? one->transform() : std::nullopt;
+    if (!language) return "-";
+    return (language->empty() ? "''" : std::string(*language)) +
+           said_of(one->fields(), [&](std::string_view key) { return one->field(key); });
+}
+
+static std::string best_match_of(const strings &asked) {
+    const strings texts = split(asked[1], " ");
+    const std::string_view header = asked[0];
+    const auto match = langtag::match_for_header(header, texts);
+    if (!match) return langtag::match_for_header(header, tags_of(texts)) ? "one of tags" : "-";
+    if (match->tag.text() != texts[match->index] || match->tag != langtag::best_for_header(header, texts)) return "another tag";
+    return std::to_string(match->index) + ' ' + std::to_string(match->distance) + ' ' + std::string(match->range);
+}
+
 using answer = std::string (*)(const strings &asked); /* empty where C++ does not answer */
 static const std::map<std::string, answer> calls = {
     {"tag", tag_of},
@@ -315,6 +370,11 @@ static const std::map<std::string, answer> calls = {
     {"distance", distance_of},
     {"posix", posix_of},
     {"best", best_of},
+    {"keyword", keyword_of},
+    {"keywords", keywords_of},
+    {"attributes", attributes_of},
+    {"transform", transform_of},
+    {"best-match", best_match_of},
 };
 
 /* A line with each {N:piece} written out. */

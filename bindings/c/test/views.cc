@@ -48,6 +48,12 @@ static_assert(!is_listed_as_temporary<std::string> && !is_listed_as_temporary<la
 static_assert(is_listed<std::vector<std::string> &>::value && is_listed<const std::set<langtag::owned_tag> &>::value);
 static_assert(!is_listed<int>::value);
 
+/* The range of a match is a view of the header. */
+template <class Header, class = void> struct is_matched : std::false_type {};
+template <class Header>
+struct is_matched<Header, std::void_t<decltype(langtag::match_for_header(std::declval<Header>(), {"de"}))>> : std::true_type {};
+static_assert(is_matched<const char *>::value && is_matched<std::string &>::value && !is_matched<std::string>::value);
+
 static void check_views() {
     CHECK(!tag::parse({}) && !langtag::range::parse({}) && langtag::viable({}) == 0 && langtag::stop({}) == 0);
     CHECK(langtag::recommended({}).empty() && langtag::folded({}).empty() &&
@@ -153,6 +159,9 @@ static void check_likely() {
     CHECK(langtag::best_for_header("zh_CN.UTF-8", tags) == tags[1] && !langtag::best_for_header("fi", tags));
     CHECK(!langtag::best_for_header({}, tags) && !langtag::best_for_header("en", {}));
     CHECK(langtag::best_for_header("de", {tags[0]}) == std::nullopt && langtag::best_for_header("de", {"en", "DE"}) == "de");
+    const auto match = langtag::match_for_header("fi, zh_TW;q=0.3", tags);
+    CHECK(match && match->index == 2 && match->tag.text().data() == other->text().data() && match->range == "zh_TW" && match->distance == 0);
+    CHECK(!langtag::match_for_header({}, tags) && !langtag::match_for_header("en", {}) && !langtag::match_for_header("fi", tags));
     CHECK(langtag::from_posix("sr_RS@latin") == "sr-Latn-RS" && !langtag::from_posix("C") && !langtag::from_posix({}));
     CHECK(langtag::cldr_version() == langtag_cldr_version());
 }

@@ -1,6 +1,6 @@
 /* What the package answers to a row, in the row's words. It runs in Node and in a page. */
 import {
-    AcceptLanguage, AcceptLanguageError, bestForHeader, bestForRanges, distance, EditError, GRANDFATHERED, InvalidRange, InvalidTag,
+    AcceptLanguage, AcceptLanguageError, bestForHeader, bestForRanges, distance, EditError, GRANDFATHERED, InvalidRange, InvalidTag, matchForHeader,
     LanguageRange, LanguageTag, lookUp, stopLength, tagForHeader, tagForHeaderLenient, viableLength,
 } from "../index.js";
 import * as calls from "../calls.js";
@@ -51,6 +51,7 @@ function answerTag(text) {
 
 /** Of a tag, the extensions that a map holds, by small singletons, the first of each; and no offsets of repeats. */
 export function adapted({ call, wanted }) {
+    if (call === "keywords" || call === "transform") return wanted.replace(/\w\w=/g, (key) => key.toLowerCase()); // a map has small keys
     if (call !== "tag") return wanted;
     const lines = wanted.split("\n").filter((line) => !line.startsWith("  at_"));
     return lines.map((line) => {
@@ -185,6 +186,14 @@ function answerBest(header, list) {
     return found;
 }
 
+function answerBestMatch(header, list) {
+    const texts = list.split(" ").filter(Boolean);
+    const found = matchForHeader(header, texts);
+    assert(matchForHeader(header, texts.map((text) => LanguageTag.parse(text)))?.index === found?.index, "the index of tags");
+    assert(found?.tag === bestForHeader(header, texts), "the best tag");
+    return found === undefined ? "-" : `${found.index} ${found.distance} ${found.range}`;
+}
+
 function edited(tag, part, value) {
     try {
         return String(tag.with({ [part]: value }));
@@ -205,7 +214,25 @@ function answerEdit(text, name, given) {
     return found;
 }
 
+const orEmpty = (text) => (text === "" ? "''" : text);
+const said = (pairs) => [...pairs].map(([key, value]) => `${key}=${value}`).join(" ");
+
+function answerKeywords(text) {
+    const tag = LanguageTag.parse(text), pairs = tag.keywords;
+    for (const [key, value] of pairs) assert(tag.keyword(key) === value, "each by its key");
+    return said(pairs) || "-";
+}
+
+function answerTransform(text) {
+    const transform = LanguageTag.parse(text).transform;
+    return transform === undefined ? "-" : `${transform.language ?? "''"} ${said(transform.fields)}`.trimEnd();
+}
+
 export const answers = {
+    keyword: (text, key) => orEmpty(LanguageTag.parse(text).keyword(key) ?? "-"),
+    keywords: answerKeywords,
+    attributes: (text) => LanguageTag.parse(text).attributes.join(" ") || "-",
+    transform: answerTransform,
     tag: answerTag,
     scan: answerScan,
     recommended: (text) => made(LanguageTag, text)?.toRecommended().toString(),
@@ -224,6 +251,7 @@ export const answers = {
     "right-to-left": (text) => ({ true: "yes", false: "no", undefined: "-" })[made(LanguageTag, text)?.isRightToLeft],
     distance: answerDistance,
     best: answerBest,
+    "best-match": answerBestMatch,
     maximized: (text) => made(LanguageTag, text)?.maximize().toString() ?? "-",
     minimized: (text) => made(LanguageTag, text)?.minimize().toString() ?? "-",
     header: answerHeader,
@@ -231,4 +259,4 @@ export const answers = {
     edit: answerEdit,
 };
 
-export const FLOORS = { "table.txt": 360, "texts.txt": 710, "negotiation.txt": 102, "edits.txt": 125, "likely.txt": 200, "posix.txt": 75, "direction.txt": 300, "distance.txt": 130, "choices.txt": 250, "refused.txt": 60 };
+export const FLOORS = { "table.txt": 360, "texts.txt": 710, "negotiation.txt": 102, "edits.txt": 125, "likely.txt": 200, "posix.txt": 75, "direction.txt": 300, "distance.txt": 130, "choices.txt": 275, "refused.txt": 60, "unicode.txt": 400 };

@@ -1,4 +1,4 @@
-/* The example that answers requests. */
+/* The examples that answer requests. */
 import assert from "node:assert/strict";
 import { spawn } from "node:child_process";
 import { once } from "node:events";
@@ -10,6 +10,27 @@ const HEADERS = [
     ["", "en"], ["de", "de"], ["fr;q=0.3, DE-ch-1996;q=0.9", "de-CH"], ["fr;q=0, de;q=0.1", "de"], ["ja, *;q=0.1", "en"],
     ["zh-TW,zh;q=0.9,en;q=0.8", "zh-Hant"], ["de_CH, en;q=0.1", "de-CH"], [",,, ,de,", "de"],
 ];
+
+// The wish, the cookie, the header, the language of the page, and whether it is kept.
+const PAGES = [
+    ["", "", "ger-CH, fr;q=0.5", "de", false], ["?lang=sr", "", "de", "sr-Latn", true], ["?lang=tlh", "", "de", "de", false],
+    ["?lang=tlh", "lang=ar", "de", "ar", true], ["", "a=b; lang=zh_TW", "de", "zh-Hant", true], ["?lang=", "lang=xx", "fi", "en", false],
+];
+
+test("the site answers in the language that its reader picked", async () => {
+    const server = spawn(process.execPath, [fileURLToPath(new URL("../examples/server.js", import.meta.url)), "0"]);
+    try {
+        const [line] = await once(server.stdout.setEncoding("utf8"), "data");
+        for (const [wish, cookie, header, wanted, isKept] of PAGES) {
+            const response = await fetch(line.trim() + "/" + wish, { headers: { "Accept-Language": header, Cookie: cookie } });
+            assert.equal(response.headers.get("Content-Language"), wanted);
+            assert.equal(response.headers.get("Set-Cookie"), isKept ? `lang=${wanted}; Path=/` : null);
+            assert.match(await response.text(), new RegExp(`lang="${wanted}" dir="${wanted === "ar" ? "rtl" : "ltr"}"`));
+        }
+    } finally {
+        server.kill();
+    }
+});
 
 test("the server answers in the language that is asked for", async () => {
     const server = spawn(process.execPath, [fileURLToPath(new URL("../examples/negotiate.js", import.meta.url)), "0"]);

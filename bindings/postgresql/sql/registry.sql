@@ -30,6 +30,8 @@ SELECT t, maximized(t), minimized(t), is_right_to_left(t), distance(t, 'zh-TW') 
 SELECT n, from_posix(n) FROM unnest('{pt_BR.UTF-8,sr_RS@latin,C,POSIX,de,"",DE_ch}'::text[]) AS n;
 -- The best tag for a reader
 SELECT best_for_header('{en,NULL,de-CH,zh-Hant}', 'gsw'), best_for_header('{en,zh-Hant}', 'zh-TW;q=0.5'), best_for_header('{}', 'de');
+SELECT match_for_header('{en,NULL,DE}', 'fi, de_AT;q=0.3'), (match_for_header(ARRAY['en', 'DE'], 'de')).*, match_for_header('{en}', 'fi') IS NULL AS none, (match_for_header('{en,de}', h)).index FROM (VALUES (text 'gsw')) AS v(h);
+SELECT match_for_header('{de}', repeat('a', 9000));
 SELECT best_for_header('{de}', repeat('a', 9000));
 SELECT best_for_header(array_agg(CASE k WHEN 3 THEN 'de-CH' WHEN 200 THEN 'fr' ELSE 'x-a' END::langtag ORDER BY k), 'de-CH, fr;q=0.5') FROM generate_series(1, 200) AS k;
 -- A call ends soon after it is cancelled, of many tags and of long ones.

@@ -1,11 +1,11 @@
-"""What langtag._native has and says, by ctypes: for a Python that can't load that module, and a library that LANGTAG_LIBRARY names."""
+"""The functions of langtag._native, over ctypes. Used if Python cannot load that module, or if LANGTAG_LIBRARY names a library."""
 from __future__ import annotations
 
 import ctypes
 import functools
 from typing import Any, Callable, Iterable, Iterator
 
-from ._library import Parts, Repeated, Span, opened
+from ._library import BestMatch, Parts, Repeated, Span, opened
 from ._texts import Text, bytes_of
 
 _c = opened()
@@ -62,14 +62,26 @@ def elements(text: Text) -> list[tuple[int, int, int, int]]:
     return [(answer, range.start, range.len, weight.value) for answer in answers]
 
 
-def _chosen(choose: Callable[..., int], header: Text, tags: Iterable[Any], default: Any, tag_class: Any) -> Any:
-    listed, start = list(tags), 0
-    texts = [(it if isinstance(it, TagBase) else tag_class(it))._data for it in listed]
+def _index(choose: Callable[..., int], header: Text, listed: list[Any], tag_class: Any, *out: Any) -> int:
+    texts, start = [(it if isinstance(it, TagBase) else tag_class(it))._data for it in listed], 0
     spans = (Span * max(len(texts), 1))()
     for span, text in zip(spans, texts):
         span.start, span.len, start = start, len(text), start + len(text)
-    index = _ask(choose, header, b"".join(texts), start, spans, len(texts))
+    return int(_ask(choose, header, b"".join(texts), start, spans, len(texts), *out))
+
+
+def _chosen(choose: Callable[..., int], header: Text, tags: Iterable[Any], default: Any, tag_class: Any) -> Any:
+    listed = list(tags)
+    index = _index(choose, header, listed, tag_class)
     return listed[index] if index < len(listed) else default
+
+
+def match_for_header(header: Text, tags: Iterable[Any], tag_class: Any) -> tuple[int, Any, int, bytes] | None:
+    listed, match = list(tags), BestMatch()
+    index = _index(_c.langtag_match_for_header, header, listed, tag_class, match)
+    if index == len(listed):
+        return None
+    return index, listed[index], match.distance, bytes_of(header)[match.range.start : match.range.start + match.range.len]
 
 
 best_for_header = functools.partial(_chosen, _c.langtag_best_for_header)
@@ -171,6 +183,22 @@ class TagBase(_Value):
     def _set(self, part: int, text: Text) -> Any:
         made = _written(_c.langtag_with_part, self._data, part, bytes_of(text), len(bytes_of(text)))
         return self._base(made) if made else None
+
+    def _at(self, span: Span) -> str:
+        return str(self._data[span.start : span.start + span.len], "ascii")
+
+    def _value_of(self, which: int, key: Text) -> str | None:
+        value, call = Span(), (_c.langtag_keyword, _c.langtag_field)[which]
+        return self._at(value) if self._ask(call, bytes_of(key), len(bytes_of(key)), value) else None
+
+    def _pairs(self, which: int) -> Iterable[tuple[str, str]]:
+        passed, key, value = ctypes.c_size_t(), Span(), Span()
+        take = (_c.langtag_next_keyword, _c.langtag_next_field)[which]
+        return [(self._at(key), self._at(value)) for _ in iter(lambda: self._ask(take, passed, key, value), False)]
+
+    def _before_keys(self, which: int) -> str | None:
+        found, call = Span(), (_c.langtag_attributes, _c.langtag_transform)[which]
+        return self._at(found) if self._ask(call, found) else None
 
     def recommended(self) -> Any:
         return self._base(_changed(_c.langtag_recommend, self._data))

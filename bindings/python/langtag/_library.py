@@ -19,6 +19,10 @@ class Repeated(Structure):
     _fields_ = [("variant", Span), ("singleton", Span)]
 
 
+class BestMatch(Structure):
+    _fields_ = [("range", Span), ("distance", c_uint32)]
+
+
 # The functions, without langtag_, by what they return and take.
 _TEXT, _BUFFER, _SPANS = (c_char_p, c_size_t), (POINTER(c_char), c_size_t), (POINTER(Span), c_size_t)
 FUNCTIONS: dict[tuple[Any, ...], str] = {
@@ -37,10 +41,13 @@ FUNCTIONS: dict[tuple[Any, ...], str] = {
     (c_uint32, *_TEXT, POINTER(Repeated)): "repeats",
     (c_uint32, *_TEXT, POINTER(Span)): "validity",
     (c_uint32, *_TEXT, POINTER(Span), POINTER(c_size_t)): "refused",
-    (c_bool, *_TEXT, POINTER(Span)): "next_fallback",
+    (c_bool, *_TEXT, POINTER(Span)): "next_fallback attributes transform",
+    (c_bool, *_TEXT, *_TEXT, POINTER(Span)): "keyword field",
+    (c_bool, *_TEXT, POINTER(c_size_t), POINTER(Span), POINTER(Span)): "next_keyword next_field",
     (c_bool, *_TEXT, POINTER(Span), POINTER(Span)): "next_subtag next_extension",
     (c_uint32, *_TEXT, POINTER(Span), POINTER(Span), POINTER(c_uint32)): "next_accepted",
     (c_size_t, *_TEXT, *_TEXT, *_SPANS): "best_for_header tag_for_header_lenient",
+    (c_size_t, *_TEXT, *_TEXT, *_SPANS, POINTER(BestMatch)): "match_for_header",
     (c_uint32, *_TEXT, *_TEXT, *_SPANS, POINTER(c_size_t), POINTER(Span)): "tag_for_header",
 }
 

@@ -72,32 +72,64 @@ static int add_item(Offered *offered, PyObject *item, PyObject *type) {
     return add(offered, &tag->text);
 }
 
-/* Borrowed from a list or a tuple, which nothing changes meanwhile. */
-static PyObject *chosen(Text header, PyObject *listed, PyObject *otherwise, PyObject *type, Choose *choose) {
+/* The item of a list or a tuple, borrowed. */
+static PyObject *item_at(PyObject *listed, size_t index) {
+    return (PyList_Check(listed) ? PyList_GetItem : PyTuple_GetItem)(listed, (Py_ssize_t)index);
+}
+
+/* The index of the tag that is chosen, or `count`, and what is said of it if a call says more: -1 with an exception. */
+static int choose_index(Text header, PyObject *listed, PyObject *type, Choose *choose, langtag_best_match *match, size_t *index) {
     Offered offered;
-    PyObject *(*item)(PyObject *, Py_ssize_t) = PyList_Check(listed) ? PyList_GetItem : PyTuple_GetItem;
-    size_t count = (size_t)PySequence_Size(listed), index = count;
-    if (open_offered(&offered, count)) return NULL;
+    size_t count = (size_t)PySequence_Size(listed);
+    if (open_offered(&offered, count)) return -1;
     int status = 0;
-    for (size_t i = 0; i < count && !status; i++) status = add_item(&offered, item(listed, (Py_ssize_t)i), type);
+    for (size_t i = 0; i < count && !status; i++) status = add_item(&offered, item_at(listed, i), type);
     if (!status) {
         LET_GO(header.len);
-        index = choose(header.data, (size_t)header.len, offered.text, offered.len, offered.spans, count);
+        *index = choose ? choose(header.data, (size_t)header.len, offered.text, offered.len, offered.spans, count)
+                        : langtag_match_for_header(header.data, (size_t)header.len, offered.text, offered.len, offered.spans, count, match);
         TAKE_BACK();
     }
     close_offered(&offered);
-    if (status) return NULL;
-    return index < count ? item(listed, (Py_ssize_t)index) : otherwise;
+    return status;
+}
+
+/* The caller's own list, but where others may change it: those that run during a call on a long header. */
+static PyObject *listed_for(Text header, PyObject *all) {
+    return header.len < LONG_TEXT ? PySequence_Fast(all, "the tags are not iterable") : PySequence_Tuple(all);
 }
 
 static PyObject *for_header(PyObject *arguments, Choose *choose) {
-    PyObject *from, *all, *otherwise, *type;
+    PyObject *from, *all, *otherwise, *type, *found = NULL;
     Text header;
+    size_t index;
     if (!PyArg_UnpackTuple(arguments, "a choice", 4, 4, &from, &all, &otherwise, &type) || lt_text(from, &header)) return NULL;
-    /* The caller's own list, but where others may change it: those that run during a call on a long header. */
-    PyObject *listed = header.len < LONG_TEXT ? PySequence_Fast(all, "the tags are not iterable") : PySequence_Tuple(all);
-    PyObject *found = listed ? chosen(header, listed, otherwise, type, choose) : NULL;
+    PyObject *listed = listed_for(header, all);
+    if (listed && !choose_index(header, listed, type, choose, NULL, &index))
+        found = index < (size_t)PySequence_Size(listed) ? item_at(listed, index) : otherwise;
     Py_XINCREF(found);
+    Py_XDECREF(listed);
+    Py_DECREF(header.owner);
+    return found;
+}
+
+/* What is said of the best tag: (index, the tag as it was given, distance, range of the header); None where there is none. */
+static PyObject *matched(Text header, PyObject *listed, PyObject *type) {
+    langtag_best_match match;
+    size_t index;
+    if (choose_index(header, listed, type, NULL, &match, &index)) return NULL;
+    if (index == (size_t)PySequence_Size(listed)) return lt_none();
+    return Py_BuildValue("nOIy#", (Py_ssize_t)index, item_at(listed, index), (unsigned)match.distance, header.data + match.range.start,
+                         (Py_ssize_t)match.range.len);
+}
+
+PyObject *lt_match_for_header(PyObject *module, PyObject *arguments) {
+    (void)module;
+    PyObject *from, *all, *type;
+    Text header;
+    if (!PyArg_UnpackTuple(arguments, "a choice", 3, 3, &from, &all, &type) || lt_text(from, &header)) return NULL;
+    PyObject *listed = listed_for(header, all);
+    PyObject *found = listed ? matched(header, listed, type) : NULL;
     Py_XDECREF(listed);
     Py_DECREF(header.owner);
     return found;

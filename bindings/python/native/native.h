@@ -65,6 +65,7 @@ PyObject *lt_distance(PyObject *module, PyObject *arguments);
 PyObject *lt_is_right_to_left(PyObject *module, PyObject *from);
 PyObject *lt_from_posix(PyObject *module, PyObject *from);
 PyObject *lt_best_for_header(PyObject *module, PyObject *arguments);
+PyObject *lt_match_for_header(PyObject *module, PyObject *arguments);
 PyObject *lt_value_data(PyObject *self, void *unused);
 PyObject *lt_reduce(PyObject *self, PyObject *unused);
 PyObject *lt_format(PyObject *self, PyObject *form);
@@ -75,5 +76,8 @@ PyObject *lt_minimized(PyObject *self, PyObject *unused);
 PyObject *lt_folded(PyObject *self, PyObject *unused);
 PyObject *lt_fnv1a(PyObject *self, PyObject *unused);
 PyObject *lt_set(PyObject *self, PyObject *arguments);
+PyObject *lt_value_of(PyObject *self, PyObject *arguments);
+PyObject *lt_pairs(PyObject *self, PyObject *number);
+PyObject *lt_before_keys(PyObject *self, PyObject *number);
 PyObject *lt_is_canonical(PyObject *self, void *unused);
 #endif

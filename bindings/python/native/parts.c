@@ -172,4 +172,7 @@ PyMethodDef lt_tag_methods[] = {
     {"_validity", tag_validity, METH_NOARGS, NULL},
     {"_grandfathered", tag_grandfathered, METH_NOARGS, NULL},
     {"_set", lt_set, METH_VARARGS, NULL},
+    {"_value_of", lt_value_of, METH_VARARGS, NULL},
+    {"_pairs", lt_pairs, METH_O, NULL},
+    {"_before_keys", lt_before_keys, METH_O, NULL},
     {NULL, NULL, 0, NULL}};

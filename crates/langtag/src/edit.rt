@@ -1,4 +1,4 @@
-//! A part of a tag's text that is replaced, and where the parts end then.
+//! How a part of a tag's text is replaced, and where the parts end after that.
 #![tactic(auto, using(langtag_scan::proofs::SpelledTexts::offsets_kept))]
 
 ghost use Rattle.std.specs.Prelude.{◌≡◌, ◌++◌, ◌≤◌, [], length, IfOk, OnOk, OnErr, IsOk};
@@ -14,8 +14,8 @@ use crate::part::{Part, Replacement};
 use langtag_scan::Ends;
 use std::alloc::{AllocError, Global};
 
-/// Puts a part into the text of a normal tag whose parts end at these offsets. Answers where they end then: the text is not
-/// looked at again.
+/// Sets or removes a part in the text of a normal tag whose parts end at these offsets. Returns where they end after
+/// that, without parsing the text again.
 pub(crate) fn set_part(
     text: &mut String,
     ends: Ends,
@@ -36,8 +36,8 @@ pub(crate) fn set_part(
 
 /// Replaces some bytes of a text.
 ///
-/// With a part the whole new text is made before the old one is given up. Without one the bytes are taken out in place,
-/// which needs no memory.
+/// With a part, the new text is complete before the old one is dropped. Without a part, the bytes are removed in place,
+/// without allocating.
 fn replace(text: &mut String, alloc: Global, new: Replacement<'_>) -> Result<(), AllocError>
     requires order { new.start ≤ new.end }
     requires within { new.end ≤ length (string_bytes text.old) }
@@ -55,7 +55,7 @@ fn replace(text: &mut String, alloc: Global, new: Replacement<'_>) -> Result<(),
     Ok(())
 }
 
-/// A new text in which these bytes are replaced. It takes memory once, and no more than it needs.
+/// Returns a new text in which these bytes are replaced. It allocates once, exactly the length of the text.
 fn join(alloc: Global, text: &str, new: Replacement<'_>) -> Result<String, AllocError>
     requires order { new.start ≤ new.end }
     requires within { new.end ≤ length text.now }

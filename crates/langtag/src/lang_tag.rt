@@ -134,8 +134,8 @@ impl<'a> LangTag<'a> {
         Ok(LangTag::with_found(ascii, found))
     }
 
-    /// Returns the tag with a text that is known to be one: `LangTag::from_checked(tag.as_str())` equals `tag`. It
-    /// parses the text once more to find the parts.
+    /// Returns the tag of a text that is known to be one: `LangTag::from_checked(tag.as_str())` equals `tag`. It parses
+    /// the text again to find the parts.
     pub fn from_checked(text: &'a str) -> LangTag<'a>
         requires { IsTag text.now }
         ensures { lang_tag_text result ≡ text.now }
@@ -146,7 +146,7 @@ impl<'a> LangTag<'a> {
         LangTag::with_found(text, found)
     }
 
-    /// The tag of a text of which this was found: it is not looked at again.
+    /// Returns the tag with a text in which this was found, without parsing it again.
     pub(crate) fn with_found(text: &'a str, found: Recognised) -> LangTag<'a>
         requires { ∥ IsFoundOf text.now (finding_of found) ∥₁ }
         ensures { lang_tag_text result ≡ text.now }

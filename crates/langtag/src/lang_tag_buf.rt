@@ -73,7 +73,7 @@ impl LangTagBuf {
         Ok(LangTagBuf::with_found(text, found))
     }
 
-    /// The tag of a text of which this was found: it is not looked at again.
+    /// Returns the tag with a text in which this was found, without parsing it again.
     pub(crate) fn with_found(text: String, found: Recognised) -> LangTagBuf
         requires { ∥ IsFoundOf (string_bytes text) (finding_of found) ∥₁ }
         ensures { lang_tag_buf_string result ≡ text }

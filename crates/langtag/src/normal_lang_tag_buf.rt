@@ -116,7 +116,7 @@ impl NormalLangTagBuf {
         Ok(NormalLangTagBuf::with_ends(whole, ends))
     }
 
-    /// The normal tag of a text whose parts are known to end at these offsets: it is not looked at again.
+    /// Returns the normal tag with a text whose parts are known to end at these offsets, without parsing it again.
     pub(crate) fn with_ends(text: String, ends: Ends) -> NormalLangTagBuf
         requires { ∥ HasEnds (string_bytes text) ends ∥₁ }
         ensures { normal_lang_tag_buf_string result ≡ text }

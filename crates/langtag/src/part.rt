@@ -98,7 +98,7 @@ impl<'a> Part<'a> {
         }
     }
 
-    /// What stands in place of the old part, where the parts end at these offsets.
+    /// Returns how the old part is replaced, if the parts end at these offsets.
     pub(crate) fn replacement(&self, ends: &Ends) -> Replacement<'a>
         ensures start { result.start ≡ part_start self.now ends.now }
         ensures end { result.end ≡ part_end self.now ends.now }
@@ -116,7 +116,7 @@ impl<'a> Part<'a> {
         }
     }
 
-    /// Where the part before this one ends, and where this one does.
+    /// Returns where the part before this one ends, and where this one ends.
     fn place(&self, ends: &Ends) -> (usize, usize)
         ensures start { result.0 ≡ part_start self.now ends.now }
         ensures end { result.1 ≡ part_end self.now ends.now }
@@ -131,7 +131,7 @@ impl<'a> Part<'a> {
         }
     }
 
-    /// The hyphen that stands before a text of this part, if one does.
+    /// Returns the hyphen before a text of this part, or nothing if it has none.
     fn hyphen_before(&self, text: &str) -> &'static str
         requires { text.now ≡ part_text self.now }
         ensures one { length result.now ≤ 1 }

@@ -1,4 +1,4 @@
-//! The one place where this crate runs a recogniser.
+//! The only place where this crate runs a recogniser.
 ghost use Rattle.std.specs.Prelude.{MatchOption};
 ghost use Rattle.langtag_scan.specs.Ends.{HasEnds};
 ghost use Rattle.langtag_scan.specs.Found.{IsFoundOf, finding};
@@ -9,7 +9,7 @@ use crate::grandfathered::GrandfatheredLangTag;
 use crate::recognised::Recognised;
 use langtag_scan::{Ends, Found, Metered, recognise};
 
-/// What the recogniser finds of bytes; `None` if they are not a tag.
+/// Returns what the recogniser finds in bytes, or `None` if they are not a tag.
 ///
 /// Each constructor of the crate calls this function. It is inlined: the recogniser is one short loop.
 #[inline(always)]
@@ -26,7 +26,7 @@ pub(crate) fn recognise_bytes(bytes: &[u8]) -> Option<Recognised>
     }
 }
 
-/// What the recogniser finds of bytes, in its own form.
+/// Returns what the recogniser finds in bytes, in its own form.
 fn found_in(bytes: &[u8]) -> Option<Found>
     ensures { MatchOption result (IsTag bytes.now → ⊥) (λ found. IsFoundOf bytes.now (finding found)) }
 {

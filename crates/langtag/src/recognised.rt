@@ -1,4 +1,4 @@
-//! What a tag stores of what the parser found in its text.
+//! What a tag stores about its text.
 ghost use Rattle.std.specs.Prelude.{◌≡◌};
 ghost use Rattle.langtag_scan.specs.Found.{is_normal, is_private_use, normal_ends};
 ghost use Rattle.langtag.specs.Recognised.{finding_of};
@@ -6,7 +6,7 @@ ghost use Rattle.langtag.specs.Recognised.{finding_of};
 use crate::grandfathered::GrandfatheredLangTag;
 use langtag_scan::Ends;
 
-/// Of which kind a tag is (RFC 5646 section 2.1), with what is known of one of that kind, so that its text is not read again.
+/// The kind of a tag (RFC 5646 section 2.1), with what was found in its text, so that the text is not parsed again.
 #[derive(Clone, Copy)]
 pub(crate) enum Recognised {
     /// A normal tag, and where its parts end.

@@ -14,10 +14,10 @@ use langtag_extension::Extensions;
 use langtag_place::{Variant, Variants};
 use langtag_scan::into_smallcase;
 
-/// Up to so many bytes of variants, which are 28 variants at most, each is compared to those before it.
+/// Up to this many bytes of variants, which are at most 28 variants, each variant is compared with those before it.
 const FEW: usize = 143;
 
-/// The index of the first of these variants that is equal to an earlier one, ignoring case.
+/// Returns the index of the first of these variants that equals an earlier one, ignoring case.
 pub(crate) fn first_repeated_variant(variants: Variants<'_>) -> Option<usize>
     ensures { result ≡ repeat_index are_alike (subtags (variants_text variants.entry)) }
 {
@@ -27,7 +27,7 @@ pub(crate) fn first_repeated_variant(variants: Variants<'_>) -> Option<usize>
     first_repeated_of_few(variants)
 }
 
-/// The same, where each variant is compared to those before it.
+/// Returns the same, by comparing each variant with those before it.
 fn first_repeated_of_few(variants: Variants<'_>) -> Option<usize>
     requires few { length (variants_text variants) ≤ 143 }
     ensures { result ≡ repeat_index are_alike (subtags (variants_text variants.entry)) }
@@ -53,7 +53,7 @@ pub fn is_among_first(variants: Variants<'_>, count: usize, variant: Variant<'_>
         .any(|earlier| variant == earlier)
 }
 
-/// The index of the first of these extensions whose singleton is equal to that of an earlier one, ignoring case.
+/// Returns the index of the first of these extensions whose singleton equals that of an earlier one, ignoring case.
 pub(crate) fn first_repeated_singleton(extensions: Extensions<'_>) -> Option<usize>
     ensures { (es : List model.Extension) → SpellsExtensions es (extensions_text extensions.entry) →
         result ≡ repeat_index are_alike_bytes (map (λ e. e.singleton) es) }

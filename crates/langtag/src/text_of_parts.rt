@@ -5,8 +5,8 @@ ghost use Rattle.langtag.specs.Lengths.{after_hyphen};
 
 use std::alloc::{AllocError, Global};
 
-/// A new text with room for so many bytes: a language, and a script and a region after it, each after its hyphen; an empty
-/// one is none.
+/// Returns a new text with room for `len` bytes: a language, and a script and a region, each after a hyphen. An empty
+/// script or region is absent.
 pub(crate) fn join_parts(
     alloc: Global,
     room: usize,
@@ -23,7 +23,7 @@ pub(crate) fn join_parts(
     Ok(whole)
 }
 
-/// Puts a part, after its hyphen, at the end of a text; the empty part is none.
+/// Appends a hyphen and a part to a text, or nothing if the part is empty.
 fn push_part(text: &mut String, part: &str) -> Result<(), AllocError>
     ensures { OnOk result (string_bytes text.new ≡ string_bytes text.old ++ after_hyphen part.now) }
 {

@@ -1,4 +1,4 @@
-//! The first repeated variant of very many: they are gone over a block at a time.
+//! The first repeated variant among very many, found block by block.
 ghost use Rattle.std.specs.Prelude.{◌≡◌, ◌==◌, ◌&&◌, ◌+◌, ◌≤◌, ℕ, List, [], ◌∷◌, ◌++◌, length, take, drop, map};
 ghost use Rattle.std.specs.List.{list_any};
 ghost use Rattle.std.specs.List.Sorted.{IsNonDecreasing};
@@ -17,10 +17,10 @@ const BLOCK: usize = 8192;
 
 const _: () = prove!(BLOCK == 8192);
 
-/// The index of the first of these variants that is equal to an earlier one, ignoring case.
+/// Returns the index of the first of these variants that equals an earlier one, ignoring case.
 ///
-/// The variants are gone over once for each block of them. What is kept of a block are its numbers in order, and which of them
-/// were met, so that each variant is looked up in few steps, whatever their order.
+/// All variants are read once for each block. A block stores its numbers in rising order, and which of them have
+/// occurred, so each variant is found in few steps, in whatever order they come.
 // Not inlined: the stack that it takes is not taken for a few variants.
 #[inline(never)]
 pub(crate) fn first_repeated_of_many(variants: Variants<'_>) -> Option<usize>
@@ -57,8 +57,9 @@ fn fill(block: &mut [u64], rest: &mut VariantsIter<'_>)
     }
 }
 
-/// The index of the first variant up to the end of a block that is equal to an earlier one, ignoring case. The block
-/// has, in order, the numbers of the variants from the index `start` on; none of those before them is.
+/// Returns the index of the first variant up to the end of a block that equals an earlier one, ignoring case. The block
+/// has, in rising order, the numbers of the variants from the index `start` on. No variant before `start` equals an
+/// earlier one.
 fn first_met_again(block: &[u64], variants: Variants<'_>, start: usize) -> Option<usize>
     requires room { length block.now ≤ BLOCK }
     requires within { start + length block.now ≤ length (subtags (variants_text variants)) }
@@ -79,7 +80,8 @@ fn first_met_again(block: &[u64], variants: Variants<'_>, start: usize) -> Optio
     None
 }
 
-/// Whether a number of a block was met before. From now on it was. Where it stands twice, its first place counts.
+/// Returns whether a number of a block has occurred before, and marks it as having occurred. If the block has it twice,
+/// its first place counts.
 fn meet(block: &[u64], met: &mut [bool], number: u64) -> bool
     requires room { length block.now ≤ length met.old }
     requires rises { IsNonDecreasing block.now }
@@ -95,7 +97,7 @@ fn meet(block: &[u64], met: &mut [bool], number: u64) -> bool
     mem::replace(&mut met[place], true)
 }
 
-/// Where a number stands in a block first, or would stand.
+/// Returns the first place of a number in a block, or the place where it would be.
 fn place_of(number: u64, block: &[u64]) -> usize
     requires { IsNonDecreasing block.now }
     ensures { IsPlaceOf block.now number result }
@@ -103,7 +105,7 @@ fn place_of(number: u64, block: &[u64]) -> usize
     block.partition_point(|other| *other < number)
 }
 
-/// The number by which a variant is known. A variant has eight bytes at most.
+/// Returns the number of a variant, which has at most eight bytes.
 fn number_of(variant: Variant<'_>) -> u64
     ensures { result ≡ folded_number (variant_text variant.entry) }
 {

@@ -3,6 +3,7 @@ mod SpanLaws
 mod StopLaws
 mod RangeLaws
 mod ExtensionSpans
+mod HeaderRanges
 mod RepeatSpans
 mod ItemLaws
 mod PlaceLaws
@@ -13,3 +14,5 @@ mod LikelyForms
 mod DateLaws
 mod TagsAt
 mod LookUps
+mod SubtagSpans
+mod FoundExtension

@@ -350,7 +350,7 @@ module _ {X : Type 0} (all : List (List ℕ)) (yielded : List X) (x : X) (item :
   drop_next =
       drop_more all (length yielded) item below ∙ ap (λ i. i ∷ drop (length yielded + 1) all) (sym at) ∙ ap (λ n. item ∷ drop n all) (sym one_more)
 
-  take_next : take (length (yielded ++ x ∷ [])) all ≡ take (length yielded) all ++ item ∷ []
+  pub take_next : take (length (yielded ++ x ∷ [])) all ≡ take (length yielded) all ++ item ∷ []
   take_next = ap (λ n. take n all) one_more ∙ take_more all (length yielded) item below ∙ ap (λ i. take (length yielded) all ++ i ∷ []) (sym at)
 
   pub elements-some : (e : Element) → element item ≡ Some e → elements (drop (length yielded) all) ≡ e ∷ elements (drop (length (yielded ++ x ∷ [])) all)

@@ -1,9 +1,13 @@
 -- The tags that spans of a text are, and which of them a reader wants.
-use Rattle.std.specs.Prelude.{◌≡◌, ◌<◌, ℕ, List, Option, None, MatchOption, length, slice_index_or, unwrap_or}
+use Rattle.std.specs.Prelude.{◌≡◌, ◌+◌, ◌-◌, ◌^◌, ◌<◌, ℕ, Bool, not, List, [], Option, None, Some, MatchOption, count_by, is_some, length, slice_get, slice_index_or, take, unwrap_or}
+use Rattle.std.specs.List.{position}
 use Rattle.langtag_scan.specs.Tag.{IsTag}
-use Rattle.langtag_match.specs.Wanted.{wanted_elements}
-use Rattle.langtag_choice.specs.Best.{IsChoice}
+use Rattle.langtag_match.specs.AcceptLanguage.{Element, StandsAt, is_space, items}
+use Rattle.langtag_match.specs.Wanted.{wanted, wanted_elements}
+use Rattle.langtag_choice.specs.Best.{IsChoice, IsMatch}
+use Rattle.langtag_choice.specs.declared.best_match.BestMatch as choice
 use Rattle.langtag_c.specs.Spans.{HasBytes, empty_at, span_text}
+use Rattle.langtag_c.specs.declared.best_match.BestMatch.{BestMatch}
 use Rattle.langtag_c.specs.declared.span.Span.{Span}
 
 -- a span has bytes, which lie within the text and are a tag
@@ -26,3 +30,42 @@ pub record IsBest (header text : List ℕ) (spans : List Span) (answer : ℕ) : 
   pub chosen : Option ℕ
   pub choice : IsChoice (wanted_elements header) tags chosen
   pub same : answer ≡ unwrap_or chosen (length spans)
+
+-- ---- which range a tag serves
+
+-- an item of a header has a range
+abbrev pub has_range : List ℕ → Bool
+has_range item = is_some (wanted item [])
+
+abbrev pub range_count : List (List ℕ) → ℕ
+range_count items = count_by has_range items
+
+-- how many spaces and tabs an item begins with
+abbrev pub spaces_before : List ℕ → ℕ
+spaces_before item = unwrap_or (position (λ b. not (is_space b)) item) (length item)
+
+-- a span is the range of a header before which so many others stand: that of an item, after its spaces
+pub record IsRangeAt (header : List ℕ) (place : ℕ) (span : Span) : Type 0 where
+  pub index : ℕ
+  pub item : List ℕ
+  pub there : slice_get (items header) index ≡ Some item
+  pub start : ℕ
+  pub stands : StandsAt header item index start
+  pub before : range_count (take index (items header)) ≡ place
+  pub element : Element
+  pub read : wanted item [] ≡ Some element
+  pub begins : span.start ≡ start + spaces_before item
+  pub size : span.len ≡ length element.range
+
+-- what is written where no tag is wanted
+abbrev pub no_match : List ℕ → BestMatch
+no_match header = record { range = empty_at (length header); distance = 2 ^ 32 - 1 }
+
+-- the index of the tag that the reader wants who sent a header, its range, and how far it is from that
+pub record IsMatchAt (header text : List ℕ) (spans : List Span) (answer : ℕ) (found : BestMatch) : Type 0 where
+  pub tags : List (Option (List ℕ))
+  pub are : AreTagsAt text spans tags
+  pub chosen : Option choice.BestMatch
+  pub is : IsMatch (wanted_elements header) tags chosen
+  pub same : MatchOption chosen ((answer ≡ length spans) × (found ≡ no_match header))
+      (λ m. (answer ≡ m.index) × (found.distance ≡ m.distance) × IsRangeAt header m.place found.range)

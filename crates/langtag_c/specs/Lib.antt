@@ -1,6 +1,7 @@
 pub mod Answers
 pub mod Choice
 pub mod Heaviest
+pub mod Keywords
 pub mod LookUp
 pub mod Negotiation
 pub mod Repeats

@@ -6,12 +6,15 @@
 #![tactic(auto)]
 
 mod accepted;
+mod best_match;
 mod canonical;
 mod choice;
 mod compare;
 mod direction;
+mod extension_subtags;
 mod fallback;
 mod grandfathered;
+mod keyword;
 mod likely;
 mod look_up;
 mod parse;
@@ -25,6 +28,7 @@ mod repeats;
 mod span;
 mod spanned_tags;
 mod tag;
+mod transform;
 mod validity;
 mod viable;
 mod walk;

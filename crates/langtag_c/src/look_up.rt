@@ -153,7 +153,7 @@ fn bad_part(item: &[u8]) -> Option<ElementPart>
     }
 }
 
-fn is_comma(byte: u8) -> bool
+pub(crate) fn is_comma(byte: u8) -> bool
     ensures { result ≡ is_comma byte }
 {
     byte == b','

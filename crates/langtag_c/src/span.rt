@@ -1,5 +1,5 @@
 //! Where a part of a text is.
-ghost use Rattle.std.specs.Prelude.{◌≡◌, ◌≤◌, ◌+◌, ◌<◌, ◌^◌, MatchOption};
+ghost use Rattle.std.specs.Prelude.{◌≡◌, ◌≤◌, ◌+◌, ◌-◌, ◌<◌, ◌^◌, MatchOption};
 ghost use Rattle.langtag_c.specs.Spans.{HasBytes, end_of, span_between, span_text};
 
 /// Some bytes of a text: where they start, and how many they are. An absent part has none.
@@ -51,5 +51,17 @@ impl Span {
         };
         *self = Span::between(self.start + len, self.start + self.len);
         first
+    }
+
+    /// Returns what comes after a singleton and a hyphen.
+    pub(crate) fn without_singleton(&self) -> Span
+        requires within { end_of self.now < 2 ^ 64 }
+        requires some { 2 ≤ self.now.len }
+        ensures { result ≡ record { start = self.now.start + 2; len = self.now.len - 2 } }
+    {
+        Span {
+            start: self.start + 2,
+            len: self.len - 2,
+        }
     }
 }

@@ -27,7 +27,7 @@ impl Piece {
         }
     }
 
-    /// The piece at the start of what is left of a text after a hyphen, where no subtag before it is of a single byte.
+    /// Returns the piece at the start of the rest of a text after a hyphen, if no subtag before it has a single byte.
     pub(crate) fn later(text: &[u8]) -> Piece
         ensures { BeginsWith text.now result.len result.capitals (later_text text.now) × BeginsWith text.now result.len 0 (recommended_text text.now) }
     {

@@ -1,12 +1,12 @@
 -- What loops over ranges and over tags have found.
-use Rattle.std.proofs.Common.{◌≡◌, ◌⊎◌, inl, inr, ℕ, ◌+◌, ◌-◌, ◌<◌, ◌≤◌, Bool, true, false, nat_lt, List, [], ◌∷◌, suc, length, get_or, Option, Some, None, option_map, below_more, refl, sym, subst, ap, ◌∙◌, arith}
+use Rattle.std.proofs.Common.{◌≡◌, ◌⊎◌, inl, inr, ℕ, ◌+◌, ◌-◌, ◌<◌, ◌≤◌, Bool, true, false, nat_lt, List, [], ◌∷◌, suc, length, get_or, Option, Some, None, below_more, refl, sym, subst, ap, ◌∙◌, arith}
 use Rattle.std.specs.List.{slice_get}
 use Rattle.std.specs.Option.{ForSome, MatchOption}
 use Rattle.std.proofs.lemmas.Bool.{ltb-true, ltb-false}
 use Rattle.std.proofs.lemmas.Option.{get_or_from_slice_get, slice_get-get_or, slice_get_within}
 use Rattle.langtag_match.specs.AcceptLanguage.{Element}
-use Rattle.langtag_choice.specs.Best.{IsChoice, IsLeast, Pair, is_refused, rank, rank_of_pair, serves}
-use Rattle.langtag_choice.specs.Found.{AreOpen, Covers, CoversOpen, CoversRanges, CoversTags, IsAt, IsFor, IsFrom, IsOf, IsOpen, IsReal, IsWithin, Keeps, Takes, wish_element}
+use Rattle.langtag_choice.specs.Best.{Pair, is_refused, rank, rank_of_pair, serves}
+use Rattle.langtag_choice.specs.Found.{AreOpen, Covers, CoversOpen, CoversRanges, CoversTags, IsAt, IsBestFound, IsBestOf, IsFor, IsFrom, IsOf, IsOpen, IsReal, IsWithin, Keeps, Takes, wish_element}
 use Rattle.langtag_choice.specs.declared.candidate.Candidate.{Candidate}
 use Rattle.langtag_choice.specs.declared.wish.Wish.{Wish}
 use Rattle.langtag_choice.proofs.ChoiceLaws.{least_chosen}
@@ -58,6 +58,7 @@ pub of_is_at :
 of_is_at elements wish tag index c wanted of = record {
   element = wish_element wish;
   wanted = ap (slice_get elements) of.place ∙ wanted;
+  range = of.range;
   index = of.index;
   tag = of.tag;
   served = of.served;
@@ -71,6 +72,7 @@ at_is_for elements tags tag index c inside there at = record {
   at = record {
     element = at.element;
     wanted = at.wanted;
+    range = at.range;
     index = refl;
     tag = refl;
     served = subst (λ t. serves at.element t ≡ true) (sym at.tag) at.served;
@@ -132,7 +134,7 @@ module _ (elements : List Element) (tags : List (Option (List ℕ))) (found : Op
       subst (λ o. IsWithin o (rank_of_pair elements tags pair)) is
       (covers pair.place (slice_get_within elements pair.place pair.element pair.wanted) pair.element pair.index pair.tag pair.wanted pair.there pair.served)
 
-  pub first_chosen : (c : Candidate) → found ≡ Some c → Covers elements tags (length elements) found → IsReal elements tags found → IsOpen elements tags c.index → IsLeast elements tags c.index
+  pub first_chosen : (c : Candidate) → found ≡ Some c → Covers elements tags (length elements) found → IsReal elements tags found → IsOpen elements tags c.index → IsBestOf elements tags c
   first_chosen c is covers real here =
       least_chosen elements tags c (subst (IsReal elements tags) is real) here
       (λ pair. subst (λ o. IsWithin o (rank_of_pair elements tags pair)) is
@@ -143,7 +145,7 @@ module _ (elements : List Element) (tags : List (Option (List ℕ))) (found : Op
       subst (λ o. IsWithin o (rank_of_pair elements tags pair)) is
       (covers pair.index (slice_get_within tags pair.index (Some pair.tag) pair.there) pair.place pair.element pair.tag pair.wanted pair.there pair.unrefused pair.served)
 
-  pub open_chosen : (c : Candidate) → found ≡ Some c → CoversOpen elements tags (length tags) found → IsReal elements tags found → AreOpen elements tags found → IsLeast elements tags c.index
+  pub open_chosen : (c : Candidate) → found ≡ Some c → CoversOpen elements tags (length tags) found → IsReal elements tags found → AreOpen elements tags found → IsBestOf elements tags c
   open_chosen c is covers real here =
       least_chosen elements tags c (subst (IsReal elements tags) is real) (subst (AreOpen elements tags) is here)
       (λ pair. subst (λ o. IsWithin o (rank_of_pair elements tags pair)) is
@@ -151,7 +153,7 @@ module _ (elements : List Element) (tags : List (Option (List ℕ))) (found : Op
 
 pub first_open :
     (elements : List Element) (tags : List (Option (List ℕ))) (found : Option Candidate) → CoversOpen elements tags (length tags) found → IsReal elements tags found → AreOpen elements tags found →
-    IsChoice elements tags (option_map (λ c. c.index) found)
+    IsBestFound elements tags found
 first_open elements tags None covers real here = none_open elements tags None refl covers
 first_open elements tags (Some c) covers real here = open_chosen elements tags (Some c) c refl covers real here
 

@@ -8,6 +8,8 @@ use Rattle.langtag_choice.specs.Nearness.{unlikely, kept}
 use Rattle.langtag_match.specs.AcceptLanguage.{Element}
 use Rattle.langtag_match.specs.Basic.{test_basic}
 use Rattle.langtag_match.specs.Range.{is_star}
+use Rattle.langtag_match.specs.Wanted.{hyphened}
+use Rattle.langtag_choice.specs.declared.best_match.BestMatch.{BestMatch}
 
 -- ---- which tags are refused
 
@@ -89,3 +91,16 @@ pub record IsLeast (elements : List Element) (tags : List (Option (List ℕ))) (
 -- the tag that a reader wants: that of the least pair, none if there is no pair
 abbrev pub IsChoice : List Element → List (Option (List ℕ)) → Option ℕ → Type 0
 IsChoice elements tags answer = MatchOption answer (Pair elements tags → ⊥) (IsLeast elements tags)
+
+-- what is said of the least of all pairs: the index of its tag, its range and the place of that, and how far the tag is from it
+pub record IsMatchOf (elements : List Element) (tags : List (Option (List ℕ))) (found : BestMatch) : Type 0 where
+  pub pair : Pair elements tags
+  pub index : found.index ≡ pair.index
+  pub place : found.place ≡ pair.place
+  pub range : hyphened found.range.now ≡ pair.element.range
+  pub distance : found.distance ≡ distance_of_texts pair.element.range pair.tag
+  pub least : (other : Pair elements tags) → IsAtMost (rank_of_pair elements tags pair) (rank_of_pair elements tags other)
+
+-- none if there is no pair
+abbrev pub IsMatch : List Element → List (Option (List ℕ)) → Option BestMatch → Type 0
+IsMatch elements tags answer = MatchOption answer (Pair elements tags → ⊥) (IsMatchOf elements tags)

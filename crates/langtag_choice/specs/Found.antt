@@ -4,7 +4,7 @@ use Rattle.std.specs.List.{slice_get}
 use Rattle.std.specs.Option.{option_map}
 use Rattle.langtag_match.specs.AcceptLanguage.{Element}
 use Rattle.langtag_match.specs.Wanted.{hyphened}
-use Rattle.langtag_choice.specs.Best.{IsAtMost, is_refused, may_serve, rank, reach, serves}
+use Rattle.langtag_choice.specs.Best.{IsAtMost, Pair, is_refused, may_serve, rank, rank_of_pair, reach, serves}
 use Rattle.langtag_likely.specs.Likely.{Fields}
 use Rattle.langtag_likely.specs.Matching.{matching_form}
 use Rattle.langtag_choice.specs.Nearness.{kept, unlikely}
@@ -54,6 +54,7 @@ pub record IsNearer (limit far : ℕ) (known : Option Fields) (near : Nearness) 
 pub record IsOf (wish : Wish) (text : List ℕ) (there : ℕ) (c : Candidate) : Type 0 where
   pub place : c.rank.place ≡ wish.place
   pub index : c.index ≡ there
+  pub range : (wish_element wish).range ≡ hyphened c.range.now
   pub tag : c.tag.now ≡ text
   pub served : serves (wish_element wish) text ≡ true
   pub same_rank : rank_of c ≡ rank wish.place (wish_element wish) there text
@@ -68,6 +69,7 @@ pub record Takes (wish : Wish) (tag : List ℕ) (index : ℕ) (old new : Option 
 pub record IsAt (elements : List Element) (text : List ℕ) (there : ℕ) (c : Candidate) : Type 0 where
   pub element : Element
   pub wanted : slice_get elements c.rank.place ≡ Some element
+  pub range : element.range ≡ hyphened c.range.now
   pub index : c.index ≡ there
   pub tag : c.tag.now ≡ text
   pub served : serves element text ≡ true
@@ -116,3 +118,16 @@ CoversOpen elements tags count found =
 -- what was found is of such a tag
 abbrev pub AreOpen : List Element → List (Option (List ℕ)) → Option Candidate → Type 0
 AreOpen elements tags found = IfSome found (λ c. IsOpen elements tags c.index)
+
+-- a candidate is that of the least of all pairs
+pub record IsBestOf (elements : List Element) (tags : List (Option (List ℕ))) (c : Candidate) : Type 0 where
+  pub pair : Pair elements tags
+  pub place : pair.place ≡ c.rank.place
+  pub range : pair.element.range ≡ hyphened c.range.now
+  pub index : pair.index ≡ c.index
+  pub tag : pair.tag ≡ c.tag.now
+  pub least : (other : Pair elements tags) → IsAtMost (rank_of_pair elements tags pair) (rank_of_pair elements tags other)
+
+-- what was found is that, and nothing where there is no pair
+abbrev pub IsBestFound : List Element → List (Option (List ℕ)) → Option Candidate → Type 0
+IsBestFound elements tags found = MatchOption found (Pair elements tags → ⊥) (IsBestOf elements tags)

@@ -1,19 +1,23 @@
 //! The tag that a reader wants.
 ghost use Rattle.std.specs.Prelude.{◌≡◌, ◌<◌, IsTrue, length, map};
 ghost use Rattle.std.specs.List.{list_any};
+ghost use Rattle.std.specs.Option.{option_map};
 ghost use Rattle.langtag_match.specs.AcceptLanguage.{reading};
 ghost use Rattle.langtag_match.specs.Text.{accept_language_ranges};
-ghost use Rattle.langtag_match.specs.Wanted.{wanted_elements};
+ghost use Rattle.langtag_match.specs.Wanted.{hyphened, wanted_elements};
 ghost use Rattle.langtag_choice.specs.Best as spec;
 ghost use Rattle.langtag_choice.specs.ChoiceLaws as laws;
-ghost use Rattle.langtag_choice.specs.Found.{IsOpen};
+ghost use Rattle.langtag_choice.specs.Distance.{distance_of_texts};
+ghost use Rattle.langtag_choice.specs.Found.{IsBestFound, IsOpen};
 ghost use Rattle.langtag_choice.specs.ListTexts.{ordered_elements, tag_texts};
 
+use crate::best_match::BestMatch;
 use crate::by_ranges::first_by_ranges;
 use crate::by_tags::first_by_tags;
-use crate::candidate::index_of;
+use crate::candidate::{Candidate, index_of};
 use crate::range_list::RangeList;
 use crate::refused::is_refused;
+use crate::tag_distance::range_distance;
 use crate::tag_list::{TagList, Tags};
 use langtag::LangTag;
 use langtag_match::{AcceptLanguage, LanguageRange};
@@ -37,6 +41,16 @@ pub fn best_for_header(header: &[u8], tags: &[LangTag<'_>]) -> Option<usize>
 
 /// Returns the index of the best tag for a parsed header, as [`best_for_header`] does. [`AcceptLanguage`] has no ranges
 /// of weight 0, so it excludes no tag.
+///
+/// ```
+/// use langtag::LangTag;
+/// use langtag_choice::best_for_accept_language;
+/// use langtag_match::AcceptLanguage;
+///
+/// let accepted = AcceptLanguage::lenient(alloc, "zh-TW,zh;q=0.9,en;q=0.8")?;
+/// let tags = [LangTag::new("en")?, LangTag::new("zh-Hant")?];
+/// best_for_accept_language(&accepted, &tags); // Some(1)
+/// ```
 pub fn best_for_accept_language(
     accepted: &AcceptLanguage<'_>,
     tags: &[LangTag<'_>],
@@ -48,10 +62,66 @@ pub fn best_for_accept_language(
 
 /// Returns the index of the best tag for a list of language ranges, the most wanted first, as [`best_for_header`] does:
 /// 1 for the ranges `nn` and `de`, and the tags `en` and `nb`. It is meant for basic ranges.
+///
+/// ```
+/// use langtag::LangTag;
+/// use langtag_choice::best_for_ranges;
+/// use langtag_match::LanguageRange;
+///
+/// let ranges = [LanguageRange::new("nn")?, LanguageRange::new("de")?];
+/// let tags = [LangTag::new("en")?, LangTag::new("nb")?];
+/// best_for_ranges(&ranges, &tags); // Some(1)
+/// ```
 pub fn best_for_ranges(ranges: &[LanguageRange<'_>], tags: &[LangTag<'_>]) -> Option<usize>
     ensures choice { spec.IsChoice (ordered_elements ranges.now) (tag_texts tags.now) result }
 {
     best_among(ranges, &Tags(tags))
+}
+
+/// Returns the best tag for an Accept-Language header, as [`best_for_header`] chooses it, with the range that it serves and its
+/// distance from that range. If the distance is 50 or more, only look-up (RFC 4647, section 3.4) finds the tag.
+///
+/// ```
+/// use langtag::LangTag;
+/// use langtag_choice::match_for_header;
+///
+/// let tags = [LangTag::new("en")?, LangTag::new("de")?];
+/// let found = match_for_header(b"tlh, gsw", &tags);
+/// found.map(|found| (found.index, found.range, found.distance)); // Some((1, &b"gsw"[..], 8))
+/// ```
+pub fn match_for_header<'a>(header: &'a [u8], tags: &[LangTag<'_>]) -> Option<BestMatch<'a>>
+    ensures found { spec.IsMatch (wanted_elements header.now) (tag_texts tags.now) result }
+    ensures choice { spec.IsChoice (wanted_elements header.now) (tag_texts tags.now) (option_map (λ found. found.index) result) }
+    ensures cloned { (found copy : BestMatch) → ⟦<BestMatch<'a> as Clone>⟧.is_clone found copy → copy ≡ found }
+    ensures clone_succeeds { (found : BestMatch) → ⟦<BestMatch<'a> as Clone>⟧.is_infallible found }
+{
+    match_among(header, &Tags(tags))
+}
+
+/// Returns the best tag with the range that it serves, as [`match_for_header`] does, for any list of ranges and any list of tags.
+pub fn match_among<'a, R: RangeList<'a>, T: TagList>(ranges: R, tags: &T) -> Option<BestMatch<'a>>
+    ensures found { spec.IsMatch (R.elements ranges) (T.texts tags.now) result }
+    ensures choice { spec.IsChoice (R.elements ranges) (T.texts tags.now) (option_map (λ found. found.index) result) }
+{
+    match best(ranges, tags) {
+        Some(found) => Some(match_of(found)),
+        None => None,
+    }
+}
+
+/// Returns the match for a chosen candidate.
+fn match_of<'a>(found: Candidate<'a, '_>) -> BestMatch<'a>
+    ensures index { result.index ≡ found.entry.index }
+    ensures range { result.range.now ≡ found.entry.range.now }
+    ensures place { result.place ≡ found.entry.rank.place }
+    ensures distance { result.distance ≡ distance_of_texts (hyphened found.entry.range.now) found.entry.tag.now }
+{
+    BestMatch {
+        index: found.index,
+        range: found.range,
+        place: found.rank.place,
+        distance: range_distance(found.range, found.tag),
+    }
 }
 
 /// Returns the index of the best tag, as [`best_for_header`] does, for any list of ranges and any list of tags.
@@ -62,24 +132,32 @@ pub fn best_among<'a, R: RangeList<'a>, T: TagList>(ranges: R, tags: &T) -> Opti
     ensures equal { laws.AnswersEqual (R.elements ranges) (T.texts tags.now) result }
     ensures case { laws.IgnoresCase (R.elements ranges) (T.texts tags.now) result }
 {
-    best(ranges, tags)
+    best_index(ranges, tags)
 }
 
-/// Returns the index of the tag that is chosen. Where what is first of all is refused or no tag, the tags are gone through one by one.
-fn best<'a, R: RangeList<'a>, T: TagList>(ranges: R, tags: &T) -> Option<usize>
+/// Returns the index of the chosen tag.
+#[tactic(auto, using(crate::proofs::ChoiceLaws::found_chosen))]
+fn best_index<'a, R: RangeList<'a>, T: TagList>(ranges: R, tags: &T) -> Option<usize>
     ensures { spec.IsChoice (R.elements ranges) (T.texts tags.now) result }
+{
+    index_of(best(ranges, tags))
+}
+
+/// Returns the chosen candidate. If the first candidate is refused or not a tag, the tags are tried one by one.
+fn best<'a, 't, R: RangeList<'a>, T: TagList>(ranges: R, tags: &'t T) -> Option<Candidate<'a, 't>>
+    ensures { IsBestFound (R.elements ranges) (T.texts tags.now) result }
 {
     let (first, has_zero) = first_by_ranges(ranges, tags);
     let Some(found) = first else {
         return None;
     };
     if is_chosen(ranges, tags, found.index, has_zero) {
-        return Some(found.index);
+        return Some(found);
     }
-    index_of(first_by_tags(ranges, tags))
+    first_by_tags(ranges, tags)
 }
 
-/// Returns whether a tag stands at an index, which is not refused. Where no range has the weight 0, none is.
+/// Returns whether the entry at an index is a tag that is not refused. No tag is refused if no range has the weight 0.
 #[tactic(auto, using(crate::proofs::NoneRefused::none_refused))]
 fn is_chosen<'a, R: RangeList<'a>, T: TagList>(
     ranges: R,

@@ -1,4 +1,4 @@
-//! The choice range by range, which passes over lighter ranges where a heavier one has a tag.
+//! The choice range by range, which skips lighter ranges if a heavier one has a tag.
 ghost use Rattle.std.specs.Prelude.{◌≡◌, ℕ, List, IsTrue, Some, length};
 ghost use Rattle.std.specs.List.{list_any, slice_get};
 ghost use Rattle.langtag_match.specs.AcceptLanguage.{Element};
@@ -13,7 +13,7 @@ use crate::tag_list::TagList;
 use crate::wish::Wish;
 use langtag_match::WantedRange;
 
-/// Returns the first candidate of all, whoever is refused or no tag, and whether a range has the weight 0.
+/// Returns the first of all candidates, even if it is refused or not a tag, and whether a range has the weight 0.
 pub(crate) fn first_by_ranges<'a, 't, R: RangeList<'a>, T: TagList>(
     ranges: R,
     tags: &'t T,

@@ -1,4 +1,4 @@
-//! The choice tag by tag, which asks of each tag once whether it is one, and whether it is refused.
+//! The choice tag by tag, which checks once for each entry whether it is a tag, and whether it is refused.
 ghost use Rattle.std.specs.Prelude.{◌≡◌, ◌<◌, ◌↔◌, ℕ, List, IsTrue, Some, false, length};
 ghost use Rattle.std.specs.List.{slice_get};
 ghost use Rattle.langtag_match.specs.AcceptLanguage.{Element};

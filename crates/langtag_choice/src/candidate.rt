@@ -9,7 +9,7 @@ use crate::nearness::kept;
 use langtag_likely::TagFields;
 use std::cmp::Ordering;
 
-/// How a tag serves a range: it is nearer than 16, or nearer than 50, or look-up alone finds it. The first is the best.
+/// How a tag serves a range: its distance is below 16, or below 50, or only look-up finds it. The first is the best.
 #[derive(Clone, Copy, PartialEq, Eq, PartialOrd, Ord)]
 pub(crate) enum Service {
     Near,
@@ -22,7 +22,7 @@ impl Service {
     ghost use Rattle.langtag_choice.specs.Best.{service};
     ghost use Rattle.langtag_choice.specs.Found.{number_of};
 
-    /// Returns how a tag serves a range at a distance, which is 50 if look-up alone finds it.
+    /// Returns how a tag serves a range at a distance, which is 50 if only look-up finds it.
     pub(crate) fn at(distance: u8) -> Service
         ensures { number_of result ≡ service distance }
     {
@@ -35,7 +35,7 @@ impl Service {
         }
     }
 
-    /// Returns the least distance at which a tag serves a range so.
+    /// Returns the least distance at which a tag serves a range in this way.
     pub(crate) fn least_distance(self) -> u8
         ensures { (distance : ℕ) → result ≤ distance → number_of self ≤ service distance }
     {
@@ -47,22 +47,22 @@ impl Service {
     }
 }
 
-/// What is compared first. Of two the lesser is the better, by the first field in which they differ.
+/// What is compared first: the lesser of two is the better, by the first field in which they differ.
 #[derive(Clone, Copy, PartialEq, Eq, PartialOrd, Ord)]
 pub(crate) struct Rank {
     pub(crate) service: Service,
-    /// What the weight of the range lacks to 1, in thousandths.
+    /// 1 minus the weight of the range, in thousandths.
     pub(crate) lack: u32,
-    /// How many ranges stand before it.
+    /// The number of ranges before it.
     pub(crate) place: usize,
-    /// How far the tag is from it, and 50 for each tag that look-up alone finds.
+    /// The distance of the tag, which is 50 if only look-up finds it.
     pub(crate) distance: u8,
 }
 
 impl Rank {
     ghost use Rattle.std.specs.Prelude.{◌==◌, ◌&&◌, ◌||◌, nat_lt};
 
-    /// Returns whether the range is heavier than one at a place, or as heavy and stands before it.
+    /// Returns whether the range is heavier than another at a place, or as heavy and before it.
     pub(crate) fn is_wanted_more(self, lack: u32, place: usize) -> bool
         ensures { result ≡ (nat_lt self.lack lack || ((self.lack == lack) && nat_lt self.place place)) }
     {

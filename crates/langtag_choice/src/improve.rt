@@ -8,8 +8,8 @@ use crate::candidate::{Candidate, Rank, Service};
 use crate::nearness::measured;
 use crate::wish::Wish;
 
-/// Returns the distance below which a tag may be better than what was found, for a range with a weight at a place: 0 where none
-/// is, and 51 where it may be one that look-up alone finds.
+/// Returns the distance below which a tag may be better than what was found, for a range with a weight at a place. It
+/// is 0 if no tag can be better, and 51 if a tag that only look-up finds may be.
 pub(crate) fn limit(found: &Option<Candidate<'_, '_>>, weight: u32, place: usize) -> u8
     ensures { (element : Element) (index : ℕ) (tag : List ℕ) → element.weight ≡ weight → result ≤ spec.reach element.range tag → IsWithin found.now (spec.rank place element index tag) }
 {
@@ -28,7 +28,8 @@ fn lack(weight: u32) -> u32
     1000_u32.saturating_sub(weight)
 }
 
-/// Puts the text at an index in place of what was found, if it may serve a range and goes before. That it is a tag is not tested.
+/// Replaces what was found by the text at an index, if that may serve a range and ranks higher. It does not check that
+/// the text is a tag.
 pub(crate) fn improve<'a, 't>(
     found: &mut Option<Candidate<'a, 't>>,
     wish: &Wish<'a>,

@@ -12,6 +12,7 @@
 #![tactic(auto)]
 
 mod best;
+mod best_match;
 mod by_ranges;
 mod by_tags;
 mod candidate;
@@ -29,7 +30,11 @@ mod tag_distance;
 mod tag_list;
 mod wish;
 
-pub use best::{best_among, best_for_accept_language, best_for_header, best_for_ranges};
+pub use best::{
+    best_among, best_for_accept_language, best_for_header, best_for_ranges, match_among,
+    match_for_header,
+};
+pub use best_match::BestMatch;
 pub use range_list::RangeList;
 pub use tag_distance::{FORMLESS_DISTANCE, distance};
 pub use tag_list::TagList;

@@ -1,4 +1,4 @@
-//! Languages that no other is near, as the first letters of a tag show.
+//! Languages to which no other language is near, as the first letters of a tag show.
 ghost use Rattle.std.specs.Prelude.{◌≡◌, IsTrue, Some, false, length};
 ghost use Rattle.std.specs.List.{before_first};
 ghost use Rattle.std.specs.Option.{ForSome, option_map};
@@ -60,7 +60,8 @@ fn is_mark(byte: u8) -> bool
     hyphened(byte) == b'-'
 }
 
-/// Returns the letters of a form's language where it has two, the range begins with them, and no other language is near it.
+/// Returns the letters of a form's language if it has two, the range begins with them, and no other language is near
+/// it.
 pub(crate) fn lone_letters(range: &[u8], form: Option<TagFields<'_>>) -> Option<(u8, u8)>
     ensures lone { ForSome result (λ letters. spec.lone_head (option_map field_texts form.entry) ≡ Some letters) }
     ensures begins { ForSome result (λ letters. spec.head (hyphened range.now) ≡ Some letters) }

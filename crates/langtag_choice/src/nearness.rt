@@ -26,8 +26,8 @@ pub(crate) struct Nearness<'t> {
     pub(crate) form: Option<TagFields<'t>>,
 }
 
-/// Returns how near a tag is to a range that it may serve, if it is nearer than a limit: at the distance 50 where look-up alone finds
-/// it.
+/// Returns how near a tag is to a range that it may serve, if its distance is below a limit. The distance is 50 if only
+/// look-up finds it.
 #[tactic(auto, unfolding(crate::specs::Best::reach))]
 pub(crate) fn measured<'t>(limit: u8, wish: &Wish<'_>, tag: &'t [u8]) -> Option<Nearness<'t>>
     ensures { MatchOption result (IsTrue (may_serve (hyphened wish.now.range.now) tag.now) → limit ≤ reach (hyphened wish.now.range.now) tag.now)
@@ -107,7 +107,7 @@ fn equal_text<'t>(limit: u8, range: &[u8], tag: &'t [u8]) -> Option<Nearness<'t>
     })
 }
 
-/// Returns how much of a range look-up keeps where it finds a tag.
+/// Returns how much of a range look-up keeps, if it finds a tag.
 #[tactic(auto, unfolding(crate::specs::Nearness::kept))]
 pub(crate) fn kept(range: &[u8], tag: &[u8]) -> usize
     ensures { result ≡ spec.kept (hyphened range.now) tag.now }

@@ -1,6 +1,7 @@
 //! How far a tag is from another that a reader desires (UTS #35, part 1, section 'Language Matching').
 ghost use Rattle.std.specs.Prelude.{◌≡◌, ◌+◌, ◌≤◌, ◌⊎◌, ◌==◌, ◌&&◌, false};
 ghost use Rattle.langtag.specs.Text.{lang_tag_text};
+ghost use Rattle.langtag_match.specs.Wanted.{hyphened};
 ghost use Rattle.langtag_scan.specs.Case.{are_alike};
 ghost use Rattle.langtag_choice.specs.Distance as spec;
 ghost use Rattle.langtag_likely.specs.Likely.{are_alike_fields};
@@ -9,7 +10,7 @@ ghost use Rattle.langtag_likely.specs.Texts.{field_texts};
 use crate::region_distance::region_distance;
 use crate::rule_distance::{language_distance, script_distance};
 use langtag::LangTag;
-use langtag_likely::{TagFields, matching_form};
+use langtag_likely::{TagFields, are_alike, matching_form};
 use langtag_scan::case_insensitive_eq;
 
 /// The distance of two different tags of which one has no known language: it is only `und`, or is for private use, or
@@ -26,6 +27,14 @@ pub const FORMLESS_DISTANCE: u8 = 255;
 /// [`FORMLESS_DISTANCE`], or 0 if the tags are equal, ignoring case.
 ///
 /// A language that CLDR replaces is read as what replaces it, such as `ger`, `deu` and `iw`, and so is a deprecated region.
+///
+/// ```
+/// use langtag::LangTag;
+/// use langtag_choice::distance;
+///
+/// distance(LangTag::new("de-AT")?, LangTag::new("de")?); // 4
+/// distance(LangTag::new("de")?, LangTag::new("en")?); // 84
+/// ```
 pub fn distance(desired: LangTag<'_>, supported: LangTag<'_>) -> u8
     ensures distance { result ≡ spec.distance_of_texts (lang_tag_text desired.entry) (lang_tag_text supported.entry) }
     ensures equal { spec.ZeroIfEqual (lang_tag_text desired.entry) (lang_tag_text supported.entry) result }
@@ -45,6 +54,28 @@ fn texts_distance(desired: &[u8], supported: &[u8]) -> u8
     match (matching_form(desired), matching_form(supported)) {
         (Some(desired), Some(supported)) => fields_distance(desired, supported),
         _ => formless_distance(desired, supported),
+    }
+}
+
+/// Returns the distance from a range, in which `_` is read as `-`, to a tag.
+#[tactic(auto, unfolding(crate::specs::Distance::distance_of_texts), using(crate::proofs::ReadRanges::form_read))]
+pub(crate) fn range_distance(range: &[u8], tag: &[u8]) -> u8
+    ensures { result ≡ spec.distance_of_texts (hyphened range.now) tag.now }
+{
+    match (matching_form(range), matching_form(tag)) {
+        (Some(wanted), Some(found)) => fields_distance(wanted, found),
+        _ => formless_range_distance(range, tag),
+    }
+}
+
+/// Returns the distance from a range to a tag of which one has no matching form.
+fn formless_range_distance(range: &[u8], tag: &[u8]) -> u8
+    ensures { result ≡ spec.formless_distance (hyphened range.now) tag.now }
+{
+    if are_alike(range, tag) {
+        0
+    } else {
+        FORMLESS_DISTANCE
     }
 }
 

@@ -12,8 +12,9 @@ use crate::read_range::is_star;
 use langtag_likely::{TagFields, matching_form};
 use langtag_match::WantedRange;
 
-/// A range other than `*`, its weight, which is not 0, how many ranges stand before it, and its matching form, which is made once for
-/// all tags, with the letters of its language where it begins with them and no other is near that.
+/// A range other than `*`, its weight, which is not 0, and the number of ranges before it. Its matching form is made
+/// once for all tags. The letters of its language are kept if the range begins with them and no other language is near
+/// that.
 #[derive(Clone, Copy)]
 pub(crate) struct Wish<'a> {
     pub(crate) range: &'a [u8],
@@ -35,7 +36,7 @@ impl<'a> Wish<'a> {
     ghost use Rattle.langtag_choice.specs.Found.{wish_element};
     ghost use Rattle.langtag_choice.specs.Nearness.{kept};
 
-    /// Reads the range at a place: `None` for `*`, and of one with the weight 0.
+    /// Reads the range at a place, or returns `None` if it is `*` or has the weight 0.
     #[tactic(auto, unfolding(crate::specs::Best::serves))]
     pub(crate) fn new(wanted: WantedRange<'a>, place: usize) -> Option<Wish<'a>>
         ensures { MatchOption result ((tag : List ℕ) → serves (wanted_element wanted.entry) tag ≡ false)
@@ -54,8 +55,8 @@ impl<'a> Wish<'a> {
         })
     }
 
-    /// Returns whether a tag cannot serve the range, where its first letters show it: the range has a language that no other is
-    /// near, and the tag has another one of two letters.
+    /// Returns whether the first letters of a tag show that it cannot serve the range: no other language is near that
+    /// of the range, and the tag has another language of two letters.
     pub(crate) fn is_far_from(&self, tag: &[u8]) -> bool
         ensures far { IsTrue result → 50 ≤ distance_of_texts (hyphened self.now.range.now) tag.now }
         ensures kept { IsTrue result → kept (hyphened self.now.range.now) tag.now ≡ 0 }

@@ -1,5 +1,4 @@
 pub mod Catalogue
 pub mod Counts
-pub mod Keyword
 pub mod Prefix
 pub mod Request

@@ -5,7 +5,6 @@
 mod broken;
 mod catalogue;
 mod counts;
-mod keyword;
 mod literal;
 mod other_script;
 mod prefix;
@@ -15,7 +14,6 @@ mod script;
 pub use broken::{BrokenTag, tag_or_break};
 pub use catalogue::Catalogue;
 pub use counts::Counts;
-pub use keyword::{Types, types_of};
 pub use literal::Literal;
 pub use other_script::{find_in_scripts, replace_script};
 pub use prefix::longest_prefix;

@@ -196,8 +196,8 @@ impl ExtensionBuf {
         })
     }
 
-    /// Borrows the extension: `as_extension().as_str()` of the owned `U-CO` is `"U-CO"`. It is proved that comparisons
-    /// and hashes of owned extensions ignore case.
+    /// Borrows the extension: `Extension::new("U-CO")?.try_to_owned(alloc)?.as_extension().as_str()` is `"U-CO"`. It is
+    /// proved that comparisons and hashes of owned extensions ignore case.
     pub fn as_extension(&self) -> Extension<'_>
         ensures same_text { extension_text result ≡ extension_buf_text self.now }
 
@@ -206,7 +206,7 @@ impl ExtensionBuf {
         Extension::from_checked(self.as_str())
     }
 
-    /// Returns the text, in its original case: `as_str()` of the owned `U-CO` is `"U-CO"`.
+    /// Returns the text, in its original case: `Extension::new("U-CO")?.try_to_owned(alloc)?.as_str()` is `"U-CO"`.
     pub fn as_str(&self) -> &str
         ensures same_text { result.now ≡ extension_buf_text self.now }
         ensures in_class { IsExtension result.now }
@@ -214,7 +214,8 @@ impl ExtensionBuf {
         self.text.0.as_str()
     }
 
-    /// Returns the `String`, without copying it: `into_string()` of the owned `U-CO` is the `String` `U-CO`.
+    /// Returns the `String`, without copying it: `Extension::new("U-CO")?.try_to_owned(alloc)?.into_string()` is
+    /// `"U-CO"`.
     pub fn into_string(self) -> String
         ensures same_text { string_bytes result ≡ extension_buf_text self }
         ensures same_string { result ≡ extension_buf_string self }

@@ -170,8 +170,8 @@ impl ExtensionSubtagBuf {
         })
     }
 
-    /// Borrows the subtag: `as_extension_subtag().as_str()` of the owned `CO` is `"CO"`. It is proved that comparisons
-    /// and hashes of owned subtags ignore case.
+    /// Borrows the subtag: `ExtensionSubtag::new("CO")?.try_to_owned(alloc)?.as_extension_subtag().as_str()` is `"CO"`.
+    /// It is proved that comparisons and hashes of owned subtags ignore case.
     pub fn as_extension_subtag(&self) -> ExtensionSubtag<'_>
         ensures same_text { extension_subtag_text result ≡ extension_subtag_buf_text self.now }
 
@@ -180,7 +180,7 @@ impl ExtensionSubtagBuf {
         ExtensionSubtag::from_checked(self.as_str())
     }
 
-    /// Returns the text, in its original case: `as_str()` of the owned `CO` is `"CO"`.
+    /// Returns the text, in its original case: `ExtensionSubtag::new("CO")?.try_to_owned(alloc)?.as_str()` is `"CO"`.
     pub fn as_str(&self) -> &str
         ensures same_text { result.now ≡ extension_subtag_buf_text self.now }
         ensures in_class { IsTrue (class.is_extension_subtag result.now) }
@@ -188,7 +188,8 @@ impl ExtensionSubtagBuf {
         self.text.0.as_str()
     }
 
-    /// Returns the `String`, without copying it: `into_string()` of the owned `CO` is the `String` `CO`.
+    /// Returns the `String`, without copying it: `ExtensionSubtag::new("CO")?.try_to_owned(alloc)?.into_string()` is
+    /// `"CO"`.
     pub fn into_string(self) -> String
         ensures same_text { string_bytes result ≡ extension_subtag_buf_text self }
         ensures same_string { result ≡ extension_subtag_buf_string self }

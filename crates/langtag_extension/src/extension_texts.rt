@@ -22,7 +22,7 @@ impl<'a> Model for ExtensionTexts<'a> {
 }
 
 impl<'a> ExtensionTexts<'a> {
-    /// What stands from one subtag of one byte up to the next. The empty text has none.
+    /// The texts from one subtag of one byte up to the next. The empty text has none.
     pub(crate) fn new(text: &'a str) -> Self
         ensures { result ≡ extension_texts text.now }
     {
@@ -71,8 +71,8 @@ fn split_extension<'a>(text: &'a str) -> (&'a str, Option<&'a str>)
     (&text[..end], Some(&text[end + 1..]))
 }
 
-/// Where the first extension of a text ends: at the first hyphen before a subtag of one byte, or at the end. The subtag that the
-/// text begins with is not looked at.
+/// Returns where the first extension of a text ends: at the first hyphen before a subtag of one byte, or at the end.
+/// The first subtag of the text does not count.
 pub fn first_extension_end(text: &[u8]) -> usize
     ensures { IsFirstExtension text.now result }
 {

@@ -76,7 +76,7 @@ impl<'a> Extensions<'a> {
         Ok(Extensions::from_checked(text))
     }
 
-    /// Returns the extensions of a text that is known to be some, without checking it.
+    /// Returns the extensions of a text that is known to be extensions, without checking it.
     /// `Extensions::from_checked(extensions.as_str())` is equal to `extensions`.
     pub fn from_checked(text: &'a str) -> Extensions<'a>
         requires { IsExtensions text.now }
@@ -224,8 +224,8 @@ impl ExtensionsBuf {
         })
     }
 
-    /// Borrows the extensions: `as_extensions().as_str()` of the owned `U-CO` is `"U-CO"`. It is proved that
-    /// comparisons and hashes of owned lists of extensions ignore case.
+    /// Borrows the extensions: `Extensions::new("U-CO")?.try_to_owned(alloc)?.as_extensions().as_str()` is `"U-CO"`. It
+    /// is proved that comparisons and hashes of owned lists of extensions ignore case.
     pub fn as_extensions(&self) -> Extensions<'_>
         ensures same_text { extensions_text result ≡ extensions_buf_text self.now }
 
@@ -234,7 +234,7 @@ impl ExtensionsBuf {
         Extensions::from_checked(self.as_str())
     }
 
-    /// Returns the text, in its original case: `as_str()` of the owned `U-CO` is `"U-CO"`.
+    /// Returns the text, in its original case: `Extensions::new("U-CO")?.try_to_owned(alloc)?.as_str()` is `"U-CO"`.
     pub fn as_str(&self) -> &str
         ensures same_text { result.now ≡ extensions_buf_text self.now }
         ensures in_class { IsExtensions result.now }
@@ -242,7 +242,8 @@ impl ExtensionsBuf {
         self.text.0.as_str()
     }
 
-    /// Returns the `String`, without copying it: `into_string()` of the owned `U-CO` is the `String` `U-CO`.
+    /// Returns the `String`, without copying it: `Extensions::new("U-CO")?.try_to_owned(alloc)?.into_string()` is
+    /// `"U-CO"`.
     pub fn into_string(self) -> String
         ensures same_text { string_bytes result ≡ extensions_buf_text self }
         ensures same_string { result ≡ extensions_buf_string self }

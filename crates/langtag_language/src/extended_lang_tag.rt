@@ -167,8 +167,8 @@ impl ExtendedLangTagBuf {
         })
     }
 
-    /// Borrows the subtag: `as_extended_lang_tag().as_str()` of the owned `YUE` is `"YUE"`. It is proved that
-    /// comparisons and hashes of owned extended subtags ignore case.
+    /// Borrows the subtag: `ExtendedLangTag::new("YUE")?.try_to_owned(alloc)?.as_extended_lang_tag().as_str()` is
+    /// `"YUE"`. It is proved that comparisons and hashes of owned extended subtags ignore case.
     pub fn as_extended_lang_tag(&self) -> ExtendedLangTag<'_>
         ensures same_text { extended_lang_tag_text result ≡ extended_lang_tag_buf_text self.now }
 
@@ -177,7 +177,7 @@ impl ExtendedLangTagBuf {
         ExtendedLangTag::from_checked(self.as_str())
     }
 
-    /// Returns the text, in its original case: `as_str()` of the owned `YUE` is `"YUE"`.
+    /// Returns the text, in its original case: `ExtendedLangTag::new("YUE")?.try_to_owned(alloc)?.as_str()` is `"YUE"`.
     pub fn as_str(&self) -> &str
         ensures same_text { result.now ≡ extended_lang_tag_buf_text self.now }
         ensures in_class { IsTrue (class.is_extended result.now) }
@@ -185,7 +185,8 @@ impl ExtendedLangTagBuf {
         self.text.0.as_str()
     }
 
-    /// Returns the `String`, without copying it: `into_string()` of the owned `YUE` is the `String` `YUE`.
+    /// Returns the `String`, without copying it: `ExtendedLangTag::new("YUE")?.try_to_owned(alloc)?.into_string()` is
+    /// `"YUE"`.
     pub fn into_string(self) -> String
         ensures same_text { string_bytes result ≡ extended_lang_tag_buf_text self }
         ensures same_string { result ≡ extended_lang_tag_buf_string self }

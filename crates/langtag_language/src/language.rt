@@ -229,8 +229,8 @@ impl LanguageBuf {
         })
     }
 
-    /// Borrows the language: `as_language().as_str()` of the owned `ZH-YUE` is `"ZH-YUE"`. It is proved that
-    /// comparisons and hashes of owned languages ignore case.
+    /// Borrows the language: `Language::new("ZH-YUE")?.try_to_owned(alloc)?.as_language().as_str()` is `"ZH-YUE"`. It
+    /// is proved that comparisons and hashes of owned languages ignore case.
     pub fn as_language(&self) -> Language<'_>
         ensures same_text { language_text result ≡ language_buf_text self.now }
 
@@ -239,7 +239,7 @@ impl LanguageBuf {
         Language::from_checked(self.as_str())
     }
 
-    /// Returns the text, in its original case: `as_str()` of the owned `ZH-YUE` is `"ZH-YUE"`.
+    /// Returns the text, in its original case: `Language::new("ZH-YUE")?.try_to_owned(alloc)?.as_str()` is `"ZH-YUE"`.
     pub fn as_str(&self) -> &str
         ensures same_text { result.now ≡ language_buf_text self.now }
         ensures in_class { IsLanguage result.now }
@@ -247,7 +247,8 @@ impl LanguageBuf {
         self.text.0.as_str()
     }
 
-    /// Returns the `String`, without copying it: `into_string()` of the owned `ZH-YUE` is the `String` `ZH-YUE`.
+    /// Returns the `String`, without copying it: `Language::new("ZH-YUE")?.try_to_owned(alloc)?.into_string()` is
+    /// `"ZH-YUE"`.
     pub fn into_string(self) -> String
         ensures same_text { string_bytes result ≡ language_buf_text self }
         ensures same_string { result ≡ language_buf_string self }

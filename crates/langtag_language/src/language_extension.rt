@@ -190,7 +190,8 @@ impl LanguageExtensionBuf {
         })
     }
 
-    /// Borrows the language extension: `as_language_extension().as_str()` of the owned `MIN-NAN` is `"MIN-NAN"`. It is
+    /// Borrows the language extension:
+    /// `LanguageExtension::new("MIN-NAN")?.try_to_owned(alloc)?.as_language_extension().as_str()` is `"MIN-NAN"`. It is
     /// proved that comparisons and hashes of owned language extensions ignore case.
     pub fn as_language_extension(&self) -> LanguageExtension<'_>
         ensures same_text { language_extension_text result ≡ language_extension_buf_text self.now }
@@ -200,7 +201,8 @@ impl LanguageExtensionBuf {
         LanguageExtension::from_checked(self.as_str())
     }
 
-    /// Returns the text, in its original case: `as_str()` of the owned `MIN-NAN` is `"MIN-NAN"`.
+    /// Returns the text, in its original case: `LanguageExtension::new("MIN-NAN")?.try_to_owned(alloc)?.as_str()` is
+    /// `"MIN-NAN"`.
     pub fn as_str(&self) -> &str
         ensures same_text { result.now ≡ language_extension_buf_text self.now }
         ensures in_class { IsLanguageExtension result.now }
@@ -208,7 +210,8 @@ impl LanguageExtensionBuf {
         self.text.0.as_str()
     }
 
-    /// Returns the `String`, without copying it: `into_string()` of the owned `MIN-NAN` is the `String` `MIN-NAN`.
+    /// Returns the `String`, without copying it:
+    /// `LanguageExtension::new("MIN-NAN")?.try_to_owned(alloc)?.into_string()` is `"MIN-NAN"`.
     pub fn into_string(self) -> String
         ensures same_text { string_bytes result ≡ language_extension_buf_text self }
         ensures same_string { result ≡ language_extension_buf_string self }

@@ -168,8 +168,8 @@ impl PrimaryLanguageBuf {
         })
     }
 
-    /// Borrows the subtag: `as_primary_language().as_str()` of the owned `FR` is `"FR"`. It is proved that comparisons
-    /// and hashes of owned primary languages ignore case.
+    /// Borrows the subtag: `PrimaryLanguage::new("FR")?.try_to_owned(alloc)?.as_primary_language().as_str()` is `"FR"`.
+    /// It is proved that comparisons and hashes of owned primary languages ignore case.
     pub fn as_primary_language(&self) -> PrimaryLanguage<'_>
         ensures same_text { primary_language_text result ≡ primary_language_buf_text self.now }
 
@@ -178,7 +178,7 @@ impl PrimaryLanguageBuf {
         PrimaryLanguage::from_checked(self.as_str())
     }
 
-    /// Returns the text, in its original case: `as_str()` of the owned `FR` is `"FR"`.
+    /// Returns the text, in its original case: `PrimaryLanguage::new("FR")?.try_to_owned(alloc)?.as_str()` is `"FR"`.
     pub fn as_str(&self) -> &str
         ensures same_text { result.now ≡ primary_language_buf_text self.now }
         ensures in_class { IsTrue (class.is_primary result.now) }
@@ -186,7 +186,8 @@ impl PrimaryLanguageBuf {
         self.text.0.as_str()
     }
 
-    /// Returns the `String`, without copying it: `into_string()` of the owned `FR` is the `String` `FR`.
+    /// Returns the `String`, without copying it: `PrimaryLanguage::new("FR")?.try_to_owned(alloc)?.into_string()` is
+    /// `"FR"`.
     pub fn into_string(self) -> String
         ensures same_text { string_bytes result ≡ primary_language_buf_text self }
         ensures same_string { result ≡ primary_language_buf_string self }

@@ -14,6 +14,14 @@ use langtag::{LangTag, case_insensitive_eq};
 /// It depends on the script of the tag. If the tag has none, the most likely script of its language and region is used.
 /// Deprecated subtags such as `iw` count as their replacements. It is `false` for private-use tags, irregular tags and
 /// `und`.
+///
+/// ```
+/// use langtag::LangTag;
+/// use langtag_likely::is_right_to_left;
+///
+/// is_right_to_left(LangTag::new("az-IR")?); // true
+/// is_right_to_left(LangTag::new("az")?); // false
+/// ```
 pub fn is_right_to_left(tag: LangTag<'_>) -> bool
     ensures { result ≡ spec.is_right_to_left (lang_tag_text tag.entry) }
 {

@@ -1,4 +1,4 @@
-//! The texts of fields: the empty text where there is none, or none that is known.
+//! The texts of fields: the empty text if the field is absent or unknown.
 ghost use Rattle.std.specs.Prelude.{◌≡◌, IsTrue, [], codes, unwrap_or};
 ghost use Rattle.std.specs.Option.{option_map};
 ghost use Rattle.langtag_language.specs.Language.{EachLanguageSpelling};
@@ -12,14 +12,14 @@ use langtag_language::Language;
 use langtag_place::{Region, Script};
 use langtag_scan::case_insensitive_eq;
 
-/// Returns a text, or another where it is empty.
+/// Returns a text, or another if it is empty.
 pub(crate) fn or_other<'a>(text: &'a [u8], other: &'a [u8]) -> &'a [u8]
     ensures { result.now ≡ or_other text.now other.now }
 {
     if text.is_empty() { other } else { text }
 }
 
-/// Returns a text, or the empty one where it says that what it stands for is unknown.
+/// Returns a text, or the empty one if the text means that its field is unknown.
 pub(crate) fn known<'a>(unknown: &[u8], text: &'a [u8]) -> &'a [u8]
     ensures { result.now ≡ known unknown.now text.now }
 {

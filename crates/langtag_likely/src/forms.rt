@@ -22,6 +22,13 @@ use std::alloc::{AllocError, Global};
 /// # Errors
 ///
 /// Returns an error if allocation fails.
+///
+/// ```
+/// use langtag::LangTag;
+/// use langtag_likely::maximized;
+///
+/// maximized(alloc, LangTag::new("zh-TW")?)?.as_str(); // "zh-Hant-TW"
+/// ```
 pub fn maximized(alloc: Global, tag: LangTag<'_>) -> Result<LangTagBuf, AllocError>
     ensures maximal { IfOk result (λ form. IsMaximalForm (lang_tag_text tag.entry) (lang_tag_buf_text form)) }
     ensures one { IfOk result (λ form. IsOnlyForm maximal_record (lang_tag_text tag.entry) (lang_tag_buf_text form)) }
@@ -39,6 +46,13 @@ pub fn maximized(alloc: Global, tag: LangTag<'_>) -> Result<LangTagBuf, AllocErr
 /// # Errors
 ///
 /// Returns an error if allocation fails.
+///
+/// ```
+/// use langtag::LangTag;
+/// use langtag_likely::minimized;
+///
+/// minimized(alloc, LangTag::new("zh-Hant-TW")?)?.as_str(); // "zh-TW"
+/// ```
 pub fn minimized(alloc: Global, tag: LangTag<'_>) -> Result<LangTagBuf, AllocError>
     ensures minimal { IfOk result (λ form. IsMinimalForm (lang_tag_text tag.entry) (lang_tag_buf_text form)) }
     ensures one { IfOk result (λ form. IsOnlyForm minimal_record (lang_tag_text tag.entry) (lang_tag_buf_text form)) }
@@ -53,6 +67,15 @@ pub fn minimized(alloc: Global, tag: LangTag<'_>) -> Result<LangTagBuf, AllocErr
 
 /// Writes a tag with its likely subtags to a buffer, as [`maximized`] returns it, and returns its length in bytes. If
 /// the buffer is too short, it stays unchanged, and the length says how much room is needed. It does not allocate.
+///
+/// ```
+/// use langtag::LangTag;
+/// use langtag_likely::write_maximized;
+///
+/// let mut buffer = [0; 16];
+/// let length = write_maximized(LangTag::new("zh-TW")?, &mut buffer);
+/// buffer.get(..length); // Some(&b"zh-Hant-TW"[..])
+/// ```
 pub fn write_maximized(tag: LangTag<'_>, buffer: &mut [u8]) -> usize
     ensures { Writes (IsMaximalForm (lang_tag_text tag.entry)) buffer.old buffer.new result }
 {

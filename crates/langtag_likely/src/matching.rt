@@ -21,7 +21,7 @@ pub fn matching_form(text: &[u8]) -> Option<TagFields<'_>>
     }
 }
 
-/// Returns the fields of a text, of which the language is replaced where it is deprecated.
+/// Returns the fields of a text, with its language replaced if CLDR replaces it.
 #[tactic(auto, unfolding(crate::specs::Matching::replaced_form))]
 pub fn replaced_form(text: &[u8]) -> Option<TagFields<'_>>
     ensures { option_map field_texts result ≡ spec.replaced_form text.now }

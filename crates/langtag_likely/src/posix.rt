@@ -46,6 +46,13 @@ const MOST_WITH_SCRIPT: usize = MOST + 5;
 /// Returns `NoTag` with the name if its language and territory are not a tag, as in `C`, `en_` and the empty text, or
 /// are `POSIX`, ignoring case, or have more than 255 bytes, which no system's names have. Returns `Memory` if
 /// allocation fails.
+///
+/// ```
+/// use langtag_likely::from_posix;
+///
+/// from_posix(alloc, "sr_RS@latin")?.as_str(); // "sr-Latn-RS"
+/// from_posix(alloc, "C").is_err(); // true
+/// ```
 pub fn from_posix(alloc: Global, name: &str) -> Result<LangTagBuf, PosixError<'_>>
     ensures accepts { IfOk result (λ tag. NamesTag name.now × IsTagOfName name.now (lang_tag_buf_text tag)) }
     ensures one { IfOk result (λ tag. (form : List ℕ) → IsTagOfName name.now form → form ≡ lang_tag_buf_text tag) }

@@ -18,7 +18,7 @@ use langtag::NormalLangTag;
 use langtag_language::Language;
 use langtag_output::write_pieces;
 
-/// Writes a tag with other fields into a buffer, or as it is where there are none.
+/// Writes a tag with other fields to a buffer, or unchanged if there are none.
 pub(crate) fn write_changed(
     tag: NormalLangTag<'_>,
     fields: Option<TagFields<'_>>,

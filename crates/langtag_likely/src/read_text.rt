@@ -5,7 +5,7 @@ ghost use Rattle.langtag_match.specs.Wanted.{hyphened, hyphened_byte};
 
 use langtag_scan::into_smallcase;
 
-/// Returns whether a text, so read, is another but for case.
+/// Returns whether a text, read in this way, equals another, ignoring case.
 pub fn are_alike(range: &[u8], text: &[u8]) -> bool
     ensures { result ≡ are_alike (hyphened range.now) text.now }
 {

@@ -17,7 +17,7 @@ use crate::tables;
 use crate::tag_fields::TagFields;
 use langtag_tables::letter_number;
 
-/// Returns the right side of the row with this left side. Its language is empty where the left side has one.
+/// Returns the right side of the row with this left side. Its language is empty if the left side has one.
 #[tactic(auto, using(crate::proofs::RowLaws::all_long, crate::proofs::RowLaws::all_alone, crate::proofs::RowLaws::all_other))]
 pub(crate) fn likely_for(key: TagFields<'_>) -> Option<TagFields<'static>>
     ensures { option_map (filled (field_texts key.entry)) (option_map field_texts result)
@@ -77,7 +77,7 @@ pub fn key_number(key: TagFields<'_>) -> u32
     language_number(key.language) * 131072 + places
 }
 
-/// Returns the letters of a language as the digits of a number in base 26; 0 where there is none.
+/// Returns the letters of a language as the digits of a number in base 26, or 0 if there is no language.
 #[tactic(auto, using(crate::proofs::FieldClasses::language_primary, crate::proofs::FieldClasses::number_of_none))]
 pub fn language_number(language: &[u8]) -> u32
     requires in_class { IsTrue (is_language_field language.now) }

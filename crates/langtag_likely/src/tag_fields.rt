@@ -6,7 +6,7 @@ use crate::fields::{known, language_field, or_other, region_field, script_field}
 use langtag::NormalLangTag;
 use langtag_scan::case_insensitive_eq;
 
-/// A language, a script and a region, each the empty text where there is none.
+/// A language, a script and a region. Each is the empty text if it is absent.
 #[derive(Clone, Copy)]
 pub struct TagFields<'a> {
     pub language: &'a [u8],
@@ -79,7 +79,7 @@ impl<'a> TagFields<'a> {
         }
     }
 
-    /// Returns these fields, and in place of each that is empty that of others.
+    /// Returns these fields, with each empty one replaced by that of `others`.
     pub(crate) fn filled(self, others: TagFields<'a>) -> TagFields<'a>
         ensures { field_texts result ≡ filled (field_texts self.entry) (field_texts others.entry) }
     {

@@ -57,6 +57,13 @@ impl<'a> AcceptLanguage<'a> {
     /// # Errors
     ///
     /// Returns an error if allocation fails.
+    ///
+    /// ```
+    /// use langtag_match::AcceptLanguage;
+    ///
+    /// let accepted = AcceptLanguage::lenient(alloc, "de_CH, fr;q=0.5, de")?;
+    /// accepted.ranges().first().map(|first| first.range.as_str()); // Some("de")
+    /// ```
     pub fn lenient(alloc: Global, header: &'a str) -> Result<AcceptLanguage<'a>, AllocError>
         ensures { IfOk result (λ accepted. spec.AreElements header.now (accept_language_ranges accepted)) }
     {
@@ -111,6 +118,14 @@ impl<'a> AcceptLanguage<'a> {
 /// # Errors
 ///
 /// Returns the errors of [`AcceptLanguage::new`].
+///
+/// ```
+/// use langtag::LangTag;
+/// use langtag_match::tag_for_header;
+///
+/// let tags = [LangTag::new("de-CH")?, LangTag::new("fr")?];
+/// tag_for_header(alloc, "fr;q=0.3, DE-ch-1996;q=0.9", &tags, LangTag::new("en")?)?.as_str(); // "de-CH"
+/// ```
 pub fn tag_for_header<'h, 't>(
     alloc: Global,
     header: &'h str,

@@ -35,6 +35,13 @@ pub struct Element<'a> {
 ///
 /// Returns the part that is malformed if the text is not an element: the range in `fr_FR`, the weight in `fr;q=2`. If
 /// both are malformed, or if the text is empty or only white space, it is the range. See [`is_empty_element`].
+///
+/// ```
+/// use langtag_match::element_at;
+///
+/// let element = element_at(b" fr;q=0.5").ok();
+/// element.map(|it| (it.start, it.weighted.range.as_str(), it.weighted.weight)); // Some((1, "fr", 500))
+/// ```
 #[tactic(auto, unfolding(crate::specs::AcceptLanguage::element, crate::specs::AcceptLanguage::bad_part))]
 pub fn element_at(item: &[u8]) -> Result<Element<'_>, ElementPart>
     ensures read { IfOk result (λ found. spec.element item.now ≡ Some (spec.reading found.weighted)) }

@@ -4,7 +4,7 @@ ghost use Rattle.langtag_match.specs.Extended as spec;
 
 use langtag::{Subtags, case_insensitive_eq};
 
-/// Returns whether the first subtags match, and the others of the range stand among those of the tag.
+/// Returns whether the first subtags match, and the other subtags of the range are among those of the tag.
 pub(crate) fn matches_extended(range: &str, tag: &str) -> bool
     ensures { IsTrue result ↔ spec.MatchesExtended range.now tag.now }
 {

@@ -18,6 +18,17 @@ use langtag::LangTag;
 ///
 /// Each tag is compared with each range. For each range that matches, it is compared again with the earlier ranges. So
 /// if many ranges match one tag, the time is quadratic in their number.
+///
+/// ```
+/// use langtag::LangTag;
+/// use langtag_match::{filter_basic, LanguageRange};
+///
+/// let ranges = [LanguageRange::new("de-CH")?, LanguageRange::new("de")?];
+/// let tags = [LangTag::new("en")?, LangTag::new("de-AT")?, LangTag::new("de-CH-1996")?];
+/// let mut found = filter_basic(&ranges, &tags);
+/// found.next().map(|tag| tag.as_str()); // Some("de-CH-1996")
+/// found.next().map(|tag| tag.as_str()); // Some("de-AT")
+/// ```
 pub fn filter_basic<'a, 't>(
     ranges: &'a [LanguageRange<'a>],
     tags: &'a [LangTag<'t>],
@@ -34,6 +45,15 @@ pub fn filter_basic<'a, 't>(
 
 /// Returns an iterator over the tags that extended filtering finds (RFC 4647 section 3.3.2), in the same order and time
 /// as [`filter_basic`]: for `*-CH` and the tags `de-AT` and `de-Latn-CH` it is `de-Latn-CH`.
+///
+/// ```
+/// use langtag::LangTag;
+/// use langtag_match::{filter_extended, LanguageRange};
+///
+/// let ranges = [LanguageRange::new("*-CH")?];
+/// let tags = [LangTag::new("de-AT")?, LangTag::new("de-Latn-CH")?];
+/// filter_extended(&ranges, &tags).next().map(|tag| tag.as_str()); // Some("de-Latn-CH")
+/// ```
 pub fn filter_extended<'a, 't>(
     ranges: &'a [LanguageRange<'a>],
     tags: &'a [LangTag<'t>],

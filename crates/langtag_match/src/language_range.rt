@@ -71,7 +71,7 @@ impl<'a> LanguageRange<'a> {
         Ok(LanguageRange::from_checked(text))
     }
 
-    /// Returns the range with a text that is known to be one, without checking it.
+    /// Returns the range of a text that is known to be one, without checking it.
     /// `LanguageRange::from_checked(range.as_str())` is equal to `range`.
     pub fn from_checked(text: &'a str) -> LanguageRange<'a>
         requires { IsTrue (spec.is_language_range text.now) }
@@ -104,6 +104,13 @@ impl<'a> LanguageRange<'a> {
     }
 
     /// Returns whether the range is a basic one (RFC 4647 section 2.1): `true` for `de-CH` and `*`, `false` for `*-CH`.
+    ///
+    /// ```
+    /// use langtag_match::LanguageRange;
+    ///
+    /// LanguageRange::new("de-CH")?.is_basic(); // true
+    /// LanguageRange::new("*-CH")?.is_basic(); // false
+    /// ```
     pub fn is_basic(&self) -> bool
         ensures { result ≡ spec.is_basic_range (language_range_text self.now) }
     {
@@ -114,6 +121,15 @@ impl<'a> LanguageRange<'a> {
     /// `de-DE-1996`, but neither `de-Deva` nor `de-Latn-DE`.
     ///
     /// It is meant for basic ranges. In other ranges `*` equals no subtag, so `de-*` matches nothing.
+    ///
+    /// ```
+    /// use langtag::LangTag;
+    /// use langtag_match::LanguageRange;
+    ///
+    /// let range = LanguageRange::new("de-DE")?;
+    /// range.matches_basic(&LangTag::new("de-DE-1996")?); // true
+    /// range.matches_basic(&LangTag::new("de-Latn-DE")?); // false
+    /// ```
     pub fn matches_basic(&self, tag: &LangTag<'_>) -> bool
         ensures matches { IsTrue result ↔ MatchesBasic (language_range_text self.now) (lang_tag_text tag.now) }
         ensures test { result ≡ test_basic (language_range_text self.now) (lang_tag_text tag.now) }
@@ -123,6 +139,15 @@ impl<'a> LanguageRange<'a> {
 
     /// Returns whether the range matches a tag by extended filtering (RFC 4647 section 3.3.2): `de-DE` and `de-*-DE`
     /// match `de-Latn-DE-1996`. They do not match `de-x-DE`, because a singleton is never skipped.
+    ///
+    /// ```
+    /// use langtag::LangTag;
+    /// use langtag_match::LanguageRange;
+    ///
+    /// let range = LanguageRange::new("de-DE")?;
+    /// range.matches_extended(&LangTag::new("de-Latn-DE-1996")?); // true
+    /// range.matches_extended(&LangTag::new("de-x-DE")?); // false
+    /// ```
     pub fn matches_extended(&self, tag: &LangTag<'_>) -> bool
         ensures matches { IsTrue result ↔ MatchesExtended (language_range_text self.now) (lang_tag_text tag.now) }
         ensures test { result ≡ test_extended (language_range_text self.now) (lang_tag_text tag.now) }
@@ -132,6 +157,14 @@ impl<'a> LanguageRange<'a> {
 
     /// Returns an iterator over the range and its fallbacks, the longest first (RFC 4647 section 3.4): `zh-Hant-TW`,
     /// `zh-Hant` and `zh`. [`look_up`](crate::look_up) tries them in this order.
+    ///
+    /// ```
+    /// use langtag_match::LanguageRange;
+    ///
+    /// let mut fallbacks = LanguageRange::new("zh-Hant-TW")?.fallbacks();
+    /// fallbacks.next().map(|range| range.as_str()); // Some("zh-Hant-TW")
+    /// fallbacks.next().map(|range| range.as_str()); // Some("zh-Hant")
+    /// ```
     pub fn fallbacks(&self) -> Fallbacks<'a>
         ensures list { fallbacks_left result ≡ fallbacks (language_range_text self.now) }
         ensures few { length (fallbacks_left result) < 2 ^ 64 }
@@ -204,8 +237,8 @@ impl LanguageRangeBuf {
         })
     }
 
-    /// Borrows the range: `as_language_range().is_basic()` of the owned `de` is `true`. It is proved that comparisons
-    /// and hashes of owned ranges ignore case.
+    /// Borrows the range: `LanguageRange::new("de")?.try_to_owned(alloc)?.as_language_range().is_basic()` is `true`. It
+    /// is proved that comparisons and hashes of owned ranges ignore case.
     pub fn as_language_range(&self) -> LanguageRange<'_>
         ensures same_text { language_range_text result ≡ language_range_buf_text self.now }
 
@@ -214,7 +247,8 @@ impl LanguageRangeBuf {
         LanguageRange::from_checked(self.as_str())
     }
 
-    /// Returns the text, in its original case: `as_str()` of the owned `de-ch` is `"de-ch"`.
+    /// Returns the text, in its original case: `LanguageRange::new("de-ch")?.try_to_owned(alloc)?.as_str()` is
+    /// `"de-ch"`.
     pub fn as_str(&self) -> &str
         ensures same_text { result.now ≡ language_range_buf_text self.now }
         ensures in_class { IsTrue (spec.is_language_range result.now) }
@@ -222,7 +256,8 @@ impl LanguageRangeBuf {
         self.text.0.as_str()
     }
 
-    /// Returns the `String`, without copying it: `into_string()` of the owned `de-ch` is the `String` `de-ch`.
+    /// Returns the `String`, without copying it: `LanguageRange::new("de-ch")?.try_to_owned(alloc)?.into_string()` is
+    /// `"de-ch"`.
     pub fn into_string(self) -> String
         ensures same_text { string_bytes result ≡ language_range_buf_text self }
         ensures same_string { result ≡ language_range_buf_string self }

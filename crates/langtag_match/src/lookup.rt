@@ -16,6 +16,15 @@ use langtag::LangTag;
 ///
 /// An extended range is looked up without its `*` (section 3.2): `de-*-DE` as `de-DE`. A range that begins with `*`
 /// finds no tag, and the next range is tried.
+///
+/// ```
+/// use langtag::LangTag;
+/// use langtag_match::{look_up, LanguageRange};
+///
+/// let ranges = [LanguageRange::new("nl")?, LanguageRange::new("zh-Hant-CN")?];
+/// let tags = [LangTag::new("zh")?, LangTag::new("zh-Hant")?];
+/// look_up(&ranges, &tags, LangTag::new("en")?).as_str(); // "zh-Hant"
+/// ```
 pub fn look_up<'a>(
     ranges: &[LanguageRange<'_>],
     tags: &[LangTag<'a>],

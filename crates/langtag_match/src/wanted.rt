@@ -45,6 +45,14 @@ pub struct WantedRanges<'a> {
 /// RFC 9110.
 ///
 /// [`AcceptLanguage`]: crate::AcceptLanguage
+///
+/// ```
+/// use langtag_match::wanted_ranges;
+///
+/// let mut ranges = wanted_ranges(b"de_CH, en;q=.5");
+/// ranges.next().map(|it| (it.bytes, it.weight)); // Some((&b"de_CH"[..], 1000))
+/// ranges.next().map(|it| (it.bytes, it.weight)); // Some((&b"en"[..], 500))
+/// ```
 pub fn wanted_ranges<'a>(header: &'a [u8]) -> WantedRanges<'a>
     ensures list { spec.wanted_left result ≡ spec.wanted_elements header.now }
     ensures case { spec.IgnoresCase header.now (spec.wanted_left result) }

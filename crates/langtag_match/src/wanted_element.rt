@@ -1,4 +1,4 @@
-//! An element of a header of which nothing is refused.
+//! An element of a header, read leniently.
 ghost use Rattle.std.specs.Prelude.{◌≡◌, false, IsTrue, MatchOption};
 ghost use Rattle.std.specs.List.{after_first, slice_split, list_all};
 ghost use Rattle.std.specs.Option.{option_map};

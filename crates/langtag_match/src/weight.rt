@@ -6,6 +6,13 @@ ghost use Rattle.langtag_match.specs.Weight as spec;
 
 /// Returns the weight in a text, in thousandths (RFC 9110 section 12.4.2): 500 for `q=0.5` and `Q=0.500`. Returns
 /// [`None`] if the text is not a weight, such as `q=2`, `q=.5`, `q=0.1234` and `q = 1`.
+///
+/// ```
+/// use langtag_match::weight_of;
+///
+/// weight_of(b"q=0.5"); // Some(500)
+/// weight_of(b"q=2"); // None
+/// ```
 pub fn weight_of(text: &[u8]) -> Option<u32>
     ensures { result ≡ spec.weight text.now }
 {

@@ -2,7 +2,7 @@
 ghost use Rattle.std.specs.Prelude.{◌≡◌, ◌∷◌, [], length};
 ghost use Rattle.langtag_output.specs.Output.{Appends, Pushes, HasText};
 
-/// A buffer, and the length of the text that was put into it so far. What does not fit is counted, and not written.
+/// A buffer, and the length of the text so far. Bytes that do not fit are counted, but not written.
 #[derive(Drop)]
 pub struct Output<'a> {
     buffer: &'a mut [u8],
@@ -25,7 +25,7 @@ impl<'a> Output<'a> {
         self.len
     }
 
-    /// Puts a subtag, or some that are joined, at the end, with a hyphen between them and what stands before.
+    /// Appends a subtag, or several joined ones, after a hyphen if there is text before them.
     pub fn push_subtag(&mut self, subtag: &[u8])
         ensures same_buffer { self.new.buffer.ghost_name ≡ self.old.buffer.ghost_name }
         ensures pushed { Pushes (subtag.now ∷ []) self.old self.new }
@@ -36,7 +36,7 @@ impl<'a> Output<'a> {
         self.push(subtag);
     }
 
-    /// Puts bytes at the end. The length stays at its greatest where a text has more bytes than that.
+    /// Appends bytes. The length stops at its maximum if a text has more bytes.
     pub fn push(&mut self, bytes: &[u8])
         ensures same_buffer { self.new.buffer.ghost_name ≡ self.old.buffer.ghost_name }
         ensures appended { Appends bytes.now self.old self.new }

@@ -168,8 +168,8 @@ impl RegionBuf {
         })
     }
 
-    /// Borrows the region: `as_region().as_str()` of the owned `FR` is `"FR"`. It is proved that comparisons and hashes
-    /// of owned regions ignore case.
+    /// Borrows the region: `Region::new("FR")?.try_to_owned(alloc)?.as_region().as_str()` is `"FR"`. It is proved that
+    /// comparisons and hashes of owned regions ignore case.
     pub fn as_region(&self) -> Region<'_>
         ensures same_text { region_text result ≡ region_buf_text self.now }
 
@@ -178,7 +178,7 @@ impl RegionBuf {
         Region::from_checked(self.as_str())
     }
 
-    /// Returns the text, in its original case: `as_str()` of the owned `FR` is `"FR"`.
+    /// Returns the text, in its original case: `Region::new("FR")?.try_to_owned(alloc)?.as_str()` is `"FR"`.
     pub fn as_str(&self) -> &str
         ensures same_text { result.now ≡ region_buf_text self.now }
         ensures in_class { IsTrue (class.is_region result.now) }
@@ -186,7 +186,7 @@ impl RegionBuf {
         self.text.0.as_str()
     }
 
-    /// Returns the `String`, without copying it: `into_string()` of the owned `FR` is the `String` `FR`.
+    /// Returns the `String`, without copying it: `Region::new("FR")?.try_to_owned(alloc)?.into_string()` is `"FR"`.
     pub fn into_string(self) -> String
         ensures same_text { string_bytes result ≡ region_buf_text self }
         ensures same_string { result ≡ region_buf_string self }

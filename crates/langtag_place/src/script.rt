@@ -165,8 +165,8 @@ impl ScriptBuf {
         })
     }
 
-    /// Borrows the script: `as_script().as_str()` of the owned `LATN` is `"LATN"`. It is proved that comparisons and
-    /// hashes of owned scripts ignore case.
+    /// Borrows the script: `Script::new("LATN")?.try_to_owned(alloc)?.as_script().as_str()` is `"LATN"`. It is proved
+    /// that comparisons and hashes of owned scripts ignore case.
     pub fn as_script(&self) -> Script<'_>
         ensures same_text { script_text result ≡ script_buf_text self.now }
 
@@ -175,7 +175,7 @@ impl ScriptBuf {
         Script::from_checked(self.as_str())
     }
 
-    /// Returns the text, in its original case: `as_str()` of the owned `LATN` is `"LATN"`.
+    /// Returns the text, in its original case: `Script::new("LATN")?.try_to_owned(alloc)?.as_str()` is `"LATN"`.
     pub fn as_str(&self) -> &str
         ensures same_text { result.now ≡ script_buf_text self.now }
         ensures in_class { IsTrue (class.is_script result.now) }
@@ -183,7 +183,7 @@ impl ScriptBuf {
         self.text.0.as_str()
     }
 
-    /// Returns the `String`, without copying it: `into_string()` of the owned `LATN` is the `String` `LATN`.
+    /// Returns the `String`, without copying it: `Script::new("LATN")?.try_to_owned(alloc)?.into_string()` is `"LATN"`.
     pub fn into_string(self) -> String
         ensures same_text { string_bytes result ≡ script_buf_text self }
         ensures same_string { result ≡ script_buf_string self }

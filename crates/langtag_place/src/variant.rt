@@ -173,8 +173,8 @@ impl VariantBuf {
         })
     }
 
-    /// Borrows the variant: `as_variant().as_str()` of the owned `ROZAJ` is `"ROZAJ"`. It is proved that comparisons
-    /// and hashes of owned variants ignore case.
+    /// Borrows the variant: `Variant::new("ROZAJ")?.try_to_owned(alloc)?.as_variant().as_str()` is `"ROZAJ"`. It is
+    /// proved that comparisons and hashes of owned variants ignore case.
     pub fn as_variant(&self) -> Variant<'_>
         ensures same_text { variant_text result ≡ variant_buf_text self.now }
 
@@ -183,7 +183,7 @@ impl VariantBuf {
         Variant::from_checked(self.as_str())
     }
 
-    /// Returns the text, in its original case: `as_str()` of the owned `ROZAJ` is `"ROZAJ"`.
+    /// Returns the text, in its original case: `Variant::new("ROZAJ")?.try_to_owned(alloc)?.as_str()` is `"ROZAJ"`.
     pub fn as_str(&self) -> &str
         ensures same_text { result.now ≡ variant_buf_text self.now }
         ensures in_class { IsTrue (class.is_variant result.now) }
@@ -191,7 +191,8 @@ impl VariantBuf {
         self.text.0.as_str()
     }
 
-    /// Returns the `String`, without copying it: `into_string()` of the owned `ROZAJ` is the `String` `ROZAJ`.
+    /// Returns the `String`, without copying it: `Variant::new("ROZAJ")?.try_to_owned(alloc)?.into_string()` is
+    /// `"ROZAJ"`.
     pub fn into_string(self) -> String
         ensures same_text { string_bytes result ≡ variant_buf_text self }
         ensures same_string { result ≡ variant_buf_string self }

@@ -72,7 +72,7 @@ impl<'a> Variants<'a> {
         Ok(Variants::from_checked(text))
     }
 
-    /// Returns the variants with a text that is known to be some, without checking it.
+    /// Returns the variants of a text that is known to be variants, without checking it.
     /// `Variants::from_checked(variants.as_str())` is equal to `variants`.
     pub fn from_checked(text: &'a str) -> Variants<'a>
         requires { IsVariants text.now }
@@ -212,8 +212,8 @@ impl VariantsBuf {
         })
     }
 
-    /// Borrows the variants: `as_variants().as_str()` of the owned `ROZAJ` is `"ROZAJ"`. It is proved that comparisons
-    /// and hashes of owned lists of variants ignore case.
+    /// Borrows the variants: `Variants::new("ROZAJ")?.try_to_owned(alloc)?.as_variants().as_str()` is `"ROZAJ"`. It is
+    /// proved that comparisons and hashes of owned lists of variants ignore case.
     pub fn as_variants(&self) -> Variants<'_>
         ensures same_text { variants_text result ≡ variants_buf_text self.now }
 
@@ -222,7 +222,7 @@ impl VariantsBuf {
         Variants::from_checked(self.as_str())
     }
 
-    /// Returns the text, in its original case: `as_str()` of the owned `ROZAJ` is `"ROZAJ"`.
+    /// Returns the text, in its original case: `Variants::new("ROZAJ")?.try_to_owned(alloc)?.as_str()` is `"ROZAJ"`.
     pub fn as_str(&self) -> &str
         ensures same_text { result.now ≡ variants_buf_text self.now }
         ensures in_class { IsVariants result.now }
@@ -230,7 +230,8 @@ impl VariantsBuf {
         self.text.0.as_str()
     }
 
-    /// Returns the `String`, without copying it: `into_string()` of the owned `ROZAJ` is the `String` `ROZAJ`.
+    /// Returns the `String`, without copying it: `Variants::new("ROZAJ")?.try_to_owned(alloc)?.into_string()` is
+    /// `"ROZAJ"`.
     pub fn into_string(self) -> String
         ensures same_text { string_bytes result ≡ variants_buf_text self }
         ensures same_string { result ≡ variants_buf_string self }

@@ -210,8 +210,8 @@ impl PrivateUseBuf {
         })
     }
 
-    /// Borrows the private use part: `as_private_use().as_str()` of the owned `X-TWAIN` is `"X-TWAIN"`. It is proved
-    /// that comparisons and hashes of owned private use parts ignore case.
+    /// Borrows the private use part: `PrivateUse::new("X-TWAIN")?.try_to_owned(alloc)?.as_private_use().as_str()` is
+    /// `"X-TWAIN"`. It is proved that comparisons and hashes of owned private use parts ignore case.
     pub fn as_private_use(&self) -> PrivateUse<'_>
         ensures same_text { private_use_text result ≡ private_use_buf_text self.now }
 
@@ -220,7 +220,8 @@ impl PrivateUseBuf {
         PrivateUse::from_checked(self.as_str())
     }
 
-    /// Returns the text, in its original case: `as_str()` of the owned `X-TWAIN` is `"X-TWAIN"`.
+    /// Returns the text, in its original case: `PrivateUse::new("X-TWAIN")?.try_to_owned(alloc)?.as_str()` is
+    /// `"X-TWAIN"`.
     pub fn as_str(&self) -> &str
         ensures same_text { result.now ≡ private_use_buf_text self.now }
         ensures in_class { IsPrivateUse result.now }
@@ -228,7 +229,8 @@ impl PrivateUseBuf {
         self.text.0.as_str()
     }
 
-    /// Returns the `String`, without copying it: `into_string()` of the owned `X-TWAIN` is the `String` `X-TWAIN`.
+    /// Returns the `String`, without copying it: `PrivateUse::new("X-TWAIN")?.try_to_owned(alloc)?.into_string()` is
+    /// `"X-TWAIN"`.
     pub fn into_string(self) -> String
         ensures same_text { string_bytes result ≡ private_use_buf_text self }
         ensures same_string { result ≡ private_use_buf_string self }

@@ -170,8 +170,8 @@ impl PrivateUseSubtagBuf {
         })
     }
 
-    /// Borrows the subtag: `as_private_use_subtag().as_str()` of the owned `TWAIN` is `"TWAIN"`. It is proved that
-    /// comparisons and hashes of owned private use subtags ignore case.
+    /// Borrows the subtag: `PrivateUseSubtag::new("TWAIN")?.try_to_owned(alloc)?.as_private_use_subtag().as_str()` is
+    /// `"TWAIN"`. It is proved that comparisons and hashes of owned private use subtags ignore case.
     pub fn as_private_use_subtag(&self) -> PrivateUseSubtag<'_>
         ensures same_text { private_use_subtag_text result ≡ private_use_subtag_buf_text self.now }
 
@@ -180,7 +180,8 @@ impl PrivateUseSubtagBuf {
         PrivateUseSubtag::from_checked(self.as_str())
     }
 
-    /// Returns the text, in its original case: `as_str()` of the owned `TWAIN` is `"TWAIN"`.
+    /// Returns the text, in its original case: `PrivateUseSubtag::new("TWAIN")?.try_to_owned(alloc)?.as_str()` is
+    /// `"TWAIN"`.
     pub fn as_str(&self) -> &str
         ensures same_text { result.now ≡ private_use_subtag_buf_text self.now }
         ensures in_class { IsTrue (class.is_private_subtag result.now) }
@@ -188,7 +189,8 @@ impl PrivateUseSubtagBuf {
         self.text.0.as_str()
     }
 
-    /// Returns the `String`, without copying it: `into_string()` of the owned `TWAIN` is the `String` `TWAIN`.
+    /// Returns the `String`, without copying it: `PrivateUseSubtag::new("TWAIN")?.try_to_owned(alloc)?.into_string()`
+    /// is `"TWAIN"`.
     pub fn into_string(self) -> String
         ensures same_text { string_bytes result ≡ private_use_subtag_buf_text self }
         ensures same_string { result ≡ private_use_subtag_buf_string self }

@@ -65,6 +65,14 @@ pub fn canonical(alloc: Global, tag: LangTag<'_>) -> Result<LangTagBuf, AllocErr
 
 /// Returns whether a tag is its own canonical form (RFC 5646 section 4.5): `true` for `he`, `zh-min` and `x-iw`,
 /// `false` for `iw` and `en-b-ccc-a-aaa`. Case is ignored, so it is `true` for `HE`. It does not allocate.
+///
+/// ```
+/// use langtag::LangTag;
+/// use langtag_registry::is_canonical;
+///
+/// is_canonical(LangTag::new("HE")?); // true
+/// is_canonical(LangTag::new("iw")?); // false
+/// ```
 #[tactic(auto, using(crate::proofs::CanonicalCase::canonical_in_any_case))]
 pub fn is_canonical(tag: LangTag<'_>) -> bool
     ensures canonical { (result ≡ true) ↔ IsCanonicalForm (lang_tag_text tag.entry) (lang_tag_text tag.entry) }
@@ -76,6 +84,15 @@ pub fn is_canonical(tag: LangTag<'_>) -> bool
 /// Writes the canonical form of a tag to a buffer, as [`canonical`] returns it, and returns its length in bytes. If the
 /// buffer is too short, it stays unchanged, and the length says how much room is needed. A buffer of
 /// [`canonical_bound`] bytes is always long enough. It does not allocate.
+///
+/// ```
+/// use langtag::LangTag;
+/// use langtag_registry::write_canonical;
+///
+/// let mut buffer = [0; 16];
+/// let length = write_canonical(LangTag::new("en-BU")?, &mut buffer);
+/// buffer.get(..length); // Some(&b"en-MM"[..])
+/// ```
 #[tactic(auto, using(crate::proofs::FormLengths::form_bounded))]
 pub fn write_canonical(tag: LangTag<'_>, buffer: &mut [u8]) -> usize
     ensures canonical { Writes (IsCanonicalForm (lang_tag_text tag.entry)) buffer.old buffer.new result }

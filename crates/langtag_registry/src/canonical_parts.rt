@@ -1,4 +1,4 @@
-//! The canonical forms of a tag's parts (RFC 5646 section 4.5), put into an output in their order.
+//! The canonical forms of a tag's parts (RFC 5646 section 4.5), written to an output in their order.
 ghost use Rattle.std.specs.Prelude.{◌≡◌, ◌∷◌, [], List, Option, map};
 ghost use Rattle.std.specs.List.{flat_map};
 ghost use Rattle.std.specs.Option.{option_map};

@@ -19,6 +19,14 @@ use langtag_scan::case_insensitive_eq;
 
 /// Returns whether a language is deprecated (RFC 5646 section 3.1.6): `true` for `iw`, `false` for `he` and for what is
 /// not registered.
+///
+/// ```
+/// use langtag::PrimaryLanguage;
+/// use langtag_registry::is_deprecated_language;
+///
+/// is_deprecated_language(PrimaryLanguage::new("iw")?); // true
+/// is_deprecated_language(PrimaryLanguage::new("he")?); // false
+/// ```
 #[tactic(auto, using(langtag_scan::proofs::SubtagFacts::of_primary, crate::proofs::KeyTables::deprecated_language_keys), unfolding(crate::specs::Fields::is_deprecated_language))]
 pub fn is_deprecated_language(language: PrimaryLanguage<'_>) -> bool
     ensures { result ≡ field.is_deprecated_language (primary_language_text language.entry) }
@@ -28,6 +36,14 @@ pub fn is_deprecated_language(language: PrimaryLanguage<'_>) -> bool
 
 /// Returns whether an extended language is deprecated (RFC 5646 section 3.1.6): `true` for `yds`, `false` for `yue` and
 /// for what is not registered.
+///
+/// ```
+/// use langtag::ExtendedLangTag;
+/// use langtag_registry::is_deprecated_extlang;
+///
+/// is_deprecated_extlang(ExtendedLangTag::new("yds")?); // true
+/// is_deprecated_extlang(ExtendedLangTag::new("yue")?); // false
+/// ```
 #[tactic(auto, using(langtag_scan::proofs::SubtagFacts::of_extended, crate::proofs::KeyTables::deprecated_extlang_keys), unfolding(crate::specs::Fields::is_deprecated_extlang))]
 pub fn is_deprecated_extlang(extlang: ExtendedLangTag<'_>) -> bool
     ensures { result ≡ field.is_deprecated_extlang (extended_lang_tag_text extlang.entry) }
@@ -37,6 +53,14 @@ pub fn is_deprecated_extlang(extlang: ExtendedLangTag<'_>) -> bool
 
 /// Returns whether a region is deprecated (RFC 5646 section 3.1.6): `true` for `SU`, `false` for `FR` and for what is
 /// not registered.
+///
+/// ```
+/// use langtag::Region;
+/// use langtag_registry::is_deprecated_region;
+///
+/// is_deprecated_region(Region::new("SU")?); // true
+/// is_deprecated_region(Region::new("FR")?); // false
+/// ```
 #[tactic(auto, using(langtag_scan::proofs::SubtagFacts::of_region, crate::proofs::KeyTables::deprecated_region_keys), unfolding(crate::specs::Fields::is_deprecated_region))]
 pub fn is_deprecated_region(region: Region<'_>) -> bool
     ensures { result ≡ field.is_deprecated_region (region_text region.entry) }
@@ -46,6 +70,14 @@ pub fn is_deprecated_region(region: Region<'_>) -> bool
 
 /// Returns whether a variant is deprecated (RFC 5646 section 3.1.6): `true` for `heploc`, `false` for `rozaj` and for
 /// what is not registered.
+///
+/// ```
+/// use langtag::Variant;
+/// use langtag_registry::is_deprecated_variant;
+///
+/// is_deprecated_variant(Variant::new("heploc")?); // true
+/// is_deprecated_variant(Variant::new("rozaj")?); // false
+/// ```
 #[tactic(auto, using(langtag_scan::proofs::SubtagFacts::of_variant, crate::proofs::KeyTables::deprecated_variant_keys), unfolding(crate::specs::Fields::is_deprecated_variant))]
 pub fn is_deprecated_variant(variant: Variant<'_>) -> bool
     ensures { result ≡ field.is_deprecated_variant (variant_text variant.entry) }
@@ -56,6 +88,14 @@ pub fn is_deprecated_variant(variant: Variant<'_>) -> bool
 /// Returns whether a whole tag is deprecated (RFC 5646 section 3.1.6), as some grandfathered and redundant tags are:
 /// `true` for `zh-min`, `art-lojban` and `sgn-DE`. It is `false` for `i-default`, for tags that are not registered as a
 /// whole, such as `sgn-DE-x-a`, and for `iw`, which is deprecated as a language.
+///
+/// ```
+/// use langtag::LangTag;
+/// use langtag_registry::is_deprecated_tag;
+///
+/// is_deprecated_tag(LangTag::new("zh-min")?); // true
+/// is_deprecated_tag(LangTag::new("i-default")?); // false
+/// ```
 pub fn is_deprecated_tag(tag: LangTag<'_>) -> bool
     ensures { result ≡ field.is_deprecated_tag (lang_tag_text tag.entry) }
 {

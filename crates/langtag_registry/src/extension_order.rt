@@ -12,7 +12,7 @@ use langtag_scan::into_smallcase;
 /// All singletons (RFC 5646 section 2.2.6) in order.
 pub(crate) const SINGLETONS: [u8; 35] = *b"0123456789abcdefghijklmnopqrstuvwyz";
 
-/// Returns whether extensions stand in order: each singleton is at least the one before it.
+/// Returns whether extensions are in order: each singleton is at least the one before it.
 pub(crate) fn are_in_order(extensions: Extensions<'_>) -> bool
     ensures { (es : List model.Extension) → SpellsExtensions es (extensions_text extensions.entry) → (result ≡ true) ↔ (in_order es ≡ es) }
 {

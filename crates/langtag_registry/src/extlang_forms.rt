@@ -21,6 +21,13 @@ use std::alloc::{AllocError, Global};
 /// # Errors
 ///
 /// Returns an error if allocation fails.
+///
+/// ```
+/// use langtag::LangTag;
+/// use langtag_registry::extlang_form;
+///
+/// extlang_form(alloc, LangTag::new("hak-CN")?)?.as_str(); // "zh-hak-CN"
+/// ```
 #[tactic(auto, using(crate::proofs::ExtlangForms::other_form))]
 pub fn extlang_form(alloc: Global, tag: LangTag<'_>) -> Result<LangTagBuf, AllocError>
     ensures { IfOk result (λ form. IsExtlangForm (lang_tag_text tag.entry) (lang_tag_buf_text form)) }

@@ -20,13 +20,13 @@ use langtag_place::Region;
 pub(crate) enum Form<'a> {
     /// The tag itself.
     Same,
-    /// Another tag, which is preferred to it as a whole.
+    /// Another tag, which is preferred to the whole tag.
     Whole(LangTag<'static>),
-    /// This tag with its parts in their canonical forms, or what is preferred to that as a whole.
+    /// This tag with its parts in their canonical forms, or the tag that is preferred to all of that.
     Parts(NormalLangTag<'a>),
 }
 
-/// Returns what the canonical form of a tag is. It is inlined, so that no form is written to memory.
+/// Returns how the canonical form of a tag is made. It is inlined, so that no form is written to memory.
 #[inline(always)]
 #[tactic(auto, using(crate::proofs::CanonicalParts::kept_form, crate::proofs::CanonicalParts::preferred_goes, crate::proofs::CanonicalParts::record_form, crate::proofs::CanonicalParts::own_record, crate::proofs::TwiceLaws::itself), unfolding(langtag_scan::specs::Tag::IsNormal))]
 pub(crate) fn form_of(tag: LangTag<'_>) -> Form<'_>

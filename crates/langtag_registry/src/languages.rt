@@ -10,6 +10,14 @@ use langtag_tables::letter_number;
 
 /// Returns whether a language is registered, ignoring case (RFC 5646 section 2.2.1): `true` for `fr`, `FR` and the
 /// private use `qaa`, `false` for `qt`.
+///
+/// ```
+/// use langtag::PrimaryLanguage;
+/// use langtag_registry::is_registered_language;
+///
+/// is_registered_language(PrimaryLanguage::new("FR")?); // true
+/// is_registered_language(PrimaryLanguage::new("qt")?); // false
+/// ```
 #[tactic(auto, using(crate::proofs::LanguageTable::long_language, crate::proofs::LanguageTable::language_from_bit, langtag_tables::proofs::Letters::primary_letters))]
 pub fn is_registered_language(language: PrimaryLanguage<'_>) -> bool
     ensures { result ≡ registered.is_registered_language (primary_language_text language.entry) }

@@ -1,4 +1,4 @@
-//! Variants and extended languages that do not stand after one of their prefixes (RFC 5646 section 3.1.8).
+//! Variants and extended languages that follow none of their prefixes (RFC 5646 section 3.1.8).
 ghost use Rattle.std.specs.Prelude.{◌≡◌, map, IsTrue};
 ghost use Rattle.std.specs.Option.{option_map};
 ghost use Rattle.langtag_scan.specs.Record.{EachRecord};
@@ -27,6 +27,14 @@ use langtag_scan::folded_number;
 /// A prefix is compared with the subtags before the variant by extended filtering (RFC 4647 section 3.3.2). The RFC
 /// only recommends prefixes, so a tag without them is valid. It does not allocate. The time may be quadratic in the
 /// number of variants.
+///
+/// ```
+/// use langtag::NormalLangTag;
+/// use langtag_registry::misplaced_variant;
+///
+/// misplaced_variant(NormalLangTag::new("fr-nedis")?).map(|variant| variant.as_str()); // Some("nedis")
+/// misplaced_variant(NormalLangTag::new("sl-IT-nedis")?).is_none(); // true
+/// ```
 pub fn misplaced_variant<'a>(tag: NormalLangTag<'a>) -> Option<Variant<'a>>
     ensures { EachRecord (normal_lang_tag_text tag.entry) (λ r. option_map variant_text result ≡ spec.misplaced r) }
 {
@@ -45,6 +53,13 @@ pub fn misplaced_variant<'a>(tag: NormalLangTag<'a>) -> Option<Variant<'a>>
 /// `zh-fra`, because `fra` is not registered.
 ///
 /// A tag is valid without its prefix. A second extended language, which no valid tag has, is ignored.
+///
+/// ```
+/// use langtag::NormalLangTag;
+/// use langtag_registry::misplaced_extlang;
+///
+/// misplaced_extlang(NormalLangTag::new("de-yue")?).map(|extended| extended.as_str()); // Some("yue")
+/// ```
 pub fn misplaced_extlang<'a>(tag: NormalLangTag<'a>) -> Option<ExtendedLangTag<'a>>
     ensures { EachRecord (normal_lang_tag_text tag.entry) (λ r. option_map extended_lang_tag_text result ≡ spec.misplaced_extlang r.primary r.extended) }
 {

@@ -18,6 +18,13 @@ use langtag_scan::{case_insensitive_eq, folded_number};
 
 /// Returns the region that replaces a deprecated one (the field Preferred-Value, RFC 5646 section 3.1.7): `MM` for
 /// `BU`. Returns `None` for `MM`, and for regions that are not registered.
+///
+/// ```
+/// use langtag::Region;
+/// use langtag_registry::preferred_region;
+///
+/// preferred_region(Region::new("BU")?).map(|region| region.as_str()); // Some("MM")
+/// ```
 #[tactic(auto, using(langtag_scan::proofs::SubtagFacts::of_region, crate::proofs::FieldTables::regions_table, crate::proofs::FieldTables::regions_good), unfolding(crate::specs::Fields::preferred_region))]
 pub fn preferred_region(region: Region<'_>) -> Option<Region<'static>>
     ensures { option_map region_text result ≡ field.preferred_region (region_text region.entry) }
@@ -34,6 +41,13 @@ pub fn preferred_region(region: Region<'_>) -> Option<Region<'static>>
 
 /// Returns the variant that replaces a deprecated one (the field Preferred-Value, RFC 5646 section 3.1.7): `alalc97`
 /// for `heploc`. Returns `None` for `alalc97`, and for variants that are not registered.
+///
+/// ```
+/// use langtag::Variant;
+/// use langtag_registry::preferred_variant;
+///
+/// preferred_variant(Variant::new("heploc")?).map(|variant| variant.as_str()); // Some("alalc97")
+/// ```
 #[tactic(auto, using(langtag_scan::proofs::SubtagFacts::of_variant, crate::proofs::FieldTables::variants_table, crate::proofs::FieldTables::variants_good), unfolding(crate::specs::Fields::preferred_variant))]
 pub fn preferred_variant(variant: Variant<'_>) -> Option<Variant<'static>>
     ensures { option_map variant_text result ≡ field.preferred_variant (variant_text variant.entry) }
@@ -51,13 +65,20 @@ pub fn preferred_variant(variant: Variant<'_>) -> Option<Variant<'static>>
 /// Returns the tag that replaces a whole grandfathered or redundant tag (the field Preferred-Value,
 /// RFC 5646 section 3.1.7): `jbo` for `art-lojban`, `gsg` for `sgn-DE`. Returns `None` for `zh-min`, which has no
 /// Preferred-Value, and for tags that are not registered as a whole, such as `sgn-DE-x-a`.
+///
+/// ```
+/// use langtag::LangTag;
+/// use langtag_registry::preferred_tag;
+///
+/// preferred_tag(LangTag::new("art-lojban")?).map(|tag| tag.as_str()); // Some("jbo")
+/// ```
 pub fn preferred_tag(tag: LangTag<'_>) -> Option<LangTag<'static>>
     ensures { option_map lang_tag_text result ≡ field.preferred_tag (lang_tag_text tag.entry) }
 {
     preferred_for(tag.as_bytes())
 }
 
-/// Returns the tag that stands for a text as a whole today.
+/// Returns the tag that replaces a whole text.
 #[tactic(auto, using(crate::proofs::FieldTables::tag_ends, crate::proofs::FieldTables::tag_entries, crate::proofs::WholeTags::preferred_is_tag), unfolding(crate::specs::Fields::preferred_tag))]
 pub(crate) fn preferred_for(text: &[u8]) -> Option<LangTag<'static>>
     ensures { option_map lang_tag_text result ≡ field.preferred_tag text.now }

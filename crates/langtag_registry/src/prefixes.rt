@@ -1,4 +1,4 @@
-//! What a subtag is meant to stand after (RFC 5646 section 3.1.8).
+//! What a subtag should follow (RFC 5646 section 3.1.8).
 ghost use Rattle.std.specs.Prelude.{◌≡◌};
 ghost use Rattle.std.specs.Option.{option_map};
 ghost use Rattle.langtag_language.specs.Text.{primary_language_text, extended_lang_tag_text};
@@ -11,6 +11,13 @@ use langtag_language::{ExtendedLangTag, PrimaryLanguage};
 /// Returns the language that an extended language should follow (the field Prefix, RFC 5646 section 3.1.8): `zh` for
 /// `yue`. Returns `None` for extended languages that are not registered. A tag with another language, such as `de-yue`,
 /// may still be valid.
+///
+/// ```
+/// use langtag::ExtendedLangTag;
+/// use langtag_registry::extlang_prefix;
+///
+/// extlang_prefix(ExtendedLangTag::new("yue")?).map(|language| language.as_str()); // Some("zh")
+/// ```
 #[tactic(auto, using(langtag_tables::proofs::Letters::extended_primary))]
 pub fn extlang_prefix(extlang: ExtendedLangTag<'_>) -> Option<PrimaryLanguage<'static>>
     ensures { option_map primary_language_text result ≡ field.extlang_prefix (extended_lang_tag_text extlang.entry) }
@@ -18,7 +25,7 @@ pub fn extlang_prefix(extlang: ExtendedLangTag<'_>) -> Option<PrimaryLanguage<'s
     prefix_of_language(PrimaryLanguage::from_checked(extlang.as_str()))
 }
 
-/// Returns the same of a language that is an extended one, too: `zh` for the language `yue`, `None` for `fr`.
+/// Returns the same for a language that is also an extended language: `zh` for the language `yue`, `None` for `fr`.
 #[tactic(auto, using(langtag_scan::proofs::SubtagFacts::of_primary, crate::proofs::FieldTables::prefix_table, crate::proofs::FieldTables::prefix_good), unfolding(crate::specs::Fields::extlang_prefix))]
 pub(crate) fn prefix_of_language(language: PrimaryLanguage<'_>) -> Option<PrimaryLanguage<'static>>
     ensures { option_map primary_language_text result ≡ field.extlang_prefix (primary_language_text language.entry) }

@@ -55,6 +55,14 @@ pub fn validate<'a>(tag: LangTag<'a>) -> Result<(), InvalidSubtag<'a>>
 /// Returns the error that [`validate`] would return, and an index, or `None` for a valid tag. The index counts from 0
 /// among the variants, or among the extensions for a repeated singleton: for `de-1996-1996` it is 1. For other subtags
 /// it is 0. It does not allocate.
+///
+/// ```
+/// use langtag::LangTag;
+/// use langtag_registry::fault_at;
+///
+/// fault_at(LangTag::new("de-1996-1996")?).map(|(_, index)| index); // Some(1)
+/// fault_at(LangTag::new("de-1996")?).is_none(); // true
+/// ```
 #[tactic(auto, using(langtag::proofs::KeptFound::found_kept, crate::proofs::ValidLaws::valid_of_other, crate::proofs::ValidLaws::valid_of_none, crate::proofs::ValidLaws::valid_grandfathered))]
 pub fn fault_at<'a>(tag: LangTag<'a>) -> Option<(InvalidSubtag<'a>, usize)>
     ensures valid { IsNone result ↔ IsValid (lang_tag_text tag.entry) }

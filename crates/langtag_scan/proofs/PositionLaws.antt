@@ -31,7 +31,7 @@ position_of-push q b = fold-append position_after nothing_read q (b ∷ [])
 
 -- up to an index the ends stand in these places
 pub record IsMarked (places : List ℕ) (n : ℕ) (e : Ends) : Type 0 where
-  pub seven : length places ≡ 7
+  pub six : length places ≡ 6
   pub below : (k : ℕ) → get_or places k 0 ≤ n
   pub is : e ≡ ends_at places e.whole
 
@@ -50,7 +50,7 @@ ends_equal a b language script region variants extensions whole =
 placed : (places : List ℕ) (k n j : ℕ) → k < length places → get_or (set places k n) j 0 ≡ cond (eqb j k) n (get_or places j 0)
 placed places k n j within = grind (arith, common_steps)
 
-place_within : (stage : Stage) → place_of stage < 7
+place_within : (stage : Stage) → place_of stage < 6
 place_within Start = omega arith
 place_within _ = omega arith
 
@@ -58,13 +58,13 @@ below_set : (places : List ℕ) (k n : ℕ) → k < length places → ((j : ℕ)
 below_set places k n within below j = let old = below j in grind (arith, common_steps, old)
 
 -- no part ends
-marked_on : (places : List ℕ) (n : ℕ) (e : Ends) → IsMarked places n e → IsMarked (set places 6 n) (n + 1) e
+marked_on : (places : List ℕ) (n : ℕ) (e : Ends) → IsMarked places n e → IsMarked (set places 5 n) (n + 1) e
 marked_on places n e m =
-    let within : 6 < length places = omega (arith, m.seven) in
+    let within : 5 < length places = omega (arith, m.six) in
     record {
-      seven = length-set places 6 n ∙ m.seven;
-      below = below_set places 6 n within m.below;
-      is = rw (placed places 6 n 0 within, placed places 6 n 1 within, placed places 6 n 2 within, placed places 6 n 3 within, placed places 6 n 4 within) m.is;
+      six = length-set places 5 n ∙ m.six;
+      below = below_set places 5 n within m.below;
+      is = rw (placed places 5 n 0 within, placed places 5 n 1 within, placed places 5 n 2 within, placed places 5 n 3 within, placed places 5 n 4 within) m.is;
     }
 
 -- the part of a stage ends at the index
@@ -72,7 +72,7 @@ ends_set : (places : List ℕ) (n : ℕ) (e : Ends) (after : Stage) → (after �
 ends_set places n e Start past m = absurd (past refl)
 ends_set places n e after past m =
     let k = place_of after in
-    let within : k < length places = omega (arith, m.seven, place_within after) in
+    let within : k < length places = omega (arith, m.six, place_within after) in
     rw (placed places k n 0 within, placed places k n 1 within, placed places k n 2 within, placed places k n 3 within, placed places k n 4 within)
     (ends_equal _ _
     (omega (arith, m.below 0, m.below 1, m.below 2, m.below 3, m.below 4, ap (λ (x : Ends). x.language) m.is))
@@ -84,9 +84,9 @@ ends_set places n e after past m =
 
 pub marked_end : (places : List ℕ) (n : ℕ) (e : Ends) (after : Stage) → (after ≡ Start → ⊥) → IsMarked places n e → IsMarked (set places (place_of after) n) (n + 1) (end_at after n e)
 marked_end places n e after past m =
-    let within : place_of after < length places = omega (arith, m.seven, place_within after) in
+    let within : place_of after < length places = omega (arith, m.six, place_within after) in
     record {
-      seven = length-set places (place_of after) n ∙ m.seven;
+      six = length-set places (place_of after) n ∙ m.six;
       below = below_set places (place_of after) n within m.below;
       is = ends_set places n e after past m;
     }
@@ -108,9 +108,9 @@ Tracks q places o = MatchOption o (HasStopped q) (IsTracked q places)
 
 -- the place that is set with the byte that leads there
 abbrev pub place_before : Option Begun → ℕ
-place_before o = option_map_or (λ s. cond (eqb s.size 0) (place_of s.stage) 6) o 6
+place_before o = option_map_or (λ s. cond (eqb s.size 0) (place_of s.stage) 5) o 5
 
-pub tracks_nothing : Tracks [] (replicate 7 0) (Some (fresh Start))
+pub tracks_nothing : Tracks [] (replicate 6 0) (Some (fresh Start))
 tracks_nothing = record {
   before = [];
   bytes = [];
@@ -118,7 +118,7 @@ tracks_nothing = record {
   part = record { split = refl; reads = reads_nothing; begun = empty_begun Start };
   kind = refl;
   size = refl;
-  marked = record { seven = refl; below = λ k. grind (arith, common_steps); is = refl };
+  marked = record { six = refl; below = λ k. grind (arith, common_steps); is = refl };
 }
 
 pub stopped-append : (p u : List ℕ) → HasStopped p → HasStopped (p ++ u)

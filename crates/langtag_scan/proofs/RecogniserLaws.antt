@@ -1,7 +1,7 @@
 -- What the position after some bytes says of them: whether a tag begins so, and what they are as a whole text.
 use Rattle.std.proofs.Common.{◌≡◌, ℕ, ◌+◌, ◌<◌, Bool, true, false, cond, ◌&&◌, List, [], ◌∷◌, ◌++◌, length, take, get_or, set, Option, Some, None, inl, inr, refl, sym, ap, subst, ◌∙◌, arith, append-nil}
 use Rattle.std.specs.List.{position}
-use Rattle.std.specs.Option.{option_map, option_map_or, is_none}
+use Rattle.std.specs.Option.{option_map_or, is_none}
 use Rattle.std.specs.Str.{bytes_eq}
 use Rattle.std.proofs.lemmas.Bool.{both_ways}
 use Rattle.std.proofs.lemmas.List.{take_more, take_all, length-take}
@@ -11,7 +11,7 @@ use Rattle.langtag_scan.specs.Case.{fold_text}
 use Rattle.langtag_scan.specs.Found.{IsFoundOf}
 use Rattle.langtag_scan.specs.Irregular.{folded_texts, folded_at, is_possible}
 use Rattle.langtag_scan.specs.Machine.{end_at, found_by, outcome, HasStopped, IsRefused, ends_at}
-use Rattle.langtag_scan.specs.Position.{Begun, position_of, begun_after, fresh, stage_after, place_of, part_before, ending_after, irregular_ending, ending_of, is_dead}
+use Rattle.langtag_scan.specs.Position.{Begun, position_of, begun_after, stage_after, place_of, part_before, ending_after, irregular_ending, ending_of, is_dead}
 use Rattle.langtag_scan.specs.Stage.{Stage, Start, InPrivateTag, may_end}
 use Rattle.langtag_scan.specs.Tag.{IsNormal, IsPrivate, IsIrregular, IsIrregularAt, IsTag}
 use Rattle.langtag_scan.specs.Viable.{IsViable, IsStop}
@@ -66,12 +66,12 @@ alive_viable q places tracks alive = by_alive q places _ _ tracks (follows_irreg
 
 -- ---- a whole text
 
--- the text is what its last position says, where the last part ends in this place
-abbrev pub IsEnded : List ℕ → List ℕ → ℕ → Ending → Type 0
-IsEnded t places place NoTag = IsTag t → ⊥
-IsEnded t places place Normal = IsFoundOf t (finding.Normal (ends_at (set places place (length t)) (length t)))
-IsEnded t places place PrivateUse = IsPrivate t
-IsEnded t places place (Irregular k) = IsIrregularAt k t
+-- the text is what its last position says, where its last part ends with it
+abbrev pub IsEnded : List ℕ → List ℕ → Ending → Type 0
+IsEnded t places NoTag = IsTag t → ⊥
+IsEnded t places (Normal place) = IsFoundOf t (finding.Normal (ends_at (set places place (length t)) (length t)))
+IsEnded t places PrivateUse = IsPrivate t
+IsEnded t places (Irregular k) = IsIrregularAt k t
 
 -- a text that is of none of the three kinds is not a tag
 no_tag : (t : List ℕ) → IsRefused t → (IsIrregular t → ⊥) → IsTag t → ⊥
@@ -80,8 +80,8 @@ no_tag t refused never (inl normal) = refused.not_normal normal
 no_tag t refused never (inr (inl private)) = refused.not_private private
 no_tag t refused never (inr (inr irregular)) = never irregular
 
-module _ (t places : List ℕ) (place : ℕ) (refused : IsRefused t) where
-  by_text : (o : Option ℕ) → position (bytes_eq (fold_text t)) folded_texts ≡ o → IsEnded t places place (option_map_or Irregular o NoTag)
+module _ (t places : List ℕ) (refused : IsRefused t) where
+  by_text : (o : Option ℕ) → position (bytes_eq (fold_text t)) folded_texts ≡ o → IsEnded t places (option_map_or Irregular o NoTag)
   unfolding IsIrregular
   by_text None none = no_tag t refused (λ (k, irregular).
       let is = irregular_fold t k irregular in
@@ -92,7 +92,7 @@ module _ (t places : List ℕ) (place : ℕ) (refused : IsRefused t) where
       irregular_from_fold t k (omega (arith, first.0, seventeen_folded)) (sym ((bytes_eq-Decides (fold_text t) (folded_at k)).0 first.1))
 
   -- what is neither normal nor for private use may be irregular
-  refused_ended : (o : Option (List ℕ)) → FollowsIrregular t o → IsEnded t places place (option_map_or irregular_ending o NoTag)
+  refused_ended : (o : Option (List ℕ)) → FollowsIrregular t o → IsEnded t places (option_map_or irregular_ending o NoTag)
   unfolding IsIrregular
   refused_ended None gone = no_tag t refused (λ (k, irregular).
       let possible = possible_prefix t [] k (subst (IsIrregularAt k) (sym (append-nil t)) irregular) in
@@ -111,7 +111,7 @@ whole-end Start n e = refl
 whole-end _ n e = refl
 
 module _ (t places : List ℕ) (s : Begun) (known : IsTracked t places s) (o : Option (List ℕ)) (follows : FollowsIrregular t o) where
-  found : (stage : Stage) → (stage ≡ Start → ⊥) → IsFoundOf t (found_by stage (end_at stage (length t) known.ends)) → IsEnded t places (place_of stage) (ending_after stage)
+  found : (stage : Stage) → (stage ≡ Start → ⊥) → IsFoundOf t (found_by stage (end_at stage (length t) known.ends)) → IsEnded t places (ending_after stage)
   found InPrivateTag past is = is
   found stage past is =
       let marked = marked_end places (length t) known.ends stage past known.marked in
@@ -119,15 +119,15 @@ module _ (t places : List ℕ) (s : Begun) (known : IsTracked t places s) (o : O
 
   by_end :
       (stage : Stage) → (stage ≡ Start → ⊥) → (v : Bool) → Decides t (cond v (Some (found_by stage (end_at stage (length t) known.ends))) None) →
-      IsEnded t places (place_of stage) (cond v (ending_after stage) (option_map_or irregular_ending o NoTag))
+      IsEnded t places (cond v (ending_after stage) (option_map_or irregular_ending o NoTag))
   by_end stage past true is = found stage past is
-  by_end stage past false refused = refused_ended t places (place_of stage) refused o follows
+  by_end stage past false refused = refused_ended t places refused o follows
 
   by_stage :
       (next : Option Stage) → stage_after s ≡ next →
-      IsEnded t places (place_before (option_map fresh next)) (option_map_or (λ stage. cond (may_end stage) (ending_after stage) (option_map_or irregular_ending o NoTag)) next (option_map_or irregular_ending o NoTag))
+      IsEnded t places (option_map_or (λ stage. cond (may_end stage) (ending_after stage) (option_map_or irregular_ending o NoTag)) next (option_map_or irregular_ending o NoTag))
   unfolding outcome
-  by_stage None next = refused_ended t places _ (subst (Decides t) (reads_ended known.part ∙ ap (found_after known.ends (length t) []) (sym (stage_is t places s known) ∙ next)) (decided t)) o follows
+  by_stage None next = refused_ended t places (subst (Decides t) (reads_ended known.part ∙ ap (found_after known.ends (length t) []) (sym (stage_is t places s known) ∙ next)) (decided t)) o follows
   by_stage (Some stage) next =
       let led = sym (stage_is t places s known) ∙ next in
       by_end stage (after_not_start s.stage stage known.bytes led) (may_end stage)
@@ -135,11 +135,11 @@ module _ (t places : List ℕ) (s : Begun) (known : IsTracked t places s) (o : O
 
 by_begun :
     (t places : List ℕ) (b : Option Begun) (o : Option (List ℕ)) → Tracks t places b → FollowsIrregular t o →
-    IsEnded t places (place_before (option_map_or (begun_after 45) b None)) (ending_of (record { begun = b; irregular = o }))
-by_begun t places None o stopped follows = refused_ended t places _ (stopped_refused t stopped) o follows
+    IsEnded t places (ending_of (record { begun = b; irregular = o }))
+by_begun t places None o stopped follows = refused_ended t places (stopped_refused t stopped) o follows
 by_begun t places (Some s) o known follows = by_stage t places s known o follows (stage_after s) refl
 
-pub ended : (t places : List ℕ) → Tracks t places (position_of t).begun → IsEnded t places (place_before (option_map_or (begun_after 45) (position_of t).begun None)) (ending_of (position_of t))
+pub ended : (t places : List ℕ) → Tracks t places (position_of t).begun → IsEnded t places (ending_of (position_of t))
 ended t places tracks = by_begun t places _ _ tracks (follows_irregular t)
 
 -- ---- where a text has been read to an index
@@ -171,14 +171,11 @@ dead_next t places i b within read viable known dead =
 
 -- up to its end
 pub text_ended :
-    (t places : List ℕ) (i place : ℕ) (ending : Ending) → i ≡ length t → Tracks (take i t) places (position_of (take i t)).begun →
-    place ≡ part_before (position_of (take i t ++ 45 ∷ [])) → ending ≡ ending_of (position_of (take i t)) → IsEnded t places place ending
-text_ended t places i place ending at tracks part is =
+    (t places : List ℕ) (i : ℕ) (ending : Ending) → i ≡ length t → Tracks (take i t) places (position_of (take i t)).begun → ending ≡ ending_of (position_of (take i t)) →
+    IsEnded t places ending
+text_ended t places i ending at tracks is =
     let whole : take i t ≡ t = take_all i t (omega (arith, at)) in
-    let last : place ≡ place_before (option_map_or (begun_after 45) (position_of t).begun None) =
-    part ∙ ap (λ q. part_before (position_of (q ++ 45 ∷ []))) whole ∙ ap part_before (position_of-push t 45) in
-    let what : ending ≡ ending_of (position_of t) = is ∙ ap (λ q. ending_of (position_of q)) whole in
-    rw (last, what) (ended t places (subst (λ q. Tracks q places (position_of q).begun) whole tracks))
+    rw (is ∙ ap (λ q. ending_of (position_of q)) whole) (ended t places (subst (λ q. Tracks q places (position_of q).begun) whole tracks))
 
 pub whole_stop : (t : List ℕ) (i : ℕ) → i ≡ length t → IsViable (take i t) → IsStop t i
 whole_stop t i at viable = subst (IsStop t) (sym at) (stop_whole t (subst IsViable (take_all i t (omega (arith, at))) viable))

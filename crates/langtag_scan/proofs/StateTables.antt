@@ -1,12 +1,12 @@
 -- What the tables say of the state of a position is what the grammar says of the position: by computation.
-use Rattle.std.proofs.Common.{◌≡◌, ℕ, ◌-◌, ◌<◌, zero, suc, Bool, true, false, cond, eqb, eqb-true, eq-eqb, ltb, leb, not, ◌&&◌, ◌||◌, List, [], ◌∷◌, ◌++◌, length, take, drop, get_or, Option, Some, None, inl, inr, refl, sym, ap, ◌∙◌, arith}
-use Rattle.std.specs.Prelude.{codes, fold}
+use Rattle.std.proofs.Common.{◌≡◌, ℕ, ◌+◌, ◌-◌, ◌<◌, ◌≤◌, zero, suc, Bool, true, false, cond, eqb, eqb-true, eq-eqb, ne_eqb, ltb, leb, not, ◌&&◌, ◌||◌, List, [], ◌∷◌, ◌++◌, length, take, drop, get_or, Option, Some, None, inl, inr, refl, sym, ap, subst, ◌∙◌, arith}
+use Rattle.std.specs.Prelude.{codes, fold, MatchOption}
 use Rattle.std.specs.List.{list_all}
 use Rattle.std.specs.Option.{option_map, option_map_or}
 use Rattle.std.specs.Cmp.{booleans_Decides}
 use Rattle.std.proofs.Math.Bool.{beq}
 use Rattle.std.proofs.Math.Seq.{take-append_seam}
-use Rattle.std.proofs.lemmas.Bool.{agree_below, agree_below_at, and_parts, or_cases, not-true, ltb-true, leb-true, cases_lt, both_ways}
+use Rattle.std.proofs.lemmas.Bool.{agree_below, agree_below_at, and_parts, or_cases, not-true, ltb-true, leb-true, lt-ltb, le-ltb, cases_lt, both_ways}
 use Rattle.std.proofs.lemmas.List.{length-append, get_or_past}
 use Rattle.std.proofs.lemmas.List.Quantifiers.{position-Some}
 use Rattle.std.proofs.lemmas.List.Sums.{AllPass-from_list_all}
@@ -20,6 +20,7 @@ use Rattle.langtag_scan.specs.Stage.{Stage, Start, Language, Extended, AfterScri
 use Rattle.langtag_scan.specs.States.{states_of, states_along}
 use Rattle.langtag_scan.specs.Tracking.{Stands, next_number, begun_number, is_reached, state_of}
 use Rattle.langtag_scan.specs.declared.state.Ending.{Ending}
+use Rattle.langtag_scan.specs.declared.state.State.{State}
 use Rattle.langtag_scan.specs.declared.state.Ending.TheVariants.{NoTag, Normal, PrivateUse, Irregular}
 use Rattle.langtag_scan.specs.declared.states.TheConstants as table
 use Rattle.langtag_scan.proofs.CaseLaw.{is_letter-fold, is_digit-fold, is_mark-fold, hyphen-fold, fold_byte-twice}
@@ -42,41 +43,43 @@ same_from_beq x y same = (booleans_Decides x y).0 same
 
 -- ---- what is computed at each position
 
-abbrev ending_number : Ending → ℕ
-ending_number NoTag = 0
-ending_number Normal = 1
-ending_number PrivateUse = 2
-ending_number (Irregular k) = suc (suc (suc k))
+-- a number of the table of kinds says this ending
+abbrev says : ℕ → Ending → Bool
+says n (Normal place) = eqb n place && ltb place 6
+says n NoTag = eqb n 6
+says n PrivateUse = eqb n 7
+says n (Irregular k) = eqb n (k + 8)
 
--- the ending that a number stands for
+-- the ending that it says
 abbrev pub ending_by : ℕ → Ending
-ending_by zero = NoTag
-ending_by (suc zero) = Normal
-ending_by (suc (suc zero)) = PrivateUse
-ending_by (suc (suc (suc k))) = Irregular k
+ending_by n = cond (ltb n 6) (Normal n) (cond (eqb n 6) NoTag (cond (eqb n 7) PrivateUse (Irregular (n - 8))))
 
-ending_from : (n : ℕ) (ending : Ending) → n ≡ ending_number ending → ending_by n ≡ ending
-ending_from n NoTag is = ap ending_by is
-ending_from n Normal is = ap ending_by is
-ending_from n PrivateUse is = ap ending_by is
-ending_from n (Irregular k) is = ap ending_by is
+pub normal_by : (n : ℕ) → n < 6 → Normal n ≡ ending_by n
+normal_by n within = rw (lt-ltb n 6 within) refl
 
-pub irregular_by : (n : ℕ) → (n ≡ 0 → ⊥) → (n ≡ 1 → ⊥) → (n ≡ 2 → ⊥) → Irregular (n - 3) ≡ ending_by n
-irregular_by zero no_tag normal private = absurd (no_tag refl)
-irregular_by (suc zero) no_tag normal private = absurd (normal refl)
-irregular_by (suc (suc zero)) no_tag normal private = absurd (private refl)
-irregular_by (suc (suc (suc k))) no_tag normal private = ap Irregular (omega arith)
+pub irregular_by : (n : ℕ) → 8 ≤ n → Irregular (n - 8) ≡ ending_by n
+irregular_by n past = rw (le-ltb n 6 (omega arith), ne_eqb n 6 (λ e. omega (arith, e)), ne_eqb n 7 (λ e. omega (arith, e))) refl
 
--- one byte of a class leads from a position with this number to that of the next one
+ending_from : (n : ℕ) (ending : Ending) → says n ending ≡ true → ending_by n ≡ ending
+ending_from n (Normal place) is =
+    let parts = and_parts (eqb n place) (ltb place 6) is in
+    rw (eqb-true n place parts.0, parts.1) refl
+ending_from n NoTag is = ap ending_by (eqb-true n 6 is)
+ending_from n PrivateUse is = ap ending_by (eqb-true n 7 is)
+ending_from n (Irregular k) is =
+    ap ending_by (eqb-true n (k + 8) is)
+    ∙ sym (irregular_by (k + 8) (omega arith)) ∙ ap Irregular (omega arith)
+
+-- one byte of a class leads from a position with this number to that of the next one, which is that of no state where no tag begins so
 abbrev leads : Position → ℕ → ℕ → Bool
 leads p number class =
-    eqb (next_number class number) (state_of (position_after p (class_byte class))) && is_reached (position_after p (class_byte class))
+    let next = position_after p (class_byte class) in
+    eqb (next_number class number) (state_of next) && (is_reached next && beq (eqb (next_number class number) table.NONE) (is_dead next))
 
 -- and the tables say of the number what the position says
 is_described_by : Position → ℕ → Bool
 is_described_by p number =
-    agree_below (leads p number) (λ class. true) 29
-    && (eqb (get_or table.PARTS.now number 0) (part_before p) && (eqb (get_or table.KINDS.now number 0) (ending_number (ending_of p)) && beq (eqb number 0) (is_dead p)))
+    agree_below (leads p number) (λ class. true) 29 && (eqb (get_or table.PARTS.now number 0) (part_before p) && says (get_or table.KINDS.now number 0) (ending_of p))
 
 abbrev is_described : Position → Bool
 is_described p = is_described_by p (state_of p)
@@ -97,10 +100,11 @@ kind_index DigitFirst = 5
 abbrev alone : Stage → Kind → ℕ → Position
 alone stage kind size = record { begun = Some (record { stage = stage; kind = kind; size = size }); irregular = None }
 
+abbrev is_size_described : Stage → Kind → ℕ → Bool
+is_size_described stage kind size = not (is_reached (alone stage kind size)) || is_described (alone stage kind size)
+
 abbrev is_row_described : Stage → Kind → Bool
-is_row_described stage kind =
-    leb (length (states_of stage kind)) 9
-    && agree_below (λ size. eqb (get_or (states_of stage kind) size 0) 0 || is_described_by (alone stage kind size) (get_or (states_of stage kind) size 0)) (λ size. true) 9
+is_row_described stage kind = leb (length (states_of stage kind)) 9 && agree_below (is_size_described stage kind) (λ size. true) 9
 
 abbrev are_rows_described : Stage → Bool
 are_rows_described stage = list_all (is_row_described stage) kinds
@@ -128,15 +132,11 @@ rows_described InPrivate = refl
 rows_described AfterFirstMark = refl
 rows_described InPrivateTag = refl
 
--- ---- along the irregular texts, and where no tag begins so
+-- ---- along the irregular texts
 
 along_described : agree_below (λ k. ltb (length (folded_at k)) 12 && agree_below (λ n. is_described (position_of (take n (folded_at k)))) (λ n. true) 12) (λ k. true) 17 ≡ true
 unfolding is_described_by states_of states_along folded_texts irregular_texts grandfathered_tags is_letter is_digit is_mark fold_byte
 along_described = refl
-
-nowhere_described : is_described (record { begun = None; irregular = None }) ≡ true
-unfolding is_described_by
-nowhere_described = refl
 
 -- ---- a byte and that of its class
 
@@ -228,21 +228,16 @@ kind_at Digits = (omega arith, refl)
 kind_at LetterFirst = (omega arith, refl)
 kind_at DigitFirst = (omega arith, refl)
 
-second : (a b : Bool) → a ≡ false → (a || b) ≡ true → b ≡ true
-second true b first either = absurd cc
-second false b first either = either
-
-begun_described : (s : Begun) → not (eqb (begun_number s) 0) ≡ true → is_described (record { begun = Some s; irregular = None }) ≡ true
+begun_described : (s : Begun) → is_reached (record { begun = Some s; irregular = None }) ≡ true → is_described (record { begun = Some s; irregular = None }) ≡ true
 begun_described s reached =
     let kind = kind_at s.kind in
     let row : is_row_described s.stage s.kind ≡ true = ap (is_row_described s.stage) (sym kind.1) ∙ AllPass-from_list_all (is_row_described s.stage) kinds (rows_described s.stage) (kind_index s.kind) Empty kind.0 in
     let parts = and_parts (leb (length (states_of s.stage s.kind)) 9) _ row in
-    let some = not-true (eqb (begun_number s) 0) reached in
     elim (cases_lt s.size 9) [
-      | inl within ↦ second (eqb (begun_number s) 0) _ some (agree_below_at (λ size. eqb (get_or (states_of s.stage s.kind) size 0) 0 || is_described_by (alone s.stage s.kind size) (get_or (states_of s.stage s.kind) size 0)) (λ size. true) 9 s.size parts.1 within)
+      | inl within ↦ sym (ap (λ x. not x || is_described (alone s.stage s.kind s.size)) reached) ∙ agree_below_at (is_size_described s.stage s.kind) (λ size. true) 9 s.size parts.1 within
       | inr past ↦
-          let none : begun_number s ≡ 0 = get_or_past (states_of s.stage s.kind) s.size 0 (omega (arith, leb-true _ _ parts.0)) in
-          absurd (both_ways (eqb (begun_number s) 0) some (eq-eqb _ _ none))
+          let none : begun_number s ≡ table.NONE = get_or_past (states_of s.stage s.kind) s.size table.NONE (omega (arith, leb-true _ _ parts.0)) in
+          absurd (both_ways (eqb (begun_number s) table.NONE) (not-true _ reached) (eq-eqb _ _ none))
     ]
 
 prefix_described : (q : List ℕ) (k : ℕ) → k < 17 → is_possible q k ≡ true → is_described (position_of q) ≡ true
@@ -254,37 +249,40 @@ prefix_described q k within possible =
     let short : n < 12 = omega (arith, ltb-true _ _ along.0, ap length rest, length-append (fold_text q) (drop n (folded_at k))) in
     ap is_described (sym (position_from-fold q nothing_read) ∙ ap position_of (sym prefix)) ∙ agree_below_at (λ n. is_described (position_of (take n (folded_at k)))) (λ n. true) 12 n along.1 short
 
-by_parts : (q : List ℕ) (b : Option Begun) (o : Option (List ℕ)) → position_of q ≡ record { begun = b; irregular = o } → FollowsIrregular q o → is_reached (record { begun = b; irregular = o }) ≡ true →
-    is_described (record { begun = b; irregular = o }) ≡ true
-by_parts q None None at gone reached = nowhere_described
-by_parts q (Some s) None at gone reached = begun_described s reached
-by_parts q b (Some p) at (is, k, index, within, possible) reached = ap is_described (sym at) ∙ prefix_described q k within possible
+by_parts :
+    (q : List ℕ) (b : Option Begun) (o : Option (List ℕ)) → position_of q ≡ record { begun = b; irregular = o } → FollowsIrregular q o → is_reached (record { begun = b; irregular = o }) ≡ true →
+    state_of (record { begun = b; irregular = o }) < table.NONE → is_described (record { begun = b; irregular = o }) ≡ true
+by_parts q None None at gone reached live = absurd (omega (arith, live))
+by_parts q (Some s) None at gone reached live = begun_described s reached
+by_parts q b (Some p) at (is, k, index, within, possible) reached live = ap is_described (sym at) ∙ prefix_described q k within possible
 
-module _ (q : List ℕ) (number : ℕ) (stands : Stands q number) where
+module _ (q : List ℕ) (number : ℕ) (live : number < table.NONE) (stands : Stands q number) where
   described : is_described_by (position_of q) number ≡ true
-  described = rw stands.is (by_parts q (position_of q).begun (position_of q).irregular refl (follows_irregular q) stands.reached)
+  described =
+      rw stands.is (by_parts q (position_of q).begun (position_of q).irregular refl (follows_irregular q) stands.reached (subst (λ n. n < table.NONE) stands.is live))
 
   -- where each class of bytes leads, and what the other tables have
   abbrev Said : Type 0
   Said =
       (agree_below (leads (position_of q) number) (λ class. true) 29 ≡ true) × (get_or table.PARTS.now number 0 ≡ part_before (position_of q))
-      × (get_or table.KINDS.now number 0 ≡ ending_number (ending_of (position_of q))) × (eqb number 0 ≡ is_dead (position_of q))
+      × (says (get_or table.KINDS.now number 0) (ending_of (position_of q)) ≡ true)
 
   said : Said
   unfolding is_described_by
   said =
       let first = and_parts (agree_below (leads (position_of q) number) (λ class. true) 29) _ described in
       let part = and_parts (eqb (get_or table.PARTS.now number 0) (part_before (position_of q))) _ first.1 in
-      let kind = and_parts (eqb (get_or table.KINDS.now number 0) (ending_number (ending_of (position_of q)))) _ part.1 in
-      (first.0, eqb-true _ _ part.0, eqb-true _ _ kind.0, same_from_beq _ _ kind.1)
+      (first.0, eqb-true _ _ part.0, part.1)
 
-  pub stands_push : (b : ℕ) → b < 256 → Stands (q ++ b ∷ []) (next_number (class_of b) number)
+  pub stands_push : (b : ℕ) → b < 256 →
+      Stands (q ++ b ∷ []) (next_number (class_of b) number) × (eqb (next_number (class_of b) number) table.NONE ≡ is_dead (position_of (q ++ b ∷ [])))
   stands_push b within =
       let led = agree_below_at (leads (position_of q) number) (λ class. true) 29 (class_of b) said.0 (class_within b within) in
-      let parts = and_parts (eqb (next_number (class_of b) number) (state_of (position_after (position_of q) (class_byte (class_of b))))) _ led in
+      let first = and_parts (eqb (next_number (class_of b) number) (state_of (position_after (position_of q) (class_byte (class_of b))))) _ led in
+      let parts = and_parts (is_reached (position_after (position_of q) (class_byte (class_of b)))) _ first.1 in
       let next : position_after (position_of q) (class_byte (class_of b)) ≡ position_of (q ++ b ∷ []) =
       position_after-class (position_of q) b within ∙ sym (position_of-push q b) in
-      record { reached = ap is_reached (sym next) ∙ parts.1; is = eqb-true _ _ parts.0 ∙ ap state_of next }
+      (record { reached = ap is_reached (sym next) ∙ parts.0; is = eqb-true _ _ first.0 ∙ ap state_of next }, same_from_beq _ _ parts.1 ∙ ap is_dead next)
 
   pub stands_part : get_or table.PARTS.now number 0 ≡ part_before (position_of q)
   stands_part = said.1
@@ -292,25 +290,29 @@ module _ (q : List ℕ) (number : ℕ) (stands : Stands q number) where
   pub stands_ending : ending_by (get_or table.KINDS.now number 0) ≡ ending_of (position_of q)
   stands_ending = ending_from (get_or table.KINDS.now number 0) (ending_of (position_of q)) said.2
 
-  pub stands_dead : eqb number 0 ≡ is_dead (position_of q)
-  stands_dead = said.3
-
 pub stands_nothing : Stands [] table.START
 unfolding states_along folded_texts irregular_texts grandfathered_tags fold_byte
 stands_nothing = record { reached = refl; is = refl }
 
+-- the state with this number, if it is one, stands where a tag may follow
+pub stands_after :
+    (o : Option State) (n : ℕ) (q : List ℕ) → MatchOption o (n ≡ 164) (λ next. next.number ≡ n) → Stands q n × (eqb n table.NONE ≡ is_dead (position_of q)) →
+    MatchOption o (is_dead (position_of q) ≡ true) (λ next. (is_dead (position_of q) ≡ false) × Stands q next.number)
+stands_after None n q none (stands, dead) = sym dead ∙ eq-eqb n 164 none
+stands_after (Some next) n q is (stands, dead) = (sym dead ∙ ne_eqb n 164 (λ e. omega (arith, e, is, next.within)), rw is stands)
+
 -- ---- the numbers
 
-rows_within : list_all (λ row. (eqb (length row) 165) && list_all (λ n. ltb n 165) row) table.NEXT.now ≡ true
+rows_within : list_all (λ row. (eqb (length row) table.NONE) && list_all (λ n. leb n table.NONE) row) table.NEXT.now ≡ true
 rows_within = refl
 
-pub next_within : (class number : ℕ) → class < 29 → number < 165 → next_number class number < 165
+pub next_within : (class number : ℕ) → class < 29 → number < table.NONE → next_number class number ≤ table.NONE
 next_within class number in_rows in_row =
-    let row = and_parts (eqb (length (get_or table.NEXT.now class [])) 165) _ (AllPass-from_list_all (λ row. (eqb (length row) 165) && list_all (λ n. ltb n 165) row) table.NEXT.now rows_within class [] in_rows) in
-    ltb-true _ _ (AllPass-from_list_all (λ n. ltb n 165) (get_or table.NEXT.now class []) row.1 number 0 (omega (arith, eqb-true _ _ row.0)))
+    let row = and_parts (eqb (length (get_or table.NEXT.now class [])) table.NONE) _ (AllPass-from_list_all (λ row. (eqb (length row) table.NONE) && list_all (λ n. leb n table.NONE) row) table.NEXT.now rows_within class [] in_rows) in
+    leb-true _ _ (AllPass-from_list_all (λ n. leb n table.NONE) (get_or table.NEXT.now class []) row.1 number 0 (omega (arith, eqb-true _ _ row.0)))
 
-parts_within : list_all (λ n. ltb n 7) table.PARTS.now ≡ true
+parts_within : list_all (λ n. ltb n 6) table.PARTS.now ≡ true
 parts_within = refl
 
-pub part_within : (number : ℕ) → number < 165 → get_or table.PARTS.now number 0 < 7
-part_within number within = ltb-true _ _ (AllPass-from_list_all (λ n. ltb n 7) table.PARTS.now parts_within number 0 within)
+pub part_within : (number : ℕ) → number < table.NONE → get_or table.PARTS.now number 0 < 6
+part_within number within = ltb-true _ _ (AllPass-from_list_all (λ n. ltb n 6) table.PARTS.now parts_within number 0 within)

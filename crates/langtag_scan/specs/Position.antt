@@ -74,9 +74,9 @@ position_of text = fold position_after nothing_read text
 abbrev pub is_dead : Position → Bool
 is_dead p = is_none p.begun && is_none p.irregular
 
--- the place of the part that ends with a stage, among the ends of the parts
+-- the place of the part that ends with a stage, among the ends of the parts: the last place for private use, which ends with the text
 abbrev pub place_of : Stage → ℕ
-place_of Start = 6
+place_of Start = 5
 place_of (Language taken) = 0
 place_of (Extended taken) = 0
 place_of AfterScript = 1
@@ -89,14 +89,14 @@ place_of InPrivate = 5
 place_of AfterFirstMark = 5
 place_of InPrivateTag = 5
 
--- that of the part that has ended before the hyphen that was read last; 6 where none has
+-- that of the part that has ended before the hyphen that was read last; the last place where none has
 abbrev pub part_before : Position → ℕ
-part_before p = option_map_or (λ s. if s.size == 0 then place_of s.stage else 6) p.begun 6
+part_before p = option_map_or (λ s. if s.size == 0 then place_of s.stage else 5) p.begun 5
 
 -- what a text is that ends after a stage
 abbrev pub ending_after : Stage → Ending
 ending_after InPrivateTag = PrivateUse
-ending_after _ = Normal
+ending_after stage = Normal (place_of stage)
 
 -- or that is an irregular text, if it is one
 abbrev pub irregular_ending : List ℕ → Ending

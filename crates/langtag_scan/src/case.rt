@@ -55,11 +55,11 @@ pub fn case_insensitive_hash<H: Hasher>(bytes: &[u8], hasher: &mut H)
     }
 }
 
-/// Returns the folded bytes (RFC 5646 section 2.1.1) of a text of at most eight as the digits of one number, in base 256:
-/// `folded_number(b"FR")` is 26,226, which is 256 times `b'f'` and `b'r'`.
+/// Returns the lowercase bytes (RFC 5646 section 2.1.1) of a text of at most eight bytes as the digits of a number in
+/// base 256: `folded_number(b"FR")` is 26,226, which is 256 times `b'f'` plus `b'r'`.
 ///
-/// It is proved that of two texts of letters and digits, as subtags are, the numbers are equal where the texts are
-/// ignoring the case of letters.
+/// It is proved that the numbers of two texts of letters and digits, such as subtags, are equal if the texts are equal,
+/// ignoring case.
 pub fn folded_number(bytes: &[u8]) -> u64
     requires { length bytes.now ≤ 8 }
     ensures number { result ≡ folded_number bytes.now }

@@ -32,8 +32,8 @@ pub struct Ends {
 /// Where each part of a tag has ended so far, in the order of [`Ends`]: 0 if it has not.
 #[derive(Drop)]
 pub(crate) struct Marks {
-    /// The last place takes what is no end, so that each byte sets one, without a test.
-    places: [usize; 7],
+    /// The last place takes what is no end, and that of private use, so that each byte sets one, without a test.
+    places: [usize; 6],
 }
 
 impl Marks {
@@ -43,15 +43,15 @@ impl Marks {
     /// Before the first byte.
     #[inline(always)]
     pub(crate) fn new() -> Self
-        ensures { result.places ≡ replicate 7 0 }
+        ensures { result.places ≡ replicate 6 0 }
     {
-        Marks { places: [0; 7] }
+        Marks { places: [0; 6] }
     }
 
     /// Sets the end of a part.
     #[inline(always)]
     pub(crate) fn set(&mut self, part: usize, index: usize)
-        requires { part < 7 }
+        requires { part < 6 }
         ensures { self.new.places ≡ set self.old.places part index }
     {
         self.places[part] = index;

@@ -1,9 +1,9 @@
-//! Where a segment of a text, what stands between two hyphens, ends and begins (RFC 5646 section 2.1). Indices count
-//! bytes.
+//! Where a segment of a text, which is the text between two hyphens, begins and ends (RFC 5646 section 2.1). Indices
+//! are in bytes.
 ghost use Rattle.std.specs.Prelude.{◌≡◌, ◌-◌, ◌≤◌, ◌<◌, length, slice_index};
 ghost use Rattle.langtag_scan.specs.Subtags.{NoHyphenWithin};
 
-/// Returns where the segment that has begun at or before `index` ends: at the next hyphen, or at the end of the text.
+/// Returns where the segment at `index` ends: at the next hyphen, or at the end of the text.
 ///
 /// `segment_end(b"fr-FR", 0)` is 2, and `segment_end(b"fr-FR", 3)` is 5.
 pub fn segment_end(bytes: &[u8], index: usize) -> usize
@@ -20,7 +20,7 @@ pub fn segment_end(bytes: &[u8], index: usize) -> usize
     end
 }
 
-/// Returns where the segment begins that ends at `end`: just after a hyphen, or at 0.
+/// Returns where the segment that ends at `end` begins: just after a hyphen, or at 0.
 ///
 /// `segment_start(b"fr-FR", 5)` is 3, and `segment_start(b"fr-FR", 2)` is 0.
 pub fn segment_start(bytes: &[u8], end: usize) -> usize

@@ -25,24 +25,25 @@
 //! A state stands for the positions after which the same bytes may follow and the same parts end. A position is a stage, what
 //! is known of the subtag after it, and the irregular tag that the bytes may become. So the tables are this machine: each
 //! step of a state is proved to be that of the positions that it stands for.
-ghost use Rattle.std.specs.Prelude.{◌≡◌, ℕ, ◌<◌, ◌++◌, ◌∷◌, [], List, slice_index};
+ghost use Rattle.std.specs.Prelude.{◌≡◌, ℕ, ◌<◌, ◌++◌, ◌∷◌, [], List, slice_index, true, false, MatchOption};
 ghost use Rattle.langtag_scan.specs.Position.{position_of, part_before, ending_of, is_dead};
-ghost use Rattle.langtag_scan.specs.Tracking.{Stands, next_number};
+ghost use Rattle.langtag_scan.specs.Tracking.{Stands, IsPlace, next_number};
 
-use crate::states::{CLASSES, HYPHEN, KINDS, NEXT, PARTS, START};
+use crate::states::{CLASSES, KINDS, NEXT, NONE, PARTS, START};
 
 /// A state, by its number in the tables.
 #[derive(Clone, Copy)]
 pub(crate) struct State {
     number: usize,
-    ghost within: { number < 165 },
+    ghost within: { number < 164 },
 }
 
 /// What a text is that ends in a state.
 #[derive(Clone, Copy)]
 pub(crate) enum Ending {
     NoTag,
-    Normal,
+    /// A normal tag, with the place of its last part.
+    Normal(usize),
     PrivateUse,
     /// An irregular tag, with its index in the table.
     Irregular(usize),
@@ -56,61 +57,49 @@ impl State {
         State { number: START }
     }
 
-    /// The state after one byte more.
+    /// The state after one byte more, or None if no tag begins so.
     #[inline(always)]
-    pub(crate) fn after(self, byte: u8) -> Self
-        ensures { (q : List ℕ) → Stands q self.number → Stands (q ++ byte ∷ []) result.number }
+    pub(crate) fn after(self, byte: u8) -> Option<Self>
+        ensures { (q : List ℕ) → Stands q self.number → MatchOption result (is_dead (position_of (q ++ byte ∷ [])) ≡ true)
+            (λ next. (is_dead (position_of (q ++ byte ∷ [])) ≡ false) × Stands (q ++ byte ∷ []) next.number) }
     {
         self.after_class(CLASSES[byte as usize] as usize)
     }
 
-    /// The state after one byte of a class.
+    /// The state after one byte of a class, or None if no tag begins so.
     #[inline(always)]
-    fn after_class(self, class: usize) -> Self
+    fn after_class(self, class: usize) -> Option<Self>
         requires { class < 29 }
-        ensures { result.number ≡ next_number class self.number }
+        ensures { MatchOption result (next_number class self.number ≡ 164) (λ next. next.number ≡ next_number class self.number) }
     {
-        State {
-            number: NEXT[class][self.number] as usize,
+        let number = NEXT[class][self.number] as usize;
+        if number < NONE {
+            Some(State { number })
+        } else {
+            None
         }
     }
 
-    /// Whether no tag begins with the bytes that were read.
-    #[inline(always)]
-    pub(crate) fn is_dead(self) -> bool
-        ensures { (q : List ℕ) → Stands q self.number → result ≡ is_dead (position_of q) }
-    {
-        self.number == 0
-    }
-
-    /// The place of the part that has ended, if the last byte is the hyphen after it, and 6 if none has.
+    /// The place of the part that has ended, if the last byte is the hyphen after it, and 5 if none has.
     #[inline(always)]
     pub(crate) fn part_before(self) -> usize
-        ensures within { result < 7 }
+        ensures within { result < 6 }
         ensures part { (q : List ℕ) → Stands q self.number → result ≡ part_before (position_of q) }
     {
         PARTS[self.number] as usize
     }
 
-    /// The place of the part that ends with the last byte of a tag: that before a hyphen, which may follow each tag but an irregular one.
-    #[inline(always)]
-    pub(crate) fn last_part(self) -> usize
-        ensures within { result < 7 }
-        ensures part { (q : List ℕ) → Stands q self.number → result ≡ part_before (position_of (q ++ 45 ∷ [])) }
-    {
-        self.after_class(HYPHEN).part_before()
-    }
-
     /// What the bytes that were read are, as a whole text.
     #[inline(always)]
     pub(crate) fn ending(self) -> Ending
-        ensures { (q : List ℕ) → Stands q self.number → result ≡ ending_of (position_of q) }
+        ensures place { IsPlace result }
+        ensures ending { (q : List ℕ) → Stands q self.number → result ≡ ending_of (position_of q) }
     {
         match KINDS[self.number] {
-            0 => Ending::NoTag,
-            1 => Ending::Normal,
-            2 => Ending::PrivateUse,
-            kind => Ending::Irregular(kind as usize - 3),
+            place if place < 6 => Ending::Normal(place as usize),
+            6 => Ending::NoTag,
+            7 => Ending::PrivateUse,
+            kind => Ending::Irregular(kind as usize - 8),
         }
     }
 }

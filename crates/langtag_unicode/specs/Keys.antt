@@ -5,6 +5,7 @@ use Rattle.langtag_unicode.specs.declared.keys.Keys.TheVariants.{Unicode, Transf
 use Rattle.langtag_unicode.specs.Keywords.{is_key}
 use Rattle.langtag_unicode.specs.Transform.{is_field_key}
 
+-- whether a subtag is a key of the extension
 abbrev pub opens : Keys → List ℕ → Bool
 opens Unicode subtag = is_key subtag
 opens Transform subtag = is_field_key subtag

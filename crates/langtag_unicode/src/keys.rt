@@ -4,8 +4,16 @@ ghost use Rattle.langtag_unicode.specs.Keys.{opens};
 ghost use Rattle.langtag_unicode.specs.Transform as spec;
 
 /// The extension whose keys are looked for.
+///
+/// ```
+/// use langtag_unicode::Keys;
+///
+/// Keys::Unicode.has(b"ca"); // true
+/// Keys::Transform.has(b"ca"); // false
+/// Keys::Transform.has(b"m0"); // true
+/// ```
 #[derive(Clone, Copy, Debug, Drop)]
-pub(crate) enum Keys {
+pub enum Keys {
     /// `u`, whose keys have two characters (RFC 6067 section 2.1).
     Unicode,
     /// `t`, whose keys are a letter and a digit (RFC 6497 section 2.2).
@@ -13,13 +21,15 @@ pub(crate) enum Keys {
 }
 
 impl Keys {
-    /// Returns whether a subtag is a key.
-    pub(crate) fn has(self, subtag: &str) -> bool
-        ensures { result ≡ opens self subtag.now }
+    /// Returns whether a subtag is a key of the extension.
+    pub fn has(self, subtag: &[u8]) -> bool
+        ensures is_key { result ≡ opens self subtag.now }
+        ensures cloned { (keys copy : Keys) → ⟦<Keys as Clone>⟧.is_clone keys copy → copy ≡ keys }
+        ensures clone_succeeds { (keys : Keys) → ⟦<Keys as Clone>⟧.is_infallible keys }
     {
         match self {
             Keys::Unicode => subtag.len() == 2,
-            Keys::Transform => is_field_key(subtag.as_bytes()),
+            Keys::Transform => is_field_key(subtag),
         }
     }
 }

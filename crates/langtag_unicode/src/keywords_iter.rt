@@ -43,7 +43,7 @@ impl<'a> KeywordsIter<'a> {
     fn is_new_key(&self, subtag: &str) -> bool
         ensures { result ≡ spec.is_new_key (opens self.now.keys) (take self.now.passed (subtags self.now.text.now)) subtag.now }
     {
-        self.keys.has(subtag) && !is_among_first(self.text, self.passed, subtag)
+        self.keys.has(subtag.as_bytes()) && !is_among_first(self.text, self.passed, subtag)
     }
 }
 

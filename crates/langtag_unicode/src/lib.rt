@@ -18,6 +18,7 @@ mod transformation;
 mod unicode_extension;
 
 pub use attributes_iter::AttributesIter;
+pub use keys::Keys;
 pub use keywords_iter::KeywordsIter;
 pub use transformation::{Transformation, transform};
 pub use unicode_extension::{KeyValue, attributes, keyword, keywords};

@@ -14,7 +14,7 @@ ghost use Rattle.langtag_unicode.specs.Transform.{some_text};
 use crate::keys::Keys;
 use langtag::{LangTag, Singleton, Subtags, case_insensitive_eq, segment_end};
 
-/// Returns the subtags of the first extension of a singleton, joined: nothing where there is no such extension.
+/// Returns the subtags of the first extension with a singleton, joined, or nothing if there is no such extension.
 pub(crate) fn extension_text<'a>(tag: LangTag<'a>, singleton: Singleton) -> &'a str
     ensures { PartOf (lang_tag_text tag.entry) (spec.subtags_of (singleton_byte singleton)) [] (subtags result.now) }
 {
@@ -34,7 +34,7 @@ pub(crate) fn unicode_text<'a>(tag: LangTag<'a>) -> &'a str
     }
 }
 
-/// Returns a text that is to be taken apart: none where it has no subtags.
+/// Returns a text to take apart, or `None` if it has no subtags.
 pub(crate) fn nonempty(text: &str) -> Option<&str>
     ensures same_text { option_map (λ t. t.now) result ≡ some_text text.now }
     ensures segments { segments_left result ≡ subtags text.now }
@@ -45,7 +45,7 @@ pub(crate) fn nonempty(text: &str) -> Option<&str>
     Some(text)
 }
 
-/// Returns the first subtag of a text, and what stands after it and a hyphen, where there is more.
+/// Returns the first subtag of a text, and the rest after a hyphen, if there is more.
 pub(crate) fn split_first(text: &str) -> (&str, Option<&str>)
     ensures { segments text.now ≡ result.0.now ∷ segments_left result.1 }
 {
@@ -56,7 +56,7 @@ pub(crate) fn split_first(text: &str) -> (&str, Option<&str>)
     (&text[..end], Some(&text[end + 1..]))
 }
 
-/// Returns what stands before the first key, as one text.
+/// Returns the text before the first key.
 #[tactic(auto, using(crate::proofs::SubtagTexts::cut_before_key))]
 pub(crate) fn before_key<'a>(rest: Option<&'a str>, keys: Keys) -> &'a str
     ensures { result.now ≡ join (spec.before_key (opens keys) (segments_left rest.entry)) }
@@ -83,7 +83,7 @@ fn len_before_key(text: &str, keys: Keys) -> usize
 {
     let mut len = 0;
     for subtag in Subtags::new(text) {
-        if keys.has(subtag) {
+        if keys.has(subtag.as_bytes()) {
             return len;
         }
         len += subtag.len() + 1;
@@ -91,7 +91,7 @@ fn len_before_key(text: &str, keys: Keys) -> usize
     len
 }
 
-/// Returns whether a subtag is equal to one of the first so many of a text, ignoring case.
+/// Returns whether a subtag equals one of the first `count` subtags of a text, ignoring case.
 pub(crate) fn is_among_first(text: &str, count: usize, subtag: &str) -> bool
     ensures { result ≡ list_any (are_alike subtag.now) (take count (subtags text.now)) }
 {
@@ -108,7 +108,7 @@ pub(crate) fn value_in<'a>(text: &'a str, keys: Keys, key: &str) -> Option<&'a s
     let mut rest = nonempty(text);
     while let Some(text) = rest {
         let (subtag, after) = split_first(text);
-        if keys.has(subtag) && case_insensitive_eq(subtag.as_bytes(), key.as_bytes()) {
+        if keys.has(subtag.as_bytes()) && case_insensitive_eq(subtag.as_bytes(), key.as_bytes()) {
             return Some(before_key(after, keys));
         }
         rest = after;

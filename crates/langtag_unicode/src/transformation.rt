@@ -33,6 +33,14 @@ pub struct Transformation<'a> {
 }
 
 /// Returns the first extension `t` of a tag (RFC 6497 section 2.2), or `None` if there is none.
+///
+/// ```
+/// use langtag::LangTag;
+/// use langtag_unicode::transform;
+///
+/// let found = transform(LangTag::new("und-t-ja-latn-m0-hepburn")?);
+/// found.and_then(|it| it.language()); // Some("ja-latn")
+/// ```
 pub fn transform<'a>(tag: LangTag<'a>) -> Option<Transformation<'a>>
     ensures first { PartOf (lang_tag_text tag.entry) (λ r. option_map (λ e. e.subtags) (find_extension 116 r.extensions)) None (option_map transformation_subtags result) }
 
@@ -56,6 +64,14 @@ impl<'a> Transformation<'a> {
     /// Returns the value of a field, as a slice of the tag: in `und-t-ja-m0-hepburn` the field `m0` has the value
     /// `hepburn`. Case is ignored, and the first of repeated keys counts. Returns `None` if the field is absent, and
     /// the empty text if it has no value.
+    ///
+    /// ```
+    /// use langtag::LangTag;
+    /// use langtag_unicode::transform;
+    ///
+    /// let found = transform(LangTag::new("und-t-ja-m0-hepburn")?);
+    /// found.and_then(|it| it.field("m0")); // Some("hepburn")
+    /// ```
     #[tactic(auto, using(crate::proofs::WalkLaws::keyword_laws))]
     pub fn field(&self, key: &str) -> Option<&'a str>
         ensures value { option_map (λ text. text.now) result ≡ option_map join (keywords.value_of spec.is_field_key key.now (transformation_subtags self.now)) }

@@ -7,13 +7,14 @@
 #![warn(clippy::all)]
 #![allow(clippy::missing_safety_doc)]
 
+use crate::calls::best_match::BestMatch;
 use crate::calls::parse::Parts;
 use crate::calls::repeats::Repeated;
 use crate::calls::span::Span;
 use crate::calls::{
-    accepted, canonical, choice, compare, direction, fallback, grandfathered, likely, look_up,
-    parse, posix, range as ranges, recommend, refused, registry_date, repeats, validity, viable,
-    walk, with_part,
+    accepted, best_match, canonical, choice, compare, direction, fallback, grandfathered, keyword,
+    likely, look_up, parse, posix, range as ranges, recommend, refused, registry_date, repeats,
+    transform, validity, viable, walk, with_part,
 };
 use core::slice;
 
@@ -138,6 +139,108 @@ pub unsafe extern "C" fn langtag_next_extension(
 }
 
 #[no_mangle]
+pub unsafe extern "C" fn langtag_keyword(
+    bytes: *const u8,
+    len: usize,
+    key: *const u8,
+    key_len: usize,
+    value: *mut Span,
+) -> bool {
+    let mut found = NO_SPAN;
+    let is_there = keyword::langtag_keyword(lent(bytes, len), lent(key, key_len), &mut found);
+    if is_there {
+        value.write(found);
+    }
+    is_there
+}
+
+#[no_mangle]
+pub unsafe extern "C" fn langtag_next_keyword(
+    bytes: *const u8,
+    len: usize,
+    passed: *mut usize,
+    key: *mut Span,
+    value: *mut Span,
+) -> bool {
+    let (mut key_found, mut value_found) = (NO_SPAN, NO_SPAN);
+    let is_one = keyword::langtag_next_keyword(
+        lent(bytes, len),
+        &mut *passed,
+        &mut key_found,
+        &mut value_found,
+    );
+    if is_one {
+        key.write(key_found);
+        value.write(value_found);
+    }
+    is_one
+}
+
+#[no_mangle]
+pub unsafe extern "C" fn langtag_attributes(
+    bytes: *const u8,
+    len: usize,
+    attributes: *mut Span,
+) -> bool {
+    let mut found = NO_SPAN;
+    let is_some = keyword::langtag_attributes(lent(bytes, len), &mut found);
+    attributes.write(found);
+    is_some
+}
+
+#[no_mangle]
+pub unsafe extern "C" fn langtag_transform(
+    bytes: *const u8,
+    len: usize,
+    language: *mut Span,
+) -> bool {
+    let mut found = NO_SPAN;
+    let is_there = transform::langtag_transform(lent(bytes, len), &mut found);
+    if is_there {
+        language.write(found);
+    }
+    is_there
+}
+
+#[no_mangle]
+pub unsafe extern "C" fn langtag_field(
+    bytes: *const u8,
+    len: usize,
+    key: *const u8,
+    key_len: usize,
+    value: *mut Span,
+) -> bool {
+    let mut found = NO_SPAN;
+    let is_there = transform::langtag_field(lent(bytes, len), lent(key, key_len), &mut found);
+    if is_there {
+        value.write(found);
+    }
+    is_there
+}
+
+#[no_mangle]
+pub unsafe extern "C" fn langtag_next_field(
+    bytes: *const u8,
+    len: usize,
+    passed: *mut usize,
+    key: *mut Span,
+    value: *mut Span,
+) -> bool {
+    let (mut key_found, mut value_found) = (NO_SPAN, NO_SPAN);
+    let is_one = transform::langtag_next_field(
+        lent(bytes, len),
+        &mut *passed,
+        &mut key_found,
+        &mut value_found,
+    );
+    if is_one {
+        key.write(key_found);
+        value.write(value_found);
+    }
+    is_one
+}
+
+#[no_mangle]
 pub unsafe extern "C" fn langtag_with_part(
     tag: *const u8,
     tag_len: usize,
@@ -247,6 +350,30 @@ pub unsafe extern "C" fn langtag_best_for_header(
         lent(bytes, len),
         lent(tags, tags_len),
     )
+}
+
+#[no_mangle]
+pub unsafe extern "C" fn langtag_match_for_header(
+    header: *const u8,
+    header_len: usize,
+    bytes: *const u8,
+    len: usize,
+    tags: *const Span,
+    tags_len: usize,
+    found: *mut BestMatch,
+) -> usize {
+    let mut written = BestMatch {
+        range: NO_SPAN,
+        distance: 0,
+    };
+    let index = best_match::langtag_match_for_header(
+        lent(header, header_len),
+        lent(bytes, len),
+        lent(tags, tags_len),
+        &mut written,
+    );
+    found.write(written);
+    index
 }
 
 #[no_mangle]

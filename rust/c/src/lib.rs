@@ -46,6 +46,8 @@ mod scan;
 mod tables;
 #[path = "../../src/tag/mod.rs"]
 mod tag;
+#[path = "../../src/unicode/mod.rs"]
+mod unicode;
 
 mod calls;
 mod exports;

@@ -26,7 +26,7 @@ impl Piece {
         }
     }
 
-    /// The piece at the start of what is left of a text after a hyphen, where no subtag before it is of a single byte.
+    /// Returns the piece at the start of the rest of a text after a hyphen, if no subtag before it has a single byte.
     pub(crate) fn later(text: &[u8]) -> Piece {
         match segment_end(text, 0) {
             1 => Piece {

@@ -2,11 +2,13 @@
 
 //! The tag that a reader wants.
 
+use crate::choice::best_match::BestMatch;
 use crate::choice::by_ranges::first_by_ranges;
 use crate::choice::by_tags::first_by_tags;
-use crate::choice::candidate::index_of;
+use crate::choice::candidate::{index_of, Candidate};
 use crate::choice::range_list::RangeList;
 use crate::choice::refused::is_refused;
+use crate::choice::tag_distance::range_distance;
 use crate::choice::tag_list::{TagList, Tags};
 #[cfg(feature = "alloc")]
 use crate::matching::AcceptLanguage;
@@ -35,6 +37,19 @@ pub fn best_for_header(header: &[u8], tags: &[LangTag<'_>]) -> Option<usize> {
 
 /// Returns the index of the best tag for a parsed header, as [`best_for_header`] does. [`AcceptLanguage`] has no ranges
 /// of weight 0, so it excludes no tag.
+///
+/// ```
+/// # fn main() -> Result<(), Box<dyn std::error::Error>> {
+/// use langtag::LangTag;
+/// use langtag::choice::best_for_accept_language;
+/// use langtag::matching::AcceptLanguage;
+///
+/// let accepted = AcceptLanguage::lenient("zh-TW,zh;q=0.9,en;q=0.8")?;
+/// let tags = [LangTag::new("en")?, LangTag::new("zh-Hant")?];
+/// assert_eq!(best_for_accept_language(&accepted, &tags), Some(1));
+/// # Ok(())
+/// # }
+/// ```
 #[cfg(feature = "alloc")]
 #[inline]
 pub fn best_for_accept_language(
@@ -46,30 +61,88 @@ pub fn best_for_accept_language(
 
 /// Returns the index of the best tag for a list of language ranges, the most wanted first, as [`best_for_header`] does:
 /// 1 for the ranges `nn` and `de`, and the tags `en` and `nb`. It is meant for basic ranges.
+///
+/// ```
+/// # fn main() -> Result<(), Box<dyn std::error::Error>> {
+/// use langtag::LangTag;
+/// use langtag::choice::best_for_ranges;
+/// use langtag::matching::LanguageRange;
+///
+/// let ranges = [LanguageRange::new("nn")?, LanguageRange::new("de")?];
+/// let tags = [LangTag::new("en")?, LangTag::new("nb")?];
+/// assert_eq!(best_for_ranges(&ranges, &tags), Some(1));
+/// # Ok(())
+/// # }
+/// ```
 #[inline]
 pub fn best_for_ranges(ranges: &[LanguageRange<'_>], tags: &[LangTag<'_>]) -> Option<usize> {
     best_among(ranges, &Tags(tags))
 }
 
+/// Returns the best tag for an Accept-Language header, as [`best_for_header`] chooses it, with the range that it serves and its
+/// distance from that range. If the distance is 50 or more, only look-up (RFC 4647, section 3.4) finds the tag.
+///
+/// ```
+/// # fn main() -> Result<(), Box<dyn std::error::Error>> {
+/// use langtag::LangTag;
+/// use langtag::choice::match_for_header;
+///
+/// let tags = [LangTag::new("en")?, LangTag::new("de")?];
+/// let found = match_for_header(b"tlh, gsw", &tags);
+/// assert_eq!(found.map(|found| (found.index, found.range, found.distance)), Some((1, &b"gsw"[..], 8)));
+/// # Ok(())
+/// # }
+/// ```
+#[inline]
+pub fn match_for_header<'a>(header: &'a [u8], tags: &[LangTag<'_>]) -> Option<BestMatch<'a>> {
+    match_among(header, &Tags(tags))
+}
+
+/// Returns the best tag with the range that it serves, as [`match_for_header`] does, for any list of ranges and any list of tags.
+#[inline]
+pub fn match_among<'a, R: RangeList<'a>, T: TagList>(ranges: R, tags: &T) -> Option<BestMatch<'a>> {
+    match best(ranges, tags) {
+        Some(found) => Some(match_of(found)),
+        None => None,
+    }
+}
+
+/// Returns the match for a chosen candidate.
+#[inline]
+fn match_of<'a>(found: Candidate<'a, '_>) -> BestMatch<'a> {
+    BestMatch {
+        index: found.index,
+        range: found.range,
+        place: found.rank.place,
+        distance: range_distance(found.range, found.tag),
+    }
+}
+
 /// Returns the index of the best tag, as [`best_for_header`] does, for any list of ranges and any list of tags.
 #[inline]
 pub fn best_among<'a, R: RangeList<'a>, T: TagList>(ranges: R, tags: &T) -> Option<usize> {
-    best(ranges, tags)
+    best_index(ranges, tags)
 }
 
-/// Returns the index of the tag that is chosen. Where what is first of all is refused or no tag, the tags are gone through one by one.
-fn best<'a, R: RangeList<'a>, T: TagList>(ranges: R, tags: &T) -> Option<usize> {
+/// Returns the index of the chosen tag.
+#[inline]
+fn best_index<'a, R: RangeList<'a>, T: TagList>(ranges: R, tags: &T) -> Option<usize> {
+    index_of(best(ranges, tags))
+}
+
+/// Returns the chosen candidate. If the first candidate is refused or not a tag, the tags are tried one by one.
+fn best<'a, 't, R: RangeList<'a>, T: TagList>(ranges: R, tags: &'t T) -> Option<Candidate<'a, 't>> {
     let (first, has_zero) = first_by_ranges(ranges, tags);
     let Some(found) = first else {
         return None;
     };
     if is_chosen(ranges, tags, found.index, has_zero) {
-        return Some(found.index);
+        return Some(found);
     }
-    index_of(first_by_tags(ranges, tags))
+    first_by_tags(ranges, tags)
 }
 
-/// Returns whether a tag stands at an index, which is not refused. Where no range has the weight 0, none is.
+/// Returns whether the entry at an index is a tag that is not refused. No tag is refused if no range has the weight 0.
 #[inline]
 fn is_chosen<'a, R: RangeList<'a>, T: TagList>(
     ranges: R,

@@ -1,6 +1,6 @@
 // Made by rust/erase from crates/langtag_choice/src/by_ranges.rt. Change that file, not this one.
 
-//! The choice range by range, which passes over lighter ranges where a heavier one has a tag.
+//! The choice range by range, which skips lighter ranges if a heavier one has a tag.
 
 use crate::choice::candidate::Candidate;
 use crate::choice::improve::{improve, limit};
@@ -9,7 +9,7 @@ use crate::choice::tag_list::TagList;
 use crate::choice::wish::Wish;
 use crate::matching::WantedRange;
 
-/// Returns the first candidate of all, whoever is refused or no tag, and whether a range has the weight 0.
+/// Returns the first of all candidates, even if it is refused or not a tag, and whether a range has the weight 0.
 pub(crate) fn first_by_ranges<'a, 't, R: RangeList<'a>, T: TagList>(
     ranges: R,
     tags: &'t T,

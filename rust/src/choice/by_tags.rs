@@ -1,6 +1,6 @@
 // Made by rust/erase from crates/langtag_choice/src/by_tags.rt. Change that file, not this one.
 
-//! The choice tag by tag, which asks of each tag once whether it is one, and whether it is refused.
+//! The choice tag by tag, which checks once for each entry whether it is a tag, and whether it is refused.
 
 use crate::choice::candidate::Candidate;
 use crate::choice::improve::{improve, limit};

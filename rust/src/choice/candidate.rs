@@ -7,7 +7,7 @@ use crate::choice::nearness::kept;
 use crate::likely::TagFields;
 use core::cmp::Ordering;
 
-/// How a tag serves a range: it is nearer than 16, or nearer than 50, or look-up alone finds it. The first is the best.
+/// How a tag serves a range: its distance is below 16, or below 50, or only look-up finds it. The first is the best.
 #[derive(Clone, Copy, PartialEq, Eq, PartialOrd, Ord)]
 pub(crate) enum Service {
     Near,
@@ -16,7 +16,7 @@ pub(crate) enum Service {
 }
 
 impl Service {
-    /// Returns how a tag serves a range at a distance, which is 50 if look-up alone finds it.
+    /// Returns how a tag serves a range at a distance, which is 50 if only look-up finds it.
     #[inline]
     pub(crate) fn at(distance: u8) -> Service {
         if distance < 16 {
@@ -28,7 +28,7 @@ impl Service {
         }
     }
 
-    /// Returns the least distance at which a tag serves a range so.
+    /// Returns the least distance at which a tag serves a range in this way.
     #[inline]
     pub(crate) fn least_distance(self) -> u8 {
         match self {
@@ -39,20 +39,20 @@ impl Service {
     }
 }
 
-/// What is compared first. Of two the lesser is the better, by the first field in which they differ.
+/// What is compared first: the lesser of two is the better, by the first field in which they differ.
 #[derive(Clone, Copy, PartialEq, Eq, PartialOrd, Ord)]
 pub(crate) struct Rank {
     pub(crate) service: Service,
-    /// What the weight of the range lacks to 1, in thousandths.
+    /// 1 minus the weight of the range, in thousandths.
     pub(crate) lack: u32,
-    /// How many ranges stand before it.
+    /// The number of ranges before it.
     pub(crate) place: usize,
-    /// How far the tag is from it, and 50 for each tag that look-up alone finds.
+    /// The distance of the tag, which is 50 if only look-up finds it.
     pub(crate) distance: u8,
 }
 
 impl Rank {
-    /// Returns whether the range is heavier than one at a place, or as heavy and stands before it.
+    /// Returns whether the range is heavier than another at a place, or as heavy and before it.
     #[inline]
     pub(crate) fn is_wanted_more(self, lack: u32, place: usize) -> bool {
         self.lack < lack || (self.lack == lack && self.place < place)

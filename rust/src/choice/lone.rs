@@ -1,6 +1,6 @@
 // Made by rust/erase from crates/langtag_choice/src/lone.rt. Change that file, not this one.
 
-//! Languages that no other is near, as the first letters of a tag show.
+//! Languages to which no other language is near, as the first letters of a tag show.
 
 use crate::choice::matching_tables as tables;
 use crate::choice::read_range::starts;
@@ -44,7 +44,8 @@ fn is_mark(byte: u8) -> bool {
     hyphened(byte) == b'-'
 }
 
-/// Returns the letters of a form's language where it has two, the range begins with them, and no other language is near it.
+/// Returns the letters of a form's language if it has two, the range begins with them, and no other language is near
+/// it.
 pub(crate) fn lone_letters(range: &[u8], form: Option<TagFields<'_>>) -> Option<(u8, u8)> {
     let Some(form) = form else { return None };
     if form.language.len() != 2 || is_related(form.language) || !starts(range, form.language) {

@@ -16,6 +16,7 @@
 //! ```
 
 mod best;
+mod best_match;
 mod by_ranges;
 mod by_tags;
 mod candidate;
@@ -35,7 +36,8 @@ mod wish;
 
 #[cfg(feature = "alloc")]
 pub use best::best_for_accept_language;
-pub use best::{best_among, best_for_header, best_for_ranges};
+pub use best::{best_among, best_for_header, best_for_ranges, match_among, match_for_header};
+pub use best_match::BestMatch;
 pub use range_list::RangeList;
 pub use tag_distance::{distance, FORMLESS_DISTANCE};
 pub use tag_list::TagList;

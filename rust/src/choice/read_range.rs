@@ -16,7 +16,7 @@ pub(crate) fn starts(range: &[u8], tag: &[u8]) -> bool {
     tag.len() <= range.len() && are_alike(&range[..tag.len()], tag)
 }
 
-/// Returns whether a tag is a range, or begins so and goes on with a hyphen.
+/// Returns whether a tag equals a range, or begins with it and then has a hyphen.
 pub(crate) fn begins(range: &[u8], tag: &[u8]) -> bool {
     if tag.len() < range.len() || !are_alike(range, &tag[..range.len()]) {
         return false;

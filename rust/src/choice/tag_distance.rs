@@ -4,7 +4,7 @@
 
 use crate::choice::region_distance::region_distance;
 use crate::choice::rule_distance::{language_distance, script_distance};
-use crate::likely::{matching_form, TagFields};
+use crate::likely::{are_alike, matching_form, TagFields};
 use crate::scan::case_insensitive_eq;
 use crate::tag::LangTag;
 
@@ -22,6 +22,17 @@ pub const FORMLESS_DISTANCE: u8 = 255;
 /// [`FORMLESS_DISTANCE`], or 0 if the tags are equal, ignoring case.
 ///
 /// A language that CLDR replaces is read as what replaces it, such as `ger`, `deu` and `iw`, and so is a deprecated region.
+///
+/// ```
+/// # fn main() -> Result<(), Box<dyn std::error::Error>> {
+/// use langtag::LangTag;
+/// use langtag::choice::distance;
+///
+/// assert_eq!(distance(LangTag::new("de-AT")?, LangTag::new("de")?), 4);
+/// assert_eq!(distance(LangTag::new("de")?, LangTag::new("en")?), 84);
+/// # Ok(())
+/// # }
+/// ```
 #[inline]
 pub fn distance(desired: LangTag<'_>, supported: LangTag<'_>) -> u8 {
     texts_distance(desired.as_bytes(), supported.as_bytes())
@@ -32,6 +43,24 @@ fn texts_distance(desired: &[u8], supported: &[u8]) -> u8 {
     match (matching_form(desired), matching_form(supported)) {
         (Some(desired), Some(supported)) => fields_distance(desired, supported),
         _ => formless_distance(desired, supported),
+    }
+}
+
+/// Returns the distance from a range, in which `_` is read as `-`, to a tag.
+pub(crate) fn range_distance(range: &[u8], tag: &[u8]) -> u8 {
+    match (matching_form(range), matching_form(tag)) {
+        (Some(wanted), Some(found)) => fields_distance(wanted, found),
+        _ => formless_range_distance(range, tag),
+    }
+}
+
+/// Returns the distance from a range to a tag of which one has no matching form.
+#[inline]
+fn formless_range_distance(range: &[u8], tag: &[u8]) -> u8 {
+    if are_alike(range, tag) {
+        0
+    } else {
+        FORMLESS_DISTANCE
     }
 }
 

@@ -7,8 +7,9 @@ use crate::choice::read_range::is_star;
 use crate::likely::{matching_form, TagFields};
 use crate::matching::WantedRange;
 
-/// A range other than `*`, its weight, which is not 0, how many ranges stand before it, and its matching form, which is made once for
-/// all tags, with the letters of its language where it begins with them and no other is near that.
+/// A range other than `*`, its weight, which is not 0, and the number of ranges before it. Its matching form is made
+/// once for all tags. The letters of its language are kept if the range begins with them and no other language is near
+/// that.
 #[derive(Clone, Copy)]
 pub(crate) struct Wish<'a> {
     pub(crate) range: &'a [u8],
@@ -19,7 +20,7 @@ pub(crate) struct Wish<'a> {
 }
 
 impl<'a> Wish<'a> {
-    /// Reads the range at a place: `None` for `*`, and of one with the weight 0.
+    /// Reads the range at a place, or returns `None` if it is `*` or has the weight 0.
     pub(crate) fn new(wanted: WantedRange<'a>, place: usize) -> Option<Wish<'a>> {
         if wanted.weight == 0 || is_star(wanted.bytes) {
             return None;
@@ -34,8 +35,8 @@ impl<'a> Wish<'a> {
         })
     }
 
-    /// Returns whether a tag cannot serve the range, where its first letters show it: the range has a language that no other is
-    /// near, and the tag has another one of two letters.
+    /// Returns whether the first letters of a tag show that it cannot serve the range: no other language is near that
+    /// of the range, and the tag has another language of two letters.
     pub(crate) fn is_far_from(&self, tag: &[u8]) -> bool {
         let Some(letters) = self.lone else {
             return false;

@@ -54,12 +54,18 @@ pub struct Extension<'a> {
 }
 
 impl<'a> Extension<'a> {
-    /// Parses a text as an extension: `Extension::new("u-co-phonebk")` is `Ok`.
+    /// Parses a text as an extension.
     ///
     /// # Errors
     ///
     /// Returns the text if it is not one extension: `Extension::new("a")`, which has no subtag, is
     /// `Err(InvalidExtension("a"))`. `a-bb-b-cc` has two singletons, and `x-bb` is a private use part.
+    ///
+    /// ```
+    /// use langtag::Extension;
+    ///
+    /// assert!(Extension::new("u-co-phonebk").is_ok());
+    /// ```
     #[inline]
     pub fn new(text: &'a str) -> Result<Extension<'a>, InvalidExtension<&'a str>> {
         if !is_extension(text) {
@@ -77,31 +83,66 @@ impl<'a> Extension<'a> {
         }
     }
 
-    /// Returns the text, in its original case: `Extension::new("U-CO")?.as_str()` is `"U-CO"`.
+    /// Returns the text, in its original case.
+    ///
+    /// ```
+    /// # fn main() -> Result<(), Box<dyn std::error::Error>> {
+    /// use langtag::Extension;
+    ///
+    /// assert_eq!(Extension::new("U-CO")?.as_str(), "U-CO");
+    /// # Ok(())
+    /// # }
+    /// ```
     #[inline]
     pub fn as_str(&self) -> &'a str {
         self.text.0
     }
 
-    /// Returns the text as bytes: `Extension::new("U-CO")?.as_bytes()` is `b"U-CO"`.
+    /// Returns the text as bytes.
+    ///
+    /// ```
+    /// # fn main() -> Result<(), Box<dyn std::error::Error>> {
+    /// use langtag::Extension;
+    ///
+    /// assert_eq!(Extension::new("U-CO")?.as_bytes(), b"U-CO");
+    /// # Ok(())
+    /// # }
+    /// ```
     #[inline]
     pub fn as_bytes(&self) -> &'a [u8] {
         self.as_str().as_bytes()
     }
 
-    /// Returns whether another text is equal, ignoring the case of ASCII letters:
-    /// `Extension::new("u-co")?.eq_str("U-CO")` is `true`. It is proved that comparisons and hashes also ignore case,
-    /// and that a clone is the same value.
+    /// Returns whether another text is equal, ignoring the case of ASCII letters. It is proved that comparisons and
+    /// hashes also ignore case, and that a clone is the same value.
+    ///
+    /// ```
+    /// # fn main() -> Result<(), Box<dyn std::error::Error>> {
+    /// use langtag::Extension;
+    ///
+    /// assert!(Extension::new("u-co")?.eq_str("U-CO"));
+    /// # Ok(())
+    /// # }
+    /// ```
     #[inline]
     pub fn eq_str(&self, other: &str) -> bool {
         self.text == Caseless(other)
     }
 
-    /// Copies the text into an owned value: `Extension::new("U-CO")?.try_to_owned()?.as_str()` is `"U-CO"`.
+    /// Copies the text into an owned value.
     ///
     /// # Errors
     ///
     /// Returns an error if allocation fails.
+    ///
+    /// ```
+    /// # fn main() -> Result<(), Box<dyn std::error::Error>> {
+    /// use langtag::Extension;
+    ///
+    /// assert_eq!(Extension::new("U-CO")?.try_to_owned()?.as_str(), "U-CO");
+    /// # Ok(())
+    /// # }
+    /// ```
     #[cfg(feature = "alloc")]
     #[inline]
     pub fn try_to_owned(&self) -> Result<ExtensionBuf, AllocError> {
@@ -172,20 +213,46 @@ impl ExtensionBuf {
         })
     }
 
-    /// Borrows the extension: `as_extension().as_str()` of the owned `U-CO` is `"U-CO"`. It is proved that comparisons
-    /// and hashes of owned extensions ignore case.
+    /// Borrows the extension. It is proved that comparisons and hashes of owned extensions ignore case.
+    ///
+    /// ```
+    /// # fn main() -> Result<(), Box<dyn std::error::Error>> {
+    /// use langtag::Extension;
+    ///
+    /// assert_eq!(Extension::new("U-CO")?.try_to_owned()?.as_extension().as_str(), "U-CO");
+    /// # Ok(())
+    /// # }
+    /// ```
     #[inline]
     pub fn as_extension(&self) -> Extension<'_> {
         Extension::from_checked(self.as_str())
     }
 
-    /// Returns the text, in its original case: `as_str()` of the owned `U-CO` is `"U-CO"`.
+    /// Returns the text, in its original case.
+    ///
+    /// ```
+    /// # fn main() -> Result<(), Box<dyn std::error::Error>> {
+    /// use langtag::Extension;
+    ///
+    /// assert_eq!(Extension::new("U-CO")?.try_to_owned()?.as_str(), "U-CO");
+    /// # Ok(())
+    /// # }
+    /// ```
     #[inline]
     pub fn as_str(&self) -> &str {
         self.text.0.as_str()
     }
 
-    /// Returns the `String`, without copying it: `into_string()` of the owned `U-CO` is the `String` `U-CO`.
+    /// Returns the `String`, without copying it.
+    ///
+    /// ```
+    /// # fn main() -> Result<(), Box<dyn std::error::Error>> {
+    /// use langtag::Extension;
+    ///
+    /// assert_eq!(Extension::new("U-CO")?.try_to_owned()?.into_string(), "U-CO");
+    /// # Ok(())
+    /// # }
+    /// ```
     #[inline]
     pub fn into_string(self) -> String {
         self.text.0

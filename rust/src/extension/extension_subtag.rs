@@ -52,12 +52,18 @@ pub struct ExtensionSubtag<'a> {
 }
 
 impl<'a> ExtensionSubtag<'a> {
-    /// Parses a text as a subtag: `ExtensionSubtag::new("co")` is `Ok`.
+    /// Parses a text as a subtag.
     ///
     /// # Errors
     ///
-    /// Returns the text if it is not two to eight letters and digits: `ExtensionSubtag::new("c")` is
-    /// `Err(InvalidExtensionSubtag("c"))`.
+    /// Returns the text if it is not two to eight letters and digits.
+    ///
+    /// ```
+    /// use langtag::{ExtensionSubtag, InvalidExtensionSubtag};
+    ///
+    /// assert!(ExtensionSubtag::new("co").is_ok());
+    /// assert_eq!(ExtensionSubtag::new("c"), Err(InvalidExtensionSubtag("c")));
+    /// ```
     #[inline]
     pub fn new(text: &'a str) -> Result<ExtensionSubtag<'a>, InvalidExtensionSubtag<&'a str>> {
         if !is_extension_subtag(text.as_bytes()) {
@@ -75,31 +81,66 @@ impl<'a> ExtensionSubtag<'a> {
         }
     }
 
-    /// Returns the text, in its original case: `ExtensionSubtag::new("CO")?.as_str()` is `"CO"`.
+    /// Returns the text, in its original case.
+    ///
+    /// ```
+    /// # fn main() -> Result<(), Box<dyn std::error::Error>> {
+    /// use langtag::ExtensionSubtag;
+    ///
+    /// assert_eq!(ExtensionSubtag::new("CO")?.as_str(), "CO");
+    /// # Ok(())
+    /// # }
+    /// ```
     #[inline]
     pub fn as_str(&self) -> &'a str {
         self.text.0
     }
 
-    /// Returns the text as bytes: `ExtensionSubtag::new("CO")?.as_bytes()` is `b"CO"`.
+    /// Returns the text as bytes.
+    ///
+    /// ```
+    /// # fn main() -> Result<(), Box<dyn std::error::Error>> {
+    /// use langtag::ExtensionSubtag;
+    ///
+    /// assert_eq!(ExtensionSubtag::new("CO")?.as_bytes(), b"CO");
+    /// # Ok(())
+    /// # }
+    /// ```
     #[inline]
     pub fn as_bytes(&self) -> &'a [u8] {
         self.as_str().as_bytes()
     }
 
-    /// Returns whether another text is equal, ignoring the case of ASCII letters:
-    /// `ExtensionSubtag::new("co")?.eq_str("CO")` is `true`. It is proved that comparisons and hashes also ignore case,
-    /// and that a clone is the same value.
+    /// Returns whether another text is equal, ignoring the case of ASCII letters. It is proved that comparisons and
+    /// hashes also ignore case, and that a clone is the same value.
+    ///
+    /// ```
+    /// # fn main() -> Result<(), Box<dyn std::error::Error>> {
+    /// use langtag::ExtensionSubtag;
+    ///
+    /// assert!(ExtensionSubtag::new("co")?.eq_str("CO"));
+    /// # Ok(())
+    /// # }
+    /// ```
     #[inline]
     pub fn eq_str(&self, other: &str) -> bool {
         self.text == Caseless(other)
     }
 
-    /// Copies the text into an owned value: `ExtensionSubtag::new("CO")?.try_to_owned()?.as_str()` is `"CO"`.
+    /// Copies the text into an owned value.
     ///
     /// # Errors
     ///
     /// Returns an error if allocation fails.
+    ///
+    /// ```
+    /// # fn main() -> Result<(), Box<dyn std::error::Error>> {
+    /// use langtag::ExtensionSubtag;
+    ///
+    /// assert_eq!(ExtensionSubtag::new("CO")?.try_to_owned()?.as_str(), "CO");
+    /// # Ok(())
+    /// # }
+    /// ```
     #[cfg(feature = "alloc")]
     #[inline]
     pub fn try_to_owned(&self) -> Result<ExtensionSubtagBuf, AllocError> {
@@ -152,20 +193,46 @@ impl ExtensionSubtagBuf {
         })
     }
 
-    /// Borrows the subtag: `as_extension_subtag().as_str()` of the owned `CO` is `"CO"`. It is proved that comparisons
-    /// and hashes of owned subtags ignore case.
+    /// Borrows the subtag. It is proved that comparisons and hashes of owned subtags ignore case.
+    ///
+    /// ```
+    /// # fn main() -> Result<(), Box<dyn std::error::Error>> {
+    /// use langtag::ExtensionSubtag;
+    ///
+    /// assert_eq!(ExtensionSubtag::new("CO")?.try_to_owned()?.as_extension_subtag().as_str(), "CO");
+    /// # Ok(())
+    /// # }
+    /// ```
     #[inline]
     pub fn as_extension_subtag(&self) -> ExtensionSubtag<'_> {
         ExtensionSubtag::from_checked(self.as_str())
     }
 
-    /// Returns the text, in its original case: `as_str()` of the owned `CO` is `"CO"`.
+    /// Returns the text, in its original case.
+    ///
+    /// ```
+    /// # fn main() -> Result<(), Box<dyn std::error::Error>> {
+    /// use langtag::ExtensionSubtag;
+    ///
+    /// assert_eq!(ExtensionSubtag::new("CO")?.try_to_owned()?.as_str(), "CO");
+    /// # Ok(())
+    /// # }
+    /// ```
     #[inline]
     pub fn as_str(&self) -> &str {
         self.text.0.as_str()
     }
 
-    /// Returns the `String`, without copying it: `into_string()` of the owned `CO` is the `String` `CO`.
+    /// Returns the `String`, without copying it.
+    ///
+    /// ```
+    /// # fn main() -> Result<(), Box<dyn std::error::Error>> {
+    /// use langtag::ExtensionSubtag;
+    ///
+    /// assert_eq!(ExtensionSubtag::new("CO")?.try_to_owned()?.into_string(), "CO");
+    /// # Ok(())
+    /// # }
+    /// ```
     #[inline]
     pub fn into_string(self) -> String {
         self.text.0

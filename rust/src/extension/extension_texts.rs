@@ -11,7 +11,7 @@ pub(crate) struct ExtensionTexts<'a> {
 }
 
 impl<'a> ExtensionTexts<'a> {
-    /// What stands from one subtag of one byte up to the next. The empty text has none.
+    /// The texts from one subtag of one byte up to the next. The empty text has none.
     #[inline]
     pub(crate) fn new(text: &'a str) -> Self {
         if text.is_empty() {
@@ -49,8 +49,8 @@ fn split_extension<'a>(text: &'a str) -> (&'a str, Option<&'a str>) {
     (&text[..end], Some(&text[end + 1..]))
 }
 
-/// Where the first extension of a text ends: at the first hyphen before a subtag of one byte, or at the end. The subtag that the
-/// text begins with is not looked at.
+/// Returns where the first extension of a text ends: at the first hyphen before a subtag of one byte, or at the end.
+/// The first subtag of the text does not count.
 pub fn first_extension_end(text: &[u8]) -> usize {
     let mut end = segment_end(text, 0);
     while end < text.len() {

@@ -58,15 +58,26 @@ pub struct Extensions<'a> {
 }
 
 impl<'a> Extensions<'a> {
-    /// No extensions: `Extensions::EMPTY.as_str()` is `""`.
+    /// No extensions.
+    ///
+    /// ```
+    /// use langtag::Extensions;
+    ///
+    /// assert_eq!(Extensions::EMPTY.as_str(), "");
+    /// ```
     pub const EMPTY: Extensions<'static> = Extensions { text: Caseless("") };
 
     /// Parses a text as extensions: `Extensions::new("a-ext1-u-co")` and `Extensions::new("")` are `Ok`.
     ///
     /// # Errors
     ///
-    /// Returns the text if it is not extensions joined by hyphens: `Extensions::new("u-")` is
-    /// `Err(InvalidExtensions("u-"))`.
+    /// Returns the text if it is not extensions joined by hyphens.
+    ///
+    /// ```
+    /// use langtag::{Extensions, InvalidExtensions};
+    ///
+    /// assert_eq!(Extensions::new("u-"), Err(InvalidExtensions("u-")));
+    /// ```
     #[inline]
     pub fn new(text: &'a str) -> Result<Extensions<'a>, InvalidExtensions<&'a str>> {
         if !are_extensions(text) {
@@ -75,7 +86,7 @@ impl<'a> Extensions<'a> {
         Ok(Extensions::from_checked(text))
     }
 
-    /// Returns the extensions of a text that is known to be some, without checking it.
+    /// Returns the extensions of a text that is known to be extensions, without checking it.
     /// `Extensions::from_checked(extensions.as_str())` is equal to `extensions`.
     #[inline]
     pub(crate) fn from_checked(text: &'a str) -> Extensions<'a> {
@@ -84,31 +95,66 @@ impl<'a> Extensions<'a> {
         }
     }
 
-    /// Returns the text, in its original case: `Extensions::new("U-CO")?.as_str()` is `"U-CO"`.
+    /// Returns the text, in its original case.
+    ///
+    /// ```
+    /// # fn main() -> Result<(), Box<dyn std::error::Error>> {
+    /// use langtag::Extensions;
+    ///
+    /// assert_eq!(Extensions::new("U-CO")?.as_str(), "U-CO");
+    /// # Ok(())
+    /// # }
+    /// ```
     #[inline]
     pub fn as_str(&self) -> &'a str {
         self.text.0
     }
 
-    /// Returns the text as bytes: `Extensions::new("U-CO")?.as_bytes()` is `b"U-CO"`.
+    /// Returns the text as bytes.
+    ///
+    /// ```
+    /// # fn main() -> Result<(), Box<dyn std::error::Error>> {
+    /// use langtag::Extensions;
+    ///
+    /// assert_eq!(Extensions::new("U-CO")?.as_bytes(), b"U-CO");
+    /// # Ok(())
+    /// # }
+    /// ```
     #[inline]
     pub fn as_bytes(&self) -> &'a [u8] {
         self.as_str().as_bytes()
     }
 
-    /// Returns whether another text is equal, ignoring the case of ASCII letters:
-    /// `Extensions::new("u-co")?.eq_str("U-CO")` is `true`. It is proved that comparisons and hashes also ignore case,
-    /// and that a clone is the same value.
+    /// Returns whether another text is equal, ignoring the case of ASCII letters. It is proved that comparisons and
+    /// hashes also ignore case, and that a clone is the same value.
+    ///
+    /// ```
+    /// # fn main() -> Result<(), Box<dyn std::error::Error>> {
+    /// use langtag::Extensions;
+    ///
+    /// assert!(Extensions::new("u-co")?.eq_str("U-CO"));
+    /// # Ok(())
+    /// # }
+    /// ```
     #[inline]
     pub fn eq_str(&self, other: &str) -> bool {
         self.text == Caseless(other)
     }
 
-    /// Copies the text into an owned value: `Extensions::new("U-CO")?.try_to_owned()?.as_str()` is `"U-CO"`.
+    /// Copies the text into an owned value.
     ///
     /// # Errors
     ///
     /// Returns an error if allocation fails.
+    ///
+    /// ```
+    /// # fn main() -> Result<(), Box<dyn std::error::Error>> {
+    /// use langtag::Extensions;
+    ///
+    /// assert_eq!(Extensions::new("U-CO")?.try_to_owned()?.as_str(), "U-CO");
+    /// # Ok(())
+    /// # }
+    /// ```
     #[cfg(feature = "alloc")]
     #[inline]
     pub fn try_to_owned(&self) -> Result<ExtensionsBuf, AllocError> {
@@ -192,20 +238,46 @@ impl ExtensionsBuf {
         })
     }
 
-    /// Borrows the extensions: `as_extensions().as_str()` of the owned `U-CO` is `"U-CO"`. It is proved that
-    /// comparisons and hashes of owned lists of extensions ignore case.
+    /// Borrows the extensions. It is proved that comparisons and hashes of owned lists of extensions ignore case.
+    ///
+    /// ```
+    /// # fn main() -> Result<(), Box<dyn std::error::Error>> {
+    /// use langtag::Extensions;
+    ///
+    /// assert_eq!(Extensions::new("U-CO")?.try_to_owned()?.as_extensions().as_str(), "U-CO");
+    /// # Ok(())
+    /// # }
+    /// ```
     #[inline]
     pub fn as_extensions(&self) -> Extensions<'_> {
         Extensions::from_checked(self.as_str())
     }
 
-    /// Returns the text, in its original case: `as_str()` of the owned `U-CO` is `"U-CO"`.
+    /// Returns the text, in its original case.
+    ///
+    /// ```
+    /// # fn main() -> Result<(), Box<dyn std::error::Error>> {
+    /// use langtag::Extensions;
+    ///
+    /// assert_eq!(Extensions::new("U-CO")?.try_to_owned()?.as_str(), "U-CO");
+    /// # Ok(())
+    /// # }
+    /// ```
     #[inline]
     pub fn as_str(&self) -> &str {
         self.text.0.as_str()
     }
 
-    /// Returns the `String`, without copying it: `into_string()` of the owned `U-CO` is the `String` `U-CO`.
+    /// Returns the `String`, without copying it.
+    ///
+    /// ```
+    /// # fn main() -> Result<(), Box<dyn std::error::Error>> {
+    /// use langtag::Extensions;
+    ///
+    /// assert_eq!(Extensions::new("U-CO")?.try_to_owned()?.into_string(), "U-CO");
+    /// # Ok(())
+    /// # }
+    /// ```
     #[inline]
     pub fn into_string(self) -> String {
         self.text.0

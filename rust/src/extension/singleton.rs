@@ -48,13 +48,19 @@ pub struct Singleton {
 }
 
 impl Singleton {
-    /// Returns the singleton with a byte: `Singleton::new(b'u')` is `Ok`. It is proved that singletons compare and hash
-    /// by their exact bytes, and that a clone is the same value.
+    /// Returns the singleton with a byte. It is proved that singletons compare and hash by their exact bytes, and
+    /// that a clone is the same value.
     ///
     /// # Errors
     ///
-    /// Returns the byte if it is not an ASCII letter or digit, or is `x` or `X`: `Singleton::new(b'x')` is
-    /// `Err(InvalidSingleton(b'x'))`.
+    /// Returns the byte if it is not an ASCII letter or digit, or is `x` or `X`.
+    ///
+    /// ```
+    /// use langtag::{InvalidSingleton, Singleton};
+    ///
+    /// assert!(Singleton::new(b'u').is_ok());
+    /// assert_eq!(Singleton::new(b'x'), Err(InvalidSingleton(b'x')));
+    /// ```
     #[inline]
     pub fn new(c: u8) -> Result<Self, InvalidSingleton<u8>> {
         if !is_singleton(c) {
@@ -69,12 +75,18 @@ impl Singleton {
         Singleton { byte }
     }
 
-    /// Returns the singleton with a text of one byte: `Singleton::from_string("u")` is `Ok`.
+    /// Returns the singleton with a text of one byte.
     ///
     /// # Errors
     ///
-    /// Returns the text if it is not one byte, or if that byte is not a singleton: `Singleton::from_string("uu")` is
-    /// `Err(InvalidSingleton("uu"))`.
+    /// Returns the text if it is not one byte, or if that byte is not a singleton.
+    ///
+    /// ```
+    /// use langtag::{InvalidSingleton, Singleton};
+    ///
+    /// assert!(Singleton::from_string("u").is_ok());
+    /// assert_eq!(Singleton::from_string("uu"), Err(InvalidSingleton("uu")));
+    /// ```
     pub fn from_string(str: &str) -> Result<Self, InvalidSingleton<&str>> {
         if let [c] = str.as_bytes() {
             if let Ok(singleton) = Singleton::new(*c) {
@@ -84,7 +96,16 @@ impl Singleton {
         Err(InvalidSingleton(str))
     }
 
-    /// Returns the byte, in its original case: `Singleton::new(b'U')?.unwrap()` is `b'U'`.
+    /// Returns the byte, in its original case.
+    ///
+    /// ```
+    /// # fn main() -> Result<(), Box<dyn std::error::Error>> {
+    /// use langtag::Singleton;
+    ///
+    /// assert_eq!(Singleton::new(b'U')?.unwrap(), b'U');
+    /// # Ok(())
+    /// # }
+    /// ```
     #[inline]
     pub fn unwrap(self) -> u8 {
         self.byte

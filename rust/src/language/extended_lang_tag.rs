@@ -51,12 +51,18 @@ pub struct ExtendedLangTag<'a> {
 }
 
 impl<'a> ExtendedLangTag<'a> {
-    /// Parses a text as an extended language subtag: `ExtendedLangTag::new("yue")` is `Ok`.
+    /// Parses a text as an extended language subtag.
     ///
     /// # Errors
     ///
-    /// Returns the text if it is not three letters: `ExtendedLangTag::new("yu")` is
-    /// `Err(InvalidExtendedLangTag("yu"))`.
+    /// Returns the text if it is not three letters.
+    ///
+    /// ```
+    /// use langtag::{ExtendedLangTag, InvalidExtendedLangTag};
+    ///
+    /// assert!(ExtendedLangTag::new("yue").is_ok());
+    /// assert_eq!(ExtendedLangTag::new("yu"), Err(InvalidExtendedLangTag("yu")));
+    /// ```
     #[inline]
     pub fn new(text: &'a str) -> Result<ExtendedLangTag<'a>, InvalidExtendedLangTag<&'a str>> {
         if !is_extended(text.as_bytes()) {
@@ -74,31 +80,66 @@ impl<'a> ExtendedLangTag<'a> {
         }
     }
 
-    /// Returns the text, in its original case: `ExtendedLangTag::new("YUE")?.as_str()` is `"YUE"`.
+    /// Returns the text, in its original case.
+    ///
+    /// ```
+    /// # fn main() -> Result<(), Box<dyn std::error::Error>> {
+    /// use langtag::ExtendedLangTag;
+    ///
+    /// assert_eq!(ExtendedLangTag::new("YUE")?.as_str(), "YUE");
+    /// # Ok(())
+    /// # }
+    /// ```
     #[inline]
     pub fn as_str(&self) -> &'a str {
         self.text.0
     }
 
-    /// Returns the text as bytes: `ExtendedLangTag::new("YUE")?.as_bytes()` is `b"YUE"`.
+    /// Returns the text as bytes.
+    ///
+    /// ```
+    /// # fn main() -> Result<(), Box<dyn std::error::Error>> {
+    /// use langtag::ExtendedLangTag;
+    ///
+    /// assert_eq!(ExtendedLangTag::new("YUE")?.as_bytes(), b"YUE");
+    /// # Ok(())
+    /// # }
+    /// ```
     #[inline]
     pub fn as_bytes(&self) -> &'a [u8] {
         self.as_str().as_bytes()
     }
 
-    /// Returns whether another text is equal, ignoring the case of ASCII letters:
-    /// `ExtendedLangTag::new("yue")?.eq_str("YUE")` is `true`. It is proved that comparisons and hashes also ignore
-    /// case, and that a clone is the same value.
+    /// Returns whether another text is equal, ignoring the case of ASCII letters. It is proved that comparisons and
+    /// hashes also ignore case, and that a clone is the same value.
+    ///
+    /// ```
+    /// # fn main() -> Result<(), Box<dyn std::error::Error>> {
+    /// use langtag::ExtendedLangTag;
+    ///
+    /// assert!(ExtendedLangTag::new("yue")?.eq_str("YUE"));
+    /// # Ok(())
+    /// # }
+    /// ```
     #[inline]
     pub fn eq_str(&self, other: &str) -> bool {
         self.text == Caseless(other)
     }
 
-    /// Copies the text into an owned value: `ExtendedLangTag::new("YUE")?.try_to_owned()?.as_str()` is `"YUE"`.
+    /// Copies the text into an owned value.
     ///
     /// # Errors
     ///
     /// Returns an error if allocation fails.
+    ///
+    /// ```
+    /// # fn main() -> Result<(), Box<dyn std::error::Error>> {
+    /// use langtag::ExtendedLangTag;
+    ///
+    /// assert_eq!(ExtendedLangTag::new("YUE")?.try_to_owned()?.as_str(), "YUE");
+    /// # Ok(())
+    /// # }
+    /// ```
     #[cfg(feature = "alloc")]
     #[inline]
     pub fn try_to_owned(&self) -> Result<ExtendedLangTagBuf, AllocError> {
@@ -151,20 +192,46 @@ impl ExtendedLangTagBuf {
         })
     }
 
-    /// Borrows the subtag: `as_extended_lang_tag().as_str()` of the owned `YUE` is `"YUE"`. It is proved that
-    /// comparisons and hashes of owned extended subtags ignore case.
+    /// Borrows the subtag. It is proved that comparisons and hashes of owned extended subtags ignore case.
+    ///
+    /// ```
+    /// # fn main() -> Result<(), Box<dyn std::error::Error>> {
+    /// use langtag::ExtendedLangTag;
+    ///
+    /// assert_eq!(ExtendedLangTag::new("YUE")?.try_to_owned()?.as_extended_lang_tag().as_str(), "YUE");
+    /// # Ok(())
+    /// # }
+    /// ```
     #[inline]
     pub fn as_extended_lang_tag(&self) -> ExtendedLangTag<'_> {
         ExtendedLangTag::from_checked(self.as_str())
     }
 
-    /// Returns the text, in its original case: `as_str()` of the owned `YUE` is `"YUE"`.
+    /// Returns the text, in its original case.
+    ///
+    /// ```
+    /// # fn main() -> Result<(), Box<dyn std::error::Error>> {
+    /// use langtag::ExtendedLangTag;
+    ///
+    /// assert_eq!(ExtendedLangTag::new("YUE")?.try_to_owned()?.as_str(), "YUE");
+    /// # Ok(())
+    /// # }
+    /// ```
     #[inline]
     pub fn as_str(&self) -> &str {
         self.text.0.as_str()
     }
 
-    /// Returns the `String`, without copying it: `into_string()` of the owned `YUE` is the `String` `YUE`.
+    /// Returns the `String`, without copying it.
+    ///
+    /// ```
+    /// # fn main() -> Result<(), Box<dyn std::error::Error>> {
+    /// use langtag::ExtendedLangTag;
+    ///
+    /// assert_eq!(ExtendedLangTag::new("YUE")?.try_to_owned()?.into_string(), "YUE");
+    /// # Ok(())
+    /// # }
+    /// ```
     #[inline]
     pub fn into_string(self) -> String {
         self.text.0

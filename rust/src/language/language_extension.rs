@@ -53,12 +53,18 @@ pub struct LanguageExtension<'a> {
 }
 
 impl<'a> LanguageExtension<'a> {
-    /// Parses a text as a language extension: `LanguageExtension::new("min-nan")` is `Ok`.
+    /// Parses a text as a language extension.
     ///
     /// # Errors
     ///
-    /// Returns the text if it is not one to three extended subtags with one hyphen between neighbours:
-    /// `LanguageExtension::new("min-")` is `Err(InvalidLanguageExtension("min-"))`.
+    /// Returns the text if it is not one to three extended subtags with one hyphen between neighbours.
+    ///
+    /// ```
+    /// use langtag::{InvalidLanguageExtension, LanguageExtension};
+    ///
+    /// assert!(LanguageExtension::new("min-nan").is_ok());
+    /// assert_eq!(LanguageExtension::new("min-"), Err(InvalidLanguageExtension("min-")));
+    /// ```
     #[inline]
     pub fn new(text: &'a str) -> Result<LanguageExtension<'a>, InvalidLanguageExtension<&'a str>> {
         if !is_language_extension(text) {
@@ -76,32 +82,66 @@ impl<'a> LanguageExtension<'a> {
         }
     }
 
-    /// Returns the text, in its original case: `LanguageExtension::new("MIN-NAN")?.as_str()` is `"MIN-NAN"`.
+    /// Returns the text, in its original case.
+    ///
+    /// ```
+    /// # fn main() -> Result<(), Box<dyn std::error::Error>> {
+    /// use langtag::LanguageExtension;
+    ///
+    /// assert_eq!(LanguageExtension::new("MIN-NAN")?.as_str(), "MIN-NAN");
+    /// # Ok(())
+    /// # }
+    /// ```
     #[inline]
     pub fn as_str(&self) -> &'a str {
         self.text.0
     }
 
-    /// Returns the text as bytes: `LanguageExtension::new("MIN-NAN")?.as_bytes()` is `b"MIN-NAN"`.
+    /// Returns the text as bytes.
+    ///
+    /// ```
+    /// # fn main() -> Result<(), Box<dyn std::error::Error>> {
+    /// use langtag::LanguageExtension;
+    ///
+    /// assert_eq!(LanguageExtension::new("MIN-NAN")?.as_bytes(), b"MIN-NAN");
+    /// # Ok(())
+    /// # }
+    /// ```
     #[inline]
     pub fn as_bytes(&self) -> &'a [u8] {
         self.as_str().as_bytes()
     }
 
-    /// Returns whether another text is equal, ignoring the case of ASCII letters:
-    /// `LanguageExtension::new("min-nan")?.eq_str("MIN-NAN")` is `true`. It is proved that comparisons and hashes also
-    /// ignore case, and that a clone is the same value.
+    /// Returns whether another text is equal, ignoring the case of ASCII letters. It is proved that comparisons and
+    /// hashes also ignore case, and that a clone is the same value.
+    ///
+    /// ```
+    /// # fn main() -> Result<(), Box<dyn std::error::Error>> {
+    /// use langtag::LanguageExtension;
+    ///
+    /// assert!(LanguageExtension::new("min-nan")?.eq_str("MIN-NAN"));
+    /// # Ok(())
+    /// # }
+    /// ```
     #[inline]
     pub fn eq_str(&self, other: &str) -> bool {
         self.text == Caseless(other)
     }
 
-    /// Copies the text into an owned value: `LanguageExtension::new("MIN-NAN")?.try_to_owned()?.as_str()` is
-    /// `"MIN-NAN"`.
+    /// Copies the text into an owned value.
     ///
     /// # Errors
     ///
     /// Returns an error if allocation fails.
+    ///
+    /// ```
+    /// # fn main() -> Result<(), Box<dyn std::error::Error>> {
+    /// use langtag::LanguageExtension;
+    ///
+    /// assert_eq!(LanguageExtension::new("MIN-NAN")?.try_to_owned()?.as_str(), "MIN-NAN");
+    /// # Ok(())
+    /// # }
+    /// ```
     #[cfg(feature = "alloc")]
     #[inline]
     pub fn try_to_owned(&self) -> Result<LanguageExtensionBuf, AllocError> {
@@ -168,20 +208,47 @@ impl LanguageExtensionBuf {
         })
     }
 
-    /// Borrows the language extension: `as_language_extension().as_str()` of the owned `MIN-NAN` is `"MIN-NAN"`. It is
-    /// proved that comparisons and hashes of owned language extensions ignore case.
+    /// Borrows the language extension. It is proved that comparisons and hashes of owned language extensions ignore
+    /// case.
+    ///
+    /// ```
+    /// # fn main() -> Result<(), Box<dyn std::error::Error>> {
+    /// use langtag::LanguageExtension;
+    ///
+    /// assert_eq!(LanguageExtension::new("MIN-NAN")?.try_to_owned()?.as_language_extension().as_str(), "MIN-NAN");
+    /// # Ok(())
+    /// # }
+    /// ```
     #[inline]
     pub fn as_language_extension(&self) -> LanguageExtension<'_> {
         LanguageExtension::from_checked(self.as_str())
     }
 
-    /// Returns the text, in its original case: `as_str()` of the owned `MIN-NAN` is `"MIN-NAN"`.
+    /// Returns the text, in its original case.
+    ///
+    /// ```
+    /// # fn main() -> Result<(), Box<dyn std::error::Error>> {
+    /// use langtag::LanguageExtension;
+    ///
+    /// assert_eq!(LanguageExtension::new("MIN-NAN")?.try_to_owned()?.as_str(), "MIN-NAN");
+    /// # Ok(())
+    /// # }
+    /// ```
     #[inline]
     pub fn as_str(&self) -> &str {
         self.text.0.as_str()
     }
 
-    /// Returns the `String`, without copying it: `into_string()` of the owned `MIN-NAN` is the `String` `MIN-NAN`.
+    /// Returns the `String`, without copying it.
+    ///
+    /// ```
+    /// # fn main() -> Result<(), Box<dyn std::error::Error>> {
+    /// use langtag::LanguageExtension;
+    ///
+    /// assert_eq!(LanguageExtension::new("MIN-NAN")?.try_to_owned()?.into_string(), "MIN-NAN");
+    /// # Ok(())
+    /// # }
+    /// ```
     #[inline]
     pub fn into_string(self) -> String {
         self.text.0

@@ -51,12 +51,18 @@ pub struct PrimaryLanguage<'a> {
 }
 
 impl<'a> PrimaryLanguage<'a> {
-    /// Parses a text as a primary language subtag: `PrimaryLanguage::new("fr")` is `Ok`.
+    /// Parses a text as a primary language subtag.
     ///
     /// # Errors
     ///
-    /// Returns the text if it is not two to eight letters: `PrimaryLanguage::new("f")` is
-    /// `Err(InvalidPrimaryLanguage("f"))`.
+    /// Returns the text if it is not two to eight letters.
+    ///
+    /// ```
+    /// use langtag::{InvalidPrimaryLanguage, PrimaryLanguage};
+    ///
+    /// assert!(PrimaryLanguage::new("fr").is_ok());
+    /// assert_eq!(PrimaryLanguage::new("f"), Err(InvalidPrimaryLanguage("f")));
+    /// ```
     #[inline]
     pub fn new(text: &'a str) -> Result<PrimaryLanguage<'a>, InvalidPrimaryLanguage<&'a str>> {
         if !is_primary(text.as_bytes()) {
@@ -74,31 +80,66 @@ impl<'a> PrimaryLanguage<'a> {
         }
     }
 
-    /// Returns the text, in its original case: `PrimaryLanguage::new("FR")?.as_str()` is `"FR"`.
+    /// Returns the text, in its original case.
+    ///
+    /// ```
+    /// # fn main() -> Result<(), Box<dyn std::error::Error>> {
+    /// use langtag::PrimaryLanguage;
+    ///
+    /// assert_eq!(PrimaryLanguage::new("FR")?.as_str(), "FR");
+    /// # Ok(())
+    /// # }
+    /// ```
     #[inline]
     pub fn as_str(&self) -> &'a str {
         self.text.0
     }
 
-    /// Returns the text as bytes: `PrimaryLanguage::new("FR")?.as_bytes()` is `b"FR"`.
+    /// Returns the text as bytes.
+    ///
+    /// ```
+    /// # fn main() -> Result<(), Box<dyn std::error::Error>> {
+    /// use langtag::PrimaryLanguage;
+    ///
+    /// assert_eq!(PrimaryLanguage::new("FR")?.as_bytes(), b"FR");
+    /// # Ok(())
+    /// # }
+    /// ```
     #[inline]
     pub fn as_bytes(&self) -> &'a [u8] {
         self.as_str().as_bytes()
     }
 
-    /// Returns whether another text is equal, ignoring the case of ASCII letters:
-    /// `PrimaryLanguage::new("fr")?.eq_str("FR")` is `true`. It is proved that comparisons and hashes also ignore case,
-    /// and that a clone is the same value.
+    /// Returns whether another text is equal, ignoring the case of ASCII letters. It is proved that comparisons and
+    /// hashes also ignore case, and that a clone is the same value.
+    ///
+    /// ```
+    /// # fn main() -> Result<(), Box<dyn std::error::Error>> {
+    /// use langtag::PrimaryLanguage;
+    ///
+    /// assert!(PrimaryLanguage::new("fr")?.eq_str("FR"));
+    /// # Ok(())
+    /// # }
+    /// ```
     #[inline]
     pub fn eq_str(&self, other: &str) -> bool {
         self.text == Caseless(other)
     }
 
-    /// Copies the text into an owned value: `PrimaryLanguage::new("FR")?.try_to_owned()?.as_str()` is `"FR"`.
+    /// Copies the text into an owned value.
     ///
     /// # Errors
     ///
     /// Returns an error if allocation fails.
+    ///
+    /// ```
+    /// # fn main() -> Result<(), Box<dyn std::error::Error>> {
+    /// use langtag::PrimaryLanguage;
+    ///
+    /// assert_eq!(PrimaryLanguage::new("FR")?.try_to_owned()?.as_str(), "FR");
+    /// # Ok(())
+    /// # }
+    /// ```
     #[cfg(feature = "alloc")]
     #[inline]
     pub fn try_to_owned(&self) -> Result<PrimaryLanguageBuf, AllocError> {
@@ -151,20 +192,46 @@ impl PrimaryLanguageBuf {
         })
     }
 
-    /// Borrows the subtag: `as_primary_language().as_str()` of the owned `FR` is `"FR"`. It is proved that comparisons
-    /// and hashes of owned primary languages ignore case.
+    /// Borrows the subtag. It is proved that comparisons and hashes of owned primary languages ignore case.
+    ///
+    /// ```
+    /// # fn main() -> Result<(), Box<dyn std::error::Error>> {
+    /// use langtag::PrimaryLanguage;
+    ///
+    /// assert_eq!(PrimaryLanguage::new("FR")?.try_to_owned()?.as_primary_language().as_str(), "FR");
+    /// # Ok(())
+    /// # }
+    /// ```
     #[inline]
     pub fn as_primary_language(&self) -> PrimaryLanguage<'_> {
         PrimaryLanguage::from_checked(self.as_str())
     }
 
-    /// Returns the text, in its original case: `as_str()` of the owned `FR` is `"FR"`.
+    /// Returns the text, in its original case.
+    ///
+    /// ```
+    /// # fn main() -> Result<(), Box<dyn std::error::Error>> {
+    /// use langtag::PrimaryLanguage;
+    ///
+    /// assert_eq!(PrimaryLanguage::new("FR")?.try_to_owned()?.as_str(), "FR");
+    /// # Ok(())
+    /// # }
+    /// ```
     #[inline]
     pub fn as_str(&self) -> &str {
         self.text.0.as_str()
     }
 
-    /// Returns the `String`, without copying it: `into_string()` of the owned `FR` is the `String` `FR`.
+    /// Returns the `String`, without copying it.
+    ///
+    /// ```
+    /// # fn main() -> Result<(), Box<dyn std::error::Error>> {
+    /// use langtag::PrimaryLanguage;
+    ///
+    /// assert_eq!(PrimaryLanguage::new("FR")?.try_to_owned()?.into_string(), "FR");
+    /// # Ok(())
+    /// # }
+    /// ```
     #[inline]
     pub fn into_string(self) -> String {
         self.text.0

@@ -12,6 +12,17 @@ use crate::tag::{case_insensitive_eq, LangTag};
 /// It depends on the script of the tag. If the tag has none, the most likely script of its language and region is used.
 /// Deprecated subtags such as `iw` count as their replacements. It is `false` for private-use tags, irregular tags and
 /// `und`.
+///
+/// ```
+/// # fn main() -> Result<(), Box<dyn std::error::Error>> {
+/// use langtag::LangTag;
+/// use langtag::likely::is_right_to_left;
+///
+/// assert!(is_right_to_left(LangTag::new("az-IR")?));
+/// assert!(!is_right_to_left(LangTag::new("az")?));
+/// # Ok(())
+/// # }
+/// ```
 #[inline]
 pub fn is_right_to_left(tag: LangTag<'_>) -> bool {
     match matching_form(tag.as_bytes()) {

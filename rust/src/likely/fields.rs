@@ -1,12 +1,12 @@
 // Made by rust/erase from crates/langtag_likely/src/fields.rt. Change that file, not this one.
 
-//! The texts of fields: the empty text where there is none, or none that is known.
+//! The texts of fields: the empty text if the field is absent or unknown.
 
 use crate::language::Language;
 use crate::place::{Region, Script};
 use crate::scan::case_insensitive_eq;
 
-/// Returns a text, or another where it is empty.
+/// Returns a text, or another if it is empty.
 #[inline]
 pub(crate) fn or_other<'a>(text: &'a [u8], other: &'a [u8]) -> &'a [u8] {
     if text.is_empty() {
@@ -16,7 +16,7 @@ pub(crate) fn or_other<'a>(text: &'a [u8], other: &'a [u8]) -> &'a [u8] {
     }
 }
 
-/// Returns a text, or the empty one where it says that what it stands for is unknown.
+/// Returns a text, or the empty one if the text means that its field is unknown.
 #[inline]
 pub(crate) fn known<'a>(unknown: &[u8], text: &'a [u8]) -> &'a [u8] {
     if case_insensitive_eq(unknown, text) {

@@ -25,6 +25,16 @@ use alloc::vec::Vec;
 /// # Errors
 ///
 /// Returns an error if allocation fails.
+///
+/// ```
+/// # fn main() -> Result<(), Box<dyn std::error::Error>> {
+/// use langtag::LangTag;
+/// use langtag::likely::maximized;
+///
+/// assert_eq!(maximized(LangTag::new("zh-TW")?)?.as_str(), "zh-Hant-TW");
+/// # Ok(())
+/// # }
+/// ```
 #[cfg(feature = "alloc")]
 #[inline]
 pub fn maximized(tag: LangTag<'_>) -> Result<LangTagBuf, AllocError> {
@@ -37,6 +47,16 @@ pub fn maximized(tag: LangTag<'_>) -> Result<LangTagBuf, AllocError> {
 /// # Errors
 ///
 /// Returns an error if allocation fails.
+///
+/// ```
+/// # fn main() -> Result<(), Box<dyn std::error::Error>> {
+/// use langtag::LangTag;
+/// use langtag::likely::minimized;
+///
+/// assert_eq!(minimized(LangTag::new("zh-Hant-TW")?)?.as_str(), "zh-TW");
+/// # Ok(())
+/// # }
+/// ```
 #[cfg(feature = "alloc")]
 #[inline]
 pub fn minimized(tag: LangTag<'_>) -> Result<LangTagBuf, AllocError> {
@@ -45,6 +65,18 @@ pub fn minimized(tag: LangTag<'_>) -> Result<LangTagBuf, AllocError> {
 
 /// Writes a tag with its likely subtags to a buffer, as [`maximized`] returns it, and returns its length in bytes. If
 /// the buffer is too short, it stays unchanged, and the length says how much room is needed. It does not allocate.
+///
+/// ```
+/// # fn main() -> Result<(), Box<dyn std::error::Error>> {
+/// use langtag::LangTag;
+/// use langtag::likely::write_maximized;
+///
+/// let mut buffer = [0; 16];
+/// let length = write_maximized(LangTag::new("zh-TW")?, &mut buffer);
+/// assert_eq!(buffer.get(..length), Some(&b"zh-Hant-TW"[..]));
+/// # Ok(())
+/// # }
+/// ```
 pub fn write_maximized(tag: LangTag<'_>, buffer: &mut [u8]) -> usize {
     let Some(normal) = tag.as_normal() else {
         return write_text(tag.as_bytes(), buffer);

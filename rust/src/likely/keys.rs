@@ -1,18 +1,18 @@
 // Made by rust/erase from crates/langtag_likely/src/keys.rt. Change that file, not this one.
 
-//! Where texts stand in the tables that know them by their numbers.
+//! The places of texts in the tables, which have their numbers.
 
 use crate::scan::folded_number;
 
-/// Returns where the number of a text stands among others, which rise.
+/// Returns the index of a text's number among others in rising order.
 #[inline]
 pub fn index_of(keys: &[u32], text: &[u8]) -> Option<usize> {
     keys.binary_search_by_key(&folded_number(text), |key| u64::from(*key))
         .ok()
 }
 
-/// Returns the place of a text among those whose numbers are keys, from 1 on: 0 of the empty text, and of one that is not
-/// among them the place after the last.
+/// Returns the place of a text among those whose numbers are keys, counted from 1. It is 0 for the empty text, and the
+/// place after the last for a text that is not among them.
 pub(crate) fn place(keys: &[u32], text: &[u8]) -> u32 {
     if text.is_empty() {
         return 0;

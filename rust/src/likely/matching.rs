@@ -17,7 +17,7 @@ pub fn matching_form(text: &[u8]) -> Option<TagFields<'_>> {
     }
 }
 
-/// Returns the fields of a text, of which the language is replaced where it is deprecated.
+/// Returns the fields of a text, with its language replaced if CLDR replaces it.
 pub fn replaced_form(text: &[u8]) -> Option<TagFields<'_>> {
     if are_alike(text, b"und") {
         return None;

@@ -45,6 +45,16 @@ const MOST_WITH_SCRIPT: usize = MOST + 5;
 /// Returns `NoTag` with the name if its language and territory are not a tag, as in `C`, `en_` and the empty text, or
 /// are `POSIX`, ignoring case, or have more than 255 bytes, which no system's names have. Returns `Memory` if
 /// allocation fails.
+///
+/// ```
+/// # fn main() -> Result<(), Box<dyn std::error::Error>> {
+/// use langtag::likely::from_posix;
+///
+/// assert_eq!(from_posix("sr_RS@latin")?.as_str(), "sr-Latn-RS");
+/// assert!(from_posix("C").is_err());
+/// # Ok(())
+/// # }
+/// ```
 #[cfg(feature = "alloc")]
 pub fn from_posix(name: &str) -> Result<LangTagBuf, PosixError<'_>> {
     match bytes_of(name.as_bytes())? {

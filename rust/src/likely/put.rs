@@ -8,7 +8,7 @@ use crate::likely::tag_fields::TagFields;
 use crate::output::write_pieces;
 use crate::tag::NormalLangTag;
 
-/// Writes a tag with other fields into a buffer, or as it is where there are none.
+/// Writes a tag with other fields to a buffer, or unchanged if there are none.
 #[inline]
 pub(crate) fn write_changed(
     tag: NormalLangTag<'_>,

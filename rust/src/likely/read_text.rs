@@ -4,7 +4,7 @@
 
 use crate::scan::into_smallcase;
 
-/// Returns whether a text, so read, is another but for case.
+/// Returns whether a text, read in this way, equals another, ignoring case.
 pub fn are_alike(range: &[u8], text: &[u8]) -> bool {
     let mut range = range;
     let mut text = text;

@@ -8,7 +8,7 @@ use crate::likely::tables;
 use crate::likely::tag_fields::TagFields;
 use crate::tables::letter_number;
 
-/// Returns the right side of the row with this left side. Its language is empty where the left side has one.
+/// Returns the right side of the row with this left side. Its language is empty if the left side has one.
 pub(crate) fn likely_for(key: TagFields<'_>) -> Option<TagFields<'static>> {
     if key.language.len() > 3 {
         return None;
@@ -50,7 +50,7 @@ pub fn key_number(key: TagFields<'_>) -> u32 {
     language_number(key.language) * 131072 + places
 }
 
-/// Returns the letters of a language as the digits of a number in base 26; 0 where there is none.
+/// Returns the letters of a language as the digits of a number in base 26, or 0 if there is no language.
 #[inline]
 pub fn language_number(language: &[u8]) -> u32 {
     if language.is_empty() {

@@ -6,7 +6,7 @@ use crate::likely::fields::{known, language_field, or_other, region_field, scrip
 use crate::scan::case_insensitive_eq;
 use crate::tag::NormalLangTag;
 
-/// A language, a script and a region, each the empty text where there is none.
+/// A language, a script and a region. Each is the empty text if it is absent.
 #[derive(Clone, Copy)]
 pub struct TagFields<'a> {
     pub language: &'a [u8],
@@ -65,7 +65,7 @@ impl<'a> TagFields<'a> {
         }
     }
 
-    /// Returns these fields, and in place of each that is empty that of others.
+    /// Returns these fields, with each empty one replaced by that of `others`.
     pub(crate) fn filled(self, others: TagFields<'a>) -> TagFields<'a> {
         TagFields {
             language: or_other(self.language, others.language),

@@ -36,13 +36,19 @@ pub struct AcceptLanguage<'a> {
 #[cfg(feature = "alloc")]
 impl<'a> AcceptLanguage<'a> {
     /// Parses a header by RFC 9110, and leaves out the ranges of weight 0, which are not acceptable. Ranges of equal
-    /// weight keep their order. Empty elements are skipped: `AcceptLanguage::new(",de,")` is `Ok`.
+    /// weight keep their order. Empty elements are skipped.
     ///
     /// # Errors
     ///
     /// Returns `BadElement` if an element is neither empty nor a basic language range with an optional weight. It
     /// contains the whole header, and the index and offset of the first such element. Returns `Memory` if allocation
     /// fails.
+    ///
+    /// ```
+    /// use langtag::matching::AcceptLanguage;
+    ///
+    /// assert!(AcceptLanguage::new(",de,").is_ok());
+    /// ```
     #[inline]
     pub fn new(header: &'a str) -> Result<AcceptLanguage<'a>, AcceptLanguageError<'a>> {
         let read = elements(header)?;
@@ -54,6 +60,16 @@ impl<'a> AcceptLanguage<'a> {
     /// # Errors
     ///
     /// Returns an error if allocation fails.
+    ///
+    /// ```
+    /// # fn main() -> Result<(), Box<dyn std::error::Error>> {
+    /// use langtag::matching::AcceptLanguage;
+    ///
+    /// let accepted = AcceptLanguage::lenient("de_CH, fr;q=0.5, de")?;
+    /// assert_eq!(accepted.ranges().first().map(|first| first.range.as_str()), Some("de"));
+    /// # Ok(())
+    /// # }
+    /// ```
     #[inline]
     pub fn lenient(header: &'a str) -> Result<AcceptLanguage<'a>, AllocError> {
         let read = good_elements(header)?;
@@ -99,6 +115,17 @@ impl<'a> AcceptLanguage<'a> {
 /// # Errors
 ///
 /// Returns the errors of [`AcceptLanguage::new`].
+///
+/// ```
+/// # fn main() -> Result<(), Box<dyn std::error::Error>> {
+/// use langtag::LangTag;
+/// use langtag::matching::tag_for_header;
+///
+/// let tags = [LangTag::new("de-CH")?, LangTag::new("fr")?];
+/// assert_eq!(tag_for_header("fr;q=0.3, DE-ch-1996;q=0.9", &tags, LangTag::new("en")?)?.as_str(), "de-CH");
+/// # Ok(())
+/// # }
+/// ```
 #[cfg(feature = "alloc")]
 #[inline]
 pub fn tag_for_header<'h, 't>(

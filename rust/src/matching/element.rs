@@ -33,6 +33,13 @@ pub struct Element<'a> {
 /// Returns the part that is malformed if the text is not an element: the range in `fr_FR`, the weight in `fr;q=2`. If
 /// both are malformed, or if the text is empty or only white space, it is the range. See [`is_empty_element`].
 ///
+/// ```
+/// use langtag::matching::element_at;
+///
+/// let element = element_at(b" fr;q=0.5").ok();
+/// assert_eq!(element.map(|it| (it.start, it.weighted.range.as_str(), it.weighted.weight)), Some((1, "fr", 500)));
+/// ```
+///
 /// [RFC 9110 section 12.5.4]: https://www.rfc-editor.org/rfc/rfc9110#section-12.5.4
 pub fn element_at(item: &[u8]) -> Result<Element<'_>, ElementPart> {
     let end = len_before(item, b';');

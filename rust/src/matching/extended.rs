@@ -4,7 +4,7 @@
 
 use crate::tag::{case_insensitive_eq, Subtags};
 
-/// Returns whether the first subtags match, and the others of the range stand among those of the tag.
+/// Returns whether the first subtags match, and the other subtags of the range are among those of the tag.
 pub(crate) fn matches_extended(range: &str, tag: &str) -> bool {
     let mut wanted = Subtags::new(range);
     let mut subtags = Subtags::new(tag);

@@ -14,6 +14,20 @@ use crate::tag::LangTag;
 ///
 /// Each tag is compared with each range. For each range that matches, it is compared again with the earlier ranges. So
 /// if many ranges match one tag, the time is quadratic in their number.
+///
+/// ```
+/// # fn main() -> Result<(), Box<dyn std::error::Error>> {
+/// use langtag::LangTag;
+/// use langtag::matching::{filter_basic, LanguageRange};
+///
+/// let ranges = [LanguageRange::new("de-CH")?, LanguageRange::new("de")?];
+/// let tags = [LangTag::new("en")?, LangTag::new("de-AT")?, LangTag::new("de-CH-1996")?];
+/// let mut found = filter_basic(&ranges, &tags);
+/// assert_eq!(found.next().map(|tag| tag.as_str()), Some("de-CH-1996"));
+/// assert_eq!(found.next().map(|tag| tag.as_str()), Some("de-AT"));
+/// # Ok(())
+/// # }
+/// ```
 #[inline]
 pub fn filter_basic<'a, 't>(
     ranges: &'a [LanguageRange<'a>],
@@ -24,6 +38,18 @@ pub fn filter_basic<'a, 't>(
 
 /// Returns an iterator over the tags that extended filtering finds ([RFC 4647 section 3.3.2]), in the same order and time
 /// as [`filter_basic`]: for `*-CH` and the tags `de-AT` and `de-Latn-CH` it is `de-Latn-CH`.
+///
+/// ```
+/// # fn main() -> Result<(), Box<dyn std::error::Error>> {
+/// use langtag::LangTag;
+/// use langtag::matching::{filter_extended, LanguageRange};
+///
+/// let ranges = [LanguageRange::new("*-CH")?];
+/// let tags = [LangTag::new("de-AT")?, LangTag::new("de-Latn-CH")?];
+/// assert_eq!(filter_extended(&ranges, &tags).next().map(|tag| tag.as_str()), Some("de-Latn-CH"));
+/// # Ok(())
+/// # }
+/// ```
 ///
 /// [RFC 4647 section 3.3.2]: https://www.rfc-editor.org/rfc/rfc4647#section-3.3.2
 #[inline]

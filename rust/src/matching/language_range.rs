@@ -56,11 +56,18 @@ pub struct LanguageRange<'a> {
 }
 
 impl<'a> LanguageRange<'a> {
-    /// Parses a text as a range: `LanguageRange::new("de-*-DE")` is `Ok`.
+    /// Parses a text as a range.
     ///
     /// # Errors
     ///
-    /// Returns the text if it is not a range: `LanguageRange::new("de_DE")` is `Err(InvalidLanguageRange("de_DE"))`.
+    /// Returns the text if it is not a range.
+    ///
+    /// ```
+    /// use langtag::matching::{InvalidLanguageRange, LanguageRange};
+    ///
+    /// assert!(LanguageRange::new("de-*-DE").is_ok());
+    /// assert_eq!(LanguageRange::new("de_DE"), Err(InvalidLanguageRange("de_DE")));
+    /// ```
     #[inline]
     pub fn new(text: &'a str) -> Result<LanguageRange<'a>, InvalidLanguageRange<&'a str>> {
         if !is_language_range(text) {
@@ -69,7 +76,7 @@ impl<'a> LanguageRange<'a> {
         Ok(LanguageRange::from_checked(text))
     }
 
-    /// Returns the range with a text that is known to be one, without checking it.
+    /// Returns the range of a text that is known to be one, without checking it.
     /// `LanguageRange::from_checked(range.as_str())` is equal to `range`.
     #[inline]
     pub(crate) fn from_checked(text: &'a str) -> LanguageRange<'a> {
@@ -78,21 +85,48 @@ impl<'a> LanguageRange<'a> {
         }
     }
 
-    /// Returns the text, in its original case: `LanguageRange::new("de-ch")?.as_str()` is `"de-ch"`.
+    /// Returns the text, in its original case.
+    ///
+    /// ```
+    /// # fn main() -> Result<(), Box<dyn std::error::Error>> {
+    /// use langtag::matching::LanguageRange;
+    ///
+    /// assert_eq!(LanguageRange::new("de-ch")?.as_str(), "de-ch");
+    /// # Ok(())
+    /// # }
+    /// ```
     #[inline]
     pub fn as_str(&self) -> &'a str {
         self.text.0
     }
 
-    /// Returns whether another text is equal, ignoring the case of ASCII letters:
-    /// `LanguageRange::new("de-CH")?.eq_str("DE-ch")` is `true`. It is proved that comparisons and hashes also ignore
-    /// case, and that a clone is the same value.
+    /// Returns whether another text is equal, ignoring the case of ASCII letters. It is proved that comparisons and
+    /// hashes also ignore case, and that a clone is the same value.
+    ///
+    /// ```
+    /// # fn main() -> Result<(), Box<dyn std::error::Error>> {
+    /// use langtag::matching::LanguageRange;
+    ///
+    /// assert!(LanguageRange::new("de-CH")?.eq_str("DE-ch"));
+    /// # Ok(())
+    /// # }
+    /// ```
     #[inline]
     pub fn eq_str(&self, other: &str) -> bool {
         self.text == Caseless(other)
     }
 
     /// Returns whether the range is a basic one ([RFC 4647 section 2.1]): `true` for `de-CH` and `*`, `false` for `*-CH`.
+    ///
+    /// ```
+    /// # fn main() -> Result<(), Box<dyn std::error::Error>> {
+    /// use langtag::matching::LanguageRange;
+    ///
+    /// assert!(LanguageRange::new("de-CH")?.is_basic());
+    /// assert!(!LanguageRange::new("*-CH")?.is_basic());
+    /// # Ok(())
+    /// # }
+    /// ```
     ///
     /// [RFC 4647 section 2.1]: https://www.rfc-editor.org/rfc/rfc4647#section-2.1
     #[inline]
@@ -105,6 +139,18 @@ impl<'a> LanguageRange<'a> {
     ///
     /// It is meant for basic ranges. In other ranges `*` equals no subtag, so `de-*` matches nothing.
     ///
+    /// ```
+    /// # fn main() -> Result<(), Box<dyn std::error::Error>> {
+    /// use langtag::LangTag;
+    /// use langtag::matching::LanguageRange;
+    ///
+    /// let range = LanguageRange::new("de-DE")?;
+    /// assert!(range.matches_basic(&LangTag::new("de-DE-1996")?));
+    /// assert!(!range.matches_basic(&LangTag::new("de-Latn-DE")?));
+    /// # Ok(())
+    /// # }
+    /// ```
+    ///
     /// [RFC 4647 section 3.3.1]: https://www.rfc-editor.org/rfc/rfc4647#section-3.3.1
     #[inline]
     pub fn matches_basic(&self, tag: &LangTag<'_>) -> bool {
@@ -113,6 +159,18 @@ impl<'a> LanguageRange<'a> {
 
     /// Returns whether the range matches a tag by extended filtering ([RFC 4647 section 3.3.2]): `de-DE` and `de-*-DE`
     /// match `de-Latn-DE-1996`. They do not match `de-x-DE`, because a singleton is never skipped.
+    ///
+    /// ```
+    /// # fn main() -> Result<(), Box<dyn std::error::Error>> {
+    /// use langtag::LangTag;
+    /// use langtag::matching::LanguageRange;
+    ///
+    /// let range = LanguageRange::new("de-DE")?;
+    /// assert!(range.matches_extended(&LangTag::new("de-Latn-DE-1996")?));
+    /// assert!(!range.matches_extended(&LangTag::new("de-x-DE")?));
+    /// # Ok(())
+    /// # }
+    /// ```
     ///
     /// [RFC 4647 section 3.3.2]: https://www.rfc-editor.org/rfc/rfc4647#section-3.3.2
     #[inline]
@@ -123,17 +181,37 @@ impl<'a> LanguageRange<'a> {
     /// Returns an iterator over the range and its fallbacks, the longest first ([RFC 4647 section 3.4]): `zh-Hant-TW`,
     /// `zh-Hant` and `zh`. [`look_up`](crate::matching::look_up) tries them in this order.
     ///
+    /// ```
+    /// # fn main() -> Result<(), Box<dyn std::error::Error>> {
+    /// use langtag::matching::LanguageRange;
+    ///
+    /// let mut fallbacks = LanguageRange::new("zh-Hant-TW")?.fallbacks();
+    /// assert_eq!(fallbacks.next().map(|range| range.as_str()), Some("zh-Hant-TW"));
+    /// assert_eq!(fallbacks.next().map(|range| range.as_str()), Some("zh-Hant"));
+    /// # Ok(())
+    /// # }
+    /// ```
+    ///
     /// [RFC 4647 section 3.4]: https://www.rfc-editor.org/rfc/rfc4647#section-3.4
     #[inline]
     pub fn fallbacks(&self) -> Fallbacks<'a> {
         Fallbacks::new(*self)
     }
 
-    /// Copies the text into an owned value: `LanguageRange::new("de-*")?.try_to_owned()?.as_str()` is `"de-*"`.
+    /// Copies the text into an owned value.
     ///
     /// # Errors
     ///
     /// Returns an error if allocation fails.
+    ///
+    /// ```
+    /// # fn main() -> Result<(), Box<dyn std::error::Error>> {
+    /// use langtag::matching::LanguageRange;
+    ///
+    /// assert_eq!(LanguageRange::new("de-*")?.try_to_owned()?.as_str(), "de-*");
+    /// # Ok(())
+    /// # }
+    /// ```
     #[cfg(feature = "alloc")]
     #[inline]
     pub fn try_to_owned(&self) -> Result<LanguageRangeBuf, AllocError> {
@@ -185,20 +263,46 @@ impl LanguageRangeBuf {
         })
     }
 
-    /// Borrows the range: `as_language_range().is_basic()` of the owned `de` is `true`. It is proved that comparisons
-    /// and hashes of owned ranges ignore case.
+    /// Borrows the range. It is proved that comparisons and hashes of owned ranges ignore case.
+    ///
+    /// ```
+    /// # fn main() -> Result<(), Box<dyn std::error::Error>> {
+    /// use langtag::matching::LanguageRange;
+    ///
+    /// assert!(LanguageRange::new("de")?.try_to_owned()?.as_language_range().is_basic());
+    /// # Ok(())
+    /// # }
+    /// ```
     #[inline]
     pub fn as_language_range(&self) -> LanguageRange<'_> {
         LanguageRange::from_checked(self.as_str())
     }
 
-    /// Returns the text, in its original case: `as_str()` of the owned `de-ch` is `"de-ch"`.
+    /// Returns the text, in its original case.
+    ///
+    /// ```
+    /// # fn main() -> Result<(), Box<dyn std::error::Error>> {
+    /// use langtag::matching::LanguageRange;
+    ///
+    /// assert_eq!(LanguageRange::new("de-ch")?.try_to_owned()?.as_str(), "de-ch");
+    /// # Ok(())
+    /// # }
+    /// ```
     #[inline]
     pub fn as_str(&self) -> &str {
         self.text.0.as_str()
     }
 
-    /// Returns the `String`, without copying it: `into_string()` of the owned `de-ch` is the `String` `de-ch`.
+    /// Returns the `String`, without copying it.
+    ///
+    /// ```
+    /// # fn main() -> Result<(), Box<dyn std::error::Error>> {
+    /// use langtag::matching::LanguageRange;
+    ///
+    /// assert_eq!(LanguageRange::new("de-ch")?.try_to_owned()?.into_string(), "de-ch");
+    /// # Ok(())
+    /// # }
+    /// ```
     #[inline]
     pub fn into_string(self) -> String {
         self.text.0

@@ -14,6 +14,18 @@ use crate::tag::LangTag;
 /// An extended range is looked up without its `*` (section 3.2): `de-*-DE` as `de-DE`. A range that begins with `*`
 /// finds no tag, and the next range is tried.
 ///
+/// ```
+/// # fn main() -> Result<(), Box<dyn std::error::Error>> {
+/// use langtag::LangTag;
+/// use langtag::matching::{look_up, LanguageRange};
+///
+/// let ranges = [LanguageRange::new("nl")?, LanguageRange::new("zh-Hant-CN")?];
+/// let tags = [LangTag::new("zh")?, LangTag::new("zh-Hant")?];
+/// assert_eq!(look_up(&ranges, &tags, LangTag::new("en")?).as_str(), "zh-Hant");
+/// # Ok(())
+/// # }
+/// ```
+///
 /// [RFC 4647 section 3.4]: https://www.rfc-editor.org/rfc/rfc4647#section-3.4
 #[inline]
 pub fn look_up<'a>(

@@ -43,6 +43,14 @@ pub struct WantedRanges<'a> {
 /// RFC 9110.
 ///
 /// [`AcceptLanguage`]: crate::matching::AcceptLanguage
+///
+/// ```
+/// use langtag::matching::wanted_ranges;
+///
+/// let mut ranges = wanted_ranges(b"de_CH, en;q=.5");
+/// assert_eq!(ranges.next().map(|it| (it.bytes, it.weight)), Some((&b"de_CH"[..], 1000)));
+/// assert_eq!(ranges.next().map(|it| (it.bytes, it.weight)), Some((&b"en"[..], 500)));
+/// ```
 #[inline]
 pub fn wanted_ranges<'a>(header: &'a [u8]) -> WantedRanges<'a> {
     WantedRanges { rest: header }

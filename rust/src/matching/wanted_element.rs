@@ -1,6 +1,6 @@
 // Made by rust/erase from crates/langtag_match/src/wanted_element.rt. Change that file, not this one.
 
-//! An element of a header of which nothing is refused.
+//! An element of a header, read leniently.
 
 use crate::matching::element::trimmed_place;
 use crate::matching::range_text::is_first_subtag;

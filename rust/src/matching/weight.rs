@@ -4,6 +4,13 @@
 
 /// Returns the weight in a text, in thousandths (RFC 9110 section 12.4.2): 500 for `q=0.5` and `Q=0.500`. Returns
 /// [`None`] if the text is not a weight, such as `q=2`, `q=.5`, `q=0.1234` and `q = 1`.
+///
+/// ```
+/// use langtag::matching::weight_of;
+///
+/// assert_eq!(weight_of(b"q=0.5"), Some(500));
+/// assert_eq!(weight_of(b"q=2"), None);
+/// ```
 #[inline]
 pub fn weight_of(text: &[u8]) -> Option<u32> {
     match text {

@@ -2,7 +2,7 @@
 
 //! A text that is written into a buffer of the caller's, subtag by subtag.
 
-/// A buffer, and the length of the text that was put into it so far. What does not fit is counted, and not written.
+/// A buffer, and the length of the text so far. Bytes that do not fit are counted, but not written.
 pub struct Output<'a> {
     buffer: &'a mut [u8],
     len: usize,
@@ -21,7 +21,7 @@ impl<'a> Output<'a> {
         self.len
     }
 
-    /// Puts a subtag, or some that are joined, at the end, with a hyphen between them and what stands before.
+    /// Appends a subtag, or several joined ones, after a hyphen if there is text before them.
     #[inline]
     pub fn push_subtag(&mut self, subtag: &[u8]) {
         if self.len > 0 {
@@ -30,7 +30,7 @@ impl<'a> Output<'a> {
         self.push(subtag);
     }
 
-    /// Puts bytes at the end. The length stays at its greatest where a text has more bytes than that.
+    /// Appends bytes. The length stops at its maximum if a text has more bytes.
     pub fn push(&mut self, bytes: &[u8]) {
         let end = self.len.saturating_add(bytes.len());
         if end <= self.buffer.len() {

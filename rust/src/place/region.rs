@@ -51,12 +51,18 @@ pub struct Region<'a> {
 }
 
 impl<'a> Region<'a> {
-    /// Parses a text as a region: `Region::new("fr")` is `Ok`.
+    /// Parses a text as a region.
     ///
     /// # Errors
     ///
-    /// Returns the text if it is neither two letters nor three digits: `Region::new("FR1")` is
-    /// `Err(InvalidRegion("FR1"))`.
+    /// Returns the text if it is neither two letters nor three digits.
+    ///
+    /// ```
+    /// use langtag::{InvalidRegion, Region};
+    ///
+    /// assert!(Region::new("fr").is_ok());
+    /// assert_eq!(Region::new("FR1"), Err(InvalidRegion("FR1")));
+    /// ```
     #[inline]
     pub fn new(text: &'a str) -> Result<Region<'a>, InvalidRegion<&'a str>> {
         if !is_region(text.as_bytes()) {
@@ -74,30 +80,66 @@ impl<'a> Region<'a> {
         }
     }
 
-    /// Returns the text, in its original case: `Region::new("FR")?.as_str()` is `"FR"`.
+    /// Returns the text, in its original case.
+    ///
+    /// ```
+    /// # fn main() -> Result<(), Box<dyn std::error::Error>> {
+    /// use langtag::Region;
+    ///
+    /// assert_eq!(Region::new("FR")?.as_str(), "FR");
+    /// # Ok(())
+    /// # }
+    /// ```
     #[inline]
     pub fn as_str(&self) -> &'a str {
         self.text.0
     }
 
-    /// Returns the text as bytes: `Region::new("FR")?.as_bytes()` is `b"FR"`.
+    /// Returns the text as bytes.
+    ///
+    /// ```
+    /// # fn main() -> Result<(), Box<dyn std::error::Error>> {
+    /// use langtag::Region;
+    ///
+    /// assert_eq!(Region::new("FR")?.as_bytes(), b"FR");
+    /// # Ok(())
+    /// # }
+    /// ```
     #[inline]
     pub fn as_bytes(&self) -> &'a [u8] {
         self.as_str().as_bytes()
     }
 
-    /// Returns whether another text is equal, ignoring the case of ASCII letters: `Region::new("fr")?.eq_str("FR")` is
-    /// `true`. It is proved that comparisons and hashes also ignore case, and that a clone is the same value.
+    /// Returns whether another text is equal, ignoring the case of ASCII letters. It is proved that comparisons and
+    /// hashes also ignore case, and that a clone is the same value.
+    ///
+    /// ```
+    /// # fn main() -> Result<(), Box<dyn std::error::Error>> {
+    /// use langtag::Region;
+    ///
+    /// assert!(Region::new("fr")?.eq_str("FR"));
+    /// # Ok(())
+    /// # }
+    /// ```
     #[inline]
     pub fn eq_str(&self, other: &str) -> bool {
         self.text == Caseless(other)
     }
 
-    /// Copies the text into an owned value: `Region::new("FR")?.try_to_owned()?.as_str()` is `"FR"`.
+    /// Copies the text into an owned value.
     ///
     /// # Errors
     ///
     /// Returns an error if allocation fails.
+    ///
+    /// ```
+    /// # fn main() -> Result<(), Box<dyn std::error::Error>> {
+    /// use langtag::Region;
+    ///
+    /// assert_eq!(Region::new("FR")?.try_to_owned()?.as_str(), "FR");
+    /// # Ok(())
+    /// # }
+    /// ```
     #[cfg(feature = "alloc")]
     #[inline]
     pub fn try_to_owned(&self) -> Result<RegionBuf, AllocError> {
@@ -150,20 +192,46 @@ impl RegionBuf {
         })
     }
 
-    /// Borrows the region: `as_region().as_str()` of the owned `FR` is `"FR"`. It is proved that comparisons and hashes
-    /// of owned regions ignore case.
+    /// Borrows the region. It is proved that comparisons and hashes of owned regions ignore case.
+    ///
+    /// ```
+    /// # fn main() -> Result<(), Box<dyn std::error::Error>> {
+    /// use langtag::Region;
+    ///
+    /// assert_eq!(Region::new("FR")?.try_to_owned()?.as_region().as_str(), "FR");
+    /// # Ok(())
+    /// # }
+    /// ```
     #[inline]
     pub fn as_region(&self) -> Region<'_> {
         Region::from_checked(self.as_str())
     }
 
-    /// Returns the text, in its original case: `as_str()` of the owned `FR` is `"FR"`.
+    /// Returns the text, in its original case.
+    ///
+    /// ```
+    /// # fn main() -> Result<(), Box<dyn std::error::Error>> {
+    /// use langtag::Region;
+    ///
+    /// assert_eq!(Region::new("FR")?.try_to_owned()?.as_str(), "FR");
+    /// # Ok(())
+    /// # }
+    /// ```
     #[inline]
     pub fn as_str(&self) -> &str {
         self.text.0.as_str()
     }
 
-    /// Returns the `String`, without copying it: `into_string()` of the owned `FR` is the `String` `FR`.
+    /// Returns the `String`, without copying it.
+    ///
+    /// ```
+    /// # fn main() -> Result<(), Box<dyn std::error::Error>> {
+    /// use langtag::Region;
+    ///
+    /// assert_eq!(Region::new("FR")?.try_to_owned()?.into_string(), "FR");
+    /// # Ok(())
+    /// # }
+    /// ```
     #[inline]
     pub fn into_string(self) -> String {
         self.text.0

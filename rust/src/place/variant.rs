@@ -52,12 +52,18 @@ pub struct Variant<'a> {
 }
 
 impl<'a> Variant<'a> {
-    /// Parses a text as a variant: `Variant::new("rozaj")` is `Ok`.
+    /// Parses a text as a variant.
     ///
     /// # Errors
     ///
-    /// Returns the text if it is neither five to eight letters and digits nor four of which the first is a digit:
-    /// `Variant::new("roza")` is `Err(InvalidVariant("roza"))`.
+    /// Returns the text if it is neither five to eight letters and digits nor four of which the first is a digit.
+    ///
+    /// ```
+    /// use langtag::{InvalidVariant, Variant};
+    ///
+    /// assert!(Variant::new("rozaj").is_ok());
+    /// assert_eq!(Variant::new("roza"), Err(InvalidVariant("roza")));
+    /// ```
     #[inline]
     pub fn new(text: &'a str) -> Result<Variant<'a>, InvalidVariant<&'a str>> {
         if !is_variant(text.as_bytes()) {
@@ -75,31 +81,66 @@ impl<'a> Variant<'a> {
         }
     }
 
-    /// Returns the text, in its original case: `Variant::new("ROZAJ")?.as_str()` is `"ROZAJ"`.
+    /// Returns the text, in its original case.
+    ///
+    /// ```
+    /// # fn main() -> Result<(), Box<dyn std::error::Error>> {
+    /// use langtag::Variant;
+    ///
+    /// assert_eq!(Variant::new("ROZAJ")?.as_str(), "ROZAJ");
+    /// # Ok(())
+    /// # }
+    /// ```
     #[inline]
     pub fn as_str(&self) -> &'a str {
         self.text.0
     }
 
-    /// Returns the text as bytes: `Variant::new("ROZAJ")?.as_bytes()` is `b"ROZAJ"`.
+    /// Returns the text as bytes.
+    ///
+    /// ```
+    /// # fn main() -> Result<(), Box<dyn std::error::Error>> {
+    /// use langtag::Variant;
+    ///
+    /// assert_eq!(Variant::new("ROZAJ")?.as_bytes(), b"ROZAJ");
+    /// # Ok(())
+    /// # }
+    /// ```
     #[inline]
     pub fn as_bytes(&self) -> &'a [u8] {
         self.as_str().as_bytes()
     }
 
-    /// Returns whether another text is equal, ignoring the case of ASCII letters:
-    /// `Variant::new("rozaj")?.eq_str("ROZAJ")` is `true`. It is proved that comparisons and hashes also ignore case,
-    /// and that a clone is the same value.
+    /// Returns whether another text is equal, ignoring the case of ASCII letters. It is proved that comparisons and
+    /// hashes also ignore case, and that a clone is the same value.
+    ///
+    /// ```
+    /// # fn main() -> Result<(), Box<dyn std::error::Error>> {
+    /// use langtag::Variant;
+    ///
+    /// assert!(Variant::new("rozaj")?.eq_str("ROZAJ"));
+    /// # Ok(())
+    /// # }
+    /// ```
     #[inline]
     pub fn eq_str(&self, other: &str) -> bool {
         self.text == Caseless(other)
     }
 
-    /// Copies the text into an owned value: `Variant::new("ROZAJ")?.try_to_owned()?.as_str()` is `"ROZAJ"`.
+    /// Copies the text into an owned value.
     ///
     /// # Errors
     ///
     /// Returns an error if allocation fails.
+    ///
+    /// ```
+    /// # fn main() -> Result<(), Box<dyn std::error::Error>> {
+    /// use langtag::Variant;
+    ///
+    /// assert_eq!(Variant::new("ROZAJ")?.try_to_owned()?.as_str(), "ROZAJ");
+    /// # Ok(())
+    /// # }
+    /// ```
     #[cfg(feature = "alloc")]
     #[inline]
     pub fn try_to_owned(&self) -> Result<VariantBuf, AllocError> {
@@ -153,20 +194,46 @@ impl VariantBuf {
         })
     }
 
-    /// Borrows the variant: `as_variant().as_str()` of the owned `ROZAJ` is `"ROZAJ"`. It is proved that comparisons
-    /// and hashes of owned variants ignore case.
+    /// Borrows the variant. It is proved that comparisons and hashes of owned variants ignore case.
+    ///
+    /// ```
+    /// # fn main() -> Result<(), Box<dyn std::error::Error>> {
+    /// use langtag::Variant;
+    ///
+    /// assert_eq!(Variant::new("ROZAJ")?.try_to_owned()?.as_variant().as_str(), "ROZAJ");
+    /// # Ok(())
+    /// # }
+    /// ```
     #[inline]
     pub fn as_variant(&self) -> Variant<'_> {
         Variant::from_checked(self.as_str())
     }
 
-    /// Returns the text, in its original case: `as_str()` of the owned `ROZAJ` is `"ROZAJ"`.
+    /// Returns the text, in its original case.
+    ///
+    /// ```
+    /// # fn main() -> Result<(), Box<dyn std::error::Error>> {
+    /// use langtag::Variant;
+    ///
+    /// assert_eq!(Variant::new("ROZAJ")?.try_to_owned()?.as_str(), "ROZAJ");
+    /// # Ok(())
+    /// # }
+    /// ```
     #[inline]
     pub fn as_str(&self) -> &str {
         self.text.0.as_str()
     }
 
-    /// Returns the `String`, without copying it: `into_string()` of the owned `ROZAJ` is the `String` `ROZAJ`.
+    /// Returns the `String`, without copying it.
+    ///
+    /// ```
+    /// # fn main() -> Result<(), Box<dyn std::error::Error>> {
+    /// use langtag::Variant;
+    ///
+    /// assert_eq!(Variant::new("ROZAJ")?.try_to_owned()?.into_string(), "ROZAJ");
+    /// # Ok(())
+    /// # }
+    /// ```
     #[inline]
     pub fn into_string(self) -> String {
         self.text.0

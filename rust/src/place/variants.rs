@@ -55,15 +55,26 @@ pub struct Variants<'a> {
 }
 
 impl<'a> Variants<'a> {
-    /// No variants: `Variants::EMPTY.as_str()` is `""`.
+    /// No variants.
+    ///
+    /// ```
+    /// use langtag::Variants;
+    ///
+    /// assert_eq!(Variants::EMPTY.as_str(), "");
+    /// ```
     pub const EMPTY: Variants<'static> = Variants { text: Caseless("") };
 
     /// Parses a text as variants: `Variants::new("rozaj-1994")` and `Variants::new("")` are `Ok`.
     ///
     /// # Errors
     ///
-    /// Returns the text if it is not variants with one hyphen between neighbours: `Variants::new("rozaj-")` is
-    /// `Err(InvalidVariants("rozaj-"))`.
+    /// Returns the text if it is not variants with one hyphen between neighbours.
+    ///
+    /// ```
+    /// use langtag::{InvalidVariants, Variants};
+    ///
+    /// assert_eq!(Variants::new("rozaj-"), Err(InvalidVariants("rozaj-")));
+    /// ```
     #[inline]
     pub fn new(text: &'a str) -> Result<Variants<'a>, InvalidVariants<&'a str>> {
         if !all_variants(text) {
@@ -72,7 +83,7 @@ impl<'a> Variants<'a> {
         Ok(Variants::from_checked(text))
     }
 
-    /// Returns the variants with a text that is known to be some, without checking it.
+    /// Returns the variants of a text that is known to be variants, without checking it.
     /// `Variants::from_checked(variants.as_str())` is equal to `variants`.
     #[inline]
     pub(crate) fn from_checked(text: &'a str) -> Variants<'a> {
@@ -81,31 +92,66 @@ impl<'a> Variants<'a> {
         }
     }
 
-    /// Returns the text, in its original case: `Variants::new("ROZAJ-1994")?.as_str()` is `"ROZAJ-1994"`.
+    /// Returns the text, in its original case.
+    ///
+    /// ```
+    /// # fn main() -> Result<(), Box<dyn std::error::Error>> {
+    /// use langtag::Variants;
+    ///
+    /// assert_eq!(Variants::new("ROZAJ-1994")?.as_str(), "ROZAJ-1994");
+    /// # Ok(())
+    /// # }
+    /// ```
     #[inline]
     pub fn as_str(&self) -> &'a str {
         self.text.0
     }
 
-    /// Returns the text as bytes: `Variants::new("ROZAJ-1994")?.as_bytes()` is `b"ROZAJ-1994"`.
+    /// Returns the text as bytes.
+    ///
+    /// ```
+    /// # fn main() -> Result<(), Box<dyn std::error::Error>> {
+    /// use langtag::Variants;
+    ///
+    /// assert_eq!(Variants::new("ROZAJ-1994")?.as_bytes(), b"ROZAJ-1994");
+    /// # Ok(())
+    /// # }
+    /// ```
     #[inline]
     pub fn as_bytes(&self) -> &'a [u8] {
         self.as_str().as_bytes()
     }
 
-    /// Returns whether another text is equal, ignoring the case of ASCII letters:
-    /// `Variants::new("rozaj")?.eq_str("ROZAJ")` is `true`. It is proved that comparisons and hashes also ignore case,
-    /// and that a clone is the same value.
+    /// Returns whether another text is equal, ignoring the case of ASCII letters. It is proved that comparisons and
+    /// hashes also ignore case, and that a clone is the same value.
+    ///
+    /// ```
+    /// # fn main() -> Result<(), Box<dyn std::error::Error>> {
+    /// use langtag::Variants;
+    ///
+    /// assert!(Variants::new("rozaj")?.eq_str("ROZAJ"));
+    /// # Ok(())
+    /// # }
+    /// ```
     #[inline]
     pub fn eq_str(&self, other: &str) -> bool {
         self.text == Caseless(other)
     }
 
-    /// Copies the text into an owned value: `Variants::new("ROZAJ")?.try_to_owned()?.as_str()` is `"ROZAJ"`.
+    /// Copies the text into an owned value.
     ///
     /// # Errors
     ///
     /// Returns an error if allocation fails.
+    ///
+    /// ```
+    /// # fn main() -> Result<(), Box<dyn std::error::Error>> {
+    /// use langtag::Variants;
+    ///
+    /// assert_eq!(Variants::new("ROZAJ")?.try_to_owned()?.as_str(), "ROZAJ");
+    /// # Ok(())
+    /// # }
+    /// ```
     #[cfg(feature = "alloc")]
     #[inline]
     pub fn try_to_owned(&self) -> Result<VariantsBuf, AllocError> {
@@ -183,20 +229,46 @@ impl VariantsBuf {
         })
     }
 
-    /// Borrows the variants: `as_variants().as_str()` of the owned `ROZAJ` is `"ROZAJ"`. It is proved that comparisons
-    /// and hashes of owned lists of variants ignore case.
+    /// Borrows the variants. It is proved that comparisons and hashes of owned lists of variants ignore case.
+    ///
+    /// ```
+    /// # fn main() -> Result<(), Box<dyn std::error::Error>> {
+    /// use langtag::Variants;
+    ///
+    /// assert_eq!(Variants::new("ROZAJ")?.try_to_owned()?.as_variants().as_str(), "ROZAJ");
+    /// # Ok(())
+    /// # }
+    /// ```
     #[inline]
     pub fn as_variants(&self) -> Variants<'_> {
         Variants::from_checked(self.as_str())
     }
 
-    /// Returns the text, in its original case: `as_str()` of the owned `ROZAJ` is `"ROZAJ"`.
+    /// Returns the text, in its original case.
+    ///
+    /// ```
+    /// # fn main() -> Result<(), Box<dyn std::error::Error>> {
+    /// use langtag::Variants;
+    ///
+    /// assert_eq!(Variants::new("ROZAJ")?.try_to_owned()?.as_str(), "ROZAJ");
+    /// # Ok(())
+    /// # }
+    /// ```
     #[inline]
     pub fn as_str(&self) -> &str {
         self.text.0.as_str()
     }
 
-    /// Returns the `String`, without copying it: `into_string()` of the owned `ROZAJ` is the `String` `ROZAJ`.
+    /// Returns the `String`, without copying it.
+    ///
+    /// ```
+    /// # fn main() -> Result<(), Box<dyn std::error::Error>> {
+    /// use langtag::Variants;
+    ///
+    /// assert_eq!(Variants::new("ROZAJ")?.try_to_owned()?.into_string(), "ROZAJ");
+    /// # Ok(())
+    /// # }
+    /// ```
     #[inline]
     pub fn into_string(self) -> String {
         self.text.0

@@ -53,11 +53,18 @@ pub struct PrivateUse<'a> {
 }
 
 impl<'a> PrivateUse<'a> {
-    /// Parses a text as a private use part: `PrivateUse::new("x-twain")` is `Ok`.
+    /// Parses a text as a private use part.
     ///
     /// # Errors
     ///
-    /// Returns the text if it is not a private use part: `PrivateUse::new("x")` is `Err(InvalidPrivateUse("x"))`.
+    /// Returns the text if it is not a private use part.
+    ///
+    /// ```
+    /// use langtag::{InvalidPrivateUse, PrivateUse};
+    ///
+    /// assert!(PrivateUse::new("x-twain").is_ok());
+    /// assert_eq!(PrivateUse::new("x"), Err(InvalidPrivateUse("x")));
+    /// ```
     #[inline]
     pub fn new(text: &'a str) -> Result<PrivateUse<'a>, InvalidPrivateUse<&'a str>> {
         if !is_private_use(text) {
@@ -75,31 +82,66 @@ impl<'a> PrivateUse<'a> {
         }
     }
 
-    /// Returns the text, in its original case: `PrivateUse::new("X-TWAIN")?.as_str()` is `"X-TWAIN"`.
+    /// Returns the text, in its original case.
+    ///
+    /// ```
+    /// # fn main() -> Result<(), Box<dyn std::error::Error>> {
+    /// use langtag::PrivateUse;
+    ///
+    /// assert_eq!(PrivateUse::new("X-TWAIN")?.as_str(), "X-TWAIN");
+    /// # Ok(())
+    /// # }
+    /// ```
     #[inline]
     pub fn as_str(&self) -> &'a str {
         self.text.0
     }
 
-    /// Returns the text as bytes: `PrivateUse::new("X-TWAIN")?.as_bytes()` is `b"X-TWAIN"`.
+    /// Returns the text as bytes.
+    ///
+    /// ```
+    /// # fn main() -> Result<(), Box<dyn std::error::Error>> {
+    /// use langtag::PrivateUse;
+    ///
+    /// assert_eq!(PrivateUse::new("X-TWAIN")?.as_bytes(), b"X-TWAIN");
+    /// # Ok(())
+    /// # }
+    /// ```
     #[inline]
     pub fn as_bytes(&self) -> &'a [u8] {
         self.as_str().as_bytes()
     }
 
-    /// Returns whether another text is equal, ignoring the case of ASCII letters:
-    /// `PrivateUse::new("x-twain")?.eq_str("X-TWAIN")` is `true`. It is proved that comparisons and hashes also ignore
-    /// case, and that a clone is the same value.
+    /// Returns whether another text is equal, ignoring the case of ASCII letters. It is proved that comparisons and
+    /// hashes also ignore case, and that a clone is the same value.
+    ///
+    /// ```
+    /// # fn main() -> Result<(), Box<dyn std::error::Error>> {
+    /// use langtag::PrivateUse;
+    ///
+    /// assert!(PrivateUse::new("x-twain")?.eq_str("X-TWAIN"));
+    /// # Ok(())
+    /// # }
+    /// ```
     #[inline]
     pub fn eq_str(&self, other: &str) -> bool {
         self.text == Caseless(other)
     }
 
-    /// Copies the text into an owned value: `PrivateUse::new("X-TWAIN")?.try_to_owned()?.as_str()` is `"X-TWAIN"`.
+    /// Copies the text into an owned value.
     ///
     /// # Errors
     ///
     /// Returns an error if allocation fails.
+    ///
+    /// ```
+    /// # fn main() -> Result<(), Box<dyn std::error::Error>> {
+    /// use langtag::PrivateUse;
+    ///
+    /// assert_eq!(PrivateUse::new("X-TWAIN")?.try_to_owned()?.as_str(), "X-TWAIN");
+    /// # Ok(())
+    /// # }
+    /// ```
     #[cfg(feature = "alloc")]
     #[inline]
     pub fn try_to_owned(&self) -> Result<PrivateUseBuf, AllocError> {
@@ -185,20 +227,47 @@ impl PrivateUseBuf {
         })
     }
 
-    /// Borrows the private use part: `as_private_use().as_str()` of the owned `X-TWAIN` is `"X-TWAIN"`. It is proved
-    /// that comparisons and hashes of owned private use parts ignore case.
+    /// Borrows the private use part. It is proved that comparisons and hashes of owned private use parts ignore
+    /// case.
+    ///
+    /// ```
+    /// # fn main() -> Result<(), Box<dyn std::error::Error>> {
+    /// use langtag::PrivateUse;
+    ///
+    /// assert_eq!(PrivateUse::new("X-TWAIN")?.try_to_owned()?.as_private_use().as_str(), "X-TWAIN");
+    /// # Ok(())
+    /// # }
+    /// ```
     #[inline]
     pub fn as_private_use(&self) -> PrivateUse<'_> {
         PrivateUse::from_checked(self.as_str())
     }
 
-    /// Returns the text, in its original case: `as_str()` of the owned `X-TWAIN` is `"X-TWAIN"`.
+    /// Returns the text, in its original case.
+    ///
+    /// ```
+    /// # fn main() -> Result<(), Box<dyn std::error::Error>> {
+    /// use langtag::PrivateUse;
+    ///
+    /// assert_eq!(PrivateUse::new("X-TWAIN")?.try_to_owned()?.as_str(), "X-TWAIN");
+    /// # Ok(())
+    /// # }
+    /// ```
     #[inline]
     pub fn as_str(&self) -> &str {
         self.text.0.as_str()
     }
 
-    /// Returns the `String`, without copying it: `into_string()` of the owned `X-TWAIN` is the `String` `X-TWAIN`.
+    /// Returns the `String`, without copying it.
+    ///
+    /// ```
+    /// # fn main() -> Result<(), Box<dyn std::error::Error>> {
+    /// use langtag::PrivateUse;
+    ///
+    /// assert_eq!(PrivateUse::new("X-TWAIN")?.try_to_owned()?.into_string(), "X-TWAIN");
+    /// # Ok(())
+    /// # }
+    /// ```
     #[inline]
     pub fn into_string(self) -> String {
         self.text.0

@@ -51,12 +51,18 @@ pub struct PrivateUseSubtag<'a> {
 }
 
 impl<'a> PrivateUseSubtag<'a> {
-    /// Parses a text as a private use subtag: `PrivateUseSubtag::new("twain")` is `Ok`.
+    /// Parses a text as a private use subtag.
     ///
     /// # Errors
     ///
-    /// Returns the text if it is not one to eight letters and digits: `PrivateUseSubtag::new("a-b")` is
-    /// `Err(InvalidPrivateUseSubtag("a-b"))`.
+    /// Returns the text if it is not one to eight letters and digits.
+    ///
+    /// ```
+    /// use langtag::{InvalidPrivateUseSubtag, PrivateUseSubtag};
+    ///
+    /// assert!(PrivateUseSubtag::new("twain").is_ok());
+    /// assert_eq!(PrivateUseSubtag::new("a-b"), Err(InvalidPrivateUseSubtag("a-b")));
+    /// ```
     #[inline]
     pub fn new(text: &'a str) -> Result<PrivateUseSubtag<'a>, InvalidPrivateUseSubtag<&'a str>> {
         if !is_private_subtag(text.as_bytes()) {
@@ -74,32 +80,66 @@ impl<'a> PrivateUseSubtag<'a> {
         }
     }
 
-    /// Returns the text, in its original case: `PrivateUseSubtag::new("TWAIN")?.as_str()` is `"TWAIN"`.
+    /// Returns the text, in its original case.
+    ///
+    /// ```
+    /// # fn main() -> Result<(), Box<dyn std::error::Error>> {
+    /// use langtag::PrivateUseSubtag;
+    ///
+    /// assert_eq!(PrivateUseSubtag::new("TWAIN")?.as_str(), "TWAIN");
+    /// # Ok(())
+    /// # }
+    /// ```
     #[inline]
     pub fn as_str(&self) -> &'a str {
         self.text.0
     }
 
-    /// Returns the text as bytes: `PrivateUseSubtag::new("TWAIN")?.as_bytes()` is `b"TWAIN"`.
+    /// Returns the text as bytes.
+    ///
+    /// ```
+    /// # fn main() -> Result<(), Box<dyn std::error::Error>> {
+    /// use langtag::PrivateUseSubtag;
+    ///
+    /// assert_eq!(PrivateUseSubtag::new("TWAIN")?.as_bytes(), b"TWAIN");
+    /// # Ok(())
+    /// # }
+    /// ```
     #[inline]
     pub fn as_bytes(&self) -> &'a [u8] {
         self.as_str().as_bytes()
     }
 
-    /// Returns whether another text is equal, ignoring the case of ASCII letters:
-    /// `PrivateUseSubtag::new("twain")?.eq_str("TWAIN")` is `true`. It is proved that comparisons and hashes also
-    /// ignore case, and that a clone is the same value.
+    /// Returns whether another text is equal, ignoring the case of ASCII letters. It is proved that comparisons and
+    /// hashes also ignore case, and that a clone is the same value.
+    ///
+    /// ```
+    /// # fn main() -> Result<(), Box<dyn std::error::Error>> {
+    /// use langtag::PrivateUseSubtag;
+    ///
+    /// assert!(PrivateUseSubtag::new("twain")?.eq_str("TWAIN"));
+    /// # Ok(())
+    /// # }
+    /// ```
     #[inline]
     pub fn eq_str(&self, other: &str) -> bool {
         self.text == Caseless(other)
     }
 
-    /// Copies the text into an owned value: `PrivateUseSubtag::new("TWAIN")?.try_to_owned()?.as_str()` is
-    /// `"TWAIN"`.
+    /// Copies the text into an owned value.
     ///
     /// # Errors
     ///
     /// Returns an error if allocation fails.
+    ///
+    /// ```
+    /// # fn main() -> Result<(), Box<dyn std::error::Error>> {
+    /// use langtag::PrivateUseSubtag;
+    ///
+    /// assert_eq!(PrivateUseSubtag::new("TWAIN")?.try_to_owned()?.as_str(), "TWAIN");
+    /// # Ok(())
+    /// # }
+    /// ```
     #[cfg(feature = "alloc")]
     #[inline]
     pub fn try_to_owned(&self) -> Result<PrivateUseSubtagBuf, AllocError> {
@@ -152,20 +192,46 @@ impl PrivateUseSubtagBuf {
         })
     }
 
-    /// Borrows the subtag: `as_private_use_subtag().as_str()` of the owned `TWAIN` is `"TWAIN"`. It is proved that
-    /// comparisons and hashes of owned private use subtags ignore case.
+    /// Borrows the subtag. It is proved that comparisons and hashes of owned private use subtags ignore case.
+    ///
+    /// ```
+    /// # fn main() -> Result<(), Box<dyn std::error::Error>> {
+    /// use langtag::PrivateUseSubtag;
+    ///
+    /// assert_eq!(PrivateUseSubtag::new("TWAIN")?.try_to_owned()?.as_private_use_subtag().as_str(), "TWAIN");
+    /// # Ok(())
+    /// # }
+    /// ```
     #[inline]
     pub fn as_private_use_subtag(&self) -> PrivateUseSubtag<'_> {
         PrivateUseSubtag::from_checked(self.as_str())
     }
 
-    /// Returns the text, in its original case: `as_str()` of the owned `TWAIN` is `"TWAIN"`.
+    /// Returns the text, in its original case.
+    ///
+    /// ```
+    /// # fn main() -> Result<(), Box<dyn std::error::Error>> {
+    /// use langtag::PrivateUseSubtag;
+    ///
+    /// assert_eq!(PrivateUseSubtag::new("TWAIN")?.try_to_owned()?.as_str(), "TWAIN");
+    /// # Ok(())
+    /// # }
+    /// ```
     #[inline]
     pub fn as_str(&self) -> &str {
         self.text.0.as_str()
     }
 
-    /// Returns the `String`, without copying it: `into_string()` of the owned `TWAIN` is the `String` `TWAIN`.
+    /// Returns the `String`, without copying it.
+    ///
+    /// ```
+    /// # fn main() -> Result<(), Box<dyn std::error::Error>> {
+    /// use langtag::PrivateUseSubtag;
+    ///
+    /// assert_eq!(PrivateUseSubtag::new("TWAIN")?.try_to_owned()?.into_string(), "TWAIN");
+    /// # Ok(())
+    /// # }
+    /// ```
     #[inline]
     pub fn into_string(self) -> String {
         self.text.0

@@ -64,6 +64,17 @@ pub fn canonical(tag: LangTag<'_>) -> Result<LangTagBuf, AllocError> {
 /// Returns whether a tag is its own canonical form ([RFC 5646 section 4.5]): `true` for `he`, `zh-min` and `x-iw`,
 /// `false` for `iw` and `en-b-ccc-a-aaa`. Case is ignored, so it is `true` for `HE`. It does not allocate.
 ///
+/// ```
+/// # fn main() -> Result<(), Box<dyn std::error::Error>> {
+/// use langtag::LangTag;
+/// use langtag::registry::is_canonical;
+///
+/// assert!(is_canonical(LangTag::new("HE")?));
+/// assert!(!is_canonical(LangTag::new("iw")?));
+/// # Ok(())
+/// # }
+/// ```
+///
 /// [RFC 5646 section 4.5]: https://www.rfc-editor.org/rfc/rfc5646#section-4.5
 #[inline]
 pub fn is_canonical(tag: LangTag<'_>) -> bool {
@@ -73,6 +84,18 @@ pub fn is_canonical(tag: LangTag<'_>) -> bool {
 /// Writes the canonical form of a tag to a buffer, as [`canonical`] returns it, and returns its length in bytes. If the
 /// buffer is too short, it stays unchanged, and the length says how much room is needed. A buffer of
 /// [`canonical_bound`] bytes is always long enough. It does not allocate.
+///
+/// ```
+/// # fn main() -> Result<(), Box<dyn std::error::Error>> {
+/// use langtag::LangTag;
+/// use langtag::registry::write_canonical;
+///
+/// let mut buffer = [0; 16];
+/// let length = write_canonical(LangTag::new("en-BU")?, &mut buffer);
+/// assert_eq!(buffer.get(..length), Some(&b"en-MM"[..]));
+/// # Ok(())
+/// # }
+/// ```
 pub fn write_canonical(tag: LangTag<'_>, buffer: &mut [u8]) -> usize {
     match form_of(tag) {
         Form::Same => write_text(tag.as_bytes(), buffer),

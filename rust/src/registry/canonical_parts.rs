@@ -1,6 +1,6 @@
 // Made by rust/erase from crates/langtag_registry/src/canonical_parts.rt. Change that file, not this one.
 
-//! The canonical forms of a tag's parts (RFC 5646 section 4.5), put into an output in their order.
+//! The canonical forms of a tag's parts (RFC 5646 section 4.5), written to an output in their order.
 
 use crate::extension::Extensions;
 use crate::language::{ExtendedLangTag, Language, PrimaryLanguage};

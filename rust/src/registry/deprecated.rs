@@ -15,6 +15,17 @@ use crate::tag::LangTag;
 /// Returns whether a language is deprecated ([RFC 5646 section 3.1.6]): `true` for `iw`, `false` for `he` and for what is
 /// not registered.
 ///
+/// ```
+/// # fn main() -> Result<(), Box<dyn std::error::Error>> {
+/// use langtag::PrimaryLanguage;
+/// use langtag::registry::is_deprecated_language;
+///
+/// assert!(is_deprecated_language(PrimaryLanguage::new("iw")?));
+/// assert!(!is_deprecated_language(PrimaryLanguage::new("he")?));
+/// # Ok(())
+/// # }
+/// ```
+///
 /// [RFC 5646 section 3.1.6]: https://www.rfc-editor.org/rfc/rfc5646#section-3.1.6
 #[inline]
 pub fn is_deprecated_language(language: PrimaryLanguage<'_>) -> bool {
@@ -23,6 +34,17 @@ pub fn is_deprecated_language(language: PrimaryLanguage<'_>) -> bool {
 
 /// Returns whether an extended language is deprecated ([RFC 5646 section 3.1.6]): `true` for `yds`, `false` for `yue` and
 /// for what is not registered.
+///
+/// ```
+/// # fn main() -> Result<(), Box<dyn std::error::Error>> {
+/// use langtag::ExtendedLangTag;
+/// use langtag::registry::is_deprecated_extlang;
+///
+/// assert!(is_deprecated_extlang(ExtendedLangTag::new("yds")?));
+/// assert!(!is_deprecated_extlang(ExtendedLangTag::new("yue")?));
+/// # Ok(())
+/// # }
+/// ```
 ///
 /// [RFC 5646 section 3.1.6]: https://www.rfc-editor.org/rfc/rfc5646#section-3.1.6
 #[inline]
@@ -33,6 +55,17 @@ pub fn is_deprecated_extlang(extlang: ExtendedLangTag<'_>) -> bool {
 /// Returns whether a region is deprecated ([RFC 5646 section 3.1.6]): `true` for `SU`, `false` for `FR` and for what is
 /// not registered.
 ///
+/// ```
+/// # fn main() -> Result<(), Box<dyn std::error::Error>> {
+/// use langtag::Region;
+/// use langtag::registry::is_deprecated_region;
+///
+/// assert!(is_deprecated_region(Region::new("SU")?));
+/// assert!(!is_deprecated_region(Region::new("FR")?));
+/// # Ok(())
+/// # }
+/// ```
+///
 /// [RFC 5646 section 3.1.6]: https://www.rfc-editor.org/rfc/rfc5646#section-3.1.6
 #[inline]
 pub fn is_deprecated_region(region: Region<'_>) -> bool {
@@ -41,6 +74,17 @@ pub fn is_deprecated_region(region: Region<'_>) -> bool {
 
 /// Returns whether a variant is deprecated ([RFC 5646 section 3.1.6]): `true` for `heploc`, `false` for `rozaj` and for
 /// what is not registered.
+///
+/// ```
+/// # fn main() -> Result<(), Box<dyn std::error::Error>> {
+/// use langtag::Variant;
+/// use langtag::registry::is_deprecated_variant;
+///
+/// assert!(is_deprecated_variant(Variant::new("heploc")?));
+/// assert!(!is_deprecated_variant(Variant::new("rozaj")?));
+/// # Ok(())
+/// # }
+/// ```
 ///
 /// [RFC 5646 section 3.1.6]: https://www.rfc-editor.org/rfc/rfc5646#section-3.1.6
 #[inline]
@@ -51,6 +95,17 @@ pub fn is_deprecated_variant(variant: Variant<'_>) -> bool {
 /// Returns whether a whole tag is deprecated ([RFC 5646 section 3.1.6]), as some grandfathered and redundant tags are:
 /// `true` for `zh-min`, `art-lojban` and `sgn-DE`. It is `false` for `i-default`, for tags that are not registered as a
 /// whole, such as `sgn-DE-x-a`, and for `iw`, which is deprecated as a language.
+///
+/// ```
+/// # fn main() -> Result<(), Box<dyn std::error::Error>> {
+/// use langtag::LangTag;
+/// use langtag::registry::is_deprecated_tag;
+///
+/// assert!(is_deprecated_tag(LangTag::new("zh-min")?));
+/// assert!(!is_deprecated_tag(LangTag::new("i-default")?));
+/// # Ok(())
+/// # }
+/// ```
 ///
 /// [RFC 5646 section 3.1.6]: https://www.rfc-editor.org/rfc/rfc5646#section-3.1.6
 #[inline]

@@ -10,7 +10,7 @@ use crate::scan::into_smallcase;
 /// [RFC 5646 section 2.2.6]: https://www.rfc-editor.org/rfc/rfc5646#section-2.2.6
 pub(crate) const SINGLETONS: [u8; 35] = *b"0123456789abcdefghijklmnopqrstuvwyz";
 
-/// Returns whether extensions stand in order: each singleton is at least the one before it.
+/// Returns whether extensions are in order: each singleton is at least the one before it.
 #[inline]
 pub(crate) fn are_in_order(extensions: Extensions<'_>) -> bool {
     let mut last = 0;

@@ -22,6 +22,16 @@ use alloc::string::String;
 ///
 /// Returns an error if allocation fails.
 ///
+/// ```
+/// # fn main() -> Result<(), Box<dyn std::error::Error>> {
+/// use langtag::LangTag;
+/// use langtag::registry::extlang_form;
+///
+/// assert_eq!(extlang_form(LangTag::new("hak-CN")?)?.as_str(), "zh-hak-CN");
+/// # Ok(())
+/// # }
+/// ```
+///
 /// [RFC 5646 section 4.5]: https://www.rfc-editor.org/rfc/rfc5646#section-4.5
 #[cfg(feature = "alloc")]
 pub fn extlang_form(tag: LangTag<'_>) -> Result<LangTagBuf, AllocError> {

@@ -13,13 +13,13 @@ use crate::tag::{LangTag, NormalLangTag};
 pub(crate) enum Form<'a> {
     /// The tag itself.
     Same,
-    /// Another tag, which is preferred to it as a whole.
+    /// Another tag, which is preferred to the whole tag.
     Whole(LangTag<'static>),
-    /// This tag with its parts in their canonical forms, or what is preferred to that as a whole.
+    /// This tag with its parts in their canonical forms, or the tag that is preferred to all of that.
     Parts(NormalLangTag<'a>),
 }
 
-/// Returns what the canonical form of a tag is. It is inlined, so that no form is written to memory.
+/// Returns how the canonical form of a tag is made. It is inlined, so that no form is written to memory.
 #[inline(always)]
 pub(crate) fn form_of(tag: LangTag<'_>) -> Form<'_> {
     if let Some(preferred) = preferred_tag(tag) {

@@ -13,6 +13,16 @@ use crate::registry::tables::{
 /// Returns the language that replaces a deprecated one (the field Preferred-Value, [RFC 5646 section 3.1.7]): `he` for
 /// `iw`. Returns `None` for `he`, and for languages that are not registered.
 ///
+/// ```
+/// # fn main() -> Result<(), Box<dyn std::error::Error>> {
+/// use langtag::PrimaryLanguage;
+/// use langtag::registry::preferred_language;
+///
+/// assert_eq!(preferred_language(PrimaryLanguage::new("iw")?).map(|language| language.as_str()), Some("he"));
+/// # Ok(())
+/// # }
+/// ```
+///
 /// [RFC 5646 section 3.1.7]: https://www.rfc-editor.org/rfc/rfc5646#section-3.1.7
 pub fn preferred_language(language: PrimaryLanguage<'_>) -> Option<PrimaryLanguage<'static>> {
     match value_of(
@@ -29,6 +39,16 @@ pub fn preferred_language(language: PrimaryLanguage<'_>) -> Option<PrimaryLangua
 /// `Latn` for `fr`. Returns `None` for `sr`, which is written in two scripts, and for languages that are not
 /// registered.
 ///
+/// ```
+/// # fn main() -> Result<(), Box<dyn std::error::Error>> {
+/// use langtag::PrimaryLanguage;
+/// use langtag::registry::suppress_script;
+///
+/// assert_eq!(suppress_script(PrimaryLanguage::new("fr")?).map(|script| script.as_str()), Some("Latn"));
+/// # Ok(())
+/// # }
+/// ```
+///
 /// [RFC 5646 section 3.1.9]: https://www.rfc-editor.org/rfc/rfc5646#section-3.1.9
 pub fn suppress_script(language: PrimaryLanguage<'_>) -> Option<Script<'static>> {
     match value_of(
@@ -43,6 +63,16 @@ pub fn suppress_script(language: PrimaryLanguage<'_>) -> Option<Script<'static>>
 
 /// Returns the macrolanguage of a language (the field Macrolanguage, [RFC 5646 section 3.1.10]): `zh` for `yue`. Returns
 /// `None` for `zh`, and for languages that are not registered.
+///
+/// ```
+/// # fn main() -> Result<(), Box<dyn std::error::Error>> {
+/// use langtag::PrimaryLanguage;
+/// use langtag::registry::macrolanguage;
+///
+/// assert_eq!(macrolanguage(PrimaryLanguage::new("yue")?).map(|language| language.as_str()), Some("zh"));
+/// # Ok(())
+/// # }
+/// ```
 ///
 /// [RFC 5646 section 3.1.10]: https://www.rfc-editor.org/rfc/rfc5646#section-3.1.10
 pub fn macrolanguage(language: PrimaryLanguage<'_>) -> Option<PrimaryLanguage<'static>> {

@@ -9,6 +9,17 @@ use crate::tables::letter_number;
 /// Returns whether a language is registered, ignoring case ([RFC 5646 section 2.2.1]): `true` for `fr`, `FR` and the
 /// private use `qaa`, `false` for `qt`.
 ///
+/// ```
+/// # fn main() -> Result<(), Box<dyn std::error::Error>> {
+/// use langtag::PrimaryLanguage;
+/// use langtag::registry::is_registered_language;
+///
+/// assert!(is_registered_language(PrimaryLanguage::new("FR")?));
+/// assert!(!is_registered_language(PrimaryLanguage::new("qt")?));
+/// # Ok(())
+/// # }
+/// ```
+///
 /// [RFC 5646 section 2.2.1]: https://www.rfc-editor.org/rfc/rfc5646#section-2.2.1
 #[inline]
 pub fn is_registered_language(language: PrimaryLanguage<'_>) -> bool {

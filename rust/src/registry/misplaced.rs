@@ -1,6 +1,6 @@
 // Made by rust/erase from crates/langtag_registry/src/misplaced.rt. Change that file, not this one.
 
-//! Variants and extended languages that do not stand after one of their prefixes (RFC 5646 section 3.1.8).
+//! Variants and extended languages that follow none of their prefixes (RFC 5646 section 3.1.8).
 
 use crate::language::ExtendedLangTag;
 use crate::matching::LanguageRange;
@@ -17,6 +17,17 @@ use crate::tag::{LangTag, NormalLangTag};
 /// A prefix is compared with the subtags before the variant by extended filtering ([RFC 4647 section 3.3.2]). The RFC
 /// only recommends prefixes, so a tag without them is valid. It does not allocate. The time may be quadratic in the
 /// number of variants.
+///
+/// ```
+/// # fn main() -> Result<(), Box<dyn std::error::Error>> {
+/// use langtag::NormalLangTag;
+/// use langtag::registry::misplaced_variant;
+///
+/// assert_eq!(misplaced_variant(NormalLangTag::new("fr-nedis")?).map(|variant| variant.as_str()), Some("nedis"));
+/// assert!(misplaced_variant(NormalLangTag::new("sl-IT-nedis")?).is_none());
+/// # Ok(())
+/// # }
+/// ```
 ///
 /// [RFC 5646 section 3.1.8]: https://www.rfc-editor.org/rfc/rfc5646#section-3.1.8
 /// [RFC 4647 section 3.3.2]: https://www.rfc-editor.org/rfc/rfc4647#section-3.3.2
@@ -36,6 +47,16 @@ pub fn misplaced_variant<'a>(tag: NormalLangTag<'a>) -> Option<Variant<'a>> {
 /// `zh-fra`, because `fra` is not registered.
 ///
 /// A tag is valid without its prefix. A second extended language, which no valid tag has, is ignored.
+///
+/// ```
+/// # fn main() -> Result<(), Box<dyn std::error::Error>> {
+/// use langtag::NormalLangTag;
+/// use langtag::registry::misplaced_extlang;
+///
+/// assert_eq!(misplaced_extlang(NormalLangTag::new("de-yue")?).map(|extended| extended.as_str()), Some("yue"));
+/// # Ok(())
+/// # }
+/// ```
 ///
 /// [RFC 5646 section 3.1.8]: https://www.rfc-editor.org/rfc/rfc5646#section-3.1.8
 pub fn misplaced_extlang<'a>(tag: NormalLangTag<'a>) -> Option<ExtendedLangTag<'a>> {

@@ -14,6 +14,16 @@ use crate::tag::LangTag;
 /// Returns the region that replaces a deprecated one (the field Preferred-Value, [RFC 5646 section 3.1.7]): `MM` for
 /// `BU`. Returns `None` for `MM`, and for regions that are not registered.
 ///
+/// ```
+/// # fn main() -> Result<(), Box<dyn std::error::Error>> {
+/// use langtag::Region;
+/// use langtag::registry::preferred_region;
+///
+/// assert_eq!(preferred_region(Region::new("BU")?).map(|region| region.as_str()), Some("MM"));
+/// # Ok(())
+/// # }
+/// ```
+///
 /// [RFC 5646 section 3.1.7]: https://www.rfc-editor.org/rfc/rfc5646#section-3.1.7
 pub fn preferred_region(region: Region<'_>) -> Option<Region<'static>> {
     match value_of(
@@ -28,6 +38,16 @@ pub fn preferred_region(region: Region<'_>) -> Option<Region<'static>> {
 
 /// Returns the variant that replaces a deprecated one (the field Preferred-Value, [RFC 5646 section 3.1.7]): `alalc97`
 /// for `heploc`. Returns `None` for `alalc97`, and for variants that are not registered.
+///
+/// ```
+/// # fn main() -> Result<(), Box<dyn std::error::Error>> {
+/// use langtag::Variant;
+/// use langtag::registry::preferred_variant;
+///
+/// assert_eq!(preferred_variant(Variant::new("heploc")?).map(|variant| variant.as_str()), Some("alalc97"));
+/// # Ok(())
+/// # }
+/// ```
 ///
 /// [RFC 5646 section 3.1.7]: https://www.rfc-editor.org/rfc/rfc5646#section-3.1.7
 pub fn preferred_variant(variant: Variant<'_>) -> Option<Variant<'static>> {
@@ -45,13 +65,23 @@ pub fn preferred_variant(variant: Variant<'_>) -> Option<Variant<'static>> {
 /// [RFC 5646 section 3.1.7]): `jbo` for `art-lojban`, `gsg` for `sgn-DE`. Returns `None` for `zh-min`, which has no
 /// Preferred-Value, and for tags that are not registered as a whole, such as `sgn-DE-x-a`.
 ///
+/// ```
+/// # fn main() -> Result<(), Box<dyn std::error::Error>> {
+/// use langtag::LangTag;
+/// use langtag::registry::preferred_tag;
+///
+/// assert_eq!(preferred_tag(LangTag::new("art-lojban")?).map(|tag| tag.as_str()), Some("jbo"));
+/// # Ok(())
+/// # }
+/// ```
+///
 /// [RFC 5646 section 3.1.7]: https://www.rfc-editor.org/rfc/rfc5646#section-3.1.7
 #[inline]
 pub fn preferred_tag(tag: LangTag<'_>) -> Option<LangTag<'static>> {
     preferred_for(tag.as_bytes())
 }
 
-/// Returns the tag that stands for a text as a whole today.
+/// Returns the tag that replaces a whole text.
 #[inline]
 pub(crate) fn preferred_for(text: &[u8]) -> Option<LangTag<'static>> {
     match value_beside(&PREFERRED_TAG_KEYS, &PREFERRED_TAGS, text) {

@@ -1,6 +1,6 @@
 // Made by rust/erase from crates/langtag_registry/src/prefixes.rt. Change that file, not this one.
 
-//! What a subtag is meant to stand after (RFC 5646 section 3.1.8).
+//! What a subtag should follow (RFC 5646 section 3.1.8).
 
 use crate::language::{ExtendedLangTag, PrimaryLanguage};
 use crate::registry::table::value_of;
@@ -10,13 +10,23 @@ use crate::registry::tables::{EXTLANG_PREFIX_KEYS, EXTLANG_PREFIX_VALUES};
 /// `yue`. Returns `None` for extended languages that are not registered. A tag with another language, such as `de-yue`,
 /// may still be valid.
 ///
+/// ```
+/// # fn main() -> Result<(), Box<dyn std::error::Error>> {
+/// use langtag::ExtendedLangTag;
+/// use langtag::registry::extlang_prefix;
+///
+/// assert_eq!(extlang_prefix(ExtendedLangTag::new("yue")?).map(|language| language.as_str()), Some("zh"));
+/// # Ok(())
+/// # }
+/// ```
+///
 /// [RFC 5646 section 3.1.8]: https://www.rfc-editor.org/rfc/rfc5646#section-3.1.8
 #[inline]
 pub fn extlang_prefix(extlang: ExtendedLangTag<'_>) -> Option<PrimaryLanguage<'static>> {
     prefix_of_language(PrimaryLanguage::from_checked(extlang.as_str()))
 }
 
-/// Returns the same of a language that is an extended one, too: `zh` for the language `yue`, `None` for `fr`.
+/// Returns the same for a language that is also an extended language: `zh` for the language `yue`, `None` for `fr`.
 pub(crate) fn prefix_of_language(
     language: PrimaryLanguage<'_>,
 ) -> Option<PrimaryLanguage<'static>> {

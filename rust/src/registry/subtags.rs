@@ -10,6 +10,17 @@ use crate::registry::tables::{EXTLANG_KEYS, REGION_KEYS, SCRIPT_KEYS, VARIANT_KE
 /// Returns whether an extended language is registered, ignoring case ([RFC 5646 section 2.2.2]): `true` for `yue` and
 /// `YUE`, `false` for `fra`.
 ///
+/// ```
+/// # fn main() -> Result<(), Box<dyn std::error::Error>> {
+/// use langtag::ExtendedLangTag;
+/// use langtag::registry::is_registered_extlang;
+///
+/// assert!(is_registered_extlang(ExtendedLangTag::new("yue")?));
+/// assert!(!is_registered_extlang(ExtendedLangTag::new("fra")?));
+/// # Ok(())
+/// # }
+/// ```
+///
 /// [RFC 5646 section 2.2.2]: https://www.rfc-editor.org/rfc/rfc5646#section-2.2.2
 #[inline]
 pub fn is_registered_extlang(extlang: ExtendedLangTag<'_>) -> bool {
@@ -18,6 +29,17 @@ pub fn is_registered_extlang(extlang: ExtendedLangTag<'_>) -> bool {
 
 /// Returns whether a script is registered, ignoring case ([RFC 5646 section 2.2.3]): `true` for `Latn`, `latn` and the
 /// private use `Qaaa`, `false` for `Abcd`.
+///
+/// ```
+/// # fn main() -> Result<(), Box<dyn std::error::Error>> {
+/// use langtag::Script;
+/// use langtag::registry::is_registered_script;
+///
+/// assert!(is_registered_script(Script::new("latn")?));
+/// assert!(!is_registered_script(Script::new("Abcd")?));
+/// # Ok(())
+/// # }
+/// ```
 ///
 /// [RFC 5646 section 2.2.3]: https://www.rfc-editor.org/rfc/rfc5646#section-2.2.3
 #[inline]
@@ -28,6 +50,17 @@ pub fn is_registered_script(script: Script<'_>) -> bool {
 /// Returns whether a region is registered, ignoring case ([RFC 5646 section 2.2.4]): `true` for `FR`, `fr`, `419` and the
 /// private use `XA`, `false` for `FQ`.
 ///
+/// ```
+/// # fn main() -> Result<(), Box<dyn std::error::Error>> {
+/// use langtag::Region;
+/// use langtag::registry::is_registered_region;
+///
+/// assert!(is_registered_region(Region::new("419")?));
+/// assert!(!is_registered_region(Region::new("FQ")?));
+/// # Ok(())
+/// # }
+/// ```
+///
 /// [RFC 5646 section 2.2.4]: https://www.rfc-editor.org/rfc/rfc5646#section-2.2.4
 #[inline]
 pub fn is_registered_region(region: Region<'_>) -> bool {
@@ -36,6 +69,17 @@ pub fn is_registered_region(region: Region<'_>) -> bool {
 
 /// Returns whether a variant is registered, ignoring case ([RFC 5646 section 2.2.5]): `true` for `rozaj`, `ROZAJ` and
 /// `1996`, `false` for `1997`.
+///
+/// ```
+/// # fn main() -> Result<(), Box<dyn std::error::Error>> {
+/// use langtag::Variant;
+/// use langtag::registry::is_registered_variant;
+///
+/// assert!(is_registered_variant(Variant::new("1996")?));
+/// assert!(!is_registered_variant(Variant::new("1997")?));
+/// # Ok(())
+/// # }
+/// ```
 ///
 /// [RFC 5646 section 2.2.5]: https://www.rfc-editor.org/rfc/rfc5646#section-2.2.5
 #[inline]

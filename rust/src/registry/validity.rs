@@ -43,6 +43,17 @@ pub fn validate<'a>(tag: LangTag<'a>) -> Result<(), InvalidSubtag<'a>> {
 /// Returns the error that [`validate`] would return, and an index, or `None` for a valid tag. The index counts from 0
 /// among the variants, or among the extensions for a repeated singleton: for `de-1996-1996` it is 1. For other subtags
 /// it is 0. It does not allocate.
+///
+/// ```
+/// # fn main() -> Result<(), Box<dyn std::error::Error>> {
+/// use langtag::LangTag;
+/// use langtag::registry::fault_at;
+///
+/// assert_eq!(fault_at(LangTag::new("de-1996-1996")?).map(|(_, index)| index), Some(1));
+/// assert!(fault_at(LangTag::new("de-1996")?).is_none());
+/// # Ok(())
+/// # }
+/// ```
 pub fn fault_at<'a>(tag: LangTag<'a>) -> Option<(InvalidSubtag<'a>, usize)> {
     let Some(normal) = tag.as_normal() else {
         return None;

@@ -32,15 +32,15 @@ pub struct Ends {
 
 /// Where each part of a tag has ended so far, in the order of [`Ends`]: 0 if it has not.
 pub(crate) struct Marks {
-    /// The last place takes what is no end, so that each byte sets one, without a test.
-    places: [usize; 7],
+    /// The last place takes what is no end, and that of private use, so that each byte sets one, without a test.
+    places: [usize; 6],
 }
 
 impl Marks {
     /// Before the first byte.
     #[inline(always)]
     pub(crate) fn new() -> Self {
-        Marks { places: [0; 7] }
+        Marks { places: [0; 6] }
     }
 
     /// Sets the end of a part.

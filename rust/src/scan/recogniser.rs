@@ -25,17 +25,14 @@ pub fn recognise<S: ByteSource>(source: &mut S) -> Option<Found> {
     let mut marks = Marks::new();
     let mut index = 0;
     while index < len {
-        state = state.after(source.byte(index));
-        if state.is_dead() {
-            return None;
-        }
+        state = state.after(source.byte(index))?;
         marks.set(state.part_before(), index);
         index += 1;
     }
     let finding = match state.ending() {
         Ending::NoTag => return None,
-        Ending::Normal => {
-            marks.set(state.last_part(), len);
+        Ending::Normal(last) => {
+            marks.set(last, len);
             Finding::Normal(marks.ends(len))
         }
         Ending::PrivateUse => Finding::PrivateUse,

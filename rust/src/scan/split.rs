@@ -2,7 +2,7 @@
 
 //! A text taken apart at the first byte of a kind.
 
-/// Returns what stands before the first `mark` of a text, and what stands after it: all and nothing where it has none.
+/// Returns the text before the first `mark` and the text after it, or the whole text and nothing if there is no `mark`.
 ///
 /// `split_at_byte(b"fr;q=1", b';')` is `(b"fr", b"q=1")`.
 #[inline]
@@ -10,19 +10,21 @@ pub fn split_at_byte(text: &[u8], mark: u8) -> (&[u8], &[u8]) {
     split_at(text, first_place(text, mark))
 }
 
-/// Returns what stands before and after the first of two bytes: `split_at_either(b"zh_TW", b'-', b'_')` is `(b"zh", b"TW")`.
+/// Returns the text before and after the first of two bytes: `split_at_either(b"zh_TW", b'-', b'_')` is
+/// `(b"zh", b"TW")`.
 #[inline]
 pub fn split_at_either(text: &[u8], mark: u8, other: u8) -> (&[u8], &[u8]) {
     split_at(text, first_of_either(text, mark, other))
 }
 
-/// Returns how many bytes stand before the first `mark`, all where there is none: `len_before(b"fr;q=1", b';')` is 2.
+/// Returns the number of bytes before the first `mark`, or of all bytes if there is none: `len_before(b"fr;q=1", b';')`
+/// is 2.
 #[inline]
 pub fn len_before(text: &[u8], mark: u8) -> usize {
     first_place(text, mark).unwrap_or(text.len())
 }
 
-/// Returns the index of the first `mark`, `None` if there is none: `first_place(b"q=1", b'=')` is Some(1).
+/// Returns the index of the first `mark`, or `None` if there is none: `first_place(b"q=1", b'=')` is `Some(1)`.
 #[inline]
 pub fn first_place(text: &[u8], mark: u8) -> Option<usize> {
     text.iter().position(|byte| *byte == mark)

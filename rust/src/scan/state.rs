@@ -28,7 +28,7 @@
 //! is known of the subtag after it, and the irregular tag that the bytes may become. So the tables are this machine: each
 //! step of a state is proved to be that of the positions that it stands for.
 
-use crate::scan::states::{CLASSES, HYPHEN, KINDS, NEXT, PARTS, START};
+use crate::scan::states::{CLASSES, KINDS, NEXT, NONE, PARTS, START};
 
 /// A state, by its number in the tables.
 #[derive(Clone, Copy)]
@@ -40,7 +40,8 @@ pub(crate) struct State {
 #[derive(Clone, Copy)]
 pub(crate) enum Ending {
     NoTag,
-    Normal,
+    /// A normal tag, with the place of its last part.
+    Normal(usize),
     PrivateUse,
     /// An irregular tag, with its index in the table.
     Irregular(usize),
@@ -53,46 +54,37 @@ impl State {
         State { number: START }
     }
 
-    /// The state after one byte more.
+    /// The state after one byte more, or None if no tag begins so.
     #[inline(always)]
-    pub(crate) fn after(self, byte: u8) -> Self {
+    pub(crate) fn after(self, byte: u8) -> Option<Self> {
         self.after_class(CLASSES[byte as usize] as usize)
     }
 
-    /// The state after one byte of a class.
+    /// The state after one byte of a class, or None if no tag begins so.
     #[inline(always)]
-    fn after_class(self, class: usize) -> Self {
-        State {
-            number: NEXT[class][self.number] as usize,
+    fn after_class(self, class: usize) -> Option<Self> {
+        let number = NEXT[class][self.number] as usize;
+        if number < NONE {
+            Some(State { number })
+        } else {
+            None
         }
     }
 
-    /// Whether no tag begins with the bytes that were read.
-    #[inline(always)]
-    pub(crate) fn is_dead(self) -> bool {
-        self.number == 0
-    }
-
-    /// The place of the part that has ended, if the last byte is the hyphen after it, and 6 if none has.
+    /// The place of the part that has ended, if the last byte is the hyphen after it, and 5 if none has.
     #[inline(always)]
     pub(crate) fn part_before(self) -> usize {
         PARTS[self.number] as usize
-    }
-
-    /// The place of the part that ends with the last byte of a tag: that before a hyphen, which may follow each tag but an irregular one.
-    #[inline(always)]
-    pub(crate) fn last_part(self) -> usize {
-        self.after_class(HYPHEN).part_before()
     }
 
     /// What the bytes that were read are, as a whole text.
     #[inline(always)]
     pub(crate) fn ending(self) -> Ending {
         match KINDS[self.number] {
-            0 => Ending::NoTag,
-            1 => Ending::Normal,
-            2 => Ending::PrivateUse,
-            kind => Ending::Irregular(kind as usize - 3),
+            place if place < 6 => Ending::Normal(place as usize),
+            6 => Ending::NoTag,
+            7 => Ending::PrivateUse,
+            kind => Ending::Irregular(kind as usize - 8),
         }
     }
 }

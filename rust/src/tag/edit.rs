@@ -1,6 +1,6 @@
 // Made by rust/erase from crates/langtag/src/edit.rt. Change that file, not this one.
 
-//! A part of a tag's text that is replaced, and where the parts end then.
+//! How a part of a tag's text is replaced, and where the parts end after that.
 
 use crate::scan::Ends;
 #[cfg(feature = "alloc")]
@@ -10,8 +10,8 @@ use crate::tag::part::{Part, Replacement};
 #[cfg(feature = "alloc")]
 use alloc::string::String;
 
-/// Puts a part into the text of a normal tag whose parts end at these offsets. Answers where they end then: the text is not
-/// looked at again.
+/// Sets or removes a part in the text of a normal tag whose parts end at these offsets. Returns where they end after
+/// that, without parsing the text again.
 #[cfg(feature = "alloc")]
 pub(crate) fn set_part(text: &mut String, ends: Ends, part: Part<'_>) -> Result<Ends, AllocError> {
     let new = part.replacement(&ends);
@@ -22,8 +22,8 @@ pub(crate) fn set_part(text: &mut String, ends: Ends, part: Part<'_>) -> Result<
 
 /// Replaces some bytes of a text.
 ///
-/// With a part the whole new text is made before the old one is given up. Without one the bytes are taken out in place,
-/// which needs no memory.
+/// With a part, the new text is complete before the old one is dropped. Without a part, the bytes are removed in place,
+/// without allocating.
 #[cfg(feature = "alloc")]
 fn replace(text: &mut String, new: Replacement<'_>) -> Result<(), AllocError> {
     if new.hyphen.is_empty() && new.part.is_empty() {
@@ -33,7 +33,7 @@ fn replace(text: &mut String, new: Replacement<'_>) -> Result<(), AllocError> {
     Ok(())
 }
 
-/// A new text in which these bytes are replaced. It takes memory once, and no more than it needs.
+/// Returns a new text in which these bytes are replaced. It allocates once, exactly the length of the text.
 #[cfg(feature = "alloc")]
 fn join(text: &str, new: Replacement<'_>) -> Result<String, AllocError> {
     let len = new.start + new.hyphen.len() + new.part.len() + (text.len() - new.end);

@@ -128,8 +128,7 @@ pub const GRANDFATHERED: [GrandfatheredLangTag; 26] = [
 ];
 
 impl GrandfatheredLangTag {
-    /// Returns the grandfathered tag with these bytes, ignoring case: `GrandfatheredLangTag::new(b"I-AMI")` is
-    /// `Ok(GrandfatheredLangTag::IAmi)`.
+    /// Returns the grandfathered tag with these bytes, ignoring case.
     ///
     /// It is proved that no two of them are equal, ignoring case, that all are tags, that they compare and hash as
     /// their indices do, that a clone is the same value, and that [`GRANDFATHERED`] has each at its index.
@@ -137,6 +136,12 @@ impl GrandfatheredLangTag {
     /// # Errors
     ///
     /// Returns the same slice if it is not a grandfathered tag, such as `b"fr"`.
+    ///
+    /// ```
+    /// use langtag::GrandfatheredLangTag;
+    ///
+    /// assert_eq!(GrandfatheredLangTag::new(b"I-AMI"), Ok(GrandfatheredLangTag::IAmi));
+    /// ```
     #[inline]
     pub fn new(bytes: &[u8]) -> Result<Self, &[u8]> {
         match first_alike(&GRANDFATHERED, bytes) {
@@ -197,8 +202,13 @@ impl GrandfatheredLangTag {
         self.registered().0
     }
 
-    /// Returns the tag with the registered spelling: `GrandfatheredLangTag::ILux.as_lang_tag().kind()` is
-    /// `Kind::Grandfathered`.
+    /// Returns the tag with the registered spelling.
+    ///
+    /// ```
+    /// use langtag::{GrandfatheredLangTag, Kind};
+    ///
+    /// assert_eq!(GrandfatheredLangTag::ILux.as_lang_tag().kind(), Kind::Grandfathered);
+    /// ```
     #[inline]
     pub fn as_lang_tag(&self) -> LangTag<'static> {
         LangTag::from_checked(self.as_str())

@@ -23,20 +23,37 @@ pub enum Kind {
 }
 
 impl Kind {
-    /// Returns whether this is the kind of a tag that is made of parts: `Kind::Normal.is_normal()` is `true`.
+    /// Returns whether this is the kind of a tag that is made of parts.
+    ///
+    /// ```
+    /// use langtag::Kind;
+    ///
+    /// assert!(Kind::Normal.is_normal());
+    /// ```
     #[inline]
     pub fn is_normal(&self) -> bool {
         matches!(self, Kind::Normal)
     }
 
-    /// Returns whether this is the kind of a private-use tag: `Kind::PrivateUse.is_private_use()` is `true`.
+    /// Returns whether this is the kind of a private-use tag.
+    ///
+    /// ```
+    /// use langtag::Kind;
+    ///
+    /// assert!(Kind::PrivateUse.is_private_use());
+    /// ```
     #[inline]
     pub fn is_private_use(&self) -> bool {
         matches!(self, Kind::PrivateUse)
     }
 
-    /// Returns whether this is the kind of an irregular grandfathered tag: `Kind::Grandfathered.is_grandfathered()` is
-    /// `true`.
+    /// Returns whether this is the kind of an irregular grandfathered tag.
+    ///
+    /// ```
+    /// use langtag::Kind;
+    ///
+    /// assert!(Kind::Grandfathered.is_grandfathered());
+    /// ```
     #[inline]
     pub fn is_grandfathered(&self) -> bool {
         matches!(self, Kind::Grandfathered)

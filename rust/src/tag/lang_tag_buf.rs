@@ -61,7 +61,7 @@ impl LangTagBuf {
         Ok(LangTagBuf::with_found(text, found))
     }
 
-    /// The tag of a text of which this was found: it is not looked at again.
+    /// Returns the tag with a text in which this was found, without parsing it again.
     #[inline]
     pub(crate) fn with_found(text: String, found: Recognised) -> LangTagBuf {
         LangTagBuf {

@@ -5,8 +5,8 @@
 use crate::scan::Ends;
 use crate::tag::part::Part;
 
-/// How many bytes each part of a normal tag takes, with the hyphen before it: 0 where it is absent. In `en-Latn-x-a` they
-/// are 2, 5, 0, 0, 0 and 4, in the order of the fields.
+/// The length in bytes of each part of a normal tag with the hyphen before it, or 0 if the part is absent. In
+/// `en-Latn-x-a` the lengths are 2, 5, 0, 0, 0 and 4, in the order of the fields.
 #[derive(Clone, Copy)]
 pub(crate) struct Lengths {
     pub(crate) language: usize,
@@ -17,7 +17,7 @@ pub(crate) struct Lengths {
     pub(crate) private_use: usize,
 }
 
-/// How many bytes a part takes with the hyphen before it: none where it is empty.
+/// Returns the length of a part with the hyphen before it, or 0 if it is empty.
 #[inline]
 pub(crate) fn length_with_hyphen(part: &str) -> usize {
     if part.is_empty() {
@@ -40,7 +40,7 @@ impl Lengths {
         }
     }
 
-    /// The same lengths but for that of a part.
+    /// Returns the same lengths except that of one part.
     pub(crate) fn with(self, part: &Part<'_>, len: usize) -> Lengths {
         match part {
             Part::Language(_) => Lengths {

@@ -89,8 +89,8 @@ impl<'a> NormalLangTag<'a> {
         Ok(NormalLangTag::with_ends(text, ends))
     }
 
-    /// Returns the normal tag with a text that is known to be one: `NormalLangTag::from_checked(tag.as_str())` equals
-    /// `tag`. It parses the text once more to find the parts.
+    /// Returns the normal tag of a text that is known to be one: `NormalLangTag::from_checked(tag.as_str())` equals
+    /// `tag`. It parses the text again to find the parts.
     #[inline]
     pub(crate) fn from_checked(text: &'a str) -> NormalLangTag<'a> {
         let Some(ends) = normal_ends(text) else {
@@ -99,7 +99,7 @@ impl<'a> NormalLangTag<'a> {
         NormalLangTag::with_ends(text, ends)
     }
 
-    /// The normal tag of a text whose parts are known to end at these offsets: it is not looked at again.
+    /// Returns the normal tag with a text whose parts are known to end at these offsets, without parsing it again.
     #[inline]
     pub(crate) fn with_ends(text: &'a str, ends: Ends) -> NormalLangTag<'a> {
         NormalLangTag {
@@ -496,7 +496,7 @@ impl<'a> NormalLangTag<'a> {
         &self.as_str()[..self.ends.language]
     }
 
-    /// What stands between the end of one part and the end of the next, after the hyphen.
+    /// Returns the span between the end of one part and the end of the next, without the hyphen.
     #[inline]
     fn part(&self, before: usize, end: usize) -> Option<&'a str> {
         if before == end {

@@ -100,7 +100,7 @@ impl NormalLangTagBuf {
         Ok(NormalLangTagBuf::with_ends(whole, ends))
     }
 
-    /// The normal tag of a text whose parts are known to end at these offsets: it is not looked at again.
+    /// Returns the normal tag with a text whose parts are known to end at these offsets, without parsing it again.
     #[inline]
     pub(crate) fn with_ends(text: String, ends: Ends) -> NormalLangTagBuf {
         NormalLangTagBuf {

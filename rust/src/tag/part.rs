@@ -90,7 +90,7 @@ impl<'a> Part<'a> {
         }
     }
 
-    /// What stands in place of the old part, where the parts end at these offsets.
+    /// Returns how the old part is replaced, if the parts end at these offsets.
     pub(crate) fn replacement(&self, ends: &Ends) -> Replacement<'a> {
         let part = self.as_str();
         let (start, end) = self.place(ends);
@@ -102,7 +102,7 @@ impl<'a> Part<'a> {
         }
     }
 
-    /// Where the part before this one ends, and where this one does.
+    /// Returns where the part before this one ends, and where this one ends.
     fn place(&self, ends: &Ends) -> (usize, usize) {
         match self {
             Part::Language(_) => (0, ends.language),
@@ -114,7 +114,7 @@ impl<'a> Part<'a> {
         }
     }
 
-    /// The hyphen that stands before a text of this part, if one does.
+    /// Returns the hyphen before a text of this part, or nothing if it has none.
     #[inline]
     fn hyphen_before(&self, text: &str) -> &'static str {
         if text.is_empty() || matches!(self, Part::Language(_)) {

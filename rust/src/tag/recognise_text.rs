@@ -1,12 +1,12 @@
 // Made by rust/erase from crates/langtag/src/recognise_text.rt. Change that file, not this one.
 
-//! The one place where this crate runs a recogniser.
+//! The only place where this crate runs a recogniser.
 
 use crate::scan::{recognise, Ends, Found, Metered};
 use crate::tag::grandfathered::GrandfatheredLangTag;
 use crate::tag::recognised::Recognised;
 
-/// What the recogniser finds of bytes; `None` if they are not a tag.
+/// Returns what the recogniser finds in bytes, or `None` if they are not a tag.
 ///
 /// Each constructor of the crate calls this function. It is inlined: the recogniser is one short loop.
 #[inline(always)]
@@ -21,7 +21,7 @@ pub(crate) fn recognise_bytes(bytes: &[u8]) -> Option<Recognised> {
     }
 }
 
-/// What the recogniser finds of bytes, in its own form.
+/// Returns what the recogniser finds in bytes, in its own form.
 #[inline]
 fn found_in(bytes: &[u8]) -> Option<Found> {
     recognise(&mut Metered::of_bytes(bytes))

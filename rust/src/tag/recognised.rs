@@ -1,11 +1,11 @@
 // Made by rust/erase from crates/langtag/src/recognised.rt. Change that file, not this one.
 
-//! What a tag stores of what the parser found in its text.
+//! What a tag stores about its text.
 
 use crate::scan::Ends;
 use crate::tag::grandfathered::GrandfatheredLangTag;
 
-/// Of which kind a tag is ([RFC 5646 section 2.1]), with what is known of one of that kind, so that its text is not read again.
+/// The kind of a tag ([RFC 5646 section 2.1]), with what was found in its text, so that the text is not parsed again.
 ///
 /// [RFC 5646 section 2.1]: https://www.rfc-editor.org/rfc/rfc5646#section-2.1
 #[derive(Clone, Copy)]

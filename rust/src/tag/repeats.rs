@@ -7,10 +7,10 @@ use crate::place::{Variant, Variants};
 use crate::scan::into_smallcase;
 use crate::tag::variant_blocks::first_repeated_of_many;
 
-/// Up to so many bytes of variants, which are 28 variants at most, each is compared to those before it.
+/// Up to this many bytes of variants, which are at most 28 variants, each variant is compared with those before it.
 const FEW: usize = 143;
 
-/// The index of the first of these variants that is equal to an earlier one, ignoring case.
+/// Returns the index of the first of these variants that equals an earlier one, ignoring case.
 #[inline]
 pub(crate) fn first_repeated_variant(variants: Variants<'_>) -> Option<usize> {
     if variants.as_str().len() > FEW {
@@ -19,7 +19,7 @@ pub(crate) fn first_repeated_variant(variants: Variants<'_>) -> Option<usize> {
     first_repeated_of_few(variants)
 }
 
-/// The same, where each variant is compared to those before it.
+/// Returns the same, by comparing each variant with those before it.
 #[inline]
 fn first_repeated_of_few(variants: Variants<'_>) -> Option<usize> {
     for (index, variant) in variants.iter().enumerate() {
@@ -44,7 +44,7 @@ pub fn is_among_first(variants: Variants<'_>, count: usize, variant: Variant<'_>
         .any(|earlier| variant == earlier)
 }
 
-/// The index of the first of these extensions whose singleton is equal to that of an earlier one, ignoring case.
+/// Returns the index of the first of these extensions whose singleton equals that of an earlier one, ignoring case.
 pub(crate) fn first_repeated_singleton(extensions: Extensions<'_>) -> Option<usize> {
     let mut seen = [false; 128];
     for (index, extension) in extensions.iter().enumerate() {

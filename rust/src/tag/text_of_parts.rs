@@ -7,8 +7,8 @@ use crate::shim::{try_string_with_capacity, AllocError, TryText};
 #[cfg(feature = "alloc")]
 use alloc::string::String;
 
-/// A new text with room for so many bytes: a language, and a script and a region after it, each after its hyphen; an empty
-/// one is none.
+/// Returns a new text with room for `len` bytes: a language, and a script and a region, each after a hyphen. An empty
+/// script or region is absent.
 #[cfg(feature = "alloc")]
 pub(crate) fn join_parts(
     room: usize,
@@ -23,7 +23,7 @@ pub(crate) fn join_parts(
     Ok(whole)
 }
 
-/// Puts a part, after its hyphen, at the end of a text; the empty part is none.
+/// Appends a hyphen and a part to a text, or nothing if the part is empty.
 #[cfg(feature = "alloc")]
 #[inline]
 fn push_part(text: &mut String, part: &str) -> Result<(), AllocError> {

@@ -3,8 +3,16 @@
 //! Which subtags of an extension are keys.
 
 /// The extension whose keys are looked for.
+///
+/// ```
+/// use langtag::unicode::Keys;
+///
+/// assert!(Keys::Unicode.has(b"ca"));
+/// assert!(!Keys::Transform.has(b"ca"));
+/// assert!(Keys::Transform.has(b"m0"));
+/// ```
 #[derive(Clone, Copy, Debug)]
-pub(crate) enum Keys {
+pub enum Keys {
     /// `u`, whose keys have two characters (RFC 6067 section 2.1).
     Unicode,
     /// `t`, whose keys are a letter and a digit (RFC 6497 section 2.2).
@@ -12,12 +20,12 @@ pub(crate) enum Keys {
 }
 
 impl Keys {
-    /// Returns whether a subtag is a key.
+    /// Returns whether a subtag is a key of the extension.
     #[inline]
-    pub(crate) fn has(self, subtag: &str) -> bool {
+    pub fn has(self, subtag: &[u8]) -> bool {
         match self {
             Keys::Unicode => subtag.len() == 2,
-            Keys::Transform => is_field_key(subtag.as_bytes()),
+            Keys::Transform => is_field_key(subtag),
         }
     }
 }

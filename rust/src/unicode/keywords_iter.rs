@@ -32,7 +32,7 @@ impl<'a> KeywordsIter<'a> {
     /// Whether the next subtag is a key, and none before it is equal to it.
     #[inline]
     fn is_new_key(&self, subtag: &str) -> bool {
-        self.keys.has(subtag) && !is_among_first(self.text, self.passed, subtag)
+        self.keys.has(subtag.as_bytes()) && !is_among_first(self.text, self.passed, subtag)
     }
 }
 

@@ -22,6 +22,7 @@ mod transformation;
 mod unicode_extension;
 
 pub use attributes_iter::AttributesIter;
+pub use keys::Keys;
 pub use keywords_iter::KeywordsIter;
 pub use transformation::{transform, Transformation};
 pub use unicode_extension::{attributes, keyword, keywords, KeyValue};

@@ -5,7 +5,7 @@
 use crate::tag::{case_insensitive_eq, segment_end, LangTag, Singleton, Subtags};
 use crate::unicode::keys::Keys;
 
-/// Returns the subtags of the first extension of a singleton, joined: nothing where there is no such extension.
+/// Returns the subtags of the first extension with a singleton, joined, or nothing if there is no such extension.
 #[inline]
 pub(crate) fn extension_text<'a>(tag: LangTag<'a>, singleton: Singleton) -> &'a str {
     match tag.extensions().get(singleton) {
@@ -23,7 +23,7 @@ pub(crate) fn unicode_text<'a>(tag: LangTag<'a>) -> &'a str {
     }
 }
 
-/// Returns a text that is to be taken apart: none where it has no subtags.
+/// Returns a text to take apart, or `None` if it has no subtags.
 #[inline]
 pub(crate) fn nonempty(text: &str) -> Option<&str> {
     if text.is_empty() {
@@ -32,7 +32,7 @@ pub(crate) fn nonempty(text: &str) -> Option<&str> {
     Some(text)
 }
 
-/// Returns the first subtag of a text, and what stands after it and a hyphen, where there is more.
+/// Returns the first subtag of a text, and the rest after a hyphen, if there is more.
 pub(crate) fn split_first(text: &str) -> (&str, Option<&str>) {
     let end = segment_end(text.as_bytes(), 0);
     if end == text.len() {
@@ -41,7 +41,7 @@ pub(crate) fn split_first(text: &str) -> (&str, Option<&str>) {
     (&text[..end], Some(&text[end + 1..]))
 }
 
-/// Returns what stands before the first key, as one text.
+/// Returns the text before the first key.
 #[inline]
 pub(crate) fn before_key<'a>(rest: Option<&'a str>, keys: Keys) -> &'a str {
     match rest {
@@ -61,7 +61,7 @@ fn cut_before_key(text: &str, keys: Keys) -> &str {
 fn len_before_key(text: &str, keys: Keys) -> usize {
     let mut len = 0;
     for subtag in Subtags::new(text) {
-        if keys.has(subtag) {
+        if keys.has(subtag.as_bytes()) {
             return len;
         }
         len += subtag.len() + 1;
@@ -69,7 +69,7 @@ fn len_before_key(text: &str, keys: Keys) -> usize {
     len
 }
 
-/// Returns whether a subtag is equal to one of the first so many of a text, ignoring case.
+/// Returns whether a subtag equals one of the first `count` subtags of a text, ignoring case.
 #[inline]
 pub(crate) fn is_among_first(text: &str, count: usize, subtag: &str) -> bool {
     Subtags::new(text)
@@ -82,7 +82,7 @@ pub(crate) fn value_in<'a>(text: &'a str, keys: Keys, key: &str) -> Option<&'a s
     let mut rest = nonempty(text);
     while let Some(text) = rest {
         let (subtag, after) = split_first(text);
-        if keys.has(subtag) && case_insensitive_eq(subtag.as_bytes(), key.as_bytes()) {
+        if keys.has(subtag.as_bytes()) && case_insensitive_eq(subtag.as_bytes(), key.as_bytes()) {
             return Some(before_key(after, keys));
         }
         rest = after;

@@ -31,6 +31,17 @@ pub struct Transformation<'a> {
 
 /// Returns the first extension `t` of a tag ([RFC 6497 section 2.2]), or `None` if there is none.
 ///
+/// ```
+/// # fn main() -> Result<(), Box<dyn std::error::Error>> {
+/// use langtag::LangTag;
+/// use langtag::unicode::transform;
+///
+/// let found = transform(LangTag::new("und-t-ja-latn-m0-hepburn")?);
+/// assert_eq!(found.and_then(|it| it.language()), Some("ja-latn"));
+/// # Ok(())
+/// # }
+/// ```
+///
 /// [RFC 6497 section 2.2]: https://www.rfc-editor.org/rfc/rfc6497#section-2.2
 #[inline]
 pub fn transform<'a>(tag: LangTag<'a>) -> Option<Transformation<'a>> {
@@ -50,6 +61,17 @@ impl<'a> Transformation<'a> {
     /// Returns the value of a field, as a slice of the tag: in `und-t-ja-m0-hepburn` the field `m0` has the value
     /// `hepburn`. Case is ignored, and the first of repeated keys counts. Returns `None` if the field is absent, and
     /// the empty text if it has no value.
+    ///
+    /// ```
+    /// # fn main() -> Result<(), Box<dyn std::error::Error>> {
+    /// use langtag::LangTag;
+    /// use langtag::unicode::transform;
+    ///
+    /// let found = transform(LangTag::new("und-t-ja-m0-hepburn")?);
+    /// assert_eq!(found.and_then(|it| it.field("m0")), Some("hepburn"));
+    /// # Ok(())
+    /// # }
+    /// ```
     #[inline]
     pub fn field(&self, key: &str) -> Option<&'a str> {
         value_in(self.text, Keys::Transform, key)

@@ -1,7 +1,7 @@
 //! Calls of likely subtags, distances and choices.
 use langtag::choice::*;
 use langtag::likely::*;
-use langtag::matching::AcceptLanguage;
+use langtag::matching::{wanted_ranges, AcceptLanguage};
 use langtag::*;
 
 use crate::matching::{ranges_of, tags_of};
@@ -95,6 +95,20 @@ fn shown(best: Option<usize>, tags: &[LangTag<'_>]) -> String {
 pub fn best(header: &[u8], tags: &str) -> String {
     let tags = tags_of(tags);
     shown(best_for_header(header, &tags), &tags)
+}
+
+pub fn best_match(header: &[u8], tags: &str) -> String {
+    let tags = tags_of(tags);
+    let found = match_for_header(header, &tags);
+    assert_eq!(
+        found.map(|found| found.index),
+        best_for_header(header, &tags)
+    );
+    found.map_or("-".into(), |found| {
+        let range = std::str::from_utf8(found.range).unwrap();
+        assert!(wanted_ranges(header).nth(found.place).unwrap().bytes == found.range);
+        format!("{} {} {range}", found.index, found.distance)
+    })
 }
 
 pub fn best_accepted(header: &str, tags: &str) -> String {

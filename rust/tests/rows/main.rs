@@ -68,6 +68,7 @@ fn answer(row: &Row) -> String {
         "posix" => likely::posix(row.text(0)),
         "unknown-modifier" => likely::unknown(&row.arguments[0]),
         "best" => likely::best(&row.arguments[0], row.str(1)),
+        "best-match" => likely::best_match(&row.arguments[0], row.str(1)),
         "best-accepted" => likely::best_accepted(row.str(0), row.str(1)),
         "best-ranges" => likely::best_ranges(row.str(0), row.str(1)),
         "keyword" => unicode::value(row.str(0), row.str(1)),
@@ -102,7 +103,7 @@ files! {
     distances: "distance.txt", 140, ["distance"];
     directions: "direction.txt", 325, ["right-to-left"];
     names: "posix.txt", 150, ["posix", "unknown-modifier"];
-    choices: "choices.txt", 260, ["best"];
+    choices: "choices.txt", 285, ["best", "best-match"];
     preferences: "lists.txt", 15, ["best-accepted", "best-ranges"];
     keywords: "unicode.txt", 500, ["keyword", "keywords", "attributes", "transform"];
 }

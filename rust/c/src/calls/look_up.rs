@@ -117,6 +117,6 @@ fn bad_part(item: &[u8]) -> Option<ElementPart> {
 }
 
 #[inline]
-fn is_comma(byte: u8) -> bool {
+pub(crate) fn is_comma(byte: u8) -> bool {
     byte == b','
 }

@@ -7,12 +7,15 @@
 //! than their types say.
 
 pub(crate) mod accepted;
+pub(crate) mod best_match;
 pub(crate) mod canonical;
 pub(crate) mod choice;
 pub(crate) mod compare;
 pub(crate) mod direction;
+pub(crate) mod extension_subtags;
 pub(crate) mod fallback;
 pub(crate) mod grandfathered;
+pub(crate) mod keyword;
 pub(crate) mod likely;
 pub(crate) mod look_up;
 pub(crate) mod parse;
@@ -26,6 +29,7 @@ pub(crate) mod repeats;
 pub(crate) mod span;
 pub(crate) mod spanned_tags;
 pub(crate) mod tag;
+pub(crate) mod transform;
 pub(crate) mod validity;
 pub(crate) mod viable;
 pub(crate) mod walk;

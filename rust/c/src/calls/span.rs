@@ -41,4 +41,13 @@ impl Span {
         *self = Span::between(self.start + len, self.start + self.len);
         first
     }
+
+    /// Returns what comes after a singleton and a hyphen.
+    #[inline]
+    pub(crate) fn without_singleton(&self) -> Span {
+        Span {
+            start: self.start + 2,
+            len: self.len - 2,
+        }
+    }
 }

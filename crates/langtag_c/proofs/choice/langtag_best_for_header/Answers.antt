@@ -1,4 +1,4 @@
-use Rattle.std.proofs.Common.{◌≤◌, rules, subst, sym}
+use Rattle.std.proofs.Common.{rules}
 use Rattle.langtag_c.proofs.TagsAt.{is_best, within_spans}
 use Rattle.langtag_c.proofs.choice.langtag_best_for_header.Goals as goal
 

@@ -1,5 +1,3 @@
-use Rattle.std.proofs.Common.{sym, subst}
-use Rattle.langtag_choice.specs.Best.{IsChoice}
 use Rattle.langtag_choice.proofs.FoundLaws.{first_chosen, first_open, none_first}
 use Rattle.langtag_choice.proofs.best.best.Goals as goal
 
@@ -11,4 +9,4 @@ returns-then-is_chosen g c =
     first_chosen _ _ _ c.in-Some.found c.in-Some.is c.first_by_ranges-has_zero.ensures.least c.first_by_ranges-has_zero.ensures.real (c.is_chosen.ensures c.if-is_chosen.true)
 
 pub returns : goal.returns
-returns g c = subst (IsChoice _ _) (sym c.index_of.ensures) (first_open _ _ _ c.first_by_tags.ensures.least c.first_by_tags.ensures.real c.first_by_tags.ensures.unrefused)
+returns g c = first_open _ _ _ c.first_by_tags.ensures.least c.first_by_tags.ensures.real c.first_by_tags.ensures.unrefused

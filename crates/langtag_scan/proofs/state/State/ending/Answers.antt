@@ -1,15 +1,15 @@
 use Rattle.std.proofs.Common.{sym, ap, ◌∙◌, arith}
-use Rattle.langtag_scan.proofs.StateTables.{ending_by, irregular_by, stands_ending}
+use Rattle.langtag_scan.proofs.StateTables.{ending_by, normal_by, irregular_by, stands_ending}
 use Rattle.langtag_scan.proofs.state.State.ending.Goals as goal
 
-pub returns-in-0 : goal.returns-in-0
-returns-in-0 c = λ q stands. ap ending_by (sym c.in-0.is) ∙ stands_ending q c.args.self.number stands
+pub returns-then-place-lt6-clause-ending : goal.returns-then-place-lt6-clause-ending
+returns-then-place-lt6-clause-ending c = λ q stands. normal_by _ (omega arith) ∙ stands_ending q c.args.self.number c.args.self.within stands
 
-pub returns-in-1 : goal.returns-in-1
-returns-in-1 c = λ q stands. ap ending_by (sym c.in-1.is) ∙ stands_ending q c.args.self.number stands
+pub returns-in-6-clause-ending : goal.returns-in-6-clause-ending
+returns-in-6-clause-ending c = λ q stands. ap ending_by (sym c.in-6.is) ∙ stands_ending q c.args.self.number c.args.self.within stands
 
-pub returns-in-2 : goal.returns-in-2
-returns-in-2 c = λ q stands. ap ending_by (sym c.in-2.is) ∙ stands_ending q c.args.self.number stands
+pub returns-in-7-clause-ending : goal.returns-in-7-clause-ending
+returns-in-7-clause-ending c = λ q stands. ap ending_by (sym c.in-7.is) ∙ stands_ending q c.args.self.number c.args.self.within stands
 
-pub returns-in_default : goal.returns-in_default
-returns-in_default c = λ q stands. irregular_by _ (λ e. omega (arith, e)) (λ e. omega (arith, e)) (λ e. omega (arith, e)) ∙ stands_ending q c.args.self.number stands
+pub returns-in_default-2-clause-ending : goal.returns-in_default-2-clause-ending
+returns-in_default-2-clause-ending c = λ q stands. irregular_by _ (omega arith) ∙ stands_ending q c.args.self.number c.args.self.within stands

@@ -5,4 +5,4 @@ pub returns-clause-within : goal.returns-clause-within
 returns-clause-within c = part_within c.args.self.number c.args.self.within
 
 pub returns-clause-part : goal.returns-clause-part
-returns-clause-part c = λ q stands. stands_part q c.args.self.number stands
+returns-clause-part c = λ q stands. stands_part q c.args.self.number c.args.self.within stands

@@ -1,0 +1,50 @@
+# The DLL for Windows, by mingw and wine: the tests of C and C++ with all rows, over the DLL and its import library.
+mingw=x86_64-w64-mingw32
+wine=$(command -v wine64 || ls /usr/lib/wine/wine64 2>/dev/null || true)
+if ! has $mingw-gcc; then
+    not_run "Windows: everything" "there is no mingw (in Debian: apt-get install gcc-mingw-w64-x86-64 g++-mingw-w64-x86-64)"
+    return 0
+fi
+
+windows_built() {
+    windows/build "$archive" "$work/windows" && windows/build "$archive" "$work/windows-again" && diff -r "$work/windows" "$work/windows-again" || return 1
+    $mingw-objdump -p "$work/windows/langtag.dll" | sed -n 's/.*\(langtag_[a-z_]*\)$/\1/p' | sort -u >"$work/windows.shown"
+    sed -n 's/^    //p' "$work/windows/langtag.def" | sort | diff - "$work/windows.shown"
+}
+check "Windows: the DLL builds, the same bytes each time, and exports the functions of the header" windows_built
+
+# Code that takes a page of the stack and more runs behind a wrapper that touches each page before.
+windows_stack() {
+    $mingw-objdump -d --no-show-raw-insn "$work/windows/langtag.dll" >"$work/windows.code" && grep -q 'mov *\$0x1[0-9a-f]\{4\},%eax' "$work/windows.code" || return 1
+    python3 - "$root/.ci/stack" <<'END'
+import importlib.machinery, importlib.util, sys
+sys.path.insert(0, "windows")
+from wrappers import DEEP
+loader = importlib.machinery.SourceFileLoader("stack", sys.argv[1])
+stack = importlib.util.module_from_spec(importlib.util.spec_from_loader("stack", loader))
+loader.exec_module(stack)
+deep = {name: most for name, most in stack.MOST.items() if name.startswith("langtag_") and "bench" not in name and most >= 4096 and name not in ("langtag_show", "langtag_check")}
+sys.exit(f"{deep} and {DEEP}" if deep.keys() != DEEP.keys() or any(DEEP[name] < most for name, most in deep.items()) else 0)
+END
+}
+check "Windows: each function that takes a page of the stack touches it before" windows_stack
+
+if [ -z "$wine" ] || ! has $mingw-g++; then
+    not_run "Windows: the tests" "there is no wine64, or no $mingw-g++ (in Debian: apt-get install wine64)"
+    return 0
+fi
+export WINEDEBUG=-all WINEPREFIX=$work/wine WINEARCH=win64
+# of_windows NAME COMPILER SOURCE..: builds a program over the DLL, which stands beside it.
+of_windows() {
+    local name=$1 compiler=$2
+    shift 2
+    $compiler -O1 -Wall -Wextra -Werror -Iinclude "$@" "$work/windows/liblangtag.dll.a" -static-libgcc -static -o "$work/windows/$name.exe"
+}
+windows_c() { of_windows test "$mingw-gcc -std=c99" c/test/*.c && (cd c && "$wine" "$work/windows/test.exe" $(make -s asked) | tail -1); }
+windows_cc() {
+    of_windows views "$mingw-g++ -std=c++17" c/test/views.cc && "$wine" "$work/windows/views.exe" || return 1
+    of_windows rows "$mingw-g++ -std=c++17" c/test/rows.cc && (cd c && "$wine" "$work/windows/rows.exe" $(make -s asked) | tail -1)
+}
+check "Windows: the tests of C with all rows, over the DLL by wine" windows_c
+check "Windows: the tests of C++, over the DLL by wine" windows_cc
+unset WINEDEBUG WINEPREFIX WINEARCH

@@ -1,0 +1,38 @@
+"""A site with pages in five languages, by Flask: flask --app flask_site run
+
+    curl 'localhost:5000/?lang=sr'; curl -H 'Accept-Language: ger-CH, fr;q=0.5' localhost:5000
+
+The language is the one that the reader picked (?lang=, kept in a cookie), or else the best one for the browser's header.
+"""
+from __future__ import annotations
+
+from flask import Flask, Response, make_response, request
+from langtag import Tag, match_for_header
+
+PAGES = {"en": "Hello", "de": "Guten Tag", "sr-Latn": "Dobar dan", "zh-Hant": "你好", "ar": "مرحبا"}
+SAME = 16  # from this distance on, a tag is of another language
+
+app = Flask(__name__)
+
+
+def picked() -> str | None:
+    """Returns the language that the reader picked. One that is only near it was not picked: ?lang=tlh is not English."""
+    for text in (request.args.get("lang"), request.cookies.get("lang")):
+        match = match_for_header(text, PAGES)
+        if match and match.distance < SAME:
+            return match.tag
+    return None
+
+
+@app.get("/")
+def page() -> Response:
+    wish, match = picked(), match_for_header(request.headers.get("Accept-Language"), PAGES)
+    tag = wish or (match.tag if match else "en")
+    direction = "rtl" if Tag(tag).is_right_to_left else "ltr"
+    links = " ".join(f'<a href="?lang={other}">{other}</a>' for other in PAGES if other != tag)
+    response = make_response(f'<html lang="{tag}" dir="{direction}"><p>{PAGES[tag]}<p>{links}</html>\n')
+    response.headers["Content-Language"] = tag
+    response.vary.update(("Accept-Language", "Cookie"))
+    if wish:
+        response.set_cookie("lang", tag)
+    return response

@@ -1,0 +1,47 @@
+#!/usr/bin/env python3
+"""The examples in which a reader picks a language: test_sites.py PLAYER, the program that was built of player.cc. Without Flask its
+test is left out, and said to be."""
+import subprocess
+import sys
+import unittest
+
+try:
+    import flask_site
+except ImportError:
+    flask_site = None
+
+# The wishes, the tracks, and what is picked.
+TRACKS = [
+    ("de-CH, en;q=0.5", "jpn,eng,ger", "eng,fre", "audio 2 (ger)"), ("fr-CA", "jpn,eng", "eng,fre", "audio 0 (jpn), subtitles 1 (fre)"),
+    ("en-GB", "jpn,eng,eng", "eng", "audio 1 (eng)"), ("zh-TW, en;q=0.9", "und,chi", "zh-Hans,zh-Hant", "audio 0 (und), subtitles 1 (zh-Hant)"),
+    ("tlh", "jpn,eng", "eng", "audio 0 (jpn), subtitles 0 (eng)"), ("fi", "jpn", "eng", "audio 0 (jpn)"), ("", "ger", "", "audio 0 (ger)"),
+]
+
+# The wish, the cookie, the header, and the language of the page; and whether it is kept.
+PAGES = [
+    (None, None, None, "en", False), (None, None, "ger-CH, fr;q=0.5", "de", False), ("sr", None, "de", "sr-Latn", True), ("tlh", None, "de", "de", False),
+    ("tlh", "ar", "de", "ar", True), (None, "zh_TW", "de", "zh-Hant", True), ("", "xx", "fi", "en", False), ("de_AT, ar", None, "ar", "de", True),
+]
+
+
+class Sites(unittest.TestCase):
+    def test_player(self):
+        for wishes, audio, subtitles, picked in TRACKS:
+            run = subprocess.run([PLAYER, wishes, audio, subtitles], capture_output=True, text=True, check=True)
+            self.assertEqual(run.stdout, picked + "\n")
+        self.assertEqual(subprocess.run([PLAYER], capture_output=True).returncode, 2)
+
+    @unittest.skipUnless(flask_site, "Flask is not there")
+    def test_flask(self):
+        for wish, cookie, header, tag, is_kept in PAGES:
+            client = flask_site.app.test_client()
+            if cookie is not None:
+                client.set_cookie("lang", cookie)
+            got = client.get("/", query_string={} if wish is None else {"lang": wish}, headers={} if header is None else {"Accept-Language": header})
+            self.assertEqual((got.headers["Content-Language"], got.headers.get("Set-Cookie")), (tag, f"lang={tag}; Path=/" if is_kept else None))
+            self.assertIn(f'lang="{tag}" dir="{"rtl" if tag == "ar" else "ltr"}"><p>{flask_site.PAGES[tag]}', got.text)
+
+
+if __name__ == "__main__":
+    PLAYER = sys.argv.pop(1)
+    unittest.main()

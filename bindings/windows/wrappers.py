@@ -1,0 +1,62 @@
+#!/usr/bin/env python3
+"""Writes what a DLL for Windows has beside the proved code: wrappers.py FOLDER
+
+The code of the proved archive follows the calling convention of System V. For each function of langtag.h a wrapper of one line follows
+that of Windows, has the function's own name, and calls the code by the name langtag_sysv_.. In FOLDER stand then
+
+    wrappers.c     the wrappers, and memcpy, memmove and memset for the code
+    langtag.def    what the DLL exports
+    names          for objcopy: the names of the code
+"""
+import pathlib
+import sys
+
+HERE = pathlib.Path(__file__).resolve().parent
+sys.path.insert(0, str(HERE.parent))
+from check_declarations import of_header  # noqa: E402
+
+# Windows lends a thread one page of its stack after the other. Code that takes more than a page touches each; this code does not, so
+# a wrapper does it before. Other functions take less than a page, which .ci/stack tests.
+DEEP = {"langtag_repeats": 96 * 1024}
+
+HEAD = """\
+/* Written by wrappers.py. */
+#include "langtag.h"
+#include <string.h>
+#define SYSV __attribute__((sysv_abi))
+
+SYSV void *langtag_sysv_memcpy(void *to, const void *from, size_t len) { return memcpy(to, from, len); }
+SYSV void *langtag_sysv_memmove(void *to, const void *from, size_t len) { return memmove(to, from, len); }
+SYSV void *langtag_sysv_memset(void *to, int byte, size_t len) { return memset(to, byte, len); }
+"""
+PROBE = """
+/* Touches so much of the stack: gcc touches each page of a great frame. */
+__attribute__((noinline)) static void probe_{name}(void) {{
+    char room[{size}];
+    __asm__ volatile("" : : "r"(room) : "memory");
+}}
+"""
+
+
+def wrapper(name, function):
+    taken = ", ".join(f"{kind}{'' if kind.endswith('*') else ' '}{parameter}" for kind, parameter in function.parameters) or "void"
+    given = ", ".join(parameter for _, parameter in function.parameters)
+    inner = name.replace("langtag_", "langtag_sysv_", 1)
+    probe = f"probe_{name}(); " if name in DEEP else ""
+    answers = "" if function.result == "void" else "return "
+    head = PROBE.format(name=name, size=DEEP[name]) if name in DEEP else ""
+    return (f"{head}\nSYSV {function.result} {inner}({taken});\n"
+            f"{function.result} {name}({taken}) {{ {probe}{answers}{inner}({given}); }}\n")
+
+
+def main(folder):
+    functions = of_header(HERE.parent.parent).functions
+    (folder / "wrappers.c").write_text(HEAD + "".join(wrapper(name, function) for name, function in functions.items()))
+    (folder / "langtag.def").write_text("LIBRARY langtag.dll\nEXPORTS\n" + "".join(f"    {name}\n" for name in functions))
+    names = [(name, name.replace("langtag_", "langtag_sysv_", 1)) for name in functions]
+    names += [(name, f"langtag_sysv_{name}") for name in ("memcpy", "memmove", "memset")]
+    (folder / "names").write_text("".join(f"{name} {inner}\n" for name, inner in names))
+
+
+if __name__ == "__main__":
+    main(pathlib.Path(sys.argv[1]))

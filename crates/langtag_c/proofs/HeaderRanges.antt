@@ -1,0 +1,160 @@
+-- Where the ranges of a header stand, by its items.
+use Rattle.std.proofs.Common.{◌≡◌, ℕ, suc, zero, ◌+◌, ◌-◌, ◌<◌, ◌≤◌, Bool, true, false, cond, not, List, [], ◌∷◌, ◌++◌, is_some, length, take, get_or, Option, None, Some, unwrap_or, ap, refl, sym, subst, ◌∙◌, arith}
+use Rattle.std.specs.List.{AllByRecursion, cons_option, onto_first, position, slice_get, sum_by}
+use Rattle.std.proofs.lemmas.List.Quantifiers.{position-Some}
+use Rattle.std.proofs.lemmas.List.Splits.{length-slice_split, slice_split-cons_no, slice_split-cons_yes}
+use Rattle.std.proofs.lemmas.List.Sums.{sum_by-append}
+use Rattle.std.proofs.lemmas.Option.{slice_get_read, slice_get_within}
+use Rattle.std.specs.Option.{IfSome}
+use Rattle.langtag_match.specs.AcceptLanguage.{Element, StandsAt, is_comma, is_space, items}
+use Rattle.langtag_match.specs.Range.{is_basic_range}
+use Rattle.langtag_match.specs.Wanted.{digits_behind, hyphened, wanted, wanted_elements, wanted_items, wanted_text}
+use Rattle.langtag_match.proofs.Offsets.{item_stands, width}
+use Rattle.langtag_choice.specs.Best.{IsMatchOf, Pair}
+use Rattle.langtag_choice.specs.declared.best_match.BestMatch as choice
+use Rattle.langtag_c.specs.Choice.{IsMatchAt, IsRangeAt, has_range, no_match, range_count, spaces_before}
+use Rattle.langtag_c.specs.Spans.{empty_at}
+use Rattle.langtag_c.specs.TagsAt.{tags_at}
+use Rattle.langtag_c.specs.declared.best_match.BestMatch.{BestMatch}
+use Rattle.langtag_c.specs.declared.span.Span.{Span}
+use Rattle.langtag_c.proofs.LookUps.{take_next}
+use Rattle.langtag_c.proofs.TagsAt.{are_tags_at}
+
+-- ---- an item has no comma
+
+abbrev IsAlone : List ℕ → Type 0
+IsAlone item = items item ≡ item ∷ []
+
+alone_onto : (b : ℕ) (parts : List (List ℕ)) → is_comma b ≡ false → 0 < length parts → AllByRecursion IsAlone parts → AllByRecursion IsAlone (onto_first b parts)
+alone_onto b [] other some all = absurd (omega (arith, some))
+alone_onto b (part ∷ parts) other some all = (slice_split-cons_no is_comma b part other ∙ ap (onto_first b) all.0, all.1)
+
+all_alone : (text : List ℕ) → AllByRecursion IsAlone (items text)
+all_alone [] = (refl, tt)
+all_alone (b ∷ text) = by_first (is_comma b) refl (all_alone text)
+  where
+    by_first : (cut : Bool) → is_comma b ≡ cut → AllByRecursion IsAlone (items text) → AllByRecursion IsAlone (items (b ∷ text))
+    by_first true cut others = subst (AllByRecursion IsAlone) (sym (slice_split-cons_yes is_comma b text cut)) (refl, others)
+    by_first false kept others =
+        let some : 0 < length (items text) = omega (arith, length-slice_split is_comma text) in
+        subst (AllByRecursion IsAlone) (sym (slice_split-cons_no is_comma b text kept)) (alone_onto b (items text) kept some others)
+
+alone_at : (all : List (List ℕ)) (k : ℕ) (item : List ℕ) → AllByRecursion IsAlone all → slice_get all k ≡ Some item → IsAlone item
+alone_at [] k item alone is = absurd cc
+alone_at (x ∷ all) zero item alone is = let same : x ≡ item = cc in subst IsAlone same alone.0
+alone_at (x ∷ all) (suc k) item alone is = alone_at all k item alone.1 is
+
+-- ---- so it has the range that it has as a header of its own
+
+has_one : (item : List ℕ) (e : Element) (es : List Element) → IsAlone item → wanted_elements item ≡ e ∷ es → wanted item [] ≡ Some e
+has_one item e es alone is = by_option (wanted item []) refl (ap wanted_items (sym alone) ∙ is)
+  where
+    by_option : (o : Option Element) → wanted item [] ≡ o → cons_option (wanted item []) [] ≡ e ∷ es → wanted item [] ≡ Some e
+    by_option None none one = absurd (let lost : [] ≡ e ∷ es = sym (ap (λ o. cons_option o []) none) ∙ one in cc)
+    by_option (Some f) some one =
+        let both : f ∷ [] ≡ e ∷ es = sym (ap (λ o. cons_option o []) some) ∙ one in
+        let same : f ≡ e = cc in
+        some ∙ ap Some same
+
+has_none : (item : List ℕ) → IsAlone item → wanted_elements item ≡ [] → wanted item [] ≡ None
+has_none item alone is = by_option (wanted item []) refl (ap wanted_items (sym alone) ∙ is)
+  where
+    by_option : (o : Option Element) → wanted item [] ≡ o → cons_option (wanted item []) [] ≡ [] → wanted item [] ≡ None
+    by_option None none empty = none
+    by_option (Some f) some empty = absurd (let both : f ∷ [] ≡ [] = sym (ap (λ o. cons_option o []) some) ∙ empty in cc)
+
+-- ---- the item at an index
+
+pub spaces_within : (item : List ℕ) → spaces_before item ≤ length item
+spaces_within item = within (position (λ b. not (is_space b)) item) (length item) (λ i is. (position-Some (λ b. not (is_space b)) item i 0 is).0)
+  where
+    within : (o : Option ℕ) (n : ℕ) → ((i : ℕ) → o ≡ Some i → i < n) → unwrap_or o n ≤ n
+    within None n some = omega arith
+    within (Some i) n some = omega (arith, some i refl)
+
+module _ (header item : List ℕ) (n : ℕ) (below : n < length (items header)) (at : item ≡ get_or (items header) n item) where
+  there : slice_get (items header) n ≡ Some item
+  there = slice_get_read (items header) (length (items header)) n item refl below at
+
+  alone : IsAlone item
+  alone = alone_at (items header) n item (all_alone header) there
+
+  pub is_range_at :
+      (start place : ℕ) (span : Span) (e : Element) (es : List Element) → start ≡ sum_by width (take n (items header)) → range_count (take n (items header)) ≡ place →
+      wanted_elements item ≡ e ∷ es → span.start ≡ start + spaces_before item → span.len ≡ length e.range → IsRangeAt header place span
+  is_range_at start place span e es begins count is first size = record {
+    index = n;
+    item = item;
+    there = there;
+    start = start;
+    stands = subst (StandsAt header item n) (sym begins) (item_stands header n item there);
+    before = count;
+    element = e;
+    read = has_one item e es alone is;
+    begins = first;
+    size = size;
+  }
+
+  module _ {X : Type 0} (yielded : List X) (x : X) (same : length yielded ≡ n) where
+    counted : (b : Bool) → has_range item ≡ b → range_count (take (length (yielded ++ x ∷ [])) (items header)) ≡ range_count (take (length yielded) (items header)) + cond b 1 0
+    counted b is =
+        let next = take_next (items header) yielded x item (subst (λ k. k < length (items header)) (sym same) below) (at ∙ ap (λ k. get_or (items header) k item) (sym same)) in
+        ap range_count next ∙ sum_by-append (λ it. cond (has_range it) 1 0) (take (length yielded) (items header)) (item ∷ []) ∙ rw is (omega arith)
+
+    pub one_more : (e : Element) (es : List Element) → wanted_elements item ≡ e ∷ es → range_count (take (length (yielded ++ x ∷ [])) (items header)) ≡ range_count (take (length yielded) (items header)) + 1
+    one_more e es is = counted true (ap is_some (has_one item e es alone is))
+
+    pub no_more : wanted_elements item ≡ [] → range_count (take (length (yielded ++ x ∷ [])) (items header)) ≡ range_count (take (length yielded) (items header))
+    no_more is = counted false (ap is_some (has_none item alone is)) ∙ omega arith
+
+-- ---- so many ranges has a header
+
+same_range : (item behind : List ℕ) → is_some (wanted item behind) ≡ has_range item
+unfolding wanted
+same_range item behind = by_test (is_basic_range (hyphened (wanted_text item))) refl
+  where
+    by_test : (b : Bool) → is_basic_range (hyphened (wanted_text item)) ≡ b → is_some (wanted item behind) ≡ has_range item
+    by_test true is = rw is refl
+    by_test false is = rw is refl
+
+length_wanted : (all : List (List ℕ)) → length (wanted_items all) ≡ range_count all
+length_wanted [] = refl
+length_wanted (item ∷ all) = by_option (wanted item (digits_behind all)) refl (same_range item (digits_behind all)) (length_wanted all)
+  where
+    more : range_count (item ∷ all) ≡ cond (has_range item) 1 0 + range_count all
+    more = omega (arith, sum_by-append (λ it. cond (has_range it) 1 0) (item ∷ []) all)
+
+    by_option :
+        (o : Option Element) → wanted item (digits_behind all) ≡ o → is_some (wanted item (digits_behind all)) ≡ has_range item → length (wanted_items all) ≡ range_count all →
+        length (cons_option (wanted item (digits_behind all)) (wanted_items all)) ≡ range_count (item ∷ all)
+    by_option None none same others =
+        let lacks : has_range item ≡ false = sym same ∙ ap is_some none in
+        rw none (omega (arith, others, more ∙ ap (λ b. cond b 1 0 + range_count all) lacks))
+    by_option (Some e) some same others =
+        let has : has_range item ≡ true = sym same ∙ ap is_some some in
+        rw some (omega (arith, others, more ∙ ap (λ b. cond b 1 0 + range_count all) has))
+
+placed : (header : List ℕ) (place : ℕ) (o : Option Span) (end : Span) → place < range_count (items header) → (o ≡ None → range_count (items header) ≤ place) → IfSome o (IsRangeAt header place) → IsRangeAt header place (unwrap_or o end)
+placed header place None end within none some = absurd (omega (arith, within, none refl))
+placed header place (Some span) end within none some = some
+
+-- ---- what is said of the tag that is chosen
+
+module _ (header text : List ℕ) (spans : List Span) where
+  pub is_match_at :
+      (m : choice.BestMatch) (o : Option Span) (answer : ℕ) (found : BestMatch) → IsMatchOf (wanted_elements header) (tags_at text spans) m → answer ≡ m.index → found.distance ≡ m.distance →
+      (o ≡ None → range_count (items header) ≤ m.place) → IfSome o (IsRangeAt header m.place) → found.range ≡ unwrap_or o (empty_at (length header)) → IsMatchAt header text spans answer found
+  is_match_at m o answer found is index distance none some range =
+      let inside = slice_get_within (wanted_elements header) is.pair.place is.pair.element is.pair.wanted in
+      let within : m.place < range_count (items header) = omega (arith, inside, is.place, length_wanted (items header)) in
+      record {
+        tags = tags_at text spans;
+        are = are_tags_at text spans;
+        chosen = Some m;
+        is = is;
+        same = (index, distance, subst (IsRangeAt header m.place) (sym range) (placed header m.place o (empty_at (length header)) within none some));
+      }
+
+  pub no_match_at :
+      (answer : ℕ) (found : BestMatch) → (Pair (wanted_elements header) (tags_at text spans) → ⊥) → answer ≡ length spans → found ≡ no_match header → IsMatchAt header text spans answer found
+  no_match_at answer found none all empty = record { tags = tags_at text spans; are = are_tags_at text spans; chosen = None; is = none; same = (all, empty) }

@@ -1,0 +1,153 @@
+-- The subtags of a span, one after another.
+use Rattle.std.proofs.Common.{◌≡◌, ℕ, zero, suc, ◌+◌, ◌-◌, ◌<◌, ◌≤◌, Bool, true, false, cond, ◌&&◌, Some, List, [], ◌∷◌, ◌++◌, length, take, drop, slice_index, inl, inr, refl, ap, sym, subst, ◌∙◌, arith}
+use Rattle.std.specs.List.{AllByRecursion, list_any}
+use Rattle.std.proofs.lemmas.Bool.{cases_lt}
+use Rattle.std.proofs.lemmas.Grind.{common_steps}
+use Rattle.std.proofs.lemmas.List.{at_drop_more, drop-drop, take-append-drop, take-take, take_all, drop_all, length-take, length-drop}
+use Rattle.std.proofs.lemmas.List.Splits.{slice_split_at, slice_split_none}
+use Rattle.langtag_scan.specs.Subtags.{is_hyphen, IsHyphenFree, NoHyphenWithin, join, segments, subtags}
+use Rattle.langtag_scan.proofs.SubtagLists.{length-subtags}
+use Rattle.langtag_unicode.specs.Keys.{length_with_hyphens}
+use Rattle.langtag_scan.specs.Case.{are_alike}
+use Rattle.langtag_unicode.specs.Keywords.{before_key, value_of}
+use Rattle.langtag_unicode.proofs.SubtagTexts.{length-before_key, take-before_key}
+use Rattle.langtag_c.specs.Keywords.{HasSubtags, subtags_in}
+use Rattle.langtag_c.specs.Spans.{HasBytes, IsWithin, end_of, span_between, span_text}
+use Rattle.langtag_c.specs.declared.span.Span.{Span}
+use Rattle.langtag_c.proofs.ExtensionSpans.{length-span, span-first, span-rest}
+
+-- no subtag is empty
+abbrev pub AllSome : List (List ℕ) → Type 0
+AllSome ss = AllByRecursion (λ s. 1 ≤ length s) ss
+
+-- the subtags of a text that has some
+subtags-segments : (text : List ℕ) → 0 < length text → subtags text ≡ segments text
+subtags-segments [] some = absurd (omega (arith, some))
+subtags-segments (b ∷ text) some = refl
+
+-- after a hyphen there is another subtag
+after-hyphen : (first text : List ℕ) → AllSome (first ∷ segments text) → segments text ≡ subtags text
+after-hyphen first [] some = absurd (omega (arith, some.1.0))
+after-hyphen first (b ∷ text) some = refl
+
+module _ (text : List ℕ) (len : ℕ) (within : len ≤ length text) (free : NoHyphenWithin text 0 len) where
+  kept : IsHyphenFree (take len text)
+  kept = grind (arith, common_steps)
+
+  cut : len < length text → slice_index text len ≡ 45 → segments text ≡ take len text ∷ segments (drop (len + 1) text)
+  cut below hyphen =
+      let joined : text ≡ take len text ++ 45 ∷ drop (len + 1) text =
+      sym (take-append-drop len text) ∙ ap (λ t. take len text ++ t) (at_drop_more (λ ts. ts) text len 0 below ∙ ap (λ b. b ∷ drop (len + 1) text) hyphen) in
+      ap segments joined ∙ slice_split_at is_hyphen (take len text) 45 (drop (len + 1) text) kept refl
+
+  last : length text ≤ len → segments text ≡ take len text ∷ []
+  last past = ap segments (sym (take_all len text past)) ∙ slice_split_none is_hyphen (take len text) kept
+
+  -- the first subtag, and those after its hyphen
+  pub subtags-cut : 0 < length text → (len < length text → slice_index text len ≡ 45) → AllSome (subtags text) → subtags text ≡ take len text ∷ subtags (drop (len + 1) text)
+  subtags-cut some hyphen all = elim (cases_lt len (length text)) [
+    | inl below ↦
+        let parts = subtags-segments text some ∙ cut below (hyphen below) in
+        parts ∙ ap (λ ss. take len text ∷ ss) (after-hyphen (take len text) (drop (len + 1) text) (subst AllSome parts all))
+    | inr past ↦
+        let none = drop_all (len + 1) text (omega arith) in
+        subtags-segments text some ∙ last past ∙ ap (λ t. take len text ∷ subtags t) (sym none)
+  ]
+
+-- ---- the same of spans
+
+module _
+    (text part : List ℕ) (before after : Span) (len : ℕ) (has : HasBytes text before) (is : part ≡ span_text text before)
+    (within : len ≤ length part) (free : NoHyphenWithin part 0 len) (hyphen : len < length part → slice_index part len ≡ 45)
+    (rest : after ≡ span_between (before.start + len) (end_of before)) (some : HasSubtags text before) where
+  pub few : len ≤ before.len
+  few = omega (arith, within, ap length is, length-span text before has)
+
+  size : length part ≡ before.len
+  size = ap length is ∙ length-span text before has
+
+  after_text : span_text text after ≡ drop (len + 1) part
+  after_text = ap (span_text text) rest ∙ span-rest text before len has few ∙ ap (drop (len + 1)) (sym is)
+
+  -- the first subtag, and those that are left
+  pub span-subtags : subtags_in text before ≡ take len part ∷ subtags_in text after
+  span-subtags =
+      ap subtags (sym is)
+      ∙ subtags-cut part len within free (omega (arith, size, has.0)) hyphen (subst (λ t. AllSome (subtags t)) (sym is) some.some)
+      ∙ ap (λ t. take len part ∷ subtags t) (sym after_text)
+
+  -- which are not empty either
+  pub span-left : end_of after ≡ end_of before → HasSubtags text after
+  span-left ends = record {
+    within = omega (arith, ends, some.within);
+    some = (subst AllSome span-subtags some.some).1;
+  }
+
+  -- the text of the first
+  pub span-taken : (first : Span) → first ≡ record { start = before.start; len = len } → span_text text first ≡ take len part
+  span-taken first first_is = ap (span_text text) first_is ∙ span-first text before len has few ∙ ap (take len) (sym is)
+
+-- ---- some first subtags
+
+-- how many bytes, and how many subtags, a span has at most
+pub length-spanned : (text : List ℕ) (span : Span) → IsWithin text span → (length (span_text text span) ≤ length text) × (length (span_text text span) ≤ span.len)
+length-spanned text span within =
+    let size = length-take (end_of span - span.start) (drop span.start text) in
+    (omega (arith, size, length-drop span.start text), omega (arith, size))
+
+pub length-subtags_in : (text : List ℕ) (span : Span) → IsWithin text span → length (subtags_in text span) ≤ length text + 1
+length-subtags_in text span within = omega (arith, length-subtags (span_text text span), (length-spanned text span within).0)
+
+-- one that is among the first, and one that is not
+pub any-found : (test : List ℕ → Bool) (n : ℕ) (s : List ℕ) (ss : List (List ℕ)) → 0 < n → test s ≡ true → list_any test (take n (s ∷ ss)) ≡ true
+any-found test zero s ss some is = absurd (omega (arith, some))
+any-found test (suc n) s ss some is = rw is refl
+
+pub any-passed :
+    (test : List ℕ → Bool) (n : ℕ) (s : List ℕ) (ss : List (List ℕ)) → 0 < n → test s ≡ false → list_any test (take (n - 1) ss) ≡ list_any test (take n (s ∷ ss))
+any-passed test zero s ss some other = absurd (omega (arith, some))
+any-passed test (suc n) s ss some other = let before : suc n - 1 ≡ n = omega arith in rw (other, before) refl
+
+pub drop-passed : (n : ℕ) (s : List ℕ) (ss : List (List ℕ)) → 0 < n → drop (n - 1) ss ≡ drop n (s ∷ ss)
+drop-passed zero s ss some = absurd (omega (arith, some))
+drop-passed (suc n) s ss some = let before : suc n - 1 ≡ n = omega arith in rw before refl
+
+-- what is left after one more
+pub drop-next : (all : List (List ℕ)) (n : ℕ) (s : List ℕ) (ss : List (List ℕ)) → drop n all ≡ s ∷ ss → ss ≡ drop (n + 1) all
+drop-next all n s ss left = sym (ap (drop 1) left) ∙ drop-drop 1 n all
+
+-- ---- those before a key
+
+-- the bytes of a span from its start on
+pub span-before_key :
+    (test : List ℕ → Bool) (text : List ℕ) (span : Span) (n : ℕ) → IsWithin text span → n ≡ length_with_hyphens (before_key test (subtags_in text span)) - 1 →
+    (span_text text (record { start = span.start; len = n }) ≡ join (before_key test (subtags_in text span))) × IsWithin text (record { start = span.start; len = n })
+span-before_key test text span n within is =
+    let few : n ≤ span.len = omega (arith, is, length-before_key test (span_text text span), (length-spanned text span within).1) in
+    let size : span.start + n - span.start ≡ n = omega arith in
+    let whole : span.start + span.len - span.start ≡ span.len = omega arith in (
+      ap (λ k. take k (drop span.start text)) size
+          ∙ sym (take-take n span.len (drop span.start text) few)
+          ∙ ap (λ k. take n (take k (drop span.start text))) (sym whole)
+          ∙ take-before_key test (span_text text span) n is,
+      omega (arith, few, within),
+    )
+
+pub taken-size : (part : List ℕ) (len : ℕ) → len ≤ length part → length (take len part) ≡ len
+taken-size part len within = omega (arith, within, length-take len part)
+
+-- ---- the value of a key
+
+module _ (test : List ℕ → Bool) (key s : List ℕ) (ss : List (List ℕ)) where
+  pub value-found : test s ≡ true → are_alike s key ≡ true → value_of test key (s ∷ ss) ≡ Some (before_key test ss)
+  value-found is same = rw (is, same) refl
+
+  pub value-passed-other : test s ≡ false → value_of test key (s ∷ ss) ≡ value_of test key ss
+  value-passed-other other = rw other refl
+
+  pub value-passed-key : are_alike s key ≡ false → value_of test key (s ∷ ss) ≡ value_of test key ss
+  value-passed-key apart = by_test (test s)
+    where
+      by_test : (b : Bool) → cond (b && are_alike s key) (Some (before_key test ss)) (value_of test key ss) ≡ value_of test key ss
+      by_test true = rw apart refl
+      by_test false = refl

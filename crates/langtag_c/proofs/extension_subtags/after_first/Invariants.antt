@@ -1,0 +1,12 @@
+use Rattle.std.proofs.Common.{◌≡◌, drop}
+use Rattle.langtag_c.specs.Keywords.{HasSubtags, subtags_in}
+use Rattle.langtag_c.proofs.extension_subtags.after_first.Given as goal
+
+abbrev pub invariant-loop-part : goal.invariant-loop-part
+invariant-loop-part l = record {
+  some : HasSubtags l.bytes l.rest;
+  same : drop l.left (subtags_in l.bytes l.rest) ≡ drop l.initial.left (subtags_in l.bytes l.initial.rest);
+}
+
+abbrev pub decreases-loop-part : goal.decreases-loop-part
+decreases-loop-part l = l.rest.len

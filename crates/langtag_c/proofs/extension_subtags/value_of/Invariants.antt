@@ -1,0 +1,15 @@
+use Rattle.std.proofs.Common.{◌≡◌}
+use Rattle.langtag_unicode.specs.Keys.{opens}
+use Rattle.langtag_unicode.specs.Keywords.{value_of}
+use Rattle.langtag_c.specs.Keywords.{HasSubtags, subtags_in}
+use Rattle.langtag_c.proofs.extension_subtags.value_of.Given as goal
+
+-- what was passed over is no such key
+abbrev pub invariant-loop-part : goal.invariant-loop-part
+invariant-loop-part l = record {
+  some : HasSubtags l.bytes l.rest;
+  same : value_of (opens l.keys) l.key (subtags_in l.bytes l.rest) ≡ value_of (opens l.keys) l.key (subtags_in l.bytes l.initial.rest);
+}
+
+abbrev pub decreases-loop-part : goal.decreases-loop-part
+decreases-loop-part l = l.rest.len

@@ -1,0 +1,75 @@
+//! Where the keywords and attributes of the extension `u` are (RFC 6067 section 2.1).
+ghost use Rattle.std.specs.Prelude.{◌≡◌, ◌↔◌, ◌<◌, ◌∷◌, [], None, IsTrue, false};
+ghost use Rattle.std.specs.Option.{option_map};
+ghost use Rattle.langtag.specs.Part.{PartOf};
+ghost use Rattle.langtag_scan.specs.Record.{EachRecord};
+ghost use Rattle.langtag_scan.specs.Subtags.{join};
+ghost use Rattle.langtag_scan.specs.Tag.{IsNormal};
+ghost use Rattle.langtag_unicode.specs.Keywords as spec;
+ghost use Rattle.langtag_c.specs.Keywords.{answered, keywords_from};
+ghost use Rattle.langtag_c.specs.Spans.{IsWithin, span_text};
+
+use crate::extension_subtags::{before_key, extension_subtags, next_key, value_of};
+use crate::span::Span;
+use langtag_unicode::Keys;
+
+/// Returns whether the extension `u` has a key (RFC 6067 section 2.1), ignoring case, and writes its value: `islamic-civil` for
+/// `ca` in `ar-u-ca-islamic-civil`. The value is empty if the key has none, which means `true`. If a key is repeated, the first
+/// one counts.
+///
+/// If it returns `false`, `value` is unchanged.
+#[unsafe(no_mangle)]
+pub extern "C" fn langtag_keyword(bytes: &[u8], key: &[u8], value: &mut Span) -> bool
+    ensures value { PartOf bytes.now (λ r. option_map join (spec.value_of spec.is_key key.now (spec.subtags_of 117 r))) None (answered result (span_text bytes.now value.new)) }
+    ensures within { IsTrue result → IsWithin bytes.now value.new }
+    ensures nothing { result ≡ false → value.new ≡ value.old }
+{
+    let subtags = extension_subtags(bytes, b'u');
+    let Some(found) = value_of(bytes, subtags, Keys::Unicode, key) else {
+        return false;
+    };
+    *value = found;
+    true
+}
+
+/// Writes the next keyword of the extension `u` (RFC 6067 section 2.1). `passed` counts the subtags of `u` that a walk has passed,
+/// and is 0 at the start. Each key comes once, with its first value. The value is empty if the key has none.
+///
+/// Returns `false` and changes nothing if no keyword is left.
+#[unsafe(no_mangle)]
+pub extern "C" fn langtag_next_keyword(
+    bytes: &[u8],
+    passed: &mut usize,
+    key: &mut Span,
+    value: &mut Span,
+) -> bool
+    ensures taken { IsTrue result → EachRecord bytes.now (λ r. keywords_from spec.is_key (spec.subtags_of 117 r) passed.old
+        ≡ record { key = span_text bytes.now key.new; value = span_text bytes.now value.new } ∷ keywords_from spec.is_key (spec.subtags_of 117 r) passed.new) }
+    ensures other { (IsNormal bytes.now → ⊥) → result ≡ false }
+    ensures end { result ≡ false → EachRecord bytes.now (λ r. keywords_from spec.is_key (spec.subtags_of 117 r) passed.old ≡ []) }
+    ensures within { IsTrue result → IsWithin bytes.now key.new × IsWithin bytes.now value.new }
+    ensures nothing { result ≡ false → (passed.new ≡ passed.old) × (key.new ≡ key.old) × (value.new ≡ value.old) }
+{
+    let subtags = extension_subtags(bytes, b'u');
+    let Some(place) = next_key(bytes, subtags, Keys::Unicode, passed) else {
+        return false;
+    };
+    *key = place.key;
+    *value = place.value;
+    true
+}
+
+/// Writes where the attributes of the extension `u` are (RFC 6067 section 2.1), before its first key: `attr-foo` in
+/// `de-u-attr-foo-ca-buddhist`. A repeated attribute is there twice.
+///
+/// Returns `false`, and writes an empty span, if there are none.
+#[unsafe(no_mangle)]
+pub extern "C" fn langtag_attributes(bytes: &[u8], attributes: &mut Span) -> bool
+    ensures text { PartOf bytes.now (λ r. join (spec.before_key spec.is_key (spec.subtags_of 117 r))) [] (span_text bytes.now attributes.new) }
+    ensures some { IsTrue result ↔ 0 < attributes.new.len }
+    ensures within { IsWithin bytes.now attributes.new }
+{
+    let subtags = extension_subtags(bytes, b'u');
+    *attributes = before_key(bytes, subtags, Keys::Unicode);
+    attributes.len > 0
+}

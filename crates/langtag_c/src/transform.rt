@@ -1,0 +1,79 @@
+//! Where the language and the fields of the extension `t` are (RFC 6497 section 2.2).
+ghost use Rattle.std.specs.Prelude.{◌≡◌, ◌∷◌, [], None, IsTrue, false};
+ghost use Rattle.std.specs.Option.{option_map};
+ghost use Rattle.langtag.specs.Part.{PartOf};
+ghost use Rattle.langtag_extension.specs.Spelling.{find_extension};
+ghost use Rattle.langtag_scan.specs.Record.{EachRecord};
+ghost use Rattle.langtag_scan.specs.Subtags.{join};
+ghost use Rattle.langtag_scan.specs.Tag.{IsNormal};
+ghost use Rattle.langtag_unicode.specs.Keywords as spec;
+ghost use Rattle.langtag_unicode.specs.Transform.{is_field_key};
+ghost use Rattle.langtag_c.specs.Keywords.{answered, keywords_from};
+ghost use Rattle.langtag_c.specs.Spans.{IsWithin, span_text};
+
+use crate::extension_subtags::{before_key, extension_subtags, next_key, value_of};
+use crate::span::Span;
+use langtag_unicode::Keys;
+
+/// Returns whether a tag has the extension `t` (RFC 6497 section 2.2), and writes where its language is, before its first field:
+/// `ja-latn` in `und-t-ja-latn-m0-hepburn`. The language is empty if there is none, as in `und-t-m0-hepburn`.
+///
+/// If it returns `false`, `language` is unchanged.
+#[unsafe(no_mangle)]
+pub extern "C" fn langtag_transform(bytes: &[u8], language: &mut Span) -> bool
+    ensures language { PartOf bytes.now (λ r. option_map (λ e. join (spec.before_key is_field_key e.subtags)) (find_extension 116 r.extensions)) None (answered result (span_text bytes.now language.new)) }
+    ensures within { IsTrue result → IsWithin bytes.now language.new }
+    ensures nothing { result ≡ false → language.new ≡ language.old }
+{
+    let subtags = extension_subtags(bytes, b't');
+    if subtags.len == 0 {
+        return false;
+    }
+    *language = before_key(bytes, subtags, Keys::Transform);
+    true
+}
+
+/// Returns whether the extension `t` has a field (RFC 6497 section 2.2), ignoring case, and writes its value: `hepburn` for `m0` in
+/// `und-t-ja-m0-hepburn`. If a field is repeated, the first one counts.
+///
+/// If it returns `false`, `value` is unchanged.
+#[unsafe(no_mangle)]
+pub extern "C" fn langtag_field(bytes: &[u8], key: &[u8], value: &mut Span) -> bool
+    ensures value { PartOf bytes.now (λ r. option_map join (spec.value_of is_field_key key.now (spec.subtags_of 116 r))) None (answered result (span_text bytes.now value.new)) }
+    ensures within { IsTrue result → IsWithin bytes.now value.new }
+    ensures nothing { result ≡ false → value.new ≡ value.old }
+{
+    let subtags = extension_subtags(bytes, b't');
+    let Some(found) = value_of(bytes, subtags, Keys::Transform, key) else {
+        return false;
+    };
+    *value = found;
+    true
+}
+
+/// Writes the next field of the extension `t` (RFC 6497 section 2.2). `passed` counts the subtags of `t` that a walk has passed, and
+/// is 0 at the start. Each key comes once, with its first value.
+///
+/// Returns `false` and changes nothing if no field is left.
+#[unsafe(no_mangle)]
+pub extern "C" fn langtag_next_field(
+    bytes: &[u8],
+    passed: &mut usize,
+    key: &mut Span,
+    value: &mut Span,
+) -> bool
+    ensures taken { IsTrue result → EachRecord bytes.now (λ r. keywords_from is_field_key (spec.subtags_of 116 r) passed.old
+        ≡ record { key = span_text bytes.now key.new; value = span_text bytes.now value.new } ∷ keywords_from is_field_key (spec.subtags_of 116 r) passed.new) }
+    ensures other { (IsNormal bytes.now → ⊥) → result ≡ false }
+    ensures end { result ≡ false → EachRecord bytes.now (λ r. keywords_from is_field_key (spec.subtags_of 116 r) passed.old ≡ []) }
+    ensures within { IsTrue result → IsWithin bytes.now key.new × IsWithin bytes.now value.new }
+    ensures nothing { result ≡ false → (passed.new ≡ passed.old) × (key.new ≡ key.old) × (value.new ≡ value.old) }
+{
+    let subtags = extension_subtags(bytes, b't');
+    let Some(place) = next_key(bytes, subtags, Keys::Transform, passed) else {
+        return false;
+    };
+    *key = place.key;
+    *value = place.value;
+    true
+}

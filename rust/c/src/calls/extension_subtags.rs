@@ -1,0 +1,142 @@
+// Made by rust/erase from crates/langtag_c/src/extension_subtags.rt. Change that file, not this one.
+
+//! Where the subtags of an extension are in a tag (RFC 5646 section 2.2.6).
+
+use crate::calls::span::Span;
+use crate::calls::tag::normal_tag_of;
+use crate::extension::first_extension_end;
+use crate::scan::{case_insensitive_eq, into_smallcase, segment_end};
+use crate::unicode::Keys;
+
+/// Where a key is, and its value.
+pub(crate) struct KeyPlace {
+    pub key: Span,
+    pub value: Span,
+}
+
+/// Returns the subtags of the first extension with a singleton, or an empty span if there is none.
+#[inline]
+pub(crate) fn extension_subtags(bytes: &[u8], singleton: u8) -> Span {
+    let Some(extensions) = extensions_of(bytes) else {
+        return Span { start: 0, len: 0 };
+    };
+    find_extension(bytes, extensions, singleton)
+}
+
+/// Returns the extensions, if the bytes are a normal tag.
+#[inline]
+fn extensions_of(bytes: &[u8]) -> Option<Span> {
+    let ends = normal_tag_of(bytes)?.ends();
+    Some(Span::between(ends.variants, ends.extensions))
+}
+
+/// Returns the subtags of the first of several extensions that has a singleton, or an empty span if none has.
+fn find_extension(bytes: &[u8], extensions: Span, singleton: u8) -> Span {
+    let mut rest = extensions;
+    while let Some(part) = rest.of(bytes) {
+        let extension = rest.take_first(first_extension_end(part));
+        if into_smallcase(part[0]) == into_smallcase(singleton) {
+            return extension.without_singleton();
+        }
+    }
+    Span { start: 0, len: 0 }
+}
+
+/// Returns the subtags before the first key.
+#[inline]
+pub(crate) fn before_key(bytes: &[u8], subtags: Span, keys: Keys) -> Span {
+    Span {
+        start: subtags.start,
+        len: len_before_key(bytes, subtags, keys).saturating_sub(1),
+    }
+}
+
+/// Returns the number of bytes of the subtags before the first key, each with a hyphen after it.
+fn len_before_key(bytes: &[u8], subtags: Span, keys: Keys) -> usize {
+    let mut rest = subtags;
+    let mut len = 0;
+    while let Some(part) = rest.of(bytes) {
+        let end = segment_end(part, 0);
+        if keys.has(&part[..end]) {
+            return len;
+        }
+        rest.take_first(end);
+        len += end + 1;
+    }
+    len
+}
+
+/// Returns the value of the first key that equals a text, ignoring case.
+pub(crate) fn value_of(bytes: &[u8], subtags: Span, keys: Keys, key: &[u8]) -> Option<Span> {
+    let mut rest = subtags;
+    while let Some(part) = rest.of(bytes) {
+        let len = segment_end(part, 0);
+        let subtag = &part[..len];
+        rest.take_first(len);
+        if keys.has(subtag) && case_insensitive_eq(subtag, key) {
+            return Some(before_key(bytes, rest, keys));
+        }
+    }
+    None
+}
+
+/// Returns whether a subtag equals one of the first `count` subtags, ignoring case.
+fn is_among_first(bytes: &[u8], subtags: Span, count: usize, subtag: &[u8]) -> bool {
+    let mut rest = subtags;
+    let mut left = count;
+    while let Some(part) = rest.of(bytes) {
+        if left == 0 {
+            return false;
+        }
+        let len = segment_end(part, 0);
+        if case_insensitive_eq(subtag, &part[..len]) {
+            return true;
+        }
+        rest.take_first(len);
+        left -= 1;
+    }
+    false
+}
+
+/// Returns what is left after the first `count` subtags.
+fn after_first(bytes: &[u8], subtags: Span, count: usize) -> Span {
+    let mut rest = subtags;
+    let mut left = count;
+    while let Some(part) = rest.of(bytes) {
+        if left == 0 {
+            return rest;
+        }
+        rest.take_first(segment_end(part, 0));
+        left -= 1;
+    }
+    rest
+}
+
+/// Returns whether a subtag is a key that equals none of the first `count` subtags, ignoring case.
+#[inline]
+fn is_new_key(bytes: &[u8], subtags: Span, keys: Keys, count: usize, subtag: &[u8]) -> bool {
+    keys.has(subtag) && !is_among_first(bytes, subtags, count, subtag)
+}
+
+/// Returns the first key after the first `passed` subtags that equals none before it, with its value. `passed` then counts
+/// the subtags up to that key.
+pub(crate) fn next_key(
+    bytes: &[u8],
+    subtags: Span,
+    keys: Keys,
+    passed: &mut usize,
+) -> Option<KeyPlace> {
+    let mut rest = after_first(bytes, subtags, *passed);
+    let mut count = *passed;
+    while let Some(part) = rest.of(bytes) {
+        let len = segment_end(part, 0);
+        let key = rest.take_first(len);
+        if is_new_key(bytes, subtags, keys, count, &part[..len]) {
+            *passed = count + 1;
+            let value = before_key(bytes, rest, keys);
+            return Some(KeyPlace { key, value });
+        }
+        count += 1;
+    }
+    None
+}

@@ -1,0 +1,59 @@
+// Made by rust/erase from crates/langtag_c/src/transform.rt. Change that file, not this one.
+
+//! Where the language and the fields of the extension `t` are (RFC 6497 section 2.2).
+
+use crate::calls::extension_subtags::{before_key, extension_subtags, next_key, value_of};
+use crate::calls::span::Span;
+use crate::unicode::Keys;
+
+/// Returns whether a tag has the extension `t` ([RFC 6497 section 2.2]), and writes where its language is, before its first field:
+/// `ja-latn` in `und-t-ja-latn-m0-hepburn`. The language is empty if there is none, as in `und-t-m0-hepburn`.
+///
+/// If it returns `false`, `language` is unchanged.
+///
+/// [RFC 6497 section 2.2]: https://www.rfc-editor.org/rfc/rfc6497#section-2.2
+#[inline]
+pub fn langtag_transform(bytes: &[u8], language: &mut Span) -> bool {
+    let subtags = extension_subtags(bytes, b't');
+    if subtags.len == 0 {
+        return false;
+    }
+    *language = before_key(bytes, subtags, Keys::Transform);
+    true
+}
+
+/// Returns whether the extension `t` has a field ([RFC 6497 section 2.2]), ignoring case, and writes its value: `hepburn` for `m0` in
+/// `und-t-ja-m0-hepburn`. If a field is repeated, the first one counts.
+///
+/// If it returns `false`, `value` is unchanged.
+///
+/// [RFC 6497 section 2.2]: https://www.rfc-editor.org/rfc/rfc6497#section-2.2
+pub fn langtag_field(bytes: &[u8], key: &[u8], value: &mut Span) -> bool {
+    let subtags = extension_subtags(bytes, b't');
+    let Some(found) = value_of(bytes, subtags, Keys::Transform, key) else {
+        return false;
+    };
+    *value = found;
+    true
+}
+
+/// Writes the next field of the extension `t` ([RFC 6497 section 2.2]). `passed` counts the subtags of `t` that a walk has passed, and
+/// is 0 at the start. Each key comes once, with its first value.
+///
+/// Returns `false` and changes nothing if no field is left.
+///
+/// [RFC 6497 section 2.2]: https://www.rfc-editor.org/rfc/rfc6497#section-2.2
+pub fn langtag_next_field(
+    bytes: &[u8],
+    passed: &mut usize,
+    key: &mut Span,
+    value: &mut Span,
+) -> bool {
+    let subtags = extension_subtags(bytes, b't');
+    let Some(place) = next_key(bytes, subtags, Keys::Transform, passed) else {
+        return false;
+    };
+    *key = place.key;
+    *value = place.value;
+    true
+}

@@ -1,0 +1,16 @@
+// Made by rust/erase from crates/langtag_choice/src/best_match.rt. Change that file, not this one.
+
+//! The best tag with the range that it serves.
+
+/// The best tag for a reader, the range that it serves, and its distance from that range.
+#[derive(Clone, Copy, Debug)]
+pub struct BestMatch<'a> {
+    /// The index of the tag.
+    pub index: usize,
+    /// The range as the reader wrote it. `_` may be in its bytes instead of a hyphen.
+    pub range: &'a [u8],
+    /// The number of ranges before it, including those of weight 0.
+    pub place: usize,
+    /// The distance from the range to the tag, as `distance` returns it for two tags.
+    pub distance: u8,
+}
