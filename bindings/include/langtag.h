@@ -407,7 +407,7 @@ LANGTAG_PURE uint32_t langtag_distance(const char *desired, size_t desired_len, 
  * region, then one of CLDR's paradigms, such as es-419, then the first in the list. So list the tags in the order that you prefer.
  *
  * Malformed elements count as what they mean: _ is read as a hyphen, what follows . or @ is dropped, and a weight that is not a
- * number is 1. To choose for a list of ranges, the best one first, join them with commas.
+ * number is 1.
  *
  * Time grows with the length of the header times the length of the tags. Limit the header, as most servers do, to 8 KiB.
  */
@@ -435,6 +435,16 @@ typedef struct langtag_best_match {
  */
 size_t langtag_match_for_header(const char *header, size_t header_len, const char *bytes, size_t len,
                                 const langtag_span *tags, size_t tags_len, langtag_best_match *found);
+
+/*
+ * Returns the index of the best tag for a list of language ranges, the most wanted first, or `tags_len` if none is suitable. The
+ * ranges are spans of one text, and the tags of another. The choice is that of langtag_best_for_header among ranges of one weight.
+ *
+ * A range is read as in a header: zh_TW.UTF-8 counts as zh-TW. An extended range counts without its *: zh-*-Hant as zh-Hant. A
+ * span that is not a range, such as de;q=0, or not a tag, or that reaches beyond its text, is skipped.
+ */
+LANGTAG_PURE size_t langtag_best_for_ranges(const char *text, size_t text_len, const langtag_span *ranges, size_t ranges_len,
+                                            const char *bytes, size_t len, const langtag_span *tags, size_t tags_len);
 
 /*
  * Writes the tag for the name of a POSIX locale to `buffer` (IEEE Std 1003.1, section 8.2), and returns its length: pt_BR.UTF-8

@@ -420,6 +420,12 @@ public:
         return at(choose(langtag_bytes(header.data()), header.size(), text_.data(), text_.size(), spans_.data(), given_.size()));
     }
 
+    /* Returns the tag that a list of ranges chooses, or std::nullopt. */
+    std::optional<tag> chosen_for(const listed_tags &ranges) const {
+        return at(langtag_best_for_ranges(ranges.text_.data(), ranges.text_.size(), ranges.spans_.data(), ranges.given_.size(),
+                                          text_.data(), text_.size(), spans_.data(), given_.size()));
+    }
+
     /* Returns the best tag for a header, with its index, range and distance, or std::nullopt. */
     std::optional<best_match> matched(std::string_view header) const {
         langtag_best_match match;
@@ -618,18 +624,10 @@ template <class Allocator, class Tags = texts>
 std::optional<best_match> match_for_header(temporary_string<Allocator>, Tags &&) = delete;
 
 /* Returns the best tag for a list of ranges, the most wanted first, as best_for_header does for a header of them. The ranges are a
- * list of range, strings or views. An extended range counts without its *. A text that no element of a header can have, such as
- * de;q=0, is skipped. */
+ * list of range, strings or views. An extended range counts without its *. A text that is not a range, such as de;q=0, is skipped. */
 template <class Ranges = texts, class Tags = texts, std::enable_if_t<stays<Tags>, int> = 0>
 std::optional<tag> best_for_ranges(const Ranges &ranges, Tags &&tags) {
-    std::string header;
-    for (const auto &it : ranges) {
-        const std::string_view text = text_of(it);
-        const auto read = range::parse(text);
-        if (read && !read->is_basic()) header.append(read->without_wildcards()).append(1, ',');
-        else if (text.find_first_of(",;") == text.npos) header.append(text).append(1, ',');
-    }
-    return best_for_header(header, std::forward<Tags>(tags));
+    return listed_tags(tags).chosen_for(listed_tags(ranges));
 }
 
 /* A range of a header, and its weight in thousandths, from 1 to 1000. */

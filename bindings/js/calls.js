@@ -262,28 +262,34 @@ export function accepted(header) {
     }
 }
 
-/** The index of the tag that a call chooses for a header, or how many tags there are; and what more the call writes. */
-function chosen(name, header, tags, ...more) {
-    const joined = tags.join("");
-    const at = (header.length + joined.length + 7) & -8;
-    open(at + 16 * tags.length);
-    write(header, texts);
-    write(joined, texts + header.length);
+/** Writes the spans of some texts that stand one behind the other, and returns their address and number. */
+function writeSpans(list, at) {
     let start = 0;
-    for (const [index, tag] of tags.entries()) {
-        writeSpan(texts + at + 16 * index, start, tag.length);
-        start += tag.length;
+    for (const [index, text] of list.entries()) {
+        writeSpan(at + 16 * index, start, text.length);
+        start += text.length;
     }
-    const [second, spans] = [BigInt(texts + header.length), BigInt(texts + at)];
-    const length = BigInt(header.length), count = BigInt(tags.length);
-    return close(Number(calls[name](textsAddress, length, second, BigInt(start), spans, count, ...more)));
+    return [BigInt(at), BigInt(list.length)];
+}
+
+/** The index of the tag that a call chooses for a text, or for ranges that stand in it, or how many tags there are; and what more it writes. */
+function chosen(name, text, tags, ranges, ...more) {
+    const joined = tags.join("");
+    const at = (text.length + joined.length + 7) & -8;
+    open(at + 16 * (tags.length + (ranges ?? []).length));
+    write(text, texts);
+    write(joined, texts + text.length);
+    const offered = [BigInt(texts + text.length), BigInt(joined.length), ...writeSpans(tags, texts + at)];
+    const wanted = ranges === undefined ? [] : writeSpans(ranges, texts + at + 16 * tags.length);
+    return close(Number(calls[name](textsAddress, BigInt(text.length), ...wanted, ...offered, ...more)));
 }
 
 export const bestForHeader = (header, tags) => chosen("langtag_best_for_header", header, tags);
 /** That index; where the range stands in the header: offset and length; and the distance. */
 export function matchForHeader(header, tags) {
-    const index = chosen("langtag_match_for_header", header, tags, outAddress);
+    const index = chosen("langtag_match_for_header", header, tags, undefined, outAddress);
     return [index, written(0), written(1), written(2)];
 }
 
+export const bestForRanges = (ranges, tags) => chosen("langtag_best_for_ranges", ranges.join(""), tags, ranges);
 export const tagForHeader = (header, tags) => chosen("langtag_tag_for_header_lenient", header, tags);

@@ -251,7 +251,7 @@ export function matchForHeader<Tag extends Text>(header: Header, tags: Iterable<
 
 /**
  * Returns the best tag for a list of ranges, the most wanted first, such as `navigator.languages`. An extended range counts without its
- * *. A text that no element of a header can have, such as de;q=0, is skipped.
+ * *. A text that is not a range, such as de;q=0, is skipped.
  *
  *     bestForRanges(["fi", "zh_TW", "en"], ["en", "zh-Hans", "zh-Hant"]); // "zh-Hant"
  */

@@ -380,10 +380,10 @@ export class LanguageRange {
 
 const rangeOf = (value) => (value instanceof LanguageRange ? value : new LanguageRange(value));
 
-/** The tag that a call chooses for a header, or what stands for none. */
-function chosen(choose, header, tags, otherwise) {
+/** The tag that a call chooses for a header or for ranges, or what stands for none. */
+function chosen(choose, wanted, tags, otherwise) {
     const list = [...several(tags, "tags")];
-    const index = choose(headerText(header), list.map((tag) => tagOf(tag).text));
+    const index = choose(wanted, list.map((tag) => tagOf(tag).text));
     return index < list.length ? list[index] : otherwise;
 }
 
@@ -433,7 +433,7 @@ export function tagForHeader(header, tags, otherwise) {
 }
 
 export function tagForHeaderLenient(header, tags, otherwise) {
-    return chosen(calls.tagForHeader, header, tags, otherwise);
+    return chosen(calls.tagForHeader, headerText(header), tags, otherwise);
 }
 
 export function distance(desired, supported) {
@@ -441,7 +441,7 @@ export function distance(desired, supported) {
 }
 
 export function bestForHeader(header, tags, otherwise) {
-    return chosen(calls.bestForHeader, header, tags, otherwise);
+    return chosen(calls.bestForHeader, headerText(header), tags, otherwise);
 }
 
 export function matchForHeader(header, tags) {
@@ -458,14 +458,8 @@ export function stopLength(text) {
     return calls.stop(textOf(text));
 }
 
-/** A range as an element of a header: an extended one without its *, and "" of what none can be. */
-function element(range) {
-    const text = textOf(range);
-    return /[,;]/.test(text) ? "" : text.replaceAll(/-\*(?=-|$)/g, "");
-}
-
 export function bestForRanges(ranges, tags, otherwise) {
-    return bestForHeader([...several(ranges, "ranges")].map(element).join(), tags, otherwise);
+    return chosen(calls.bestForRanges, [...several(ranges, "ranges")].map(textOf), tags, otherwise);
 }
 
 let names; // by subtags in the recommended case, and by grandfathered tags; read when they are first asked for

@@ -253,6 +253,13 @@ def answer_best(header, tags):
     return found
 
 
+def answer_best_ranges(ranges, tags):
+    wanted, texts = ranges.split(), tags.decode().split()
+    found = langtag.best_for_ranges(wanted, texts, DEFAULT)
+    assert langtag.best_for_ranges(map(Range, wanted), map(Tag, texts), DEFAULT) == (found if found == DEFAULT else Tag(found))
+    return found
+
+
 def answer_keyword(text, key):
     value = Tag(text).keyword(key)
     return "-" if value is None else value or "''"
@@ -289,6 +296,7 @@ ANSWERS = {
     "keyword": answer_keyword, "keywords": answer_keywords, "transform": answer_transform,
     "attributes": lambda text: " ".join(Tag(text).attributes) or "-",
     "refused": answer_refused, "distance": answer_distance, "right-to-left": answer_direction, "posix": answer_posix, "best": answer_best,
+    "best-ranges": answer_best_ranges,
     "best-match": answer_best_match,
     "maximized": lambda text: likely(text, Tag.maximized), "minimized": lambda text: likely(text, Tag.minimized),
     "tag": answer_tag, "scan": answer_scan, "recommended": answer_recommended, "validity": answer_validity,
@@ -297,7 +305,8 @@ ANSWERS = {
     "order": answer_order, "header": answer_header, "ranges": answer_ranges, "edit": answer_edit,
 }
 FLOORS = {"table.txt": 360, "texts.txt": 710, "negotiation.txt": 102, "edits.txt": 125, "likely.txt": 250,
-          "refused.txt": 60, "distance.txt": 140, "direction.txt": 325, "posix.txt": 80, "choices.txt": 285, "unicode.txt": 400}
+          "refused.txt": 60, "distance.txt": 140, "direction.txt": 325, "posix.txt": 80, "choices.txt": 285, "lists.txt": 15,
+          "unicode.txt": 400}
 
 
 class Rows(unittest.TestCase):

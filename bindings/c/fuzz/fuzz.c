@@ -231,7 +231,7 @@ static void check_posix(slice name, pages out) {
          are_alike(name, (slice){"posix", 5}));
 }
 
-/* langtag_distance, langtag_is_right_to_left, langtag_best_for_header and langtag_match_for_header */
+/* langtag_distance, langtag_is_right_to_left, langtag_best_for_header, langtag_best_for_ranges and langtag_match_for_header */
 static void check_choice(slice text, slice other, slice header) {
     bool is_tag = read_tag(text).kind != 0, are_tags = is_tag && read_tag(other).kind != 0;
     uint32_t distance = langtag_distance(text.at, text.len, other.at, other.len);
@@ -243,6 +243,10 @@ static void check_choice(slice text, slice other, slice header) {
     for (int k = 0; k < 4; k++) tags[k] = (langtag_span){below(2) * below(text.len + 2), below(text.len + 2)};
     size_t count = below(5), index = langtag_best_for_header(header.at, header.len, text.at, text.len, tags, count);
     SAME(index <= count);
+    langtag_span whole = {0, header.len};
+    bool is_one = !memchr(header.at, ',', header.len) && !memchr(header.at, ';', header.len) && !memchr(header.at, '*', header.len);
+    size_t by_range = langtag_best_for_ranges(header.at, header.len, &whole, 1, text.at, text.len, tags, count);
+    SAME(by_range <= count && (!is_one || by_range == index));
     langtag_best_match match;
     SAME(langtag_match_for_header(header.at, header.len, text.at, text.len, tags, count, &match) == index);
     SAME(match.range.start <= header.len && match.range.len <= header.len - match.range.start);

@@ -55,6 +55,8 @@ FUNCTION(best_for_header, found = (langtag_span){0, len};
          result = langtag_best_for_header(text, len, "de-DE", 5, &(langtag_span){0, 5}, 1) +
                   langtag_best_for_header("de", 2, text, len, &found, 1))
 FUNCTION(match_for_header, result = langtag_match_for_header(text, len, "de-DE", 5, &(langtag_span){0, 5}, 1, &match) + match.range.len)
+FUNCTION(best_for_ranges, found = (langtag_span){0, len};
+         result = langtag_best_for_ranges(text, len, &found, 1, "de-DE", 5, &(langtag_span){0, 5}, 1))
 FUNCTION(best_of_tags, result = best_among("fr, aaaaaaaa;q=0.5, x-1;q=0, aaaaaaaa-DE;q=0"))
 FUNCTION(tag_for_header, result = langtag_tag_for_header(text, len, "de-DE", 5, &(langtag_span){0, 5}, 1, &offset, &found))
 FUNCTION(tag_for_header_lenient, found = (langtag_span){0, len};
@@ -104,6 +106,7 @@ static const struct function functions[] = {
     {"distance", distance},
     {"best_for_header", best_for_header},
     {"match_for_header", match_for_header},
+    {"best_for_ranges", best_for_ranges},
     {"best_of_tags", best_of_tags},
     {"tag_for_header", tag_for_header},
     {"tag_for_header_lenient", tag_for_header_lenient},

@@ -175,6 +175,9 @@ static void sweep_look_ups(void) {
     }
 }
 
+/* Ranges that choose the second. */
+static const struct shape ranges[] = {{"", " ", "de_CH.UTF-8"}, {"de-LI", "-a", ""}, {"de-CH", "-*", ""}, {"de", "-*", "-ch"}};
+
 /* More and more tags, of which the header chooses the last, and then one of a range of weight 0. */
 static void sweep_choices(void) {
     static const struct shape many = {"", "en,", "DE-ch"};
@@ -183,6 +186,11 @@ static void sweep_choices(void) {
         for (size_t times = 0, len = 0; grow(&headers[row], &times, &len);) {
             check("best_for_header", len, choice(len) == 1);
             check("match_for_header", len, is_matched(len));
+        }
+    for (size_t row = 0; row < LENGTH(ranges); row++)
+        for (size_t times = 0, len = 0; grow(&ranges[row], &times, &len);) {
+            const langtag_span three[] = {{0, 2}, {3, 5}, {9, 2}}, whole = {0, len};
+            check("best_for_ranges", len, langtag_best_for_ranges(text, len, &whole, 1, "en,de-CH,ja", 11, three, 3) == 1);
         }
     for (size_t times = 0, len = 0; grow(&many, &times, &len);) {
         for (size_t tag = 0; tag <= times; tag++) spans[tag] = (langtag_span){3 * tag, tag < times ? 2 : 5};

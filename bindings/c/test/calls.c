@@ -405,6 +405,17 @@ static void answer_transform(text *to, const text *arguments) {
 
 static void answer_best(text *to, const text *arguments) { put_chosen(to, langtag_best_for_header, arguments[0], arguments[1]); }
 
+/* Also beside spans out of the texts. */
+static void answer_best_ranges(text *to, const text *arguments) {
+    langtag_span ranges[MOST_TAGS], tags[MOST_TAGS];
+    const text *from = &arguments[0], *words = &arguments[1];
+    size_t wanted = find_tags(*from, ranges), count = find_tags(*words, tags);
+    size_t index = langtag_best_for_ranges(from->at, from->len, ranges, wanted, words->at, words->len, tags, count);
+    put_tag(to, *words, tags, count, index);
+    size_t again = langtag_best_for_ranges(from->at, from->len, ranges, wanted + 1, words->at, words->len, tags, count + 1);
+    if (again != (index < count ? index : count + 1)) put_word(to, " but another beside spans out of the texts");
+}
+
 /* The index, the distance and the range; all is written also where there is none. */
 static void answer_best_match(text *to, const text *arguments) {
     langtag_span tags[MOST_TAGS];
@@ -444,6 +455,7 @@ call calls[] = {
     {"header", answer_header, 0, 0},
     {"ranges", answer_ranges, 0, 0},
     {"best", answer_best, 0, 0},
+    {"best-ranges", answer_best_ranges, 0, 0},
     {"keyword", answer_keyword, 0, 0},
     {"keywords", answer_keywords, 0, 0},
     {"attributes", answer_attributes, 0, 0},

@@ -294,6 +294,13 @@ static std::string best_of(const strings &asked) {
     return found_or_default(best);
 }
 
+static std::string best_of_ranges(const strings &asked) {
+    const strings ranges = split(asked[0], " "), texts = split(asked[1], " ");
+    const auto best = langtag::best_for_ranges(ranges, texts);
+    if (langtag::best_for_ranges(ranges, tags_of(texts)) != best) return "another of texts";
+    return found_or_default(best);
+}
+
 static std::string keyword_of(const strings &asked) {
     const auto one = tag::parse(asked[0]);
     const auto value = one ? one->keyword(asked[1]) : std::nullopt;
@@ -370,6 +377,7 @@ static const std::map<std::string, answer> calls = {
     {"distance", distance_of},
     {"posix", posix_of},
     {"best", best_of},
+    {"best-ranges", best_of_ranges},
     {"keyword", keyword_of},
     {"keywords", keywords_of},
     {"attributes", attributes_of},

@@ -186,6 +186,14 @@ function answerBest(header, list) {
     return found;
 }
 
+function answerBestRanges(ranges, list) {
+    const [wanted, texts] = [ranges, list].map((words) => words.split(" ").filter(Boolean));
+    const found = bestForRanges(wanted, texts, DEFAULT);
+    const again = bestForRanges(wanted.map((text) => LanguageRange.parse(text)), texts.map((text) => LanguageTag.parse(text)), DEFAULT);
+    assert(String(again) === found, "the tag of ranges");
+    return found;
+}
+
 function answerBestMatch(header, list) {
     const texts = list.split(" ").filter(Boolean);
     const found = matchForHeader(header, texts);
@@ -251,6 +259,7 @@ export const answers = {
     "right-to-left": (text) => ({ true: "yes", false: "no", undefined: "-" })[made(LanguageTag, text)?.isRightToLeft],
     distance: answerDistance,
     best: answerBest,
+    "best-ranges": answerBestRanges,
     "best-match": answerBestMatch,
     maximized: (text) => made(LanguageTag, text)?.maximize().toString() ?? "-",
     minimized: (text) => made(LanguageTag, text)?.minimize().toString() ?? "-",
@@ -259,4 +268,4 @@ export const answers = {
     edit: answerEdit,
 };
 
-export const FLOORS = { "table.txt": 360, "texts.txt": 710, "negotiation.txt": 102, "edits.txt": 125, "likely.txt": 200, "posix.txt": 75, "direction.txt": 300, "distance.txt": 130, "choices.txt": 275, "refused.txt": 60, "unicode.txt": 400 };
+export const FLOORS = { "table.txt": 360, "texts.txt": 710, "negotiation.txt": 102, "edits.txt": 125, "likely.txt": 200, "posix.txt": 75, "direction.txt": 300, "distance.txt": 130, "choices.txt": 275, "lists.txt": 15, "refused.txt": 60, "unicode.txt": 400 };

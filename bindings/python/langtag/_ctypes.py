@@ -62,30 +62,46 @@ def elements(text: Text) -> list[tuple[int, int, int, int]]:
     return [(answer, range.start, range.len, weight.value) for answer in answers]
 
 
-def _index(choose: Callable[..., int], header: Text, listed: list[Any], tag_class: Any, *out: Any) -> int:
-    texts, start = [(it if isinstance(it, TagBase) else tag_class(it))._data for it in listed], 0
-    spans = (Span * max(len(texts), 1))()
+def _joined(texts: list[bytes]) -> tuple[bytes, int, Any, int]:
+    """Returns texts as one, its length, the spans of them in it, and their number."""
+    spans, start = (Span * max(len(texts), 1))(), 0
     for span, text in zip(spans, texts):
         span.start, span.len, start = start, len(text), start + len(text)
-    return int(_ask(choose, header, b"".join(texts), start, spans, len(texts), *out))
+    return b"".join(texts), start, spans, len(texts)
 
 
-def _chosen(choose: Callable[..., int], header: Text, tags: Iterable[Any], default: Any, tag_class: Any) -> Any:
+def _index(choose: Callable[..., int], wanted: tuple[Any, ...], listed: list[Any], tag_class: Any, *out: Any) -> int:
+    return choose(*wanted, *_joined([(it if isinstance(it, TagBase) else tag_class(it))._data for it in listed]), *out)
+
+
+def _chosen(choose: Callable[..., int], wanted: tuple[Any, ...], tags: Iterable[Any], default: Any, tag_class: Any) -> Any:
     listed = list(tags)
-    index = _index(choose, header, listed, tag_class)
+    index = _index(choose, wanted, listed, tag_class)
     return listed[index] if index < len(listed) else default
+
+
+def _header(header: Text) -> tuple[bytes, int]:
+    return bytes_of(header), len(bytes_of(header))
+
+
+def best_for_header(header: Text, *more: Any) -> Any:
+    return _chosen(_c.langtag_best_for_header, _header(header), *more)
+
+
+def tag_for_header(header: Text, *more: Any) -> Any:
+    return _chosen(_c.langtag_tag_for_header_lenient, _header(header), *more)
+
+
+def best_for_ranges(ranges: list[bytes], *more: Any) -> Any:
+    return _chosen(_c.langtag_best_for_ranges, _joined(ranges), *more)
 
 
 def match_for_header(header: Text, tags: Iterable[Any], tag_class: Any) -> tuple[int, Any, int, bytes] | None:
     listed, match = list(tags), BestMatch()
-    index = _index(_c.langtag_match_for_header, header, listed, tag_class, match)
+    index = _index(_c.langtag_match_for_header, _header(header), listed, tag_class, match)
     if index == len(listed):
         return None
     return index, listed[index], match.distance, bytes_of(header)[match.range.start : match.range.start + match.range.len]
-
-
-best_for_header = functools.partial(_chosen, _c.langtag_best_for_header)
-tag_for_header = functools.partial(_chosen, _c.langtag_tag_for_header_lenient)
 
 
 @functools.total_ordering

@@ -47,6 +47,7 @@ FUNCTIONS: dict[tuple[Any, ...], str] = {
     (c_bool, *_TEXT, POINTER(Span), POINTER(Span)): "next_subtag next_extension",
     (c_uint32, *_TEXT, POINTER(Span), POINTER(Span), POINTER(c_uint32)): "next_accepted",
     (c_size_t, *_TEXT, *_TEXT, *_SPANS): "best_for_header tag_for_header_lenient",
+    (c_size_t, *_TEXT, *_SPANS, *_TEXT, *_SPANS): "best_for_ranges",
     (c_size_t, *_TEXT, *_TEXT, *_SPANS, POINTER(BestMatch)): "match_for_header",
     (c_uint32, *_TEXT, *_TEXT, *_SPANS, POINTER(c_size_t), POINTER(Span)): "tag_for_header",
 }

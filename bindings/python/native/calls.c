@@ -108,5 +108,6 @@ PyMethodDef lt_functions[] = {
     {"is_right_to_left", lt_is_right_to_left, METH_O, NULL},
     {"from_posix", lt_from_posix, METH_O, NULL},
     {"best_for_header", lt_best_for_header, METH_VARARGS, NULL},
+    {"best_for_ranges", lt_best_for_ranges, METH_VARARGS, NULL},
     {"match_for_header", lt_match_for_header, METH_VARARGS, NULL},
     {NULL, NULL, 0, NULL}};

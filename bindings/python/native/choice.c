@@ -1,7 +1,7 @@
-/* The choice among tags for a header: of Tags, or texts of tags, the item itself. */
+/* The choice among tags for a header or for ranges: of Tags, or texts of tags, the item itself. */
 #include "native.h"
 
-/* The texts of the tags to choose from, one behind the other, and their spans; in the room at the end where that is enough. */
+/* The texts of the tags to choose from, or of ranges, one behind the other, and their spans; in the room at the end where that is enough. */
 typedef struct {
     langtag_span *spans;
     char *text;
@@ -77,61 +77,88 @@ static PyObject *item_at(PyObject *listed, size_t index) {
     return (PyList_Check(listed) ? PyList_GetItem : PyTuple_GetItem)(listed, (Py_ssize_t)index);
 }
 
-/* The index of the tag that is chosen, or `count`, and what is said of it if a call says more: -1 with an exception. */
-static int choose_index(Text header, PyObject *listed, PyObject *type, Choose *choose, langtag_best_match *match, size_t *index) {
+/* What a reader wants, and the call that chooses for it: for a header, with what is said of the tag if there is room for that, or
+ * for ranges of which the first is wanted most. */
+typedef struct {
+    Text header;
+    Choose *choose;
+    langtag_best_match *match;
+    const Offered *ranges;
+} Wanted;
+
+static size_t length(const Wanted *wanted) { return wanted->ranges ? wanted->ranges->len : (size_t)wanted->header.len; }
+
+static size_t choose(const Wanted *wanted, const Offered *tags) {
+    const Offered *ranges = wanted->ranges;
+    const char *header = wanted->header.data;
+    const size_t len = (size_t)wanted->header.len;
+    if (ranges)
+        return langtag_best_for_ranges(ranges->text, ranges->len, ranges->spans, ranges->count, tags->text, tags->len, tags->spans, tags->count);
+    if (wanted->match) return langtag_match_for_header(header, len, tags->text, tags->len, tags->spans, tags->count, wanted->match);
+    return wanted->choose(header, len, tags->text, tags->len, tags->spans, tags->count);
+}
+
+/* The index of the tag that is chosen, or `count`: -1 with an exception. */
+static int choose_index(const Wanted *wanted, PyObject *listed, PyObject *type, size_t *index) {
     Offered offered;
     size_t count = (size_t)PySequence_Size(listed);
     if (open_offered(&offered, count)) return -1;
     int status = 0;
     for (size_t i = 0; i < count && !status; i++) status = add_item(&offered, item_at(listed, i), type);
     if (!status) {
-        LET_GO(header.len);
-        *index = choose ? choose(header.data, (size_t)header.len, offered.text, offered.len, offered.spans, count)
-                        : langtag_match_for_header(header.data, (size_t)header.len, offered.text, offered.len, offered.spans, count, match);
+        LET_GO((Py_ssize_t)length(wanted));
+        *index = choose(wanted, &offered);
         TAKE_BACK();
     }
     close_offered(&offered);
     return status;
 }
 
-/* The caller's own list, but where others may change it: those that run during a call on a long header. */
-static PyObject *listed_for(Text header, PyObject *all) {
-    return header.len < LONG_TEXT ? PySequence_Fast(all, "the tags are not iterable") : PySequence_Tuple(all);
+/* The caller's own list, but where others may change it: those that run during a call on a long text. */
+static PyObject *listed_for(const Wanted *wanted, PyObject *all) {
+    return length(wanted) < LONG_TEXT ? PySequence_Fast(all, "the tags are not iterable") : PySequence_Tuple(all);
 }
 
-static PyObject *for_header(PyObject *arguments, Choose *choose) {
-    PyObject *from, *all, *otherwise, *type, *found = NULL;
-    Text header;
+/* The item of `all` that is chosen, or `otherwise`. */
+static PyObject *chosen(const Wanted *wanted, PyObject *all, PyObject *otherwise, PyObject *type) {
+    PyObject *listed = listed_for(wanted, all), *found = NULL;
     size_t index;
-    if (!PyArg_UnpackTuple(arguments, "a choice", 4, 4, &from, &all, &otherwise, &type) || lt_text(from, &header)) return NULL;
-    PyObject *listed = listed_for(header, all);
-    if (listed && !choose_index(header, listed, type, choose, NULL, &index))
+    if (listed && !choose_index(wanted, listed, type, &index))
         found = index < (size_t)PySequence_Size(listed) ? item_at(listed, index) : otherwise;
     Py_XINCREF(found);
     Py_XDECREF(listed);
-    Py_DECREF(header.owner);
+    return found;
+}
+
+static PyObject *for_header(PyObject *arguments, Choose *choose) {
+    PyObject *from, *all, *otherwise, *type;
+    Wanted wanted = {.choose = choose};
+    if (!PyArg_UnpackTuple(arguments, "a choice", 4, 4, &from, &all, &otherwise, &type) || lt_text(from, &wanted.header)) return NULL;
+    PyObject *found = chosen(&wanted, all, otherwise, type);
+    Py_DECREF(wanted.header.owner);
     return found;
 }
 
 /* What is said of the best tag: (index, the tag as it was given, distance, range of the header); None where there is none. */
-static PyObject *matched(Text header, PyObject *listed, PyObject *type) {
-    langtag_best_match match;
+static PyObject *matched(const Wanted *wanted, PyObject *listed, PyObject *type) {
+    const langtag_best_match *match = wanted->match;
     size_t index;
-    if (choose_index(header, listed, type, NULL, &match, &index)) return NULL;
+    if (choose_index(wanted, listed, type, &index)) return NULL;
     if (index == (size_t)PySequence_Size(listed)) return lt_none();
-    return Py_BuildValue("nOIy#", (Py_ssize_t)index, item_at(listed, index), (unsigned)match.distance, header.data + match.range.start,
-                         (Py_ssize_t)match.range.len);
+    return Py_BuildValue("nOIy#", (Py_ssize_t)index, item_at(listed, index), (unsigned)match->distance, wanted->header.data + match->range.start,
+                         (Py_ssize_t)match->range.len);
 }
 
 PyObject *lt_match_for_header(PyObject *module, PyObject *arguments) {
     (void)module;
     PyObject *from, *all, *type;
-    Text header;
-    if (!PyArg_UnpackTuple(arguments, "a choice", 3, 3, &from, &all, &type) || lt_text(from, &header)) return NULL;
-    PyObject *listed = listed_for(header, all);
-    PyObject *found = listed ? matched(header, listed, type) : NULL;
+    langtag_best_match match;
+    Wanted wanted = {.match = &match};
+    if (!PyArg_UnpackTuple(arguments, "a choice", 3, 3, &from, &all, &type) || lt_text(from, &wanted.header)) return NULL;
+    PyObject *listed = listed_for(&wanted, all);
+    PyObject *found = listed ? matched(&wanted, listed, type) : NULL;
     Py_XDECREF(listed);
-    Py_DECREF(header.owner);
+    Py_DECREF(wanted.header.owner);
     return found;
 }
 
@@ -143,4 +170,27 @@ PyObject *lt_best_for_header(PyObject *module, PyObject *arguments) {
 PyObject *lt_tag_for_header(PyObject *module, PyObject *arguments) {
     (void)module;
     return for_header(arguments, langtag_tag_for_header_lenient);
+}
+
+static int add_range(Offered *ranges, PyObject *from) {
+    Text text;
+    if (lt_text(from, &text)) return -1;
+    int status = add(ranges, &text);
+    Py_DECREF(text.owner);
+    return status;
+}
+
+/* Of a list of bytes, the tags, what stands for none, and the class of tags. */
+PyObject *lt_best_for_ranges(PyObject *module, PyObject *arguments) {
+    PyObject *from, *all, *otherwise, *type, *found = NULL;
+    Offered ranges;
+    (void)module;
+    if (!PyArg_ParseTuple(arguments, "O!OOO", &PyList_Type, &from, &all, &otherwise, &type)) return NULL;
+    size_t count = (size_t)PyList_Size(from);
+    if (open_offered(&ranges, count)) return NULL;
+    int status = 0;
+    for (size_t i = 0; i < count && !status; i++) status = add_range(&ranges, PyList_GetItem(from, (Py_ssize_t)i));
+    if (!status) found = chosen(&(Wanted){.ranges = &ranges}, all, otherwise, type);
+    close_offered(&ranges);
+    return found;
 }

@@ -65,6 +65,7 @@ PyObject *lt_distance(PyObject *module, PyObject *arguments);
 PyObject *lt_is_right_to_left(PyObject *module, PyObject *from);
 PyObject *lt_from_posix(PyObject *module, PyObject *from);
 PyObject *lt_best_for_header(PyObject *module, PyObject *arguments);
+PyObject *lt_best_for_ranges(PyObject *module, PyObject *arguments);
 PyObject *lt_match_for_header(PyObject *module, PyObject *arguments);
 PyObject *lt_value_data(PyObject *self, void *unused);
 PyObject *lt_reduce(PyObject *self, PyObject *unused);

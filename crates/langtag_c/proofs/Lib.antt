@@ -7,6 +7,7 @@ mod HeaderRanges
 mod RepeatSpans
 mod ItemLaws
 mod PlaceLaws
+mod RangesAt
 mod ReadingLaws
 mod PartLaws
 mod TagLengths

@@ -9,13 +9,12 @@ use Rattle.langtag_scan.specs.Tag.{IsTag}
 use Rattle.langtag_scan.proofs.NormalTexts.{normal_from_runs, runs_from_normal}
 use Rattle.langtag_scan.proofs.TagLaws.{tag_normal, tag_private, tag_of_irregular}
 use Rattle.langtag_match.specs.AcceptLanguage.{Element}
-use Rattle.langtag_match.specs.Wanted.{wanted_elements}
 use Rattle.langtag_choice.specs.Best.{IsChoice}
 use Rattle.langtag_private.specs.Decided.{is_private_use}
 use Rattle.langtag_private.proofs.Rules.{IsPrivate-from_test, is_private_use-from_rule}
 use Rattle.langtag_c.specs.Choice.{AreTagsAt, HasTag, IsBest, IsTagAt}
-use Rattle.langtag_c.specs.Spans.{HasBytes, empty_at, end_of, span_text}
-use Rattle.langtag_c.specs.TagsAt.{has_bytes, is_irregular, is_normal, is_tag, tag_at, tags_at}
+use Rattle.langtag_c.specs.Spans.{HasBytes, empty_at, end_of, has_bytes, span_text}
+use Rattle.langtag_c.specs.TagsAt.{is_irregular, is_normal, is_tag, tag_at, tags_at}
 use Rattle.langtag.proofs.IrregularTests.{alike_some}
 use Rattle.langtag_c.specs.declared.span.Span.{Span}
 
@@ -42,13 +41,13 @@ test_from_tag text (inr (inr irregular)) =
 
 -- ---- a span
 
-bytes_from_test : (text : List ℕ) (span : Span) → has_bytes text span ≡ true → HasBytes text span
+pub bytes_from_test : (text : List ℕ) (span : Span) → has_bytes text span ≡ true → HasBytes text span
 bytes_from_test text span test =
     let parts = and_parts (ltb 0 span.len) (ltb (end_of span) (length text + 1)) test in
     let within = ltb-true (end_of span) (length text + 1) parts.1 in
     (ltb-true 0 span.len parts.0, omega (arith, within))
 
-test_from_bytes : (text : List ℕ) (span : Span) → HasBytes text span → has_bytes text span ≡ true
+pub test_from_bytes : (text : List ℕ) (span : Span) → HasBytes text span → has_bytes text span ≡ true
 test_from_bytes text span (some, within) =
     and_from (ltb 0 span.len) (ltb (end_of span) (length text + 1)) (grind (arith, nat_tests)) (grind (arith, nat_tests))
 
@@ -106,9 +105,9 @@ are_tags_at text spans = record {
 -- ---- the one that is wanted
 
 pub is_best :
-    (header text : List ℕ) (spans : List Span) (chosen : Option ℕ) (answer : ℕ) → IsChoice (wanted_elements header) (tags_at text spans) chosen →
-    answer ≡ unwrap_or chosen (length spans) → IsBest header text spans answer
-is_best header text spans chosen answer choice is = record { tags = tags_at text spans; are = are_tags_at text spans; chosen = chosen; choice = choice; same = is }
+    (elements : List Element) (text : List ℕ) (spans : List Span) (chosen : Option ℕ) (answer : ℕ) → IsChoice elements (tags_at text spans) chosen →
+    answer ≡ unwrap_or chosen (length spans) → IsBest elements text spans answer
+is_best elements text spans chosen answer choice is = record { tags = tags_at text spans; are = are_tags_at text spans; chosen = chosen; choice = choice; same = is }
 
 -- an index of a tag, or the number of the spans, is not above that number
 pub within_spans :

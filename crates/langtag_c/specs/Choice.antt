@@ -1,12 +1,13 @@
--- The tags that spans of a text are, and which of them a reader wants.
-use Rattle.std.specs.Prelude.{◌≡◌, ◌+◌, ◌-◌, ◌^◌, ◌<◌, ℕ, Bool, not, List, [], Option, None, Some, MatchOption, count_by, is_some, length, slice_get, slice_index_or, take, unwrap_or}
-use Rattle.std.specs.List.{position}
+-- The tags and the language ranges that spans of a text are, and which of the tags a reader wants.
+use Rattle.std.specs.Prelude.{◌≡◌, ◌+◌, ◌-◌, ◌^◌, ◌<◌, ℕ, Bool, not, if◌then◌else◌, List, [], ◌∷◌, Option, None, Some, MatchOption, count_by, is_some, length, slice_get, slice_index_or, take, unwrap_or}
+use Rattle.std.specs.List.{cons_option, position}
 use Rattle.langtag_scan.specs.Tag.{IsTag}
 use Rattle.langtag_match.specs.AcceptLanguage.{Element, StandsAt, is_space, items}
+use Rattle.langtag_match.specs.Listed.{listed}
 use Rattle.langtag_match.specs.Wanted.{wanted, wanted_elements}
 use Rattle.langtag_choice.specs.Best.{IsChoice, IsMatch}
 use Rattle.langtag_choice.specs.declared.best_match.BestMatch as choice
-use Rattle.langtag_c.specs.Spans.{HasBytes, empty_at, span_text}
+use Rattle.langtag_c.specs.Spans.{HasBytes, empty_at, has_bytes, span_text}
 use Rattle.langtag_c.specs.declared.best_match.BestMatch.{BestMatch}
 use Rattle.langtag_c.specs.declared.span.Span.{Span}
 
@@ -23,12 +24,21 @@ pub record AreTagsAt (text : List ℕ) (spans : List Span) (tags : List (Option 
   pub same_len : length tags ≡ length spans
   pub each : (index : ℕ) → index < length spans → IsTagAt text (slice_index_or spans index (empty_at 0)) (slice_index_or tags index None)
 
--- the index of the tag that the reader wants who sent a header, or the number of the spans where none of them is wanted
-pub record IsBest (header text : List ℕ) (spans : List Span) (answer : ℕ) : Type 0 where
+-- the language range that a span is, with the weight 1: none where it has none
+abbrev pub range_at : List ℕ → Span → Option Element
+range_at text span = if has_bytes text span then listed (span_text text span) else None
+
+-- those of some spans, in order
+abbrev pub ranges_at : List ℕ → List Span → List Element
+ranges_at text [] = []
+ranges_at text (span ∷ spans) = cons_option (range_at text span) (ranges_at text spans)
+
+-- the index of the tag that a reader wants by some elements, or the number of the spans where none of them is wanted
+pub record IsBest (elements : List Element) (text : List ℕ) (spans : List Span) (answer : ℕ) : Type 0 where
   pub tags : List (Option (List ℕ))
   pub are : AreTagsAt text spans tags
   pub chosen : Option ℕ
-  pub choice : IsChoice (wanted_elements header) tags chosen
+  pub choice : IsChoice elements tags chosen
   pub same : answer ≡ unwrap_or chosen (length spans)
 
 -- ---- which range a tag serves

@@ -1,5 +1,5 @@
 -- Where the parts of a tag stand in its text (RFC 5646 section 2.1): an offset and a length.
-use Rattle.std.specs.Prelude.{◌≡◌, ℕ, ◌+◌, ◌-◌, ◌<◌, ◌≤◌, ◌==◌, if◌then◌else◌, List, [], length, unwrap_or}
+use Rattle.std.specs.Prelude.{◌≡◌, ℕ, ◌+◌, ◌-◌, ◌<◌, ◌≤◌, ◌==◌, ◌&&◌, Bool, if◌then◌else◌, List, [], length, nat_lt, unwrap_or}
 use Rattle.std.specs.List.{slice_range}
 use Rattle.langtag_scan.specs.Parts.{language_part, variants_part, extensions_part, private_use_part}
 use Rattle.langtag_scan.specs.Record.{Record}
@@ -22,6 +22,10 @@ IsWithin text span = end_of span ≤ length text
 -- it has bytes, which lie within the text
 abbrev pub HasBytes : List ℕ → Span → Type 0
 HasBytes text span = (0 < span.len) × IsWithin text span
+
+-- the same as a test
+abbrev pub has_bytes : List ℕ → Span → Bool
+has_bytes text span = nat_lt 0 span.len && nat_lt (end_of span) (length text + 1)
 
 -- no byte from an index on
 abbrev pub empty_at : ℕ → Span

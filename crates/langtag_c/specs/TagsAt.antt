@@ -1,12 +1,12 @@
 -- Whether a text is a tag, as a test, and so what spans of a text are. Ghost members alone cite this page: what a caller is
 -- promised speaks of `IsTag`.
-use Rattle.std.specs.Prelude.{◌≡◌, ℕ, ◌+◌, Bool, true, ◌&&◌, ◌||◌, if◌then◌else◌, List, Option, None, Some, map, length, nat_lt}
+use Rattle.std.specs.Prelude.{◌≡◌, ℕ, Bool, true, ◌&&◌, ◌||◌, if◌then◌else◌, List, Option, None, Some, map}
 use Rattle.std.specs.List.{list_any}
 use Rattle.langtag_scan.specs.Case.{are_alike}
 use Rattle.langtag_scan.specs.Grandfathered.{irregular_texts}
 use Rattle.langtag_scan.proofs.NormalTexts.{normal_from_runs, runs_from_normal}
 use Rattle.langtag_private.specs.Decided.{is_private_use}
-use Rattle.langtag_c.specs.Spans.{end_of, span_text}
+use Rattle.langtag_c.specs.Spans.{has_bytes, span_text}
 use Rattle.langtag_c.specs.declared.span.Span.{Span}
 
 -- the test that decides a property
@@ -21,9 +21,6 @@ is_irregular text = list_any (λ name. are_alike name text) irregular_texts
 
 abbrev pub is_tag : List ℕ → Bool
 is_tag text = is_normal text || (is_private_use text || is_irregular text)
-
-abbrev pub has_bytes : List ℕ → Span → Bool
-has_bytes text span = nat_lt 0 span.len && nat_lt (end_of span) (length text + 1)
 
 -- what a span is
 unfoldable pub tag_at : List ℕ → Span → Option (List ℕ)

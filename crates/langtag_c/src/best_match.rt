@@ -2,6 +2,7 @@
 ghost use Rattle.std.specs.Prelude.{◌≡◌, ◌≤◌, None, IfSome, length, not};
 ghost use Rattle.std.specs.List.{position};
 ghost use Rattle.langtag_match.specs.AcceptLanguage.{is_comma, is_space, items};
+ghost use Rattle.langtag_match.specs.Wanted.{wanted_elements};
 ghost use Rattle.langtag_c.specs.Choice.{IsBest, IsMatchAt, IsRangeAt, range_count, spaces_before};
 
 use crate::look_up::is_comma;
@@ -32,7 +33,7 @@ pub extern "C" fn langtag_match_for_header(
     found: &mut BestMatch,
 ) -> usize
     ensures found { IsMatchAt header.now bytes.now tags.now result found.new }
-    ensures best { IsBest header.now bytes.now tags.now result }
+    ensures best { IsBest (wanted_elements header.now) bytes.now tags.now result }
     ensures within { result ≤ length tags.now }
 {
     let spanned = SpannedTags {

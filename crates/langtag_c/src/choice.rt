@@ -1,10 +1,12 @@
 //! The best tag for a reader, and the distance of two tags (UTS #35, part 1, section 'Language Matching').
 ghost use Rattle.std.specs.Prelude.{◌≡◌, ◌↔◌, ◌-◌, ◌^◌, ◌≤◌, length};
 ghost use Rattle.langtag_scan.specs.Tag.{IsTag};
+ghost use Rattle.langtag_match.specs.Wanted.{wanted_elements};
 ghost use Rattle.langtag_choice.specs.Distance.{distance_of_texts};
-ghost use Rattle.langtag_c.specs.Choice.{IsBest};
+ghost use Rattle.langtag_c.specs.Choice.{IsBest, ranges_at};
 
 use crate::span::Span;
+use crate::spanned_ranges::SpannedRanges;
 use crate::spanned_tags::SpannedTags;
 use crate::tag::tag_of;
 use langtag_choice::{best_among, distance};
@@ -31,7 +33,7 @@ pub extern "C" fn langtag_distance(desired: &[u8], supported: &[u8]) -> u32
 /// not a tag, or reaches beyond the text, is skipped.
 #[unsafe(no_mangle)]
 pub extern "C" fn langtag_best_for_header(header: &[u8], bytes: &[u8], tags: &[Span]) -> usize
-    ensures best { IsBest header.now bytes.now tags.now result }
+    ensures best { IsBest (wanted_elements header.now) bytes.now tags.now result }
     ensures within { result ≤ length tags.now }
 {
     let spanned = SpannedTags {
@@ -39,4 +41,30 @@ pub extern "C" fn langtag_best_for_header(header: &[u8], bytes: &[u8], tags: &[S
         spans: tags,
     };
     best_among(header, &spanned).unwrap_or(tags.len())
+}
+
+/// Returns the index of the tag that a reader wants who names language ranges of which the first is wanted most: 1 for `nn` and
+/// `de`, and `en` and `nb`. Ranges and tags are spans of texts. The number of the tags where the reader wants none of them.
+///
+/// A range is read as that of an element of a header: `zh_TW.UTF-8` as `zh-TW`. An extended one counts without its `*`. A span
+/// that is no range or no tag, or reaches out of its text, is passed over.
+#[unsafe(no_mangle)]
+pub extern "C" fn langtag_best_for_ranges(
+    text: &[u8],
+    ranges: &[Span],
+    bytes: &[u8],
+    tags: &[Span],
+) -> usize
+    ensures best { IsBest (ranges_at text.now ranges.now) bytes.now tags.now result }
+    ensures within { result ≤ length tags.now }
+{
+    let wanted = SpannedRanges {
+        text,
+        spans: ranges,
+    };
+    let spanned = SpannedTags {
+        text: bytes,
+        spans: tags,
+    };
+    best_among(wanted, &spanned).unwrap_or(tags.len())
 }

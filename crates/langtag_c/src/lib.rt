@@ -26,6 +26,7 @@ mod refused;
 mod registry_date;
 mod repeats;
 mod span;
+mod spanned_ranges;
 mod spanned_tags;
 mod tag;
 mod transform;

@@ -7,20 +7,22 @@ use Rattle.langtag_scan.specs.CaseLaws.{are_alike-decides}
 use Rattle.langtag_scan.specs.Class.{is_letter, is_digit, is_primary, is_extended, is_script, is_region}
 use Rattle.langtag_scan.specs.Subtags.{subtags}
 use Rattle.langtag_scan.proofs.CaseLaw.{all-fold, is_letter-fold, length-fold}
+use Rattle.langtag_match.specs.Listed.{basic_text}
 use Rattle.langtag_match.specs.Wanted.{hyphened}
-use Rattle.langtag_match.proofs.AlikeTexts.{hyphened-fold, is_digit-fold, subtags-fold}
+use Rattle.langtag_match.proofs.AlikeTexts.{hyphened-fold, is_digit-fold, is_star-fold, subtags-fold}
+use Rattle.langtag_match.proofs.BasicForms.{basic_text-alike}
 use Rattle.langtag_tables.proofs.AlikeTexts.{fold_text-twice}
 use Rattle.langtag_choice.specs.Distance.{IgnoresCase, distance_of_forms, distance_of_texts, language_distance, script_distance, region_distance}
 use Rattle.langtag_likely.specs.Likely.{Fields, known, without_region}
 use Rattle.langtag_likely.specs.Matching.{matching_fields, matching_form}
 use Rattle.langtag_choice.specs.Nearness.{is_form, unlikely, unlikely_form}
-use Rattle.langtag_likely.specs.TextFields.{text_fields, fields_of_subtags, language_of, after_language, script_of, after_script, region_of}
+use Rattle.langtag_likely.specs.TextFields.{text_fields, fields_of_subtags, counted, counts, language_of, after_language, script_of, after_script, region_of}
 use Rattle.langtag_likely.proofs.AlikeFields.{AlikeFields, AlikeOptions, are_alike-right, suffices-alike, by_options, by_same, are_alike-left}
 use Rattle.langtag_choice.proofs.DistanceCase.{forms-alike, matching-alike}
 
 -- ---- bytes and subtags
 
-pub hyphened-alike : (a b : List ℕ) → Alike a b → Alike (hyphened a) (hyphened b)
+hyphened-alike : (a b : List ℕ) → Alike a b → Alike (hyphened a) (hyphened b)
 hyphened-alike a b alike = sym (hyphened-fold a) ∙ ap hyphened alike ∙ hyphened-fold b
 
 is_primary-fold : (s : List ℕ) → is_primary (fold_text s) ≡ is_primary s
@@ -71,16 +73,33 @@ known-fold unknown text = rw (are_alike-right unknown (fold_text text) text (fol
 abbrev fold_fields : Fields → Fields
 fold_fields f = record { language = fold_text f.language; script = fold_text f.script; region = fold_text f.region }
 
+counts-fold : (s : List ℕ) → counts (fold_text s) ≡ counts s
+counts-fold s = rw (is_star-fold s, length-fold s) refl
+
+counted-fold : (subtags : List (List ℕ)) → counted (map fold_text subtags) ≡ map fold_text (counted subtags)
+counted-fold [] = refl
+counted-fold (s ∷ others) =
+    ap (λ t. cond t (fold_text s ∷ counted (map fold_text others)) (counted (map fold_text others))) (counts-fold s)
+    ∙ ap (λ rest. cond (counts s) (fold_text s ∷ rest) rest) (counted-fold others)
+    ∙ cond-map (map fold_text) (counts s) (s ∷ counted others) (counted others)
+
 fields_of_subtags-fold : (subtags : List (List ℕ)) → fields_of_subtags (map fold_text subtags) ≡ option_map fold_fields (fields_of_subtags subtags)
 fields_of_subtags-fold [] = refl
 fields_of_subtags-fold (s ∷ others) =
-    let language = ap (λ l. language_of l (map fold_text others)) (known-fold (codes "und") s) ∙ language_of-fold (known (codes "und") s) others in
-    let script = ap (λ t. known (codes "Zzzz") (script_of t)) (after_language-fold others) ∙ ap (known (codes "Zzzz")) (script_of-fold (after_language others)) ∙ known-fold (codes "Zzzz") (script_of (after_language others)) in
+    let n = counted others in
+    let all = counted-fold others in
+    let language =
+    ap (language_of (known (codes "und") (fold_text s))) all
+    ∙ ap (λ l. language_of l (map fold_text n)) (known-fold (codes "und") s) ∙ language_of-fold (known (codes "und") s) n in
+    let script =
+    ap (λ t. known (codes "Zzzz") (script_of (after_language t))) all
+    ∙ ap (λ t. known (codes "Zzzz") (script_of t)) (after_language-fold n) ∙ ap (known (codes "Zzzz")) (script_of-fold (after_language n)) ∙ known-fold (codes "Zzzz") (script_of (after_language n)) in
     let region =
-    ap (λ t. known (codes "ZZ") (region_of (after_script t))) (after_language-fold others)
-    ∙ ap (λ t. known (codes "ZZ") (region_of t)) (after_script-fold (after_language others))
-    ∙ ap (known (codes "ZZ")) (region_of-fold (after_script (after_language others)))
-    ∙ known-fold (codes "ZZ") (region_of (after_script (after_language others))) in
+    ap (λ t. known (codes "ZZ") (region_of (after_script (after_language t)))) all
+    ∙ ap (λ t. known (codes "ZZ") (region_of (after_script t))) (after_language-fold n)
+    ∙ ap (λ t. known (codes "ZZ") (region_of t)) (after_script-fold (after_language n))
+    ∙ ap (known (codes "ZZ")) (region_of-fold (after_script (after_language n)))
+    ∙ known-fold (codes "ZZ") (region_of (after_script (after_language n))) in
     rw (is_primary-fold s, language, script, region) (by_test (is_primary s) _)
   where
     by_test : (b : Bool) (f : Fields) → cond b (Some (fold_fields f)) None ≡ option_map fold_fields (cond b (Some f) None)
@@ -105,14 +124,13 @@ pub matching_form-alike : (a b : List ℕ) → Alike a b → AlikeOptions (match
 unfolding matching_form
 matching_form-alike a b alike =
     by_same (λ s t. AlikeOptions (cond s None (option_map matching_fields (text_fields (hyphened a)))) (cond t None (option_map matching_fields (text_fields (hyphened b))))) by_test _ _
-    (are_alike-left (hyphened a) (hyphened b) (codes "und") read)
+    (are_alike-left (basic_text a) (basic_text b) (codes "und") (basic_text-alike a b alike))
   where
-    read : Alike (hyphened a) (hyphened b)
-    read = hyphened-alike a b alike
-
     by_test : (t : Bool) → AlikeOptions (cond t None (option_map matching_fields (text_fields (hyphened a)))) (cond t None (option_map matching_fields (text_fields (hyphened b))))
     by_test true = tt
-    by_test false = same_fields (text_fields (hyphened a)) (text_fields (hyphened b)) (sym (text_fields-fold (hyphened a)) ∙ ap text_fields read ∙ text_fields-fold (hyphened b))
+    by_test false =
+        same_fields (text_fields (hyphened a)) (text_fields (hyphened b))
+        (sym (text_fields-fold (hyphened a)) ∙ ap text_fields (hyphened-alike a b alike) ∙ text_fields-fold (hyphened b))
 
 pub distance-alike : (a b c d : List ℕ) → Alike a b → Alike c d → distance_of_texts a c ≡ distance_of_texts b d
 unfolding distance_of_texts

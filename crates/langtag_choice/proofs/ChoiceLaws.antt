@@ -1,7 +1,7 @@
 -- Of the choice: it is the only one, and what was found on the way is it.
 use Rattle.std.proofs.Common.{◌≡◌, ℕ, true, List, get_or, Option, Some, None, option_map, ap, refl, sym, subst, ◌∙◌}
 use Rattle.langtag_match.specs.AcceptLanguage.{Element}
-use Rattle.langtag_match.specs.Wanted.{hyphened}
+use Rattle.langtag_match.specs.Listed.{basic_text}
 use Rattle.langtag_choice.specs.Distance.{distance_of_texts}
 use Rattle.langtag_choice.specs.Best.{IsAtMost, IsChoice, IsMatchOf, Pair, rank, rank_of_pair, serves}
 use Rattle.langtag_choice.specs.declared.best_match.BestMatch.{BestMatch}
@@ -65,14 +65,14 @@ module _ (elements : List Element) (tags : List (Option (List ℕ))) where
   -- what is said of what was found is a match
   pub match_found :
       (o : Option Candidate) (c : Candidate) (m : BestMatch) → o ≡ Some c → IsBestFound elements tags o → m.index ≡ c.index → m.range.now ≡ c.range.now → m.place ≡ c.rank.place →
-      m.distance ≡ distance_of_texts (hyphened c.range.now) c.tag.now → IsMatchOf elements tags m
+      m.distance ≡ distance_of_texts (basic_text c.range.now) c.tag.now → IsMatchOf elements tags m
   match_found o c m is found index range place distance =
       let best : IsBestOf elements tags c = subst (IsBestFound elements tags) is found in
       record {
         pair = best.pair;
         index = index ∙ sym best.index;
         place = place ∙ sym best.place;
-        range = ap hyphened range ∙ sym best.range;
+        range = ap basic_text range ∙ sym best.range;
         distance = distance ∙ ap (λ r. distance_of_texts r c.tag.now) (sym best.range) ∙ ap (distance_of_texts best.pair.element.range) (sym best.tag);
         least = best.least;
       }

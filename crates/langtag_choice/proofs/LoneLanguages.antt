@@ -12,8 +12,9 @@ use Rattle.langtag_scan.specs.Class.{are_letters, is_extended, is_letter, is_pri
 use Rattle.langtag_tables.proofs.Letters.{primary_length}
 use Rattle.langtag_match.specs.Basic.{ends_subtag}
 use Rattle.langtag_match.specs.Fallback.{ends_in_single}
+use Rattle.langtag_match.specs.Listed.{basic_text}
 use Rattle.langtag_match.specs.Wanted.{hyphened, is_mark}
-use Rattle.langtag_choice.specs.Lone.{IsShort, head, is_lone, is_related, lone_head, replacing}
+use Rattle.langtag_choice.specs.Lone.{HasNoExtended, begins_counted, IsShort, head, is_lone, is_related, lone_head, replacing}
 use Rattle.langtag_choice.specs.Distance.{distance_of_forms, distance_of_texts, is_among, language_distance}
 use Rattle.langtag_likely.specs.Likely.{Fields, Likely, are_alike_fields, known, language_alone, likely_for}
 use Rattle.langtag_likely.specs.Matching.{language_replaced, matching_fields, matching_form, with_language}
@@ -21,14 +22,14 @@ use Rattle.langtag_choice.specs.MatchingData.{language_rules}
 use Rattle.langtag_likely.specs.Aliases.{language_aliases}
 use Rattle.langtag_choice.specs.Nearness.{is_fallback, kept}
 use Rattle.langtag_choice.specs.Rules.{Rule, distance_by}
-use Rattle.langtag_likely.specs.TextFields.{language_of, parts, text_fields}
+use Rattle.langtag_likely.specs.TextFields.{counts, language_of, parts, text_fields}
 use Rattle.langtag_likely.proofs.AlikeFields.{by_options}
 use Rattle.langtag_choice.proofs.AlikeRanges.{matching_form-alike}
 use Rattle.langtag_likely.proofs.AliasTables.{aliases_lead}
 use Rattle.langtag_likely.proofs.CompletedForms.{completed_language}
 use Rattle.langtag_likely.proofs.RowsFound.{alike_length}
-use Rattle.langtag_choice.proofs.ReadRanges.{form_read}
-use Rattle.langtag_likely.proofs.TextParts.{all_fields, no_fields, stop_language}
+use Rattle.langtag_likely.proofs.TextParts.{all_fields, next_part, no_fields}
+use Rattle.langtag_likely.proofs.CommonTexts.{some_length}
 use Rattle.langtag_match.proofs.Prefixes.{length-alike}
 
 -- ---- heads
@@ -113,17 +114,17 @@ two_short a b = λ primary. by_marks (is_mark a) (is_mark b) refl refl primary
   where
     by_marks :
         (x y : Bool) → is_mark a ≡ x → is_mark b ≡ y → is_primary (before_first is_mark (a ∷ b ∷ [])) ≡ true →
-        (length (before_first is_mark (a ∷ b ∷ [])) ≡ 2) × (is_extended (before_first is_mark (after_first is_mark (a ∷ b ∷ []))) ≡ false)
+        (length (before_first is_mark (a ∷ b ∷ [])) ≡ 2) × HasNoExtended (after_first is_mark (a ∷ b ∷ []))
     by_marks true y first second primary = absurd (not_primary (before_first is_mark (a ∷ b ∷ [])) (rw first (omega arith)) primary)
     by_marks false true first second primary = absurd (not_primary (before_first is_mark (a ∷ b ∷ [])) (rw (first, second) (omega arith)) primary)
-    by_marks false false first second primary = rw (first, second) (refl, refl)
+    by_marks false false first second primary = rw (first, second) (refl, (refl, refl))
 
-marked_short : (a b m : ℕ) (rest : List ℕ) → is_mark m ≡ true → is_extended (before_first is_mark rest) ≡ false → IsShort (a ∷ b ∷ m ∷ rest)
+marked_short : (a b m : ℕ) (rest : List ℕ) → is_mark m ≡ true → HasNoExtended rest → IsShort (a ∷ b ∷ m ∷ rest)
 marked_short a b m rest mark alone = λ primary. by_marks (is_mark a) (is_mark b) refl refl primary
   where
     by_marks :
         (x y : Bool) → is_mark a ≡ x → is_mark b ≡ y → is_primary (before_first is_mark (a ∷ b ∷ m ∷ rest)) ≡ true →
-        (length (before_first is_mark (a ∷ b ∷ m ∷ rest)) ≡ 2) × (is_extended (before_first is_mark (after_first is_mark (a ∷ b ∷ m ∷ rest))) ≡ false)
+        (length (before_first is_mark (a ∷ b ∷ m ∷ rest)) ≡ 2) × HasNoExtended (after_first is_mark (a ∷ b ∷ m ∷ rest))
     by_marks true y first second primary = absurd (not_primary (before_first is_mark (a ∷ b ∷ m ∷ rest)) (rw first (omega arith)) primary)
     by_marks false true first second primary = absurd (not_primary (before_first is_mark (a ∷ b ∷ m ∷ rest)) (rw (first, second) (omega arith)) primary)
     by_marks false false first second primary = rw (first, second, mark) (refl, alone)
@@ -134,7 +135,7 @@ short_of_two (a ∷ []) least most = absurd (omega (arith, least))
 short_of_two (a ∷ b ∷ []) least most = two_short a b
 short_of_two (a ∷ b ∷ m ∷ rest) least most = absurd (omega (arith, most))
 
-pub short_of_more : (text : List ℕ) → 3 ≤ length text → is_mark (get_or text 2 0) ≡ true → is_extended (before_first is_mark (drop 3 text)) ≡ false → IsShort text
+pub short_of_more : (text : List ℕ) → 3 ≤ length text → is_mark (get_or text 2 0) ≡ true → HasNoExtended (drop 3 text) → IsShort text
 short_of_more [] least mark alone = absurd (omega (arith, least))
 short_of_more (a ∷ []) least mark alone = absurd (omega (arith, least))
 short_of_more (a ∷ b ∷ []) least mark alone = absurd (omega (arith, least))
@@ -153,6 +154,17 @@ extended_mark (x ∷ y ∷ z ∷ n ∷ text) long other = longer x y z n text ot
 
 -- ---- the language of a text
 
+first_counts : (b : ℕ) (text : List ℕ) → begins_counted (b ∷ text) ≡ true → counts (before_first is_mark (b ∷ text)) ≡ true
+first_counts b text is =
+    let apart = or_parts (is_mark b) (b == 42) (not-true _ is) in
+    rw (unmarked b text apart.0, apart.1, some_length b (before_first is_mark text)) refl
+
+no_extended : (text : List ℕ) → HasNoExtended text → (language : List ℕ) → language_of language (parts text) ≡ language
+no_extended [] none language = refl
+no_extended (b ∷ text) none language =
+    ap (language_of language) (next_part (b ∷ text))
+    ∙ rw (first_counts b text none.0, none.1) refl
+
 -- a language that is there and is not that one
 record IsOther (one language : List ℕ) : Type 0 where
   other : Alike one language → ⊥
@@ -165,7 +177,7 @@ module _ (one : List ℕ) (letters : ℕ × ℕ) (begins : head one ≡ Some let
   module _ (text : List ℕ) (short : IsShort text) (other : head text ≡ Some letters → ⊥) where
     language_first : is_primary (before_first is_mark text) ≡ true → language_of (known (codes "und") (before_first is_mark text)) (parts (after_first is_mark text)) ≡ before_first is_mark text
     language_first primary =
-        stop_language (after_first is_mark text) (known (codes "und") (before_first is_mark text)) (short primary).1 ∙ known_two (before_first is_mark text) (short primary).0
+        no_extended (after_first is_mark text) (short primary).1 (known (codes "und") (before_first is_mark text)) ∙ known_two (before_first is_mark text) (short primary).0
 
     first_other : is_primary (before_first is_mark text) ≡ true → Alike one (before_first is_mark text) → ⊥
     first_other primary = λ alike. other (sym (head_first text primary) ∙ sym (head-alike one (before_first is_mark text) alike) ∙ begins)
@@ -221,7 +233,7 @@ module _ (one : List ℕ) (letters : ℕ × ℕ) (begins : head one ≡ Some let
       (text : List ℕ) → IsShort text → (head text ≡ Some letters → ⊥) → is_among (replacing language_aliases) one ≡ false →
       (form : Fields) → matching_form text ≡ Some form → Alike one form.language → ⊥
   unfolding matching_form
-  form_other text short other apart form is = by_und (are_alike (hyphened text) (codes "und")) is
+  form_other text short other apart form is = by_und (are_alike (basic_text text) (codes "und")) is
     where
       by_fields : (o : Option Fields) → text_fields (hyphened text) ≡ o → option_map matching_fields o ≡ Some form → Alike one form.language → ⊥
       by_fields None is made = absurd cc
@@ -255,10 +267,10 @@ language_far desired supported apart other =
     ∙ no_rule (language_alone desired) (language_alone supported) 80 language_rules apart
 
 -- what is alike has a form or has none
-form_alone : (range tag : List ℕ) (f : Fields) → matching_form (hyphened range) ≡ Some f → matching_form tag ≡ None → are_alike (hyphened range) tag ≡ false
-form_alone range tag f some none = false_from_ne_true (are_alike (hyphened range) tag) (λ yes.
+form_alone : (range tag : List ℕ) (f : Fields) → matching_form range ≡ Some f → matching_form tag ≡ None → are_alike range tag ≡ false
+form_alone range tag f some none = false_from_ne_true (are_alike range tag) (λ yes.
     by_options (λ a b. a ≡ Some f → b ≡ None → ⊥) (λ is not. cc) (λ a b alike is not. cc) _ _
-    (matching_form-alike (hyphened range) tag ((are_alike-decides (hyphened range) tag).0 yes)) some none)
+    (matching_form-alike range tag ((are_alike-decides range tag).0 yes)) some none)
 
 lone_language : (f : Fields) (letters : ℕ × ℕ) → lone_head (Some f) ≡ Some letters → (is_lone f.language ≡ true) × (head f.language ≡ Some letters)
 lone_language f letters is = by_test (is_lone f.language) is
@@ -269,21 +281,21 @@ lone_language f letters is = by_test (is_lone f.language) is
 
 pub far_from_lone :
     (letters : ℕ × ℕ) (range tag : List ℕ) → lone_head (matching_form range) ≡ Some letters → IsShort tag → (head tag ≡ Some letters → ⊥) →
-    50 ≤ distance_of_texts (hyphened range) tag
+    50 ≤ distance_of_texts range tag
 unfolding distance_of_texts is_lone
 far_from_lone letters range tag lone short other = by_form (matching_form range) lone refl
   where
     by_tag :
-        (d : Fields) → matching_form (hyphened range) ≡ Some d → is_among (map (λ rule. rule.desired.language) language_rules) d.language ≡ false →
+        (d : Fields) → matching_form range ≡ Some d → is_among (map (λ rule. rule.desired.language) language_rules) d.language ≡ false →
         is_among (replacing language_aliases) d.language ≡ false → head d.language ≡ Some letters →
-        (o : Option Fields) → matching_form tag ≡ o → 50 ≤ distance_of_forms (hyphened range) tag (Some d) o
+        (o : Option Fields) → matching_form tag ≡ o → 50 ≤ distance_of_forms range tag (Some d) o
     by_tag d is desired replacing begins None none = rw (form_alone range tag d is none) (omega arith)
     by_tag d is desired replacing begins (Some form) some = let eighty = language_far d form desired (form_other d.language letters begins tag short other replacing form some) in omega (arith, eighty)
 
-    by_form : (o : Option Fields) → lone_head o ≡ Some letters → matching_form range ≡ o → 50 ≤ distance_of_forms (hyphened range) tag (matching_form (hyphened range)) (matching_form tag)
+    by_form : (o : Option Fields) → lone_head o ≡ Some letters → matching_form range ≡ o → 50 ≤ distance_of_forms range tag (matching_form range) (matching_form tag)
     by_form None lone is = absurd cc
     by_form (Some d) lone is =
-        let form = form_read range ∙ is in
+        let form = is in
         let yes = lone_language d letters lone in
         let parts = and_parts (length d.language == 2) (not (is_related d.language)) yes.0 in
         let aparts = or_parts (is_among (map (λ rule. rule.desired.language) language_rules) d.language) (is_among (replacing language_aliases) d.language) (not-true (is_related d.language) parts.1) in
@@ -309,10 +321,10 @@ fallback_begins range tag long fallback =
     starts_alike range tag long parts.0
 
 pub nothing_kept :
-    (letters begin : ℕ × ℕ) (range tag : List ℕ) → head (hyphened range) ≡ Some letters → head tag ≡ Some begin → (head tag ≡ Some letters → ⊥) → kept (hyphened range) tag ≡ 0
+    (letters begin : ℕ × ℕ) (range tag : List ℕ) → head range ≡ Some letters → head tag ≡ Some begin → (head tag ≡ Some letters → ⊥) → kept range tag ≡ 0
 unfolding kept
-nothing_kept letters begin range tag starts is other = by_test (is_fallback (hyphened range) tag) refl
+nothing_kept letters begin range tag starts is other = by_test (is_fallback range tag) refl
   where
-    by_test : (b : Bool) → is_fallback (hyphened range) tag ≡ b → cond (is_fallback (hyphened range) tag) (length tag) 0 ≡ 0
-    by_test true fallback = absurd (other (sym (fallback_begins (hyphened range) tag (head_length tag begin is) fallback) ∙ starts))
+    by_test : (b : Bool) → is_fallback range tag ≡ b → cond (is_fallback range tag) (length tag) 0 ≡ 0
+    by_test true fallback = absurd (other (sym (fallback_begins range tag (head_length tag begin is) fallback) ∙ starts))
     by_test false not = rw not refl

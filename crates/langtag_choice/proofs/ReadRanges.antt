@@ -1,43 +1,148 @@
--- Texts in which "_" is read as "-".
-use Rattle.std.proofs.Common.{◌≡◌, ℕ, ◌<◌, Bool, true, false, inl, inr, List, [], ◌∷◌, length, length-take, take, drop, refl, arith}
-use Rattle.std.proofs.lemmas.List.{take-map, drop-map, length-map}
-use Rattle.langtag_scan.specs.Case.{are_alike}
+-- Ranges as they are read: "_" as "-", and without each "-*".
+use Rattle.std.proofs.Common.{◌≡◌, ℕ, ◌-◌, ◌≤◌, Bool, true, false, cond, not, ◌==◌, List, [], ◌∷◌, length, length-drop, length-take, take, drop, filter, refl, sym, ap, ◌∙◌, arith}
+use Rattle.std.specs.Prelude.{◌&&◌, ◌||◌, codes}
+use Rattle.std.proofs.lemmas.Bool.{eqb-true}
+use Rattle.std.proofs.lemmas.Bool.Decides.{nat_tests}
+use Rattle.langtag_scan.specs.Case.{are_alike, fold_byte, fold_text}
 use Rattle.langtag_scan.specs.CaseLaws.{are_alike-decides}
-use Rattle.std.proofs.lemmas.Bool.Decides.{eqb_tells}
-use Rattle.langtag_likely.specs.Matching.{matching_form}
-use Rattle.langtag_match.specs.Wanted.{hyphened, hyphened_byte}
+use Rattle.langtag_scan.specs.Subtags.{subtags}
+use Rattle.langtag_match.proofs.AlikeTexts.{is_star-fold}
+use Rattle.langtag_match.proofs.BasicForms.{basic_form-basic, basic_of, is_plain, IsBasicOf}
+use Rattle.langtag_match.proofs.BasicRanges.{is_language_range-from_basic}
+use Rattle.langtag_match.proofs.PlainRanges.{hyphened_range}
 use Rattle.langtag_match.proofs.Prefixes.{length-alike}
+use Rattle.langtag_match.specs.Basic.{ends_subtag}
+use Rattle.langtag_match.specs.Fallback.{ends_in_single}
+use Rattle.langtag_match.specs.Listed.{basic_text}
+use Rattle.langtag_match.specs.LookUp.{basic_form}
+use Rattle.langtag_match.specs.Range.{are_extended_range, is_basic_range, is_language_range, is_star}
+use Rattle.langtag_match.specs.Wanted.{hyphened}
+use Rattle.langtag_likely.proofs.CommonTexts.{nothing_read, read_byte, read_nothing, some_length}
+use Rattle.langtag_likely.specs.Matching.{matching_fields, matching_form}
+use Rattle.langtag_likely.specs.Ranges.{after_common, BeginsPlain}
+use Rattle.langtag_likely.specs.TextFields.{counted, counts, fields_of_subtags, text_fields}
+use Rattle.langtag_choice.specs.Nearness.{is_fallback}
 
-pub length_read : (range : List ℕ) → length (hyphened range) ≡ length range
-length_read range = length-map range hyphened_byte
+-- ---- a range of a header, and "*"
 
-pub take_read : (range : List ℕ) (n : ℕ) → take n (hyphened range) ≡ hyphened (take n range)
-take_read range n = take-map hyphened_byte n range
+pub basic_read : (range : List ℕ) → is_basic_range (hyphened range) ≡ true → basic_text range ≡ hyphened range
+unfolding basic_text
+basic_read range is = basic_form-basic (hyphened range) is
 
-pub drop_read : (range : List ℕ) (n : ℕ) → drop n (hyphened range) ≡ hyphened (drop n range)
-drop_read range n = drop-map hyphened_byte n range
+pub range_read : (range : List ℕ) → is_basic_range (hyphened range) ≡ true → is_language_range (hyphened range) ≡ true
+range_read range = is_language_range-from_basic (hyphened range)
 
-pub too_short : (range tag : List ℕ) → length range < length tag → are_alike (take (length tag) (hyphened range)) tag ≡ false
-too_short range tag short = by_test (are_alike (take (length tag) (hyphened range)) tag) refl
+pub star_read : (range : List ℕ) → are_alike range (codes "*") ≡ is_star range
+unfolding fold_byte
+star_read range = is_star-fold range
+
+-- ---- its matching form
+
+counted_plain : (ss : List (List ℕ)) → counted (filter is_plain ss) ≡ counted ss
+counted_plain [] = refl
+counted_plain (s ∷ ss) = by_test (is_star s) refl (counted_plain ss)
   where
-    by_test : (test : Bool) → are_alike (take (length tag) (hyphened range)) tag ≡ test → test ≡ false
-    by_test false is = refl
-    by_test true is = absurd (omega (arith, length-alike (take (length tag) (hyphened range)) tag ((are_alike-decides (take (length tag) (hyphened range)) tag).0 is), length-take (length tag) (hyphened range), length_read range))
+    by_test : (star : Bool) → is_star s ≡ star → counted (filter is_plain ss) ≡ counted ss → counted (cond (not star) (s ∷ filter is_plain ss) (filter is_plain ss)) ≡ counted (s ∷ ss)
+    by_test true is rest = rw is rest
+    by_test false is rest = ap (λ t. cond (counts s) (s ∷ t) t) rest
 
--- what is read is read as it stands
-byte_twice : (b : ℕ) → hyphened_byte (hyphened_byte b) ≡ hyphened_byte b
-byte_twice b = elim (eqb_tells b 95) [
-  | inl same ↦ rw same.0 refl
-  | inr other ↦ rw (other.0, other.0) refl
-]
+fields_read : (text : List ℕ) → is_language_range text ≡ true → text_fields (basic_form text) ≡ text_fields text
+unfolding text_fields
+fields_read text is = by_subtags (subtags text) refl is (basic_of text is)
+  where
+    by_subtags : (ss : List (List ℕ)) → subtags text ≡ ss → are_extended_range ss ≡ true → IsBasicOf text (basic_form text) → fields_of_subtags (subtags (basic_form text)) ≡ fields_of_subtags (subtags text)
+    by_subtags [] are range basic = absurd cc
+    by_subtags (first ∷ others) are range basic = rw (basic.subtags first others are, are, counted_plain others) refl
 
-read_twice : (text : List ℕ) → hyphened (hyphened text) ≡ hyphened text
-read_twice [] = refl
-read_twice (b ∷ text) =
-    let first = byte_twice b in
-    let rest = read_twice text in
-    cc
+pub form_read : (range : List ℕ) → is_language_range (hyphened range) ≡ true → matching_form (basic_text range) ≡ matching_form range
+unfolding matching_form basic_text
+form_read range is =
+    let basic = basic_of (hyphened range) is in
+    let plain = hyphened_range (basic_form (hyphened range)) basic.range in
+    rw (plain, basic.settled, fields_read (hyphened range) is) refl
 
-pub form_read : (range : List ℕ) → matching_form (hyphened range) ≡ matching_form range
-unfolding matching_form
-form_read range = rw (read_twice range) refl
+-- ---- what is left of it and of a tag
+
+tag_left : (range tag : List ℕ) → are_alike (take (length tag) range) tag ≡ (length (after_common range tag).1 == 0)
+tag_left [] [] = refl
+tag_left [] (b ∷ tag) = rw (some_length b tag) refl
+tag_left (a ∷ range) [] = refl
+tag_left (a ∷ range) (b ∷ tag) = by_test (fold_byte a == fold_byte b) refl (tag_left range tag)
+  where
+    by_test :
+        (test : Bool) → (fold_byte a == fold_byte b) ≡ test → are_alike (take (length tag) range) tag ≡ (length (after_common range tag).1 == 0) →
+        are_alike (take (length (b ∷ tag)) (a ∷ range)) (b ∷ tag) ≡ (length (after_common (a ∷ range) (b ∷ tag)).1 == 0)
+    by_test true is rest = rw is rest
+    by_test false is rest = rw (is, some_length b tag) refl
+
+tag_dropped : (range tag : List ℕ) → (length (after_common range tag).1 == 0) ≡ true → drop (length tag) range ≡ (after_common range tag).0
+tag_dropped [] [] none = refl
+tag_dropped [] (b ∷ tag) none = refl
+tag_dropped (a ∷ range) [] none = refl
+tag_dropped (a ∷ range) (b ∷ tag) none = by_test (fold_byte a == fold_byte b) refl (tag_dropped range tag) none
+  where
+    by_test :
+        (test : Bool) → (fold_byte a == fold_byte b) ≡ test → ((length (after_common range tag).1 == 0) ≡ true → drop (length tag) range ≡ (after_common range tag).0) →
+        (length (cond test (after_common range tag) (a ∷ range, b ∷ tag)).1 == 0) ≡ true → drop (length (b ∷ tag)) (a ∷ range) ≡ (after_common (a ∷ range) (b ∷ tag)).0
+    by_test true is rest none = rw is (rest none)
+    by_test false is rest none = absurd (let some = some_length b tag in cc (some, none))
+
+range_left : (range tag : List ℕ) → are_alike range (take (length range) tag) ≡ (length (after_common range tag).0 == 0)
+range_left [] tag = refl
+range_left (a ∷ range) [] = rw (some_length a range) refl
+range_left (a ∷ range) (b ∷ tag) = by_test (fold_byte a == fold_byte b) refl (range_left range tag)
+  where
+    by_test :
+        (test : Bool) → (fold_byte a == fold_byte b) ≡ test → are_alike range (take (length range) tag) ≡ (length (after_common range tag).0 == 0) →
+        are_alike (a ∷ range) (take (length (a ∷ range)) (b ∷ tag)) ≡ (length (after_common (a ∷ range) (b ∷ tag)).0 == 0)
+    by_test true is rest = rw is rest
+    by_test false is rest = rw (is, some_length a range) refl
+
+range_dropped : (range tag : List ℕ) → (length (after_common range tag).0 == 0) ≡ true → drop (length range) tag ≡ (after_common range tag).1
+range_dropped [] tag none = refl
+range_dropped (a ∷ range) [] none = refl
+range_dropped (a ∷ range) (b ∷ tag) none = by_test (fold_byte a == fold_byte b) refl (range_dropped range tag) none
+  where
+    by_test :
+        (test : Bool) → (fold_byte a == fold_byte b) ≡ test → ((length (after_common range tag).0 == 0) ≡ true → drop (length range) tag ≡ (after_common range tag).1) →
+        (length (cond test (after_common range tag) (a ∷ range, b ∷ tag)).0 == 0) ≡ true → drop (length (a ∷ range)) (b ∷ tag) ≡ (after_common (a ∷ range) (b ∷ tag)).1
+    by_test true is rest none = rw is (rest none)
+    by_test false is rest none = absurd (let some = some_length a range in cc (some, none))
+
+ends_read : (left : List ℕ) → BeginsPlain left → ends_subtag (basic_text left) ≡ ends_subtag (hyphened left)
+ends_read [] plain = ap ends_subtag read_nothing
+ends_read (a ∷ left) plain = ap ends_subtag (read_byte a left plain)
+
+pub range_starts : (range tag left rest : List ℕ) → (left, rest) ≡ after_common (basic_text range) tag → (length rest == 0) ≡ are_alike (take (length tag) (basic_text range)) tag
+range_starts range tag left rest is = ap (λ p. length p.1 == 0) is ∙ sym (tag_left (basic_text range) tag)
+
+module _ (range tag left rest : List ℕ) (plain : BeginsPlain left) (is : (basic_text left, rest) ≡ after_common (basic_text range) tag) where
+  -- a tag is what look-up falls back to if the range begins with it
+  pub tag_begins : is_fallback (basic_text range) tag ≡ ((length rest == 0) && (ends_subtag (hyphened left) && ((length left == 0) || not (ends_in_single tag))))
+  tag_begins = by_test (length rest == 0) (tag_left (basic_text range) tag ∙ ap (λ p. length p.1 == 0) (sym is)) refl
+    where
+      by_test :
+          (test : Bool) → are_alike (take (length tag) (basic_text range)) tag ≡ (length rest == 0) → (length rest == 0) ≡ test →
+          is_fallback (basic_text range) tag ≡ (test && (ends_subtag (hyphened left) && ((length left == 0) || not (ends_in_single tag))))
+      by_test false alike some = rw (alike, some) refl
+      by_test true alike none =
+          let dropped : drop (length tag) (basic_text range) ≡ basic_text left = tag_dropped (basic_text range) tag (ap (λ p. length p.1 == 0) (sym is) ∙ none) ∙ ap (λ p. p.0) (sym is) in
+          let long = length-alike (take (length tag) (basic_text range)) tag ((are_alike-decides (take (length tag) (basic_text range)) tag).0 (alike ∙ none)) in
+          let within : length tag ≤ length (basic_text range) = omega (arith, long, length-take (length tag) (basic_text range)) in
+          let more : length (basic_text range) - length tag ≡ length (basic_text left) = sym (length-drop (length tag) (basic_text range)) ∙ ap length dropped in
+          let same : (length tag == length (basic_text range)) ≡ (length (basic_text left) == 0) = grind (arith, nat_tests) in
+          rw (alike, none, dropped, ends_read left plain, same, nothing_read left plain) refl
+
+  -- a tag begins with a range, and ends or goes on with a hyphen
+  pub range_begins : (are_alike (basic_text range) (take (length (basic_text range)) tag) && ends_subtag (drop (length (basic_text range)) tag)) ≡ ((length left == 0) && ends_subtag rest)
+  range_begins =
+      by_test (length left == 0) (range_left (basic_text range) tag ∙ ap (λ p. length p.0 == 0) (sym is) ∙ nothing_read left plain) refl
+    where
+      by_test :
+          (test : Bool) → are_alike (basic_text range) (take (length (basic_text range)) tag) ≡ (length left == 0) → (length left == 0) ≡ test →
+          (are_alike (basic_text range) (take (length (basic_text range)) tag) && ends_subtag (drop (length (basic_text range)) tag)) ≡ (test && ends_subtag rest)
+      by_test false alike some = rw (alike, some) refl
+      by_test true alike none =
+          let dropped : drop (length (basic_text range)) tag ≡ rest =
+          range_dropped (basic_text range) tag (ap (λ p. length p.0 == 0) (sym is) ∙ nothing_read left plain ∙ none) ∙ ap (λ p. p.1) (sym is) in
+          rw (alike, none, dropped) refl

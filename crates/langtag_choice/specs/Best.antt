@@ -8,7 +8,7 @@ use Rattle.langtag_choice.specs.Nearness.{unlikely, kept}
 use Rattle.langtag_match.specs.AcceptLanguage.{Element}
 use Rattle.langtag_match.specs.Basic.{test_basic}
 use Rattle.langtag_match.specs.Range.{is_star}
-use Rattle.langtag_match.specs.Wanted.{hyphened}
+use Rattle.langtag_match.specs.Listed.{basic_text}
 use Rattle.langtag_choice.specs.declared.best_match.BestMatch.{BestMatch}
 
 -- ---- which tags are refused
@@ -97,7 +97,7 @@ pub record IsMatchOf (elements : List Element) (tags : List (Option (List ℕ)))
   pub pair : Pair elements tags
   pub index : found.index ≡ pair.index
   pub place : found.place ≡ pair.place
-  pub range : hyphened found.range.now ≡ pair.element.range
+  pub range : basic_text found.range.now ≡ pair.element.range
   pub distance : found.distance ≡ distance_of_texts pair.element.range pair.tag
   pub least : (other : Pair elements tags) → IsAtMost (rank_of_pair elements tags pair) (rank_of_pair elements tags other)
 

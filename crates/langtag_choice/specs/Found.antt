@@ -3,7 +3,7 @@ use Rattle.std.specs.Prelude.{◌≡◌, ◌⊎◌, ℕ, ◌<◌, ◌-◌, true,
 use Rattle.std.specs.List.{slice_get}
 use Rattle.std.specs.Option.{option_map}
 use Rattle.langtag_match.specs.AcceptLanguage.{Element}
-use Rattle.langtag_match.specs.Wanted.{hyphened}
+use Rattle.langtag_match.specs.Listed.{basic_text}
 use Rattle.langtag_choice.specs.Best.{IsAtMost, Pair, is_refused, may_serve, rank, rank_of_pair, reach, serves}
 use Rattle.langtag_likely.specs.Likely.{Fields}
 use Rattle.langtag_likely.specs.Matching.{matching_form}
@@ -17,7 +17,7 @@ use Rattle.langtag_choice.specs.declared.wish.Wish.{Wish}
 
 -- what a range says
 abbrev pub wish_element : Wish → Element
-wish_element wish = record { range = hyphened wish.range.now; weight = wish.weight }
+wish_element wish = record { range = basic_text wish.range.now; weight = wish.weight }
 
 abbrev pub number_of : Service → ℕ
 number_of Near = 0
@@ -27,7 +27,7 @@ number_of LookUp = 2
 abbrev pub rank_of : Candidate → List ℕ
 rank_of c =
     number_of c.rank.service ∷ c.rank.lack ∷ c.rank.place ∷ c.rank.distance ∷
-    (length (hyphened c.range.now) - kept (hyphened c.range.now) c.tag.now) ∷ unlikely c.tag.now ∷ c.index ∷ []
+    (length (basic_text c.range.now) - kept (basic_text c.range.now) c.tag.now) ∷ unlikely c.tag.now ∷ c.index ∷ []
 
 -- what was found has at most a rank
 abbrev pub IsWithin : Option Candidate → List ℕ → Type 0
@@ -54,7 +54,7 @@ pub record IsNearer (limit far : ℕ) (known : Option Fields) (near : Nearness) 
 pub record IsOf (wish : Wish) (text : List ℕ) (there : ℕ) (c : Candidate) : Type 0 where
   pub place : c.rank.place ≡ wish.place
   pub index : c.index ≡ there
-  pub range : (wish_element wish).range ≡ hyphened c.range.now
+  pub range : (wish_element wish).range ≡ basic_text c.range.now
   pub tag : c.tag.now ≡ text
   pub served : serves (wish_element wish) text ≡ true
   pub same_rank : rank_of c ≡ rank wish.place (wish_element wish) there text
@@ -69,7 +69,7 @@ pub record Takes (wish : Wish) (tag : List ℕ) (index : ℕ) (old new : Option 
 pub record IsAt (elements : List Element) (text : List ℕ) (there : ℕ) (c : Candidate) : Type 0 where
   pub element : Element
   pub wanted : slice_get elements c.rank.place ≡ Some element
-  pub range : element.range ≡ hyphened c.range.now
+  pub range : element.range ≡ basic_text c.range.now
   pub index : c.index ≡ there
   pub tag : c.tag.now ≡ text
   pub served : serves element text ≡ true
@@ -123,7 +123,7 @@ AreOpen elements tags found = IfSome found (λ c. IsOpen elements tags c.index)
 pub record IsBestOf (elements : List Element) (tags : List (Option (List ℕ))) (c : Candidate) : Type 0 where
   pub pair : Pair elements tags
   pub place : pair.place ≡ c.rank.place
-  pub range : pair.element.range ≡ hyphened c.range.now
+  pub range : pair.element.range ≡ basic_text c.range.now
   pub index : pair.index ≡ c.index
   pub tag : pair.tag ≡ c.tag.now
   pub least : (other : Pair elements tags) → IsAtMost (rank_of_pair elements tags pair) (rank_of_pair elements tags other)

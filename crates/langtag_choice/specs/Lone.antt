@@ -28,11 +28,18 @@ is_related language = is_among (map (λ rule. rule.desired.language) language_ru
 unfoldable pub is_lone : List ℕ → Bool
 is_lone language = (length language == 2) && not (is_related language)
 
+-- the first subtag of a text counts: it is neither empty nor "*"
+abbrev pub begins_counted : List ℕ → Bool
+begins_counted [] = true
+begins_counted (b ∷ text) = not (is_mark b || (b == 42))
+
+-- and is no extended language
+abbrev pub HasNoExtended : List ℕ → Type 0
+HasNoExtended text = (begins_counted text ≡ true) × (is_extended (before_first is_mark text) ≡ false)
+
 -- a text that begins with a language has one of two letters, and no extended language
 abbrev pub IsShort : List ℕ → Type 0
-IsShort text =
-    is_primary (before_first is_mark text) ≡ true →
-    (length (before_first is_mark text) ≡ 2) × (is_extended (before_first is_mark (after_first is_mark text)) ≡ false)
+IsShort text = is_primary (before_first is_mark text) ≡ true → (length (before_first is_mark text) ≡ 2) × HasNoExtended (after_first is_mark text)
 
 -- the letters of a form's language, if it is lone
 abbrev pub lone_head : Option Fields → Option (ℕ × ℕ)

@@ -1,15 +1,15 @@
 //! The tag that a reader wants.
-ghost use Rattle.std.specs.Prelude.{◌≡◌, ◌<◌, IsTrue, length, map};
+ghost use Rattle.std.specs.Prelude.{◌≡◌, ◌<◌, IsTrue, length};
 ghost use Rattle.std.specs.List.{list_any};
 ghost use Rattle.std.specs.Option.{option_map};
-ghost use Rattle.langtag_match.specs.AcceptLanguage.{reading};
+ghost use Rattle.langtag_match.specs.Listed.{basic_text};
 ghost use Rattle.langtag_match.specs.Text.{accept_language_ranges};
-ghost use Rattle.langtag_match.specs.Wanted.{hyphened, wanted_elements};
+ghost use Rattle.langtag_match.specs.Wanted.{wanted_elements};
 ghost use Rattle.langtag_choice.specs.Best as spec;
 ghost use Rattle.langtag_choice.specs.ChoiceLaws as laws;
 ghost use Rattle.langtag_choice.specs.Distance.{distance_of_texts};
 ghost use Rattle.langtag_choice.specs.Found.{IsBestFound, IsOpen};
-ghost use Rattle.langtag_choice.specs.ListTexts.{ordered_elements, tag_texts};
+ghost use Rattle.langtag_choice.specs.ListTexts.{ordered_elements, tag_texts, weighted_elements};
 
 use crate::best_match::BestMatch;
 use crate::by_ranges::first_by_ranges;
@@ -55,13 +55,14 @@ pub fn best_for_accept_language(
     accepted: &AcceptLanguage<'_>,
     tags: &[LangTag<'_>],
 ) -> Option<usize>
-    ensures choice { spec.IsChoice (map reading (accept_language_ranges accepted.now)) (tag_texts tags.now) result }
+    ensures choice { spec.IsChoice (weighted_elements (accept_language_ranges accepted.now)) (tag_texts tags.now) result }
 {
     best_among(accepted.ranges(), &Tags(tags))
 }
 
 /// Returns the index of the best tag for a list of language ranges, the most wanted first, as [`best_for_header`] does:
-/// 1 for the ranges `nn` and `de`, and the tags `en` and `nb`. It is meant for basic ranges.
+/// 1 for the ranges `nn` and `de`, and the tags `en` and `nb`. An extended range counts without its `*`: `zh-*-Hant`
+/// as `zh-Hant`.
 ///
 /// ```
 /// use langtag::LangTag;
@@ -114,7 +115,7 @@ fn match_of<'a>(found: Candidate<'a, '_>) -> BestMatch<'a>
     ensures index { result.index ≡ found.entry.index }
     ensures range { result.range.now ≡ found.entry.range.now }
     ensures place { result.place ≡ found.entry.rank.place }
-    ensures distance { result.distance ≡ distance_of_texts (hyphened found.entry.range.now) found.entry.tag.now }
+    ensures distance { result.distance ≡ distance_of_texts (basic_text found.entry.range.now) found.entry.tag.now }
 {
     BestMatch {
         index: found.index,

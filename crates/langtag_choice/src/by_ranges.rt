@@ -2,7 +2,9 @@
 ghost use Rattle.std.specs.Prelude.{◌≡◌, ℕ, List, IsTrue, Some, length};
 ghost use Rattle.std.specs.List.{list_any, slice_get};
 ghost use Rattle.langtag_match.specs.AcceptLanguage.{Element};
-ghost use Rattle.langtag_match.specs.Wanted.{wanted_element};
+ghost use Rattle.langtag_match.specs.Listed.{listed_element};
+ghost use Rattle.langtag_match.specs.Range.{is_language_range};
+ghost use Rattle.langtag_match.specs.Wanted.{hyphened};
 ghost use Rattle.langtag_choice.specs.Best.{is_zero};
 ghost use Rattle.langtag_choice.specs.Found.{Covers, CoversTags, IsReal, Keeps};
 
@@ -42,9 +44,10 @@ fn improve_for_range<'a, 't, T: TagList>(
     place: usize,
     tags: &'t T,
 )
+    requires in_class { IsTrue (is_language_range (hyphened wanted.bytes.now)) }
     ensures keeps { Keeps found.old found.new }
-    ensures covers { CoversTags (wanted_element wanted.entry) place (T.texts tags.now) (length (T.texts tags.now)) found.new }
-    ensures real { (elements : List Element) → slice_get elements place ≡ Some (wanted_element wanted.entry) → IsReal elements (T.texts tags.now) found.old → IsReal elements (T.texts tags.now) found.new }
+    ensures covers { CoversTags (listed_element wanted.entry) place (T.texts tags.now) (length (T.texts tags.now)) found.new }
+    ensures real { (elements : List Element) → slice_get elements place ≡ Some (listed_element wanted.entry) → IsReal elements (T.texts tags.now) found.old → IsReal elements (T.texts tags.now) found.new }
 {
     if limit(found, wanted.weight, place) == 0 {
         return;

@@ -2,7 +2,9 @@
 ghost use Rattle.std.specs.Prelude.{◌≡◌, ◌<◌, ◌↔◌, ℕ, List, IsTrue, Some, false, length};
 ghost use Rattle.std.specs.List.{slice_get};
 ghost use Rattle.langtag_match.specs.AcceptLanguage.{Element};
-ghost use Rattle.langtag_match.specs.Wanted.{wanted_element};
+ghost use Rattle.langtag_match.specs.Listed.{listed_element};
+ghost use Rattle.langtag_match.specs.Range.{is_language_range};
+ghost use Rattle.langtag_match.specs.Wanted.{hyphened};
 ghost use Rattle.langtag_choice.specs.Best.{is_refused, rank, serves};
 ghost use Rattle.langtag_choice.specs.Found.{AreOpen, CoversOpen, CoversRanges, IsFrom, IsOpen, IsReal, IsWithin, Keeps};
 
@@ -87,9 +89,10 @@ fn improve_for_pair<'a, 't>(
     tag: &'t [u8],
     index: usize,
 )
+    requires in_class { IsTrue (is_language_range (hyphened wanted.bytes.now)) }
     ensures keeps { Keeps found.old found.new }
-    ensures covers { IsTrue (serves (wanted_element wanted.entry) tag.now) → IsWithin found.new (rank place (wanted_element wanted.entry) index tag.now) }
-    ensures from { (elements : List Element) → slice_get elements place ≡ Some (wanted_element wanted.entry) → IsFrom elements tag.now index found.old found.new }
+    ensures covers { IsTrue (serves (listed_element wanted.entry) tag.now) → IsWithin found.new (rank place (listed_element wanted.entry) index tag.now) }
+    ensures from { (elements : List Element) → slice_get elements place ≡ Some (listed_element wanted.entry) → IsFrom elements tag.now index found.old found.new }
 {
     if limit(found, wanted.weight, place) == 0 {
         return;

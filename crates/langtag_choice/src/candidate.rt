@@ -1,12 +1,14 @@
 //! A tag that may serve a range.
-ghost use Rattle.std.specs.Prelude.{◌≡◌};
+ghost use Rattle.std.specs.Prelude.{◌≡◌, IsTrue};
 ghost use Rattle.std.specs.Option.{option_map};
 ghost use Rattle.langtag_likely.specs.Matching.{matching_form};
 ghost use Rattle.langtag_likely.specs.Texts.{field_texts};
+ghost use Rattle.langtag_match.specs.Range.{is_language_range};
+ghost use Rattle.langtag_match.specs.Wanted.{hyphened};
 
 use crate::likely_region::unlikely;
 use crate::nearness::kept;
-use langtag_likely::TagFields;
+use langtag_likely::{TagFields, basic_len};
 use std::cmp::Ordering;
 
 /// How a tag serves a range: its distance is below 16, or below 50, or only look-up finds it. The first is the best.
@@ -78,6 +80,7 @@ pub(crate) struct Candidate<'a, 't> {
     pub(crate) tag: &'t [u8],
     pub(crate) form: Option<TagFields<'t>>,
     pub(crate) index: usize,
+    ghost in_class: { IsTrue (is_language_range (hyphened range.now)) },
     ghost known: { option_map field_texts form ≡ matching_form tag.now },
 }
 
@@ -85,7 +88,7 @@ impl Candidate<'_, '_> {
     ghost use Rattle.std.specs.Prelude.{◌-◌, drop, length};
     ghost use Rattle.std.specs.Cmp.Lexicographic.{slice_cmp};
     ghost use Rattle.std.specs.Ordering.{is_lt, nat_cmp};
-    ghost use Rattle.langtag_match.specs.Wanted.{hyphened};
+    ghost use Rattle.langtag_match.specs.Listed.{basic_text};
     ghost use Rattle.langtag_choice.specs.Found.{rank_of};
     ghost use Rattle.langtag_choice.specs.Nearness.{kept};
 
@@ -117,11 +120,10 @@ impl Candidate<'_, '_> {
     }
 
     /// Returns how many bytes look-up takes from the range to find the tag, and all where it does not.
-    #[tactic(auto, using(crate::proofs::ReadRanges::length_read))]
     fn lost(&self) -> usize
-        ensures { result ≡ length (hyphened self.now.range.now) - kept (hyphened self.now.range.now) self.now.tag.now }
+        ensures { result ≡ length (basic_text self.now.range.now) - kept (basic_text self.now.range.now) self.now.tag.now }
     {
-        self.range.len().saturating_sub(kept(self.range, self.tag))
+        basic_len(self.range).saturating_sub(kept(self.range, self.tag))
     }
 }
 

@@ -4,7 +4,8 @@ ghost use Rattle.std.specs.List.{before_first};
 ghost use Rattle.std.specs.Option.{ForSome, option_map};
 ghost use Rattle.langtag_scan.specs.Class.{is_extended, is_letter};
 ghost use Rattle.langtag_tables.specs.Numbers.{climbs_from};
-ghost use Rattle.langtag_match.specs.Wanted.{hyphened, is_mark};
+ghost use Rattle.langtag_match.specs.Listed.{basic_text};
+ghost use Rattle.langtag_match.specs.Wanted.{is_mark};
 ghost use Rattle.langtag_choice.specs.Lone as spec;
 ghost use Rattle.langtag_likely.specs.Good.{is_language_field};
 ghost use Rattle.langtag_likely.specs.Texts.{field_texts};
@@ -31,8 +32,25 @@ pub(crate) fn is_short(text: &[u8]) -> bool
 {
     match text {
         [_, _] => true,
-        [_, _, mark, rest @ ..] => is_mark(*mark) && !may_be_extended(rest),
+        [_, _, mark, rest @ ..] => is_mark(*mark) && has_no_extended(rest),
         _ => false,
+    }
+}
+
+/// Returns whether the first subtag of a text counts, and is no extended language.
+fn has_no_extended(text: &[u8]) -> bool
+    ensures { IsTrue result → spec.HasNoExtended text.now }
+{
+    begins_counted(text) && !may_be_extended(text)
+}
+
+/// Returns whether the first subtag of a text is neither empty nor `*`.
+fn begins_counted(text: &[u8]) -> bool
+    ensures { result ≡ spec.begins_counted text.now }
+{
+    match text {
+        [first, ..] => !is_mark(*first) && *first != b'*',
+        [] => true,
     }
 }
 
@@ -64,7 +82,7 @@ fn is_mark(byte: u8) -> bool
 /// it.
 pub(crate) fn lone_letters(range: &[u8], form: Option<TagFields<'_>>) -> Option<(u8, u8)>
     ensures lone { ForSome result (λ letters. spec.lone_head (option_map field_texts form.entry) ≡ Some letters) }
-    ensures begins { ForSome result (λ letters. spec.head (hyphened range.now) ≡ Some letters) }
+    ensures begins { ForSome result (λ letters. spec.head (basic_text range.now) ≡ Some letters) }
 {
     let Some(form) = form else { return None };
     if form.language.len() != 2 || is_related(form.language) || !starts(range, form.language) {

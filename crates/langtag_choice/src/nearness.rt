@@ -1,9 +1,9 @@
 //! How near a tag is to a range.
-ghost use Rattle.std.specs.Prelude.{◌≡◌, ◌≤◌, IsTrue, MatchOption, Some, length, take};
+ghost use Rattle.std.specs.Prelude.{◌≡◌, ◌≤◌, ◌==◌, ◌&&◌, ◌||◌, not, IsTrue, MatchOption, Some, length};
 ghost use Rattle.std.specs.Option.{option_map};
-ghost use Rattle.langtag_scan.specs.Case.{are_alike};
 ghost use Rattle.langtag_match.specs.Basic.{ends_subtag};
 ghost use Rattle.langtag_match.specs.Fallback.{ends_in_single};
+ghost use Rattle.langtag_match.specs.Listed.{basic_text};
 ghost use Rattle.langtag_match.specs.Wanted.{hyphened};
 ghost use Rattle.langtag_choice.specs.Best.{may_serve, reach};
 ghost use Rattle.langtag_choice.specs.Distance.{distance_of_texts, fields_distance, formless_distance, language_distance};
@@ -17,7 +17,7 @@ use crate::read_range::starts;
 use crate::rule_distance::language_distance;
 use crate::tag_distance::places_distance;
 use crate::wish::Wish;
-use langtag_likely::{TagFields, are_alike, completed, hyphened, matching_form, replaced_form};
+use langtag_likely::{TagFields, after_common, are_alike, completed, matching_form, replaced_form};
 
 /// How far a tag is from a range, and its matching form.
 #[derive(Clone, Copy)]
@@ -30,8 +30,8 @@ pub(crate) struct Nearness<'t> {
 /// look-up finds it.
 #[tactic(auto, unfolding(crate::specs::Best::reach))]
 pub(crate) fn measured<'t>(limit: u8, wish: &Wish<'_>, tag: &'t [u8]) -> Option<Nearness<'t>>
-    ensures { MatchOption result (IsTrue (may_serve (hyphened wish.now.range.now) tag.now) → limit ≤ reach (hyphened wish.now.range.now) tag.now)
-        (IsNear (hyphened wish.now.range.now) tag.now) }
+    ensures { MatchOption result (IsTrue (may_serve (basic_text wish.now.range.now) tag.now) → limit ≤ reach (basic_text wish.now.range.now) tag.now)
+        (IsNear (basic_text wish.now.range.now) tag.now) }
 {
     if let Some(near) = nearer_than(limit.min(50), wish, tag) {
         return Some(near);
@@ -46,10 +46,10 @@ pub(crate) fn measured<'t>(limit: u8, wish: &Wish<'_>, tag: &'t [u8]) -> Option<
 }
 
 /// Returns how near a tag is to a range (UTS #35, Language Matching), if it is nearer than a limit.
-#[tactic(auto, unfolding(crate::specs::Distance::distance_of_texts), using(crate::proofs::ReadRanges::form_read, langtag_likely::proofs::CompletedForms::form_completed))]
+#[tactic(auto, unfolding(crate::specs::Distance::distance_of_texts), using(langtag_likely::proofs::CompletedForms::form_completed))]
 fn nearer_than<'t>(limit: u8, wish: &Wish<'_>, tag: &'t [u8]) -> Option<Nearness<'t>>
-    ensures { MatchOption result (limit ≤ distance_of_texts (hyphened wish.now.range.now) tag.now)
-        (IsNearer limit (distance_of_texts (hyphened wish.now.range.now) tag.now) (matching_form tag.now)) }
+    ensures { MatchOption result (limit ≤ distance_of_texts (basic_text wish.now.range.now) tag.now)
+        (IsNearer limit (distance_of_texts (basic_text wish.now.range.now) tag.now) (matching_form tag.now)) }
 {
     match (wish.form, replaced_form(tag)) {
         (Some(desired), Some(supported)) => nearer_fields(limit, desired, supported),
@@ -95,8 +95,8 @@ fn with_language<'t>(fields: TagFields<'t>) -> TagFields<'t>
 
 /// Returns how near a tag is to a range where one of them has no matching form.
 fn equal_text<'t>(limit: u8, range: &[u8], tag: &'t [u8]) -> Option<Nearness<'t>>
-    ensures { MatchOption result (limit ≤ formless_distance (hyphened range.now) tag.now)
-        (IsNearer limit (formless_distance (hyphened range.now) tag.now) (matching_form tag.now)) }
+    ensures { MatchOption result (limit ≤ formless_distance (basic_text range.now) tag.now)
+        (IsNearer limit (formless_distance (basic_text range.now) tag.now) (matching_form tag.now)) }
 {
     if limit == 0 || !are_alike(range, tag) {
         return None;
@@ -110,7 +110,7 @@ fn equal_text<'t>(limit: u8, range: &[u8], tag: &'t [u8]) -> Option<Nearness<'t>
 /// Returns how much of a range look-up keeps, if it finds a tag.
 #[tactic(auto, unfolding(crate::specs::Nearness::kept))]
 pub(crate) fn kept(range: &[u8], tag: &[u8]) -> usize
-    ensures { result ≡ spec.kept (hyphened range.now) tag.now }
+    ensures { result ≡ spec.kept (basic_text range.now) tag.now }
 {
     if is_fallback(range, tag) {
         tag.len()
@@ -120,22 +120,26 @@ pub(crate) fn kept(range: &[u8], tag: &[u8]) -> usize
 }
 
 /// Returns whether a tag is a range, or what stands before one of its hyphens and does not end in a single character.
-#[tactic(auto, using(crate::proofs::ReadRanges::drop_read, crate::proofs::ReadRanges::length_read))]
 fn is_fallback(range: &[u8], tag: &[u8]) -> bool
-    ensures { result ≡ spec.is_fallback (hyphened range.now) tag.now }
+    ensures { result ≡ spec.is_fallback (basic_text range.now) tag.now }
 {
-    starts(range, tag)
-        && (goes_on(&range[tag.len()..]) && (tag.len() == range.len() || !ends_in_single(tag)))
+    let (left, rest) = after_common(range, tag);
+    rest.is_empty() && may_go(left, tag)
 }
 
-/// Returns whether nothing follows, or a hyphen.
+/// Returns whether look-up takes away what stands behind a tag in a range: nothing, or subtags that leave no single character at
+/// the end.
+fn may_go(left: &[u8], tag: &[u8]) -> bool
+    ensures { result ≡ (ends_subtag (hyphened left.now) && ((length left.now == 0) || not (ends_in_single tag.now))) }
+{
+    goes_on(left) && (left.is_empty() || !ends_in_single(tag))
+}
+
+/// Returns whether nothing follows in a range, or a hyphen.
 fn goes_on(rest: &[u8]) -> bool
     ensures { result ≡ ends_subtag (hyphened rest.now) }
 {
-    match rest {
-        [first, ..] => hyphened(*first) == b'-',
-        [] => true,
-    }
+    matches!(rest, [] | [b'-' | b'_', ..])
 }
 
 fn ends_in_single(text: &[u8]) -> bool

@@ -1,9 +1,11 @@
 //! Language ranges for which a tag is chosen.
-ghost use Rattle.std.specs.Prelude.{◌≡◌, ◌<◌, ◌^◌, ◌∷◌, [], List, length, map};
+ghost use Rattle.std.specs.Prelude.{◌≡◌, ◌<◌, ◌^◌, ◌∷◌, [], IfSome, IsTrue, List, length};
 ghost use Rattle.std.specs.Option.{option_map_or};
-ghost use Rattle.langtag_match.specs.AcceptLanguage.{Element, reading};
-ghost use Rattle.langtag_match.specs.Wanted.{wanted_element, wanted_elements};
-ghost use Rattle.langtag_choice.specs.ListTexts.{ordered_elements};
+ghost use Rattle.langtag_match.specs.AcceptLanguage.{Element};
+ghost use Rattle.langtag_match.specs.Listed.{listed_element};
+ghost use Rattle.langtag_match.specs.Range.{is_language_range};
+ghost use Rattle.langtag_match.specs.Wanted.{hyphened, wanted_elements};
+ghost use Rattle.langtag_choice.specs.ListTexts.{ordered_elements, weighted_elements};
 
 use langtag_match::{LanguageRange, WantedRange, WeightedRange, split_wanted};
 
@@ -22,13 +24,16 @@ use langtag_match::{LanguageRange, WantedRange, WeightedRange, split_wanted};
 pub trait RangeList<'a>: Copy {
     ghost elements: { Self → List Element };
 
-    /// Returns the first range and the ranges after it, or `None` if none is left.
+    /// Returns the first range and the ranges after it, or `None` if none is left. In its bytes `_` means `-`, and each
+    /// `-*` is ignored.
     fn split_range(self) -> Option<(WantedRange<'a>, Self)>
-        ensures first { elements self ≡ option_map_or (λ found. wanted_element found.0 ∷ elements found.1) result [] }
+        ensures first { elements self ≡ option_map_or (λ found. listed_element found.0 ∷ elements found.1) result [] }
+        ensures in_class { IfSome result (λ found. IsTrue (is_language_range (hyphened found.0.bytes.now))) }
         ensures few { length (elements self) < 2 ^ 64 };
 }
 
 /// An Accept-Language header, read as `langtag_match::wanted_ranges` reads it.
+#[tactic(auto, using(crate::proofs::ReadRanges::basic_read, crate::proofs::ReadRanges::range_read))]
 impl<'a> RangeList<'a> for &'a [u8] {
     ghost elements = { λ header. wanted_elements header.now };
 
@@ -40,7 +45,7 @@ impl<'a> RangeList<'a> for &'a [u8] {
 /// Ranges with their weights.
 #[tactic(auto, using(langtag_match::proofs::PlainRanges::hyphened_range))]
 impl<'a> RangeList<'a> for &'a [WeightedRange<'a>] {
-    ghost elements = { λ ranges. map reading ranges.now };
+    ghost elements = { λ ranges. weighted_elements ranges.now };
 
     fn split_range(self) -> Option<(WantedRange<'a>, &'a [WeightedRange<'a>])> {
         let (first, rest) = self.split_first()?;

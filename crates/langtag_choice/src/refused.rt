@@ -1,10 +1,11 @@
 //! Which tags the ranges of weight 0 refuse.
 ghost use Rattle.std.specs.Prelude.{◌≡◌};
-ghost use Rattle.langtag_match.specs.Wanted.{wanted_element};
+ghost use Rattle.langtag_match.specs.Listed.{listed_element};
 ghost use Rattle.langtag_choice.specs.Best as spec;
 
 use crate::range_list::RangeList;
 use crate::read_range::{begins, is_star};
+use langtag_likely::basic_len;
 use langtag_match::WantedRange;
 
 /// Returns whether the longest range that matches a tag has the weight 0.
@@ -21,9 +22,9 @@ pub(crate) fn is_refused<'a, R: RangeList<'a>>(ranges: R, tag: &[u8]) -> bool
             continue;
         }
         if range.weight == 0 {
-            refused = refused.max(range.bytes.len());
+            refused = refused.max(basic_len(range.bytes));
         } else {
-            wanted = wanted.max(range.bytes.len());
+            wanted = wanted.max(basic_len(range.bytes));
         }
     }
     wanted < refused
@@ -31,7 +32,7 @@ pub(crate) fn is_refused<'a, R: RangeList<'a>>(ranges: R, tag: &[u8]) -> bool
 
 /// Returns whether a range, other than `*`, matches a tag by basic filtering.
 fn matches(range: WantedRange<'_>, tag: &[u8]) -> bool
-    ensures { result ≡ spec.matches (wanted_element range.entry) tag.now }
+    ensures { result ≡ spec.matches (listed_element range.entry) tag.now }
 {
     !is_star(range.bytes) && begins(range.bytes, tag)
 }

@@ -1,6 +1,8 @@
 //! How far a tag is from another that a reader desires (UTS #35, part 1, section 'Language Matching').
-ghost use Rattle.std.specs.Prelude.{◌≡◌, ◌+◌, ◌≤◌, ◌⊎◌, ◌==◌, ◌&&◌, false};
+ghost use Rattle.std.specs.Prelude.{◌≡◌, ◌+◌, ◌≤◌, ◌⊎◌, ◌==◌, ◌&&◌, IsTrue, false};
 ghost use Rattle.langtag.specs.Text.{lang_tag_text};
+ghost use Rattle.langtag_match.specs.Listed.{basic_text};
+ghost use Rattle.langtag_match.specs.Range.{is_language_range};
 ghost use Rattle.langtag_match.specs.Wanted.{hyphened};
 ghost use Rattle.langtag_scan.specs.Case.{are_alike};
 ghost use Rattle.langtag_choice.specs.Distance as spec;
@@ -57,10 +59,11 @@ fn texts_distance(desired: &[u8], supported: &[u8]) -> u8
     }
 }
 
-/// Returns the distance from a range, in which `_` is read as `-`, to a tag.
+/// Returns the distance from a range, as it is read, to a tag.
 #[tactic(auto, unfolding(crate::specs::Distance::distance_of_texts), using(crate::proofs::ReadRanges::form_read))]
 pub(crate) fn range_distance(range: &[u8], tag: &[u8]) -> u8
-    ensures { result ≡ spec.distance_of_texts (hyphened range.now) tag.now }
+    requires { IsTrue (is_language_range (hyphened range.now)) }
+    ensures { result ≡ spec.distance_of_texts (basic_text range.now) tag.now }
 {
     match (matching_form(range), matching_form(tag)) {
         (Some(wanted), Some(found)) => fields_distance(wanted, found),
@@ -70,7 +73,7 @@ pub(crate) fn range_distance(range: &[u8], tag: &[u8]) -> u8
 
 /// Returns the distance from a range to a tag of which one has no matching form.
 fn formless_range_distance(range: &[u8], tag: &[u8]) -> u8
-    ensures { result ≡ spec.formless_distance (hyphened range.now) tag.now }
+    ensures { result ≡ spec.formless_distance (basic_text range.now) tag.now }
 {
     if are_alike(range, tag) {
         0

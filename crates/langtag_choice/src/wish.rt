@@ -4,7 +4,8 @@ ghost use Rattle.std.specs.Option.{ForSome, option_map};
 ghost use Rattle.langtag_choice.specs.Lone.{head, lone_head};
 ghost use Rattle.langtag_likely.specs.Matching.{matching_form};
 ghost use Rattle.langtag_likely.specs.Texts.{field_texts};
-ghost use Rattle.langtag_match.specs.Range.{is_star};
+ghost use Rattle.langtag_match.specs.Listed.{basic_text};
+ghost use Rattle.langtag_match.specs.Range.{is_language_range, is_star};
 ghost use Rattle.langtag_match.specs.Wanted.{hyphened};
 
 use crate::lone::{head, is_short, lone_letters};
@@ -23,24 +24,26 @@ pub(crate) struct Wish<'a> {
     pub(crate) form: Option<TagFields<'a>>,
     lone: Option<(u8, u8)>,
     ghost some: { (weight == 0) ≡ false },
-    ghost no_star: { is_star (hyphened range.now) ≡ false },
-    ghost known: { option_map field_texts form ≡ matching_form range.now },
-    ghost far: { ForSome lone (λ letters. lone_head (matching_form range.now) ≡ Some letters) },
-    ghost begins: { ForSome lone (λ letters. head (hyphened range.now) ≡ Some letters) },
+    ghost in_class: { IsTrue (is_language_range (hyphened range.now)) },
+    ghost no_star: { is_star (basic_text range.now) ≡ false },
+    ghost known: { option_map field_texts form ≡ matching_form (basic_text range.now) },
+    ghost far: { ForSome lone (λ letters. lone_head (matching_form (basic_text range.now)) ≡ Some letters) },
+    ghost begins: { ForSome lone (λ letters. head (basic_text range.now) ≡ Some letters) },
 }
 
 impl<'a> Wish<'a> {
-    ghost use Rattle.langtag_match.specs.Wanted.{wanted_element};
+    ghost use Rattle.langtag_match.specs.Listed.{listed_element};
     ghost use Rattle.langtag_choice.specs.Best.{serves};
     ghost use Rattle.langtag_choice.specs.Distance.{distance_of_texts};
     ghost use Rattle.langtag_choice.specs.Found.{wish_element};
     ghost use Rattle.langtag_choice.specs.Nearness.{kept};
 
     /// Reads the range at a place, or returns `None` if it is `*` or has the weight 0.
-    #[tactic(auto, unfolding(crate::specs::Best::serves))]
+    #[tactic(auto, unfolding(crate::specs::Best::serves), using(crate::proofs::ReadRanges::form_read))]
     pub(crate) fn new(wanted: WantedRange<'a>, place: usize) -> Option<Wish<'a>>
-        ensures { MatchOption result ((tag : List ℕ) → serves (wanted_element wanted.entry) tag ≡ false)
-            (λ wish. (wish_element wish ≡ wanted_element wanted.entry) × (wish.place ≡ place)) }
+        requires in_class { IsTrue (is_language_range (hyphened wanted.bytes.now)) }
+        ensures { MatchOption result ((tag : List ℕ) → serves (listed_element wanted.entry) tag ≡ false)
+            (λ wish. (wish_element wish ≡ listed_element wanted.entry) × (wish.place ≡ place)) }
     {
         if wanted.weight == 0 || is_star(wanted.bytes) {
             return None;
@@ -58,8 +61,8 @@ impl<'a> Wish<'a> {
     /// Returns whether the first letters of a tag show that it cannot serve the range: no other language is near that
     /// of the range, and the tag has another language of two letters.
     pub(crate) fn is_far_from(&self, tag: &[u8]) -> bool
-        ensures far { IsTrue result → 50 ≤ distance_of_texts (hyphened self.now.range.now) tag.now }
-        ensures kept { IsTrue result → kept (hyphened self.now.range.now) tag.now ≡ 0 }
+        ensures far { IsTrue result → 50 ≤ distance_of_texts (basic_text self.now.range.now) tag.now }
+        ensures kept { IsTrue result → kept (basic_text self.now.range.now) tag.now ≡ 0 }
     {
         let Some(letters) = self.lone else {
             return false;

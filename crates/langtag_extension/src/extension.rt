@@ -121,6 +121,12 @@ impl<'a> Extension<'a> {
     }
 
     /// Returns the singleton of the extension, in its original case: `U` for `U-co-phonebk`.
+    ///
+    /// ```
+    /// use langtag_extension::Extension;
+    ///
+    /// Extension::new("U-co-phonebk")?.singleton().unwrap(); // b'U'
+    /// ```
     pub fn singleton(&self) -> Singleton
         ensures first_byte { singleton_byte result ≡ slice_index (extension_text self.now) 0 }
         ensures member { (e : model.Extension) → SpellsExtension e (extension_text self.now) → singleton_byte result ≡ e.singleton }
@@ -136,6 +142,14 @@ impl<'a> Extension<'a> {
     }
 
     /// Returns an iterator over the subtags after the singleton: `co` and `phonebk` for `u-co-phonebk`.
+    ///
+    /// ```
+    /// use langtag_extension::Extension;
+    ///
+    /// let mut subtags = Extension::new("u-co-phonebk")?.iter();
+    /// subtags.next().map(|subtag| subtag.as_str()); // Some("co")
+    /// subtags.next().map(|subtag| subtag.as_str()); // Some("phonebk")
+    /// ```
     #[tactic(auto, using(crate::proofs::Rules::subtags_spelled))]
     pub fn iter(&self) -> ExtensionIter<'a>
         ensures list { (e : model.Extension) → SpellsExtension e (extension_text self.now) → extension_subtags_left result ≡ e.subtags }

@@ -131,6 +131,14 @@ impl<'a> Extensions<'a> {
 
     /// Returns an iterator over the extensions, including those with a repeated singleton: `a-bb` and `A-cc` for
     /// `a-bb-A-cc`.
+    ///
+    /// ```
+    /// use langtag_extension::Extensions;
+    ///
+    /// let mut extensions = Extensions::new("a-bb-A-cc")?.iter();
+    /// extensions.next().map(|extension| extension.as_str()); // Some("a-bb")
+    /// extensions.next().map(|extension| extension.as_str()); // Some("A-cc")
+    /// ```
     #[tactic(auto, using(crate::proofs::Rules::extension_texts_spelled))]
     pub fn iter(&self) -> ExtensionsIter<'a>
         ensures list { (es : List model.Extension) → SpellsExtensions es (extensions_text self.now)
@@ -143,6 +151,13 @@ impl<'a> Extensions<'a> {
     }
 
     /// Returns the first extension with the singleton, ignoring case: `A` finds `a-bb` in `a-bb-A-cc`.
+    ///
+    /// ```
+    /// use langtag_extension::{Extensions, Singleton};
+    ///
+    /// let found = Extensions::new("a-bb-A-cc")?.get(Singleton::new(b'A')?);
+    /// found.map(|extension| extension.as_str()); // Some("a-bb")
+    /// ```
     pub fn get(&self, singleton: Singleton) -> Option<Extension<'a>>
         ensures first_match { (es : List model.Extension) → SpellsExtensions es (extensions_text self.now) →
             option_map extension_text result ≡ option_map extension_spelling (find_extension (singleton_byte singleton) es) }
@@ -153,6 +168,13 @@ impl<'a> Extensions<'a> {
 
     /// Returns an iterator over the subtags of the extension that `get` returns, and over nothing if there is none:
     /// `co` and `phonebk` for the singleton `u` in `a-bb-u-co-phonebk`.
+    ///
+    /// ```
+    /// use langtag_extension::{Extensions, Singleton};
+    ///
+    /// let mut subtags = Extensions::new("a-bb-u-co-phonebk")?.iter_extension(Singleton::new(b'u')?);
+    /// subtags.next().map(|subtag| subtag.as_str()); // Some("co")
+    /// ```
     #[tactic(auto, using(crate::proofs::ExtensionLookUp::subtags_not_found))]
     pub fn iter_extension(&self, singleton: Singleton) -> ExtensionIter<'a>
         ensures list { (es : List model.Extension) → SpellsExtensions es (extensions_text self.now) →

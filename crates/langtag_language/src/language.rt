@@ -132,6 +132,13 @@ impl<'a> Language<'a> {
     }
 
     /// Returns the extended subtags as one text, or `None` if there are none: `min-nan` for `zh-min-nan`.
+    ///
+    /// ```
+    /// use langtag_language::Language;
+    ///
+    /// let extension = Language::new("zh-min-nan")?.extension();
+    /// extension.map(|extension| extension.as_str()); // Some("min-nan")
+    /// ```
     pub fn extension(&self) -> Option<LanguageExtension<'a>>
         ensures absent { EachLanguageSpelling (language_text self.now) (λ primary extended. IsNone result ↔ (extended ≡ [])) }
         ensures members { EachLanguageSpelling (language_text self.now) (λ primary extended.
@@ -142,6 +149,13 @@ impl<'a> Language<'a> {
 
     /// Returns an iterator over the extended subtags: `Language::new("zh-min-nan")?.extension_subtags()` yields `min`
     /// and `nan`.
+    ///
+    /// ```
+    /// use langtag_language::Language;
+    ///
+    /// let mut subtags = Language::new("zh-min-nan")?.extension_subtags();
+    /// subtags.next().map(|subtag| subtag.as_str()); // Some("min")
+    /// ```
     pub fn extension_subtags(&self) -> LanguageExtensionIter<'a>
         ensures list { extended_subtags_left result ≡ drop 1 (subtags (language_text self.now)) }
         ensures members { EachLanguageSpelling (language_text self.now) (λ primary extended. extended_subtags_left result ≡ extended) }

@@ -122,6 +122,13 @@ impl<'a> LanguageExtension<'a> {
 
     /// Returns an iterator over the extended subtags: `LanguageExtension::new("min-nan")?.iter()` yields `min` and
     /// `nan`.
+    ///
+    /// ```
+    /// use langtag_language::LanguageExtension;
+    ///
+    /// let mut subtags = LanguageExtension::new("min-nan")?.iter();
+    /// subtags.next().map(|subtag| subtag.as_str()); // Some("min")
+    /// ```
     pub fn iter(&self) -> LanguageExtensionIter<'a>
         ensures list { extended_subtags_left result ≡ subtags (language_extension_text self.now) }
         ensures spells { SpellsLanguageExtension (extended_subtags_left result) (language_extension_text self.now) }

@@ -3,6 +3,7 @@ use Rattle.std.proofs.Common.{◌≡◌, ℕ, ◌<◌, Bool, true, false, cond, 
 use Rattle.std.specs.Prelude.{codes}
 use Rattle.std.specs.Option.{option_map_or}
 use Rattle.langtag_scan.specs.Case.{are_alike}
+use Rattle.langtag_match.specs.Listed.{basic_text}
 use Rattle.langtag_match.specs.Wanted.{hyphened}
 use Rattle.langtag_likely.specs.Likely.{Fields, add_likely, filled, likely_for, looked_up, or_other}
 use Rattle.langtag_likely.specs.LikelySubtags.{likely_subtags}
@@ -12,7 +13,7 @@ use Rattle.langtag_likely.specs.TextFields.{text_fields}
 
 pub form_completed : (text : List ℕ) → matching_form text ≡ option_map completed (replaced_form text)
 unfolding matching_form replaced_form
-form_completed text = by_cases (are_alike (hyphened text) (codes "und")) (text_fields (hyphened text))
+form_completed text = by_cases (are_alike (basic_text text) (codes "und")) (text_fields (hyphened text))
   where
     by_cases : (b : Bool) (o : Option Fields) → cond b None (option_map matching_fields o) ≡ option_map completed (cond b None (option_map language_replaced o))
     by_cases true o = refl

@@ -3,6 +3,7 @@ pub mod AliasLaws
 pub mod AliasTables
 pub mod AlikeFields
 pub mod Columns
+pub mod CommonTexts
 pub mod CompletedForms
 pub mod FieldClasses
 pub mod FirstIndex

@@ -9,6 +9,7 @@ pub mod MaximalLaws
 pub mod Modifiers
 pub mod Numbers
 pub mod Posix
+pub mod Ranges
 pub mod RightToLeft
 pub mod Rows
 pub mod Scripts

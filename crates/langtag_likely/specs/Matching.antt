@@ -3,6 +3,7 @@
 use Rattle.std.specs.Prelude.{ℕ, List, [], Option, None, codes, if◌then◌else◌}
 use Rattle.std.specs.Option.{option_map, option_map_or}
 use Rattle.langtag_scan.specs.Case.{are_alike}
+use Rattle.langtag_match.specs.Listed.{basic_text}
 use Rattle.langtag_match.specs.Wanted.{hyphened}
 use Rattle.langtag_likely.specs.Likely.{Fields, likely_for, or_other, language_alone, add_likely}
 use Rattle.langtag_likely.specs.LikelySubtags.{likely_subtags}
@@ -54,11 +55,11 @@ matching_fields f = completed (language_replaced f)
 -- ---- the form of a text
 
 -- a text `und` and no more has none, nor has what does not begin with a language, such as a tag for private use and `i-default`.
--- "_" is read as "-", as in a range of a header. Variants, extensions and private use are of no account, nor is what else
+-- "_" is read as "-", as in a range of a header, and "*" after the first subtag counts for nothing. Variants, extensions and private use are of no account, nor is what else
 -- follows the fields: `en-GB-oed` has the form of `en-GB`
 unfoldable pub matching_form : List ℕ → Option Fields
-matching_form text = if are_alike (hyphened text) (codes "und") then None else option_map matching_fields (text_fields (hyphened text))
+matching_form text = if are_alike (basic_text text) (codes "und") then None else option_map matching_fields (text_fields (hyphened text))
 
 -- the fields of a text, of which the language is replaced; contracts of private functions alone speak of it
 unfoldable pub replaced_form : List ℕ → Option Fields
-replaced_form text = if are_alike (hyphened text) (codes "und") then None else option_map language_replaced (text_fields (hyphened text))
+replaced_form text = if are_alike (basic_text text) (codes "und") then None else option_map language_replaced (text_fields (hyphened text))

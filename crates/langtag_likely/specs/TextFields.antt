@@ -1,9 +1,18 @@
 -- The fields of a text, which need not be a tag: its first subtags, as far as they are a language, a script and a region.
-use Rattle.std.specs.Prelude.{ℕ, List, [], ◌∷◌, Option, None, Some, codes, if◌then◌else◌}
+use Rattle.std.specs.Prelude.{ℕ, Bool, ◌==◌, ◌||◌, not, List, [], ◌∷◌, filter, length, Option, None, Some, codes, if◌then◌else◌}
+use Rattle.std.specs.List.{slice_split}
 use Rattle.langtag_scan.specs.Class.{is_primary, is_extended, is_script, is_region}
-use Rattle.langtag_scan.specs.Subtags.{segments, subtags}
-use Rattle.langtag_match.specs.Wanted.{hyphened}
+use Rattle.langtag_scan.specs.Subtags.{subtags}
+use Rattle.langtag_match.specs.Range.{is_star}
+use Rattle.langtag_match.specs.Wanted.{is_mark}
 use Rattle.langtag_likely.specs.Likely.{Fields, known}
+
+-- which subtags after the first count: not "*", which a language range may have, and not what is empty
+abbrev pub counts : List ℕ → Bool
+counts subtag = not (is_star subtag || (length subtag == 0))
+
+abbrev pub counted : List (List ℕ) → List (List ℕ)
+counted subtags = filter counts subtags
 
 -- the last of the extended subtags in front, or else the language before them
 abbrev pub language_of : List ℕ → List (List ℕ) → List ℕ
@@ -32,22 +41,16 @@ fields_of_subtags [] = None
 fields_of_subtags (first ∷ others) =
     if is_primary first then
     Some (record {
-      language = language_of (known (codes "und") first) others;
-      script = known (codes "Zzzz") (script_of (after_language others));
-      region = known (codes "ZZ") (region_of (after_script (after_language others)));
+      language = language_of (known (codes "und") first) (counted others);
+      script = known (codes "Zzzz") (script_of (after_language (counted others)));
+      region = known (codes "ZZ") (region_of (after_script (after_language (counted others))));
     })
     else None
 
 unfoldable pub text_fields : List ℕ → Option Fields
 text_fields text = fields_of_subtags (subtags text)
 
--- ---- of what is left of a text; contracts of private functions alone speak of these
+-- ---- of what is left of a text in which "_" is read as "-"; contracts of private functions alone speak of it
 
 abbrev pub parts : List ℕ → List (List ℕ)
-parts text = segments (hyphened text)
-
-abbrev pub places_of : List (List ℕ) → List ℕ × List ℕ
-places_of subtags = (script_of subtags, region_of (after_script subtags))
-
-abbrev pub all_of : List ℕ → List (List ℕ) → List ℕ × (List ℕ × List ℕ)
-all_of language subtags = (language_of language subtags, places_of (after_language subtags))
+parts text = counted (slice_split is_mark text)

@@ -41,6 +41,6 @@ pub use tables::CLDR_VERSION;
 pub use keys::index_of;
 pub use likely::suffices;
 pub use matching::{completed, matching_form, replaced_form};
-pub use read_text::{are_alike, hyphened};
+pub use read_text::{after_common, are_alike, basic_len, hyphened};
 pub use rows::{key_number, language_number};
 pub use tag_fields::TagFields;

@@ -1,27 +1,73 @@
-//! Texts in which `_` is read as `-`, as in a range of a header.
-ghost use Rattle.std.specs.Prelude.{◌≡◌};
+//! Language ranges as they are read: `_` as `-`, and without each `-*`.
+ghost use Rattle.std.specs.Prelude.{◌≡◌, ◌≤◌, IsTrue, length};
 ghost use Rattle.langtag_scan.specs.Case.{are_alike};
+ghost use Rattle.langtag_match.specs.Listed.{basic_text};
+ghost use Rattle.langtag_match.specs.LookUp.{begins_with_wildcard};
 ghost use Rattle.langtag_match.specs.Wanted.{hyphened, hyphened_byte};
+ghost use Rattle.langtag_likely.specs.Ranges as spec;
 
 use langtag_scan::into_smallcase;
 
-/// Returns whether a text, read in this way, equals another, ignoring case.
+/// Returns whether a range, read in this way, equals a text, ignoring case.
 pub fn are_alike(range: &[u8], text: &[u8]) -> bool
-    ensures { result ≡ are_alike (hyphened range.now) text.now }
+    ensures { result ≡ are_alike (basic_text range.now) text.now }
 {
-    let mut range = range;
-    let mut text = text;
-    while let [first, others @ ..] = range {
-        let [byte, rest @ ..] = text else {
-            return false;
-        };
+    let (left, rest) = after_common(range, text);
+    left.is_empty() && rest.is_empty()
+}
+
+/// Returns what is left of a range and of a text where what both begin with is taken away.
+#[tactic(auto, using(crate::proofs::CommonTexts::common_next, crate::proofs::CommonTexts::common_apart, crate::proofs::CommonTexts::common_end))]
+pub fn after_common<'a, 't>(range: &'a [u8], text: &'t [u8]) -> (&'a [u8], &'t [u8])
+    ensures left { (basic_text result.0.now, result.1.now) ≡ spec.after_common (basic_text range.now) text.now }
+    ensures plain { spec.BeginsPlain result.0.now }
+{
+    let mut left = without_stars(range);
+    let mut rest = text;
+    while let ([first, after_first @ ..], [byte, after_byte @ ..]) = (left, rest) {
         if into_smallcase(hyphened(*first)) != into_smallcase(*byte) {
-            return false;
+            break;
         }
-        range = others;
-        text = rest;
+        left = without_stars(after_first);
+        rest = after_byte;
     }
-    text.is_empty()
+    (left, rest)
+}
+
+/// Returns how many bytes a range has, as it is read.
+#[tactic(auto, using(crate::proofs::CommonTexts::byte_off, crate::proofs::CommonTexts::nothing_read, crate::proofs::CommonTexts::length_read))]
+pub fn basic_len(range: &[u8]) -> usize
+    ensures { result ≡ length (basic_text range.now) }
+{
+    let mut len = 0;
+    let mut left = without_stars(range);
+    while let [_, rest @ ..] = left {
+        len += 1;
+        left = without_stars(rest);
+    }
+    len
+}
+
+/// Returns a range without each `-*` in front.
+#[tactic(auto, using(crate::proofs::CommonTexts::star_off))]
+fn without_stars(range: &[u8]) -> &[u8]
+    ensures same { basic_text result.now ≡ basic_text range.now }
+    ensures within { length result.now ≤ length range.now }
+    ensures plain { spec.BeginsPlain result.now }
+{
+    let mut left = range;
+    while begins_with_star(left) {
+        left = &left[2..];
+    }
+    left
+}
+
+/// Returns whether a range begins with `-*`.
+fn begins_with_star(range: &[u8]) -> bool
+    ensures star { result ≡ begins_with_wildcard (hyphened range.now) }
+    ensures long { IsTrue result → 2 ≤ length range.now }
+{
+    matches!(range, [b'-' | b'_', b'*', ..])
 }
 
 /// Returns a byte as it is read.

@@ -1,11 +1,10 @@
 //! The fields of a text that need not be a tag.
-ghost use Rattle.std.specs.Prelude.{◌≡◌, IsTrue};
-ghost use Rattle.std.specs.List.{after_first, before_first};
-ghost use Rattle.std.specs.Option.{option_map};
-ghost use Rattle.langtag_match.specs.Wanted.{hyphened, is_mark};
+ghost use Rattle.std.specs.Prelude.{◌≡◌, ◌∷◌, [], IsTrue};
+ghost use Rattle.std.specs.Option.{option_map, option_map_or};
+ghost use Rattle.langtag_match.specs.Wanted.{hyphened};
 ghost use Rattle.langtag_likely.specs.Good.{is_language_field, is_script_field, is_region_field};
 ghost use Rattle.langtag_likely.specs.TextFields as spec;
-ghost use Rattle.langtag_likely.specs.TextFields.{after_language, after_script, language_of, parts, places_of, region_of, script_of};
+ghost use Rattle.langtag_likely.specs.TextFields.{after_language, after_script, language_of, parts, region_of, script_of};
 ghost use Rattle.langtag_likely.specs.Texts.{field_texts};
 
 use crate::fields::known;
@@ -18,7 +17,7 @@ impl<'a> TagFields<'a> {
     pub(crate) fn of_text(text: &'a [u8]) -> Option<TagFields<'a>>
         ensures { option_map field_texts result ≡ spec.text_fields (hyphened text.now) }
     {
-        let (first, rest) = first_subtag(text);
+        let (first, rest) = split_at_either(text, b'-', b'_');
         if !is_primary(first) {
             return None;
         }
@@ -34,17 +33,16 @@ impl<'a> TagFields<'a> {
 }
 
 /// Returns the last of the extended subtags in front, or else the language before them, and what follows.
-#[tactic(auto, using(crate::proofs::TextParts::next_language, crate::proofs::TextParts::next_places, crate::proofs::TextParts::stop_language, crate::proofs::TextParts::stop_places, langtag_match::proofs::WantedTexts::shorter, crate::proofs::TextParts::nothing_language, crate::proofs::TextParts::nothing_places, crate::proofs::FieldClasses::from_extended))]
+#[tactic(auto, using(crate::proofs::FieldClasses::from_extended))]
 fn last_extended<'a>(language: &'a [u8], text: &'a [u8]) -> (&'a [u8], &'a [u8])
     requires { IsTrue (is_language_field language.now) }
     ensures language { result.0.now ≡ language_of language.now (parts text.now) }
-    ensures rest { places_of (parts result.1.now) ≡ places_of (after_language (parts text.now)) }
+    ensures rest { parts result.1.now ≡ after_language (parts text.now) }
     ensures in_class { IsTrue (is_language_field result.0.now) }
 {
     let mut language = language;
     let mut left = text;
-    while !left.is_empty() {
-        let (subtag, rest) = first_subtag(left);
+    while let Some((subtag, rest)) = next_subtag(left) {
         if !is_extended(subtag) {
             return (language, left);
         }
@@ -55,34 +53,48 @@ fn last_extended<'a>(language: &'a [u8], text: &'a [u8]) -> (&'a [u8], &'a [u8])
 }
 
 /// Returns the script in front, and what follows.
-#[tactic(auto, using(crate::proofs::TextParts::script_here, crate::proofs::TextParts::no_script, crate::proofs::TextParts::region_after, crate::proofs::TextParts::region_still, crate::proofs::FieldClasses::from_script))]
+#[tactic(auto, using(crate::proofs::FieldClasses::from_script))]
 fn script_before<'a>(text: &'a [u8]) -> (&'a [u8], &'a [u8])
     ensures script { result.0.now ≡ script_of (parts text.now) }
-    ensures rest { region_of (parts result.1.now) ≡ region_of (after_script (parts text.now)) }
+    ensures rest { parts result.1.now ≡ after_script (parts text.now) }
     ensures in_class { IsTrue (is_script_field result.0.now) }
 {
-    let (subtag, rest) = first_subtag(text);
-    if is_script(subtag) {
-        (subtag, rest)
-    } else {
-        (b"", text)
+    match next_subtag(text) {
+        Some((subtag, rest)) if is_script(subtag) => (subtag, rest),
+        _ => (b"", text),
     }
 }
 
 /// Returns the region in front.
-#[tactic(auto, using(crate::proofs::TextParts::region_here, crate::proofs::TextParts::no_region, crate::proofs::FieldClasses::from_region))]
+#[tactic(auto, using(crate::proofs::FieldClasses::from_region))]
 fn region_before(text: &[u8]) -> &[u8]
     ensures region { result.now ≡ region_of (parts text.now) }
     ensures in_class { IsTrue (is_region_field result.now) }
 {
-    let (subtag, _) = first_subtag(text);
-    if is_region(subtag) { subtag } else { b"" }
+    match next_subtag(text) {
+        Some((subtag, _)) if is_region(subtag) => subtag,
+        _ => b"",
+    }
 }
 
-/// Returns what stands before the first `-` or `_`, and what stands after it.
-fn first_subtag(text: &[u8]) -> (&[u8], &[u8])
-    ensures before { result.0.now ≡ before_first is_mark text.now }
-    ensures after { result.1.now ≡ after_first is_mark text.now }
+/// Returns the first subtag that counts, and what stands after it.
+#[tactic(auto, using(crate::proofs::TextParts::next_part, langtag_match::proofs::WantedTexts::shorter))]
+fn next_subtag(text: &[u8]) -> Option<(&[u8], &[u8])>
+    ensures { parts text.now ≡ option_map_or (λ found. found.0.now ∷ parts found.1.now) result [] }
 {
-    split_at_either(text, b'-', b'_')
+    let mut left = text;
+    while !left.is_empty() {
+        let (subtag, rest) = split_at_either(left, b'-', b'_');
+        if counts(subtag) {
+            return Some((subtag, rest));
+        }
+        left = rest;
+    }
+    None
+}
+
+fn counts(subtag: &[u8]) -> bool
+    ensures { result ≡ spec.counts subtag.now }
+{
+    !matches!(subtag, [] | [b'*'])
 }

@@ -2,6 +2,7 @@ pub mod AlikeHeaders
 pub mod AlikeTexts
 pub mod Among
 pub mod AsciiRanges
+pub mod BasicForms
 pub mod BasicRanges
 pub mod ChangedTexts
 pub mod Hyphens

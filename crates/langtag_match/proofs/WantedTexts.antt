@@ -1,59 +1,37 @@
 -- Ranges in which "_" is read as "-", and the parts of a list that is cut one after the other.
 use Rattle.std.proofs.Common.{◌≡◌, ◌⊎◌, take, not, nat_lt, inl, inr, cond, Option, ℕ, ◌+◌, ◌<◌, ◌≤◌, Bool, true, false, ◌&&◌, ◌||◌, List, [], ◌∷◌, Some, None, map, length, length-drop, ap, refl, sym, ◌∙◌, arith}
-use Rattle.std.specs.List.{list_all, slice_split, before_first, after_first, position, position_or_len, cons_option}
-use Rattle.std.proofs.lemmas.Bool.{and_parts, cases_lt}
+use Rattle.std.specs.List.{slice_split, before_first, after_first, onto_first, position, position_or_len, cons_option}
+use Rattle.std.proofs.lemmas.Bool.{and_parts, cases_lt, or_cases, or_right}
 use Rattle.std.proofs.lemmas.Bool.Decides.{nat_tests, eqb_tells}
-use Rattle.std.proofs.lemmas.List.{length-map, length-take-le, drop_all, take_all}
+use Rattle.std.proofs.lemmas.List.{length-take-le, drop_all, take_all}
 use Rattle.std.proofs.lemmas.List.Splits.{length-slice_split, slice_split_first, slice_split_none}
 use Rattle.std.proofs.lemmas.List.Sums.{count_by-le-length, prefix_len-le-length, fails_before_first}
-use Rattle.langtag.specs.Class.{has_length, is_letter, is_digit, is_alphanumeric, are_letters, is_private_subtag}
+use Rattle.langtag.specs.Class.{has_length, are_letters, is_private_subtag}
 use Rattle.langtag.specs.Subtags.{is_hyphen, segments, subtags}
 use Rattle.langtag_match.specs.AcceptLanguage.{Element, items, is_comma, is_semicolon, trimmed}
-use Rattle.langtag_match.specs.Range.{is_star, is_first_subtag, are_basic_range, is_basic_range}
-use Rattle.langtag_match.proofs.ChangedTexts.{list_all-changed, slice_split-changed}
+use Rattle.langtag_match.specs.Range.{is_star, is_first_subtag, is_range_subtag, are_basic_range, are_basic_subtags, are_extended_range, are_range_subtags, is_basic_range, is_language_range}
 use Rattle.langtag_scan.proofs.SubtagFacts.{letters_alphanumeric}
 use Rattle.langtag_scan.proofs.Places.{any_at_first, none_at_length}
 use Rattle.langtag_match.specs.Wanted.{hyphened_byte, hyphened, is_mark, is_q_name, is_q_parameter, is_equals, is_point, are_digits, number_weight, value_weight, wanted_weight, wanted, digits_behind, wanted_items, wanted_elements}
 
--- ---- a byte that is read as a hyphen is one
+-- ---- the subtags of a text in which a byte is read as a hyphen
 
 is_hyphen-read : (b : ℕ) → is_hyphen (hyphened_byte b) ≡ is_mark b
 is_hyphen-read b = grind (arith, nat_tests)
 
-pub is_letter-read : (b : ℕ) → is_letter (hyphened_byte b) ≡ is_letter b
-unfolding is_letter
-is_letter-read b = elim (eqb_tells b 95) [
-  | inl same ↦ rw (same.0, same.1) refl
-  | inr other ↦ rw other.0 refl
-]
+other_byte : (b : ℕ) → is_mark b ≡ false → hyphened_byte b ≡ b
+other_byte b other = grind (arith, nat_tests)
 
-pub is_digit-read : (b : ℕ) → is_digit (hyphened_byte b) ≡ is_digit b
-unfolding is_digit
-is_digit-read b = elim (eqb_tells b 95) [
-  | inl same ↦ rw (same.0, same.1) refl
-  | inr other ↦ rw other.0 refl
-]
-
-is_alphanumeric-read : (b : ℕ) → is_alphanumeric (hyphened_byte b) ≡ is_alphanumeric b
-is_alphanumeric-read b = rw (is_letter-read b, is_digit-read b) refl
-
-pub list_all-read : (test : ℕ → Bool) → ((b : ℕ) → test (hyphened_byte b) ≡ test b) → (text : List ℕ) → list_all test (hyphened text) ≡ list_all test text
-list_all-read test = list_all-changed hyphened_byte test test
-
-pub length-read : (text : List ℕ) → length (hyphened text) ≡ length text
-length-read text = length-map text hyphened_byte
-
-is_first_subtag-read : (text : List ℕ) → is_first_subtag (hyphened text) ≡ is_first_subtag text
-is_first_subtag-read text = rw (length-read text, list_all-read is_letter is_letter-read text) refl
-
-is_private_subtag-read : (text : List ℕ) → is_private_subtag (hyphened text) ≡ is_private_subtag text
-unfolding is_private_subtag
-is_private_subtag-read text = rw (length-read text, list_all-read is_alphanumeric is_alphanumeric-read text) refl
-
--- ---- the subtags of a text that is read so
-
-pub segments-read : (text : List ℕ) → segments (hyphened text) ≡ map hyphened (slice_split is_mark text)
-segments-read = slice_split-changed hyphened_byte is_hyphen is_mark is_hyphen-read
+-- they hold no such byte
+pub segments-read : (text : List ℕ) → segments (hyphened text) ≡ slice_split is_mark text
+segments-read [] = refl
+segments-read (b ∷ text) = rw (is_hyphen-read b, segments-read text) (by_mark (is_mark b) refl)
+  where
+    by_mark :
+        (mark : Bool) → is_mark b ≡ mark →
+        cond mark ([] ∷ slice_split is_mark text) (onto_first (hyphened_byte b) (slice_split is_mark text)) ≡ cond mark ([] ∷ slice_split is_mark text) (onto_first b (slice_split is_mark text))
+    by_mark true is = refl
+    by_mark false is = rw (other_byte b is) refl
 
 -- ---- the parts of a list that is cut
 
@@ -82,50 +60,58 @@ is_star-read (b ∷ c ∷ text) = elim (eqb_tells b 95) [
   | inr other ↦ rw other.0 refl
 ]
 
-are_private-read : (parts : List (List ℕ)) → list_all is_private_subtag (map hyphened parts) ≡ list_all is_private_subtag parts
-are_private-read [] = refl
-are_private-read (part ∷ parts) = rw (is_private_subtag-read part, are_private-read parts) refl
-
 first_private : (text : List ℕ) → is_first_subtag text ≡ true → is_private_subtag text ≡ true
 unfolding is_private_subtag
 first_private text is =
     let k = and_parts (has_length 1 8 text) (are_letters text) is in
     rw (k.0, letters_alphanumeric text k.1) refl
 
+-- each first subtag of a range may stand elsewhere
+pub first_in_range : (text : List ℕ) → (is_star text || is_first_subtag text) ≡ true → is_range_subtag text ≡ true
+first_in_range text is = elim (or_cases (is_star text) (is_first_subtag text) is) [
+  | inl star ↦ rw star refl
+  | inr first ↦ or_right (is_star text) (is_private_subtag text) (first_private text first)
+]
+
 -- a first part that passes a narrower test passes the wider one
 and_absorb : (a b c : Bool) → (a ≡ true → b ≡ true) → (a && c) ≡ (a && (b && c))
 and_absorb true b c both = rw (both refl) refl
 and_absorb false b c both = refl
 
-basic_parts :
+basic_parts : (first : List ℕ) (others : List (List ℕ)) → are_basic_range (first ∷ others) ≡ (is_first_subtag first && are_basic_subtags (first ∷ others))
+basic_parts first others = and_absorb (is_first_subtag first) (is_private_subtag first) (are_basic_subtags others) (first_private first)
+
+extended_parts :
     (first : List ℕ) (others : List (List ℕ)) →
-    are_basic_range (map hyphened (first ∷ others)) ≡ (is_first_subtag first && list_all is_private_subtag (first ∷ others))
-basic_parts first others =
-    rw (is_first_subtag-read first, are_private-read others)
-    (and_absorb (is_first_subtag first) (is_private_subtag first) (list_all is_private_subtag others) (first_private first))
+    are_extended_range (first ∷ others) ≡ ((is_star first || is_first_subtag first) && are_range_subtags (first ∷ others))
+extended_parts first others = and_absorb (is_star first || is_first_subtag first) (is_range_subtag first) (are_range_subtags others) (first_in_range first)
 
-are_basic-read :
-    (text : List ℕ) →
-    are_basic_range (segments (hyphened text)) ≡ (is_first_subtag (before_first is_mark text) && list_all is_private_subtag (slice_split is_mark text))
-are_basic-read text = elim (cut_or_whole is_mark text) [
-  | inl more ↦
-      ap are_basic_range (segments-read text ∙ ap (map hyphened) more)
-      ∙ basic_parts (before_first is_mark text) (slice_split is_mark (after_first is_mark text))
-      ∙ ap (λ parts. is_first_subtag (before_first is_mark text) && list_all is_private_subtag parts) (sym more)
-  | inr whole ↦
-      ap are_basic_range (segments-read text ∙ ap (map hyphened) whole.0)
-      ∙ basic_parts (before_first is_mark text) []
-      ∙ ap (λ parts. is_first_subtag (before_first is_mark text) && list_all is_private_subtag parts) (sym whole.0)
-]
+-- what is seen of the first part and of all parts is seen of the subtags of a text
+seen_parts :
+    (f : List (List ℕ) → Bool) (g : List ℕ → List (List ℕ) → Bool) → f [] ≡ f ([] ∷ []) → ((first : List ℕ) (others : List (List ℕ)) → f (first ∷ others) ≡ g first (first ∷ others)) →
+    (text : List ℕ) → f (subtags (hyphened text)) ≡ g (before_first is_mark text) (slice_split is_mark text)
+seen_parts f g none each text = of_text text ∙ ap f (segments-read text) ∙ of_parts
+  where
+    of_text : (t : List ℕ) → f (subtags (hyphened t)) ≡ f (segments (hyphened t))
+    of_text [] = none
+    of_text (b ∷ t) = refl
 
-subtags_segments : (text : List ℕ) → are_basic_range (subtags text) ≡ are_basic_range (segments text)
-subtags_segments [] = refl
-subtags_segments (b ∷ text) = refl
+    of_parts : f (slice_split is_mark text) ≡ g (before_first is_mark text) (slice_split is_mark text)
+    of_parts = elim (cut_or_whole is_mark text) [
+      | inl more ↦ ap f more ∙ each (before_first is_mark text) (slice_split is_mark (after_first is_mark text)) ∙ ap (g (before_first is_mark text)) (sym more)
+      | inr whole ↦ ap f whole.0 ∙ each (before_first is_mark text) [] ∙ ap (g (before_first is_mark text)) (sym whole.0)
+    ]
 
 pub basic_read :
     (text : List ℕ) →
-    is_basic_range (hyphened text) ≡ (is_star text || (is_first_subtag (before_first is_mark text) && list_all is_private_subtag (slice_split is_mark text)))
-basic_read text = rw (is_star-read text, subtags_segments (hyphened text), are_basic-read text) refl
+    is_basic_range (hyphened text) ≡ (is_star text || (is_first_subtag (before_first is_mark text) && are_basic_subtags (slice_split is_mark text)))
+basic_read text = rw (is_star-read text, seen_parts are_basic_range (λ first parts. is_first_subtag first && are_basic_subtags parts) refl basic_parts text) refl
+
+pub extended_read :
+    (text : List ℕ) →
+    is_language_range (hyphened text)
+    ≡ ((is_star (before_first is_mark text) || is_first_subtag (before_first is_mark text)) && are_range_subtags (slice_split is_mark text))
+extended_read = seen_parts are_extended_range (λ first parts. (is_star first || is_first_subtag first) && are_range_subtags parts) refl extended_parts
 
 -- ---- the elements of a header, and the weight of an element, part by part
 

@@ -5,7 +5,8 @@ use Rattle.std.specs.Char.{to_ascii_lowercase}
 use Rattle.langtag_scan.specs.Case.{fold_byte, are_alike}
 use Rattle.langtag_match.specs.LookUp.{begins_with_wildcard, basic_form}
 
-basic_form-byte : (a : ℕ) (range : List ℕ) → begins_with_wildcard (a ∷ range) ≡ false → basic_form (a ∷ range) ≡ a ∷ basic_form range
+-- a byte with which no "-*" begins stays
+pub basic_form-byte : (a : ℕ) (range : List ℕ) → begins_with_wildcard (a ∷ range) ≡ false → basic_form (a ∷ range) ≡ a ∷ basic_form range
 basic_form-byte a [] none = refl
 basic_form-byte a (b ∷ range) none = rw none refl
 

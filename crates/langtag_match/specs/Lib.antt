@@ -5,6 +5,7 @@ pub mod Extended
 pub mod Filter
 pub mod FilterRule
 pub mod Fallback
+pub mod Listed
 pub mod LookUp
 pub mod Range
 pub mod Stable

@@ -19,6 +19,7 @@ hyphened_byte b = if b == 95 then 45 else b
 abbrev pub is_mark : ℕ → Bool
 is_mark b = (b == 45) || (b == 95)
 
+-- a text, so read
 abbrev pub hyphened : List ℕ → List ℕ
 hyphened text = map hyphened_byte text
 

@@ -41,13 +41,14 @@ pub(crate) fn is_first_subtag(bytes: &[u8]) -> bool
 fn are_range_subtags(mut subtags: Subtags<'_>) -> bool
     ensures { result ≡ spec.are_range_subtags subtags.entry }
 {
-    subtags.all(|subtag| is_range_subtag(subtag))
+    subtags.all(|subtag| is_range_subtag(subtag.as_bytes()))
 }
 
-fn is_range_subtag(subtag: &str) -> bool
-    ensures { result ≡ spec.is_range_subtag subtag.now }
+/// Returns whether the bytes are `*`, or 1 to 8 letters or digits.
+pub(crate) fn is_range_subtag(bytes: &[u8]) -> bool
+    ensures { result ≡ spec.is_range_subtag bytes.now }
 {
-    subtag == "*" || is_private_subtag(subtag.as_bytes())
+    matches!(bytes, [b'*']) || is_private_subtag(bytes)
 }
 
 /// Returns whether each subtag is 1 to 8 letters or digits.

@@ -1,7 +1,8 @@
 //! The language ranges of a header, read leniently.
-ghost use Rattle.std.specs.Prelude.{◌≡◌, ◌<◌, ◌^◌, ◌∷◌, [], length};
+ghost use Rattle.std.specs.Prelude.{◌≡◌, ◌<◌, ◌^◌, ◌∷◌, [], IfSome, IsTrue, length};
 ghost use Rattle.std.specs.Iterator.{YieldsFirstBy, item_count};
 ghost use Rattle.std.specs.Option.{option_map_or};
+ghost use Rattle.langtag_match.specs.Range.{is_basic_range};
 ghost use Rattle.langtag_match.specs.Wanted as spec;
 
 use crate::wanted_element::wanted_at;
@@ -87,6 +88,7 @@ impl<'a> Iterator for WantedRanges<'a> {
 pub fn split_wanted(header: &[u8]) -> Option<(WantedRange<'_>, &[u8])>
     ensures first { spec.wanted_elements header.now
         ≡ option_map_or (λ found. spec.wanted_element found.0 ∷ spec.wanted_elements found.1.now) result [] }
+    ensures basic { IfSome result (λ found. IsTrue (is_basic_range (spec.hyphened found.0.bytes.now))) }
     ensures few { length (spec.wanted_elements header.now) < 2 ^ 64 }
 {
     let mut left = header;

@@ -1,10 +1,9 @@
 //! An element of a header, read leniently.
-ghost use Rattle.std.specs.Prelude.{◌≡◌, false, IsTrue, MatchOption};
+ghost use Rattle.std.specs.Prelude.{◌≡◌, false, IfSome, IsTrue, MatchOption};
 ghost use Rattle.std.specs.List.{after_first, slice_split, list_all};
 ghost use Rattle.std.specs.Option.{option_map};
-ghost use Rattle.langtag.specs.Class.{is_private_subtag};
 ghost use Rattle.langtag_match.specs.AcceptLanguage.{is_semicolon, items, trimmed};
-ghost use Rattle.langtag_match.specs.Range.{is_basic_range, is_star};
+ghost use Rattle.langtag_match.specs.Range.{are_basic_subtags, is_basic_range, is_star};
 ghost use Rattle.langtag_match.specs.Wanted as spec;
 
 use crate::element::trimmed_place;
@@ -17,7 +16,8 @@ use langtag_scan::{first_place, split_at_byte, split_at_either};
 /// Returns the range that an item of a header has, with its weight, if `behind` follows the comma after the item.
 #[tactic(auto, unfolding(crate::specs::Wanted::wanted))]
 pub(crate) fn wanted_at<'a>(item: &'a [u8], behind: &[u8]) -> Option<WantedRange<'a>>
-    ensures { option_map spec.wanted_element result ≡ spec.wanted item.now (spec.digits_behind (items behind.now)) }
+    ensures wanted { option_map spec.wanted_element result ≡ spec.wanted item.now (spec.digits_behind (items behind.now)) }
+    ensures basic { IfSome result (λ found. IsTrue (is_basic_range (spec.hyphened found.bytes.now))) }
 {
     let (before, parameters) = split_at_byte(item, b';');
     let (bytes, _codeset) = split_at_either(trimmed(before), b'.', b'@');
@@ -37,7 +37,7 @@ fn is_wanted_range(text: &[u8]) -> bool
     is_star(text) || (is_first_subtag(first) && are_wanted_subtags(text))
 }
 
-fn is_star(text: &[u8]) -> bool
+pub(crate) fn is_star(text: &[u8]) -> bool
     ensures { result ≡ is_star text.now }
 {
     matches!(text, [b'*'])
@@ -45,13 +45,13 @@ fn is_star(text: &[u8]) -> bool
 
 /// Returns whether each subtag is 1 to 8 letters or digits.
 fn are_wanted_subtags(text: &[u8]) -> bool
-    ensures { result ≡ list_all is_private_subtag (slice_split spec.is_mark text.now) }
+    ensures { result ≡ are_basic_subtags (slice_split spec.is_mark text.now) }
 {
     text.split(|byte| is_mark(*byte))
         .all(|subtag| is_private_subtag(subtag))
 }
 
-fn is_mark(byte: u8) -> bool
+pub(crate) fn is_mark(byte: u8) -> bool
     ensures { result ≡ spec.is_mark byte }
 {
     byte == b'-' || byte == b'_'
@@ -132,7 +132,7 @@ fn is_number(whole: &[u8], fraction: &[u8]) -> bool
 }
 
 /// Returns a text without the white space around it.
-fn trimmed(text: &[u8]) -> &[u8]
+pub(crate) fn trimmed(text: &[u8]) -> &[u8]
     ensures { result.now ≡ trimmed text.now }
 {
     let (start, end) = trimmed_place(text);

@@ -126,6 +126,14 @@ impl<'a> Variants<'a> {
     }
 
     /// Returns an iterator over the variants, from either end: `rozaj` and `1994` for `rozaj-1994`.
+    ///
+    /// ```
+    /// use langtag_place::Variants;
+    ///
+    /// let mut variants = Variants::new("rozaj-1994")?.iter();
+    /// variants.next().map(|variant| variant.as_str()); // Some("rozaj")
+    /// variants.next_back().map(|variant| variant.as_str()); // Some("1994")
+    /// ```
     pub fn iter(&self) -> VariantsIter<'a>
         ensures list { variants_left result ≡ subtags (variants_text self.now) }
         ensures spells { SpellsVariants (variants_left result) (variants_text self.now) }
@@ -137,6 +145,12 @@ impl<'a> Variants<'a> {
     }
 
     /// Returns the first variant, if there is one: `rozaj` for `rozaj-1994`, `None` for the empty text.
+    ///
+    /// ```
+    /// use langtag_place::Variants;
+    ///
+    /// Variants::new("rozaj-1994")?.first().map(|variant| variant.as_str()); // Some("rozaj")
+    /// ```
     pub fn first(&self) -> Option<Variant<'a>>
         ensures member { (variants : List (List ℕ)) → SpellsVariants variants (variants_text self.now)
             → option_map variant_text result ≡ slice_get variants 0 }
@@ -145,6 +159,12 @@ impl<'a> Variants<'a> {
     }
 
     /// Returns the last variant, if there is one: `1994` for `rozaj-1994`.
+    ///
+    /// ```
+    /// use langtag_place::Variants;
+    ///
+    /// Variants::new("rozaj-1994")?.last().map(|variant| variant.as_str()); // Some("1994")
+    /// ```
     pub fn last(&self) -> Option<Variant<'a>>
         ensures member { (variants : List (List ℕ)) → SpellsVariants variants (variants_text self.now)
             → option_map variant_text result ≡ slice_get variants (length variants - 1) }

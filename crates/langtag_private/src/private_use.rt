@@ -119,6 +119,14 @@ impl<'a> PrivateUse<'a> {
     }
 
     /// Returns an iterator over the subtags after the first `x`: `PrivateUse::new("x-a-x")?.iter()` yields `a` and `x`.
+    ///
+    /// ```
+    /// use langtag_private::PrivateUse;
+    ///
+    /// let mut subtags = PrivateUse::new("x-a-x")?.iter();
+    /// subtags.next().map(|subtag| subtag.as_str()); // Some("a")
+    /// subtags.next().map(|subtag| subtag.as_str()); // Some("x")
+    /// ```
     pub fn iter(&self) -> PrivateUseIter<'a>
         ensures list { private_use_subtags_left result ≡ drop 1 (subtags (private_use_text self.now)) }
         ensures members { EachPrivateUseSpelling (private_use_text self.now) (λ members. private_use_subtags_left result ≡ members) }

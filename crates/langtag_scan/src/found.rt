@@ -23,6 +23,13 @@ pub struct Found {
 
 impl Found {
     /// Returns whether the text is a normal tag: `true` for `zh-min`, which is regular, `false` for `i-lux` and `x-a`.
+    ///
+    /// ```
+    /// use langtag_scan::{recognise, Metered};
+    ///
+    /// let found = recognise(&mut Metered::new("zh-min"));
+    /// found.map(|found| found.is_normal()); // Some(true)
+    /// ```
     pub fn is_normal(&self) -> bool
         ensures { result ≡ is_normal (finding self.now) }
     {
@@ -30,6 +37,13 @@ impl Found {
     }
 
     /// Returns whether the text is a private-use tag (section 2.2.7): `true` for `x-a`, `false` for `fr-x-a`.
+    ///
+    /// ```
+    /// use langtag_scan::{recognise, Metered};
+    ///
+    /// let found = recognise(&mut Metered::new("x-a"));
+    /// found.map(|found| found.is_private_use()); // Some(true)
+    /// ```
     pub fn is_private_use(&self) -> bool
         ensures { result ≡ is_private_use (finding self.now) }
     {
@@ -38,6 +52,13 @@ impl Found {
 
     /// Returns the index of an irregular grandfathered tag (section 2.2.8), from 0 to 16 in the order of section 2.1:
     /// `Some(1)` for `i-AMI`, and `None` for `zh-min`, which is regular.
+    ///
+    /// ```
+    /// use langtag_scan::{recognise, Metered};
+    ///
+    /// let found = recognise(&mut Metered::new("i-AMI"));
+    /// found.and_then(|found| found.irregular()); // Some(1)
+    /// ```
     pub fn irregular(&self) -> Option<usize>
         ensures { result ≡ irregular_index (finding self.now) }
     {
@@ -49,6 +70,13 @@ impl Found {
 
     /// Returns the ends of the parts of a normal tag (section 2.1): in `fr-FR`, the language ends at 2, and all other
     /// ends are 5. Returns `None` for `x-a`. It is proved that a clone of the ends, or of a `Found`, is the same value.
+    ///
+    /// ```
+    /// use langtag_scan::{recognise, Metered};
+    ///
+    /// let ends = recognise(&mut Metered::new("fr-FR")).and_then(|found| found.ends());
+    /// ends.map(|ends| (ends.language, ends.script, ends.region)); // Some((2, 2, 5))
+    /// ```
     pub fn ends(&self) -> Option<Ends>
         ensures ends { result ≡ normal_ends (finding self.now) }
 

@@ -377,6 +377,25 @@ pub unsafe extern "C" fn langtag_match_for_header(
 }
 
 #[no_mangle]
+pub unsafe extern "C" fn langtag_best_for_ranges(
+    text: *const u8,
+    text_len: usize,
+    ranges: *const Span,
+    ranges_len: usize,
+    bytes: *const u8,
+    len: usize,
+    tags: *const Span,
+    tags_len: usize,
+) -> usize {
+    choice::langtag_best_for_ranges(
+        lent(text, text_len),
+        lent(ranges, ranges_len),
+        lent(bytes, len),
+        lent(tags, tags_len),
+    )
+}
+
+#[no_mangle]
 pub unsafe extern "C" fn langtag_from_posix(
     name: *const u8,
     name_len: usize,

@@ -60,7 +60,8 @@ pub fn best_for_accept_language(
 }
 
 /// Returns the index of the best tag for a list of language ranges, the most wanted first, as [`best_for_header`] does:
-/// 1 for the ranges `nn` and `de`, and the tags `en` and `nb`. It is meant for basic ranges.
+/// 1 for the ranges `nn` and `de`, and the tags `en` and `nb`. An extended range counts without its `*`: `zh-*-Hant`
+/// as `zh-Hant`.
 ///
 /// ```
 /// # fn main() -> Result<(), Box<dyn std::error::Error>> {

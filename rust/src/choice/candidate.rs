@@ -4,7 +4,7 @@
 
 use crate::choice::likely_region::unlikely;
 use crate::choice::nearness::kept;
-use crate::likely::TagFields;
+use crate::likely::{basic_len, TagFields};
 use core::cmp::Ordering;
 
 /// How a tag serves a range: its distance is below 16, or below 50, or only look-up finds it. The first is the best.
@@ -95,7 +95,7 @@ impl Candidate<'_, '_> {
     /// Returns how many bytes look-up takes from the range to find the tag, and all where it does not.
     #[inline]
     fn lost(&self) -> usize {
-        self.range.len().saturating_sub(kept(self.range, self.tag))
+        basic_len(self.range).saturating_sub(kept(self.range, self.tag))
     }
 }
 

@@ -20,8 +20,23 @@ pub(crate) fn head(text: &[u8]) -> Option<(u8, u8)> {
 pub(crate) fn is_short(text: &[u8]) -> bool {
     match text {
         [_, _] => true,
-        [_, _, mark, rest @ ..] => is_mark(*mark) && !may_be_extended(rest),
+        [_, _, mark, rest @ ..] => is_mark(*mark) && has_no_extended(rest),
         _ => false,
+    }
+}
+
+/// Returns whether the first subtag of a text counts, and is no extended language.
+#[inline]
+fn has_no_extended(text: &[u8]) -> bool {
+    begins_counted(text) && !may_be_extended(text)
+}
+
+/// Returns whether the first subtag of a text is neither empty nor `*`.
+#[inline]
+fn begins_counted(text: &[u8]) -> bool {
+    match text {
+        [first, ..] => !is_mark(*first) && *first != b'*',
+        [] => true,
     }
 }
 

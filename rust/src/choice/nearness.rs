@@ -6,7 +6,7 @@ use crate::choice::read_range::starts;
 use crate::choice::rule_distance::language_distance;
 use crate::choice::tag_distance::places_distance;
 use crate::choice::wish::Wish;
-use crate::likely::{are_alike, completed, hyphened, matching_form, replaced_form, TagFields};
+use crate::likely::{after_common, are_alike, completed, matching_form, replaced_form, TagFields};
 
 /// How far a tag is from a range, and its matching form.
 #[derive(Clone, Copy)]
@@ -92,18 +92,23 @@ pub(crate) fn kept(range: &[u8], tag: &[u8]) -> usize {
 }
 
 /// Returns whether a tag is a range, or what stands before one of its hyphens and does not end in a single character.
+#[inline]
 fn is_fallback(range: &[u8], tag: &[u8]) -> bool {
-    starts(range, tag)
-        && (goes_on(&range[tag.len()..]) && (tag.len() == range.len() || !ends_in_single(tag)))
+    let (left, rest) = after_common(range, tag);
+    rest.is_empty() && may_go(left, tag)
 }
 
-/// Returns whether nothing follows, or a hyphen.
+/// Returns whether look-up takes away what stands behind a tag in a range: nothing, or subtags that leave no single character at
+/// the end.
+#[inline]
+fn may_go(left: &[u8], tag: &[u8]) -> bool {
+    goes_on(left) && (left.is_empty() || !ends_in_single(tag))
+}
+
+/// Returns whether nothing follows in a range, or a hyphen.
 #[inline]
 fn goes_on(rest: &[u8]) -> bool {
-    match rest {
-        [first, ..] => hyphened(*first) == b'-',
-        [] => true,
-    }
+    matches!(rest, [] | [b'-' | b'_', ..])
 }
 
 #[inline]

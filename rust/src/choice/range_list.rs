@@ -20,7 +20,8 @@ use crate::matching::{split_wanted, LanguageRange, WantedRange, WeightedRange};
 /// # }
 /// ```
 pub trait RangeList<'a>: Copy {
-    /// Returns the first range and the ranges after it, or `None` if none is left.
+    /// Returns the first range and the ranges after it, or `None` if none is left. In its bytes `_` means `-`, and each
+    /// `-*` is ignored.
     fn split_range(self) -> Option<(WantedRange<'a>, Self)>;
 }
 

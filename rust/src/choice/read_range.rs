@@ -1,25 +1,31 @@
 // Made by rust/erase from crates/langtag_choice/src/read_range.rt. Change that file, not this one.
 
-//! Texts of ranges in which `_` is read as `-`.
+//! Ranges as they are read: `_` as `-`, and without each `-*`.
 
-use crate::likely::are_alike;
+use crate::likely::{after_common, are_alike};
 
 /// Returns whether a range is `*`.
 #[inline]
 pub(crate) fn is_star(range: &[u8]) -> bool {
-    matches!(range, [b'*'])
+    are_alike(range, b"*")
 }
 
 /// Returns whether a range begins like a tag.
 #[inline]
 pub(crate) fn starts(range: &[u8], tag: &[u8]) -> bool {
-    tag.len() <= range.len() && are_alike(&range[..tag.len()], tag)
+    let (_, rest) = after_common(range, tag);
+    rest.is_empty()
 }
 
 /// Returns whether a tag equals a range, or begins with it and then has a hyphen.
+#[inline]
 pub(crate) fn begins(range: &[u8], tag: &[u8]) -> bool {
-    if tag.len() < range.len() || !are_alike(range, &tag[..range.len()]) {
-        return false;
-    }
-    range.len() == tag.len() || tag[range.len()] == b'-'
+    let (left, rest) = after_common(range, tag);
+    left.is_empty() && ends_subtag(rest)
+}
+
+/// Returns whether nothing follows, or a hyphen.
+#[inline]
+pub(crate) fn ends_subtag(rest: &[u8]) -> bool {
+    matches!(rest, [] | [b'-', ..])
 }

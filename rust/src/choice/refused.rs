@@ -4,6 +4,7 @@
 
 use crate::choice::range_list::RangeList;
 use crate::choice::read_range::{begins, is_star};
+use crate::likely::basic_len;
 use crate::matching::WantedRange;
 
 /// Returns whether the longest range that matches a tag has the weight 0.
@@ -17,9 +18,9 @@ pub(crate) fn is_refused<'a, R: RangeList<'a>>(ranges: R, tag: &[u8]) -> bool {
             continue;
         }
         if range.weight == 0 {
-            refused = refused.max(range.bytes.len());
+            refused = refused.max(basic_len(range.bytes));
         } else {
-            wanted = wanted.max(range.bytes.len());
+            wanted = wanted.max(basic_len(range.bytes));
         }
     }
     wanted < refused

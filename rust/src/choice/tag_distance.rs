@@ -46,7 +46,7 @@ fn texts_distance(desired: &[u8], supported: &[u8]) -> u8 {
     }
 }
 
-/// Returns the distance from a range, in which `_` is read as `-`, to a tag.
+/// Returns the distance from a range, as it is read, to a tag.
 pub(crate) fn range_distance(range: &[u8], tag: &[u8]) -> u8 {
     match (matching_form(range), matching_form(tag)) {
         (Some(wanted), Some(found)) => fields_distance(wanted, found),

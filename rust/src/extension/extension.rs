@@ -153,6 +153,15 @@ impl<'a> Extension<'a> {
     }
 
     /// Returns the singleton of the extension, in its original case: `U` for `U-co-phonebk`.
+    ///
+    /// ```
+    /// # fn main() -> Result<(), Box<dyn std::error::Error>> {
+    /// use langtag::Extension;
+    ///
+    /// assert_eq!(Extension::new("U-co-phonebk")?.singleton().unwrap(), b'U');
+    /// # Ok(())
+    /// # }
+    /// ```
     #[inline]
     pub fn singleton(&self) -> Singleton {
         Singleton::from_checked(self.as_bytes()[0])
@@ -165,6 +174,17 @@ impl<'a> Extension<'a> {
     }
 
     /// Returns an iterator over the subtags after the singleton: `co` and `phonebk` for `u-co-phonebk`.
+    ///
+    /// ```
+    /// # fn main() -> Result<(), Box<dyn std::error::Error>> {
+    /// use langtag::Extension;
+    ///
+    /// let mut subtags = Extension::new("u-co-phonebk")?.iter();
+    /// assert_eq!(subtags.next().map(|subtag| subtag.as_str()), Some("co"));
+    /// assert_eq!(subtags.next().map(|subtag| subtag.as_str()), Some("phonebk"));
+    /// # Ok(())
+    /// # }
+    /// ```
     #[inline]
     pub fn iter(&self) -> ExtensionIter<'a> {
         ExtensionIter::new(self.as_str())

@@ -166,12 +166,33 @@ impl<'a> Extensions<'a> {
 
     /// Returns an iterator over the extensions, including those with a repeated singleton: `a-bb` and `A-cc` for
     /// `a-bb-A-cc`.
+    ///
+    /// ```
+    /// # fn main() -> Result<(), Box<dyn std::error::Error>> {
+    /// use langtag::Extensions;
+    ///
+    /// let mut extensions = Extensions::new("a-bb-A-cc")?.iter();
+    /// assert_eq!(extensions.next().map(|extension| extension.as_str()), Some("a-bb"));
+    /// assert_eq!(extensions.next().map(|extension| extension.as_str()), Some("A-cc"));
+    /// # Ok(())
+    /// # }
+    /// ```
     #[inline]
     pub fn iter(&self) -> ExtensionsIter<'a> {
         ExtensionsIter::new(self.as_str())
     }
 
     /// Returns the first extension with the singleton, ignoring case: `A` finds `a-bb` in `a-bb-A-cc`.
+    ///
+    /// ```
+    /// # fn main() -> Result<(), Box<dyn std::error::Error>> {
+    /// use langtag::{Extensions, Singleton};
+    ///
+    /// let found = Extensions::new("a-bb-A-cc")?.get(Singleton::new(b'A')?);
+    /// assert_eq!(found.map(|extension| extension.as_str()), Some("a-bb"));
+    /// # Ok(())
+    /// # }
+    /// ```
     #[inline]
     pub fn get(&self, singleton: Singleton) -> Option<Extension<'a>> {
         self.iter()
@@ -180,6 +201,16 @@ impl<'a> Extensions<'a> {
 
     /// Returns an iterator over the subtags of the extension that `get` returns, and over nothing if there is none:
     /// `co` and `phonebk` for the singleton `u` in `a-bb-u-co-phonebk`.
+    ///
+    /// ```
+    /// # fn main() -> Result<(), Box<dyn std::error::Error>> {
+    /// use langtag::{Extensions, Singleton};
+    ///
+    /// let mut subtags = Extensions::new("a-bb-u-co-phonebk")?.iter_extension(Singleton::new(b'u')?);
+    /// assert_eq!(subtags.next().map(|subtag| subtag.as_str()), Some("co"));
+    /// # Ok(())
+    /// # }
+    /// ```
     #[inline]
     pub fn iter_extension(&self, singleton: Singleton) -> ExtensionIter<'a> {
         let Some(extension) = self.get(singleton) else {

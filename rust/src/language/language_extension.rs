@@ -153,6 +153,16 @@ impl<'a> LanguageExtension<'a> {
 
     /// Returns an iterator over the extended subtags: `LanguageExtension::new("min-nan")?.iter()` yields `min` and
     /// `nan`.
+    ///
+    /// ```
+    /// # fn main() -> Result<(), Box<dyn std::error::Error>> {
+    /// use langtag::LanguageExtension;
+    ///
+    /// let mut subtags = LanguageExtension::new("min-nan")?.iter();
+    /// assert_eq!(subtags.next().map(|subtag| subtag.as_str()), Some("min"));
+    /// # Ok(())
+    /// # }
+    /// ```
     #[inline]
     pub fn iter(&self) -> LanguageExtensionIter<'a> {
         LanguageExtensionIter::new(self.as_str())

@@ -50,6 +50,6 @@ pub use tables::CLDR_VERSION;
 pub(crate) use keys::index_of;
 pub(crate) use likely::suffices;
 pub(crate) use matching::{completed, matching_form, replaced_form};
-pub(crate) use read_text::{are_alike, hyphened};
+pub(crate) use read_text::{after_common, are_alike, basic_len, hyphened};
 pub(crate) use rows::{key_number, language_number};
 pub(crate) use tag_fields::TagFields;

@@ -1,24 +1,55 @@
 // Made by rust/erase from crates/langtag_likely/src/read_text.rt. Change that file, not this one.
 
-//! Texts in which `_` is read as `-`, as in a range of a header.
+//! Language ranges as they are read: `_` as `-`, and without each `-*`.
 
 use crate::scan::into_smallcase;
 
-/// Returns whether a text, read in this way, equals another, ignoring case.
+/// Returns whether a range, read in this way, equals a text, ignoring case.
+#[inline]
 pub fn are_alike(range: &[u8], text: &[u8]) -> bool {
-    let mut range = range;
-    let mut text = text;
-    while let [first, others @ ..] = range {
-        let [byte, rest @ ..] = text else {
-            return false;
-        };
+    let (left, rest) = after_common(range, text);
+    left.is_empty() && rest.is_empty()
+}
+
+/// Returns what is left of a range and of a text where what both begin with is taken away.
+pub fn after_common<'a, 't>(range: &'a [u8], text: &'t [u8]) -> (&'a [u8], &'t [u8]) {
+    let mut left = without_stars(range);
+    let mut rest = text;
+    while let ([first, after_first @ ..], [byte, after_byte @ ..]) = (left, rest) {
         if into_smallcase(hyphened(*first)) != into_smallcase(*byte) {
-            return false;
+            break;
         }
-        range = others;
-        text = rest;
+        left = without_stars(after_first);
+        rest = after_byte;
     }
-    text.is_empty()
+    (left, rest)
+}
+
+/// Returns how many bytes a range has, as it is read.
+pub fn basic_len(range: &[u8]) -> usize {
+    let mut len = 0;
+    let mut left = without_stars(range);
+    while let [_, rest @ ..] = left {
+        len += 1;
+        left = without_stars(rest);
+    }
+    len
+}
+
+/// Returns a range without each `-*` in front.
+#[inline]
+fn without_stars(range: &[u8]) -> &[u8] {
+    let mut left = range;
+    while begins_with_star(left) {
+        left = &left[2..];
+    }
+    left
+}
+
+/// Returns whether a range begins with `-*`.
+#[inline]
+fn begins_with_star(range: &[u8]) -> bool {
+    matches!(range, [b'-' | b'_', b'*', ..])
 }
 
 /// Returns a byte as it is read.

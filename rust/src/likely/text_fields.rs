@@ -9,7 +9,7 @@ use crate::scan::{is_extended, is_primary, is_region, is_script, split_at_either
 impl<'a> TagFields<'a> {
     /// Returns the fields of a text in which `_` is read as `-`: `None` if it does not begin with a language.
     pub(crate) fn of_text(text: &'a [u8]) -> Option<TagFields<'a>> {
-        let (first, rest) = first_subtag(text);
+        let (first, rest) = split_at_either(text, b'-', b'_');
         if !is_primary(first) {
             return None;
         }
@@ -28,8 +28,7 @@ impl<'a> TagFields<'a> {
 fn last_extended<'a>(language: &'a [u8], text: &'a [u8]) -> (&'a [u8], &'a [u8]) {
     let mut language = language;
     let mut left = text;
-    while !left.is_empty() {
-        let (subtag, rest) = first_subtag(left);
+    while let Some((subtag, rest)) = next_subtag(left) {
         if !is_extended(subtag) {
             return (language, left);
         }
@@ -42,27 +41,35 @@ fn last_extended<'a>(language: &'a [u8], text: &'a [u8]) -> (&'a [u8], &'a [u8])
 /// Returns the script in front, and what follows.
 #[inline]
 fn script_before<'a>(text: &'a [u8]) -> (&'a [u8], &'a [u8]) {
-    let (subtag, rest) = first_subtag(text);
-    if is_script(subtag) {
-        (subtag, rest)
-    } else {
-        (b"", text)
+    match next_subtag(text) {
+        Some((subtag, rest)) if is_script(subtag) => (subtag, rest),
+        _ => (b"", text),
     }
 }
 
 /// Returns the region in front.
 #[inline]
 fn region_before(text: &[u8]) -> &[u8] {
-    let (subtag, _) = first_subtag(text);
-    if is_region(subtag) {
-        subtag
-    } else {
-        b""
+    match next_subtag(text) {
+        Some((subtag, _)) if is_region(subtag) => subtag,
+        _ => b"",
     }
 }
 
-/// Returns what stands before the first `-` or `_`, and what stands after it.
+/// Returns the first subtag that counts, and what stands after it.
+fn next_subtag(text: &[u8]) -> Option<(&[u8], &[u8])> {
+    let mut left = text;
+    while !left.is_empty() {
+        let (subtag, rest) = split_at_either(left, b'-', b'_');
+        if counts(subtag) {
+            return Some((subtag, rest));
+        }
+        left = rest;
+    }
+    None
+}
+
 #[inline]
-fn first_subtag(text: &[u8]) -> (&[u8], &[u8]) {
-    split_at_either(text, b'-', b'_')
+fn counts(subtag: &[u8]) -> bool {
+    !matches!(subtag, [] | [b'*'])
 }

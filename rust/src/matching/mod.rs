@@ -31,6 +31,7 @@ mod fallbacks;
 mod filter;
 mod filter_rule;
 mod language_range;
+mod listed;
 mod lookup;
 mod range_text;
 mod wanted;
@@ -49,6 +50,7 @@ pub use filter::{filter_basic, filter_extended, Filtered};
 #[cfg(feature = "alloc")]
 pub use language_range::LanguageRangeBuf;
 pub use language_range::{InvalidLanguageRange, LanguageRange};
+pub use listed::listed_range;
 pub use lookup::look_up;
 pub use wanted::{split_wanted, wanted_ranges, WantedRange, WantedRanges};
 pub use weight::weight_of;

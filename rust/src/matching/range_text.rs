@@ -35,12 +35,13 @@ pub(crate) fn is_first_subtag(bytes: &[u8]) -> bool {
 /// Returns whether each subtag is `*`, or 1 to 8 letters or digits.
 #[inline]
 fn are_range_subtags(mut subtags: Subtags<'_>) -> bool {
-    subtags.all(|subtag| is_range_subtag(subtag))
+    subtags.all(|subtag| is_range_subtag(subtag.as_bytes()))
 }
 
+/// Returns whether the bytes are `*`, or 1 to 8 letters or digits.
 #[inline]
-fn is_range_subtag(subtag: &str) -> bool {
-    subtag == "*" || is_private_subtag(subtag.as_bytes())
+pub(crate) fn is_range_subtag(bytes: &[u8]) -> bool {
+    matches!(bytes, [b'*']) || is_private_subtag(bytes)
 }
 
 /// Returns whether each subtag is 1 to 8 letters or digits.

@@ -28,7 +28,7 @@ fn is_wanted_range(text: &[u8]) -> bool {
 }
 
 #[inline]
-fn is_star(text: &[u8]) -> bool {
+pub(crate) fn is_star(text: &[u8]) -> bool {
     matches!(text, [b'*'])
 }
 
@@ -40,7 +40,7 @@ fn are_wanted_subtags(text: &[u8]) -> bool {
 }
 
 #[inline]
-fn is_mark(byte: u8) -> bool {
+pub(crate) fn is_mark(byte: u8) -> bool {
     byte == b'-' || byte == b'_'
 }
 
@@ -109,7 +109,7 @@ fn is_number(whole: &[u8], fraction: &[u8]) -> bool {
 
 /// Returns a text without the white space around it.
 #[inline]
-fn trimmed(text: &[u8]) -> &[u8] {
+pub(crate) fn trimmed(text: &[u8]) -> &[u8] {
     let (start, end) = trimmed_place(text);
     &text[start..end]
 }

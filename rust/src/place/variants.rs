@@ -162,18 +162,47 @@ impl<'a> Variants<'a> {
     }
 
     /// Returns an iterator over the variants, from either end: `rozaj` and `1994` for `rozaj-1994`.
+    ///
+    /// ```
+    /// # fn main() -> Result<(), Box<dyn std::error::Error>> {
+    /// use langtag::Variants;
+    ///
+    /// let mut variants = Variants::new("rozaj-1994")?.iter();
+    /// assert_eq!(variants.next().map(|variant| variant.as_str()), Some("rozaj"));
+    /// assert_eq!(variants.next_back().map(|variant| variant.as_str()), Some("1994"));
+    /// # Ok(())
+    /// # }
+    /// ```
     #[inline]
     pub fn iter(&self) -> VariantsIter<'a> {
         VariantsIter::new(self.as_str())
     }
 
     /// Returns the first variant, if there is one: `rozaj` for `rozaj-1994`, `None` for the empty text.
+    ///
+    /// ```
+    /// # fn main() -> Result<(), Box<dyn std::error::Error>> {
+    /// use langtag::Variants;
+    ///
+    /// assert_eq!(Variants::new("rozaj-1994")?.first().map(|variant| variant.as_str()), Some("rozaj"));
+    /// # Ok(())
+    /// # }
+    /// ```
     #[inline]
     pub fn first(&self) -> Option<Variant<'a>> {
         self.iter().next()
     }
 
     /// Returns the last variant, if there is one: `1994` for `rozaj-1994`.
+    ///
+    /// ```
+    /// # fn main() -> Result<(), Box<dyn std::error::Error>> {
+    /// use langtag::Variants;
+    ///
+    /// assert_eq!(Variants::new("rozaj-1994")?.last().map(|variant| variant.as_str()), Some("1994"));
+    /// # Ok(())
+    /// # }
+    /// ```
     #[inline]
     pub fn last(&self) -> Option<Variant<'a>> {
         self.iter().next_back()

@@ -152,6 +152,17 @@ impl<'a> PrivateUse<'a> {
     }
 
     /// Returns an iterator over the subtags after the first `x`: `PrivateUse::new("x-a-x")?.iter()` yields `a` and `x`.
+    ///
+    /// ```
+    /// # fn main() -> Result<(), Box<dyn std::error::Error>> {
+    /// use langtag::PrivateUse;
+    ///
+    /// let mut subtags = PrivateUse::new("x-a-x")?.iter();
+    /// assert_eq!(subtags.next().map(|subtag| subtag.as_str()), Some("a"));
+    /// assert_eq!(subtags.next().map(|subtag| subtag.as_str()), Some("x"));
+    /// # Ok(())
+    /// # }
+    /// ```
     #[inline]
     pub fn iter(&self) -> PrivateUseIter<'a> {
         PrivateUseIter::new(self.as_str())

@@ -3,6 +3,7 @@
 //! The best tag for a reader, and the distance of two tags (UTS #35, part 1, section 'Language Matching').
 
 use crate::calls::span::Span;
+use crate::calls::spanned_ranges::SpannedRanges;
 use crate::calls::spanned_tags::SpannedTags;
 use crate::calls::tag::tag_of;
 use crate::choice::{best_among, distance};
@@ -30,4 +31,21 @@ pub fn langtag_best_for_header(header: &[u8], bytes: &[u8], tags: &[Span]) -> us
         spans: tags,
     };
     best_among(header, &spanned).unwrap_or(tags.len())
+}
+
+/// Returns the index of the tag that a reader wants who names language ranges of which the first is wanted most: 1 for `nn` and
+/// `de`, and `en` and `nb`. Ranges and tags are spans of texts. The number of the tags where the reader wants none of them.
+///
+/// A range is read as that of an element of a header: `zh_TW.UTF-8` as `zh-TW`. An extended one counts without its `*`. A span
+/// that is no range or no tag, or reaches out of its text, is passed over.
+pub fn langtag_best_for_ranges(text: &[u8], ranges: &[Span], bytes: &[u8], tags: &[Span]) -> usize {
+    let wanted = SpannedRanges {
+        text,
+        spans: ranges,
+    };
+    let spanned = SpannedTags {
+        text: bytes,
+        spans: tags,
+    };
+    best_among(wanted, &spanned).unwrap_or(tags.len())
 }

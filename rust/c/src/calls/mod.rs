@@ -27,6 +27,7 @@ pub(crate) mod refused;
 pub(crate) mod registry_date;
 pub(crate) mod repeats;
 pub(crate) mod span;
+pub(crate) mod spanned_ranges;
 pub(crate) mod spanned_tags;
 pub(crate) mod tag;
 pub(crate) mod transform;

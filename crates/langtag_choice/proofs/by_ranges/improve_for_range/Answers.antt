@@ -1,13 +1,13 @@
 use Rattle.std.proofs.Common.{Some, sym, ap, ◌∙◌, arith}
 use Rattle.std.specs.List.{slice_get}
-use Rattle.langtag_match.specs.Wanted.{wanted_element}
+use Rattle.langtag_match.specs.Listed.{listed_element}
 use Rattle.langtag_choice.proofs.FoundLaws.{from_of, one_more_tag, real_from, takes_covers, text_at}
 use Rattle.langtag_choice.proofs.by_ranges.improve_for_range.Goals as goal
 
 pub loop-index-preserved : goal.loop-index-preserved
 loop-index-preserved g c =
     let texts = g.T.TagList.texts c.args.tags.now in
-    let element = wanted_element c.args.wanted in
+    let element = listed_element c.args.wanted in
     let index = c.loop-index.index in
     let text = c.bytes_at.result.now in
     record {

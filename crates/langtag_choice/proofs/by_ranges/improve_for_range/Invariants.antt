@@ -1,7 +1,7 @@
 use Rattle.std.proofs.Common.{◌≡◌, Some}
 use Rattle.std.specs.List.{slice_get}
 use Rattle.langtag_match.specs.AcceptLanguage.{Element}
-use Rattle.langtag_match.specs.Wanted.{wanted_element}
+use Rattle.langtag_match.specs.Listed.{listed_element}
 use Rattle.std.proofs.Common.{List}
 use Rattle.langtag_choice.specs.Found.{CoversTags, IsReal, Keeps}
 use Rattle.langtag_choice.proofs.by_ranges.improve_for_range.Given as goal
@@ -9,6 +9,6 @@ use Rattle.langtag_choice.proofs.by_ranges.improve_for_range.Given as goal
 abbrev pub invariant-loop-index : goal.invariant-loop-index
 invariant-loop-index g l = record {
   keeps : Keeps l.fn.found l.found;
-  covers : CoversTags (wanted_element l.wanted) l.place (g.T.TagList.texts l.tags) l.index l.found;
-  real : (elements : List Element) → slice_get elements l.place ≡ Some (wanted_element l.wanted) → IsReal elements (g.T.TagList.texts l.tags) l.fn.found → IsReal elements (g.T.TagList.texts l.tags) l.found;
+  covers : CoversTags (listed_element l.wanted) l.place (g.T.TagList.texts l.tags) l.index l.found;
+  real : (elements : List Element) → slice_get elements l.place ≡ Some (listed_element l.wanted) → IsReal elements (g.T.TagList.texts l.tags) l.fn.found → IsReal elements (g.T.TagList.texts l.tags) l.found;
 }

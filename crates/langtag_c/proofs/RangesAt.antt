@@ -1,0 +1,24 @@
+-- What spans of a text are: language ranges, where they have them.
+use Rattle.std.proofs.Common.{◌≡◌, ℕ, ◌≤◌, Bool, true, false, List, [], ◌∷◌, length, Option, None, Some, refl, arith}
+use Rattle.std.specs.List.{cons_option}
+use Rattle.std.proofs.lemmas.Bool.{false_from_ne_true}
+use Rattle.langtag_match.specs.AcceptLanguage.{Element}
+use Rattle.langtag_match.specs.Listed.{listed}
+use Rattle.langtag_c.specs.Choice.{range_at, ranges_at}
+use Rattle.langtag_c.specs.Spans.{HasBytes, has_bytes, span_text}
+use Rattle.langtag_c.specs.declared.span.Span.{Span}
+use Rattle.langtag_c.proofs.TagsAt.{bytes_from_test, test_from_bytes}
+
+pub range_there : (text : List ℕ) (span : Span) (bytes : List ℕ) → HasBytes text span → bytes ≡ span_text text span → listed bytes ≡ range_at text span
+range_there text span bytes has is = rw (test_from_bytes text span has, is) refl
+
+pub no_range : (text : List ℕ) (span : Span) → (HasBytes text span → ⊥) → None ≡ range_at text span
+no_range text span none = rw (false_from_ne_true (has_bytes text span) (λ yes. none (bytes_from_test text span yes))) refl
+
+pub few_ranges : (text : List ℕ) (spans : List Span) → length (ranges_at text spans) ≤ length spans
+few_ranges text [] = omega arith
+few_ranges text (span ∷ spans) = by_first (range_at text span) (few_ranges text spans)
+  where
+    by_first : (first : Option Element) → length (ranges_at text spans) ≤ length spans → length (cons_option first (ranges_at text spans)) ≤ length (span ∷ spans)
+    by_first None few = omega (arith, few)
+    by_first (Some element) few = omega (arith, few)

@@ -1,0 +1,53 @@
+//! A language range that stands in a list of ranges, as a program has it.
+ghost use Rattle.std.specs.Prelude.{◌≡◌, IfSome, IsTrue};
+ghost use Rattle.std.specs.List.{slice_split};
+ghost use Rattle.std.specs.Option.{option_map};
+ghost use Rattle.langtag_match.specs.Listed as spec;
+ghost use Rattle.langtag_match.specs.Range.{are_range_subtags, is_language_range};
+ghost use Rattle.langtag_match.specs.Wanted.{hyphened, is_mark};
+
+use crate::range_text::{is_first_subtag, is_range_subtag};
+use crate::wanted::WantedRange;
+use crate::wanted_element::{is_mark, is_star, trimmed};
+use langtag_scan::split_at_either;
+
+/// Returns the range that a text in a list of ranges is, basic or extended, with the weight 1. As in a header, `_` is read
+/// as `-`, and white space around the range and everything after `.` or `@` are dropped. Returns `None` if the rest is not a
+/// range, such as `de;q=0`.
+///
+/// ```
+/// use langtag_match::listed_range;
+///
+/// listed_range(b" zh_TW.UTF-8").map(|range| range.bytes); // Some(&b"zh_TW"[..])
+/// ```
+#[tactic(auto, unfolding(crate::specs::Listed::listed))]
+pub fn listed_range(text: &[u8]) -> Option<WantedRange<'_>>
+    ensures listed { option_map spec.listed_element result ≡ spec.listed text.now }
+    ensures in_class { IfSome result (λ found. IsTrue (is_language_range (hyphened found.bytes.now))) }
+{
+    let (bytes, _codeset) = split_at_either(trimmed(text), b'.', b'@');
+    if !is_listed_range(bytes) {
+        return None;
+    }
+    Some(WantedRange {
+        bytes,
+        weight: 1000,
+    })
+}
+
+/// Returns whether a text is a language range where `_` is read as `-`.
+#[tactic(auto, using(crate::proofs::WantedTexts::extended_read))]
+fn is_listed_range(text: &[u8]) -> bool
+    ensures { result ≡ is_language_range (hyphened text.now) }
+{
+    let (first, _) = split_at_either(text, b'-', b'_');
+    (is_star(first) || is_first_subtag(first)) && are_listed_subtags(text)
+}
+
+/// Returns whether each subtag is `*`, or 1 to 8 letters or digits.
+fn are_listed_subtags(text: &[u8]) -> bool
+    ensures { result ≡ are_range_subtags (slice_split is_mark text.now) }
+{
+    text.split(|byte| is_mark(*byte))
+        .all(|subtag| is_range_subtag(subtag))
+}

@@ -1,0 +1,37 @@
+// Made by rust/erase from crates/langtag_c/src/spanned_ranges.rt. Change that file, not this one.
+
+//! The language ranges that spans of a text are.
+
+use crate::calls::span::Span;
+use crate::choice::RangeList;
+use crate::matching::{listed_range, WantedRange};
+
+/// A text, and spans of it of which the first is wanted most.
+#[derive(Clone, Copy)]
+pub(crate) struct SpannedRanges<'a> {
+    pub(crate) text: &'a [u8],
+    pub(crate) spans: &'a [Span],
+}
+
+impl<'a> RangeList<'a> for SpannedRanges<'a> {
+    fn split_range(self) -> Option<(WantedRange<'a>, SpannedRanges<'a>)> {
+        let mut left = self.spans;
+        while let Some((first, rest)) = left.split_first() {
+            left = rest;
+            if let Some(found) = range_in(self.text, *first) {
+                let rest = SpannedRanges {
+                    text: self.text,
+                    spans: left,
+                };
+                return Some((found, rest));
+            }
+        }
+        None
+    }
+}
+
+/// Returns the language range that a span of a text is.
+#[inline]
+fn range_in<'a>(text: &'a [u8], span: Span) -> Option<WantedRange<'a>> {
+    listed_range(span.of(text)?)
+}

@@ -1,0 +1,42 @@
+// Made by rust/erase from crates/langtag_match/src/listed.rt. Change that file, not this one.
+
+//! A language range that stands in a list of ranges, as a program has it.
+
+use crate::matching::range_text::{is_first_subtag, is_range_subtag};
+use crate::matching::wanted::WantedRange;
+use crate::matching::wanted_element::{is_mark, is_star, trimmed};
+use crate::scan::split_at_either;
+
+/// Returns the range that a text in a list of ranges is, basic or extended, with the weight 1. As in a header, `_` is read
+/// as `-`, and white space around the range and everything after `.` or `@` are dropped. Returns `None` if the rest is not a
+/// range, such as `de;q=0`.
+///
+/// ```
+/// use langtag::matching::listed_range;
+///
+/// assert_eq!(listed_range(b" zh_TW.UTF-8").map(|range| range.bytes), Some(&b"zh_TW"[..]));
+/// ```
+pub fn listed_range(text: &[u8]) -> Option<WantedRange<'_>> {
+    let (bytes, _codeset) = split_at_either(trimmed(text), b'.', b'@');
+    if !is_listed_range(bytes) {
+        return None;
+    }
+    Some(WantedRange {
+        bytes,
+        weight: 1000,
+    })
+}
+
+/// Returns whether a text is a language range where `_` is read as `-`.
+#[inline]
+fn is_listed_range(text: &[u8]) -> bool {
+    let (first, _) = split_at_either(text, b'-', b'_');
+    (is_star(first) || is_first_subtag(first)) && are_listed_subtags(text)
+}
+
+/// Returns whether each subtag is `*`, or 1 to 8 letters or digits.
+#[inline]
+fn are_listed_subtags(text: &[u8]) -> bool {
+    text.split(|byte| is_mark(*byte))
+        .all(|subtag| is_range_subtag(subtag))
+}
