@@ -13,7 +13,6 @@ ghost use Rattle.langtag_likely.specs.Matching.{completed, matching_form};
 ghost use Rattle.langtag_choice.specs.Nearness as spec;
 ghost use Rattle.langtag_likely.specs.Texts.{field_texts};
 
-use crate::read_range::starts;
 use crate::rule_distance::language_distance;
 use crate::tag_distance::places_distance;
 use crate::wish::Wish;

@@ -2,7 +2,6 @@
 
 //! How near a tag is to a range.
 
-use crate::choice::read_range::starts;
 use crate::choice::rule_distance::language_distance;
 use crate::choice::tag_distance::places_distance;
 use crate::choice::wish::Wish;
