@@ -14,11 +14,14 @@ target=$here/target
 crate=$here/../crates/langtag_bench
 mkdir -p "$target"
 
-(cd "$crate" && rt lib) >"$target/lib.log" 2>&1 || { tail -20 "$target/lib.log"; exit 1; }
-"$here/../.ci/stack" "$crate/out/liblangtag_bench.a"
+archive=$crate/out/liblangtag_bench.a
+if [ ! -f "$archive" ] || [ -n "$(find "$here"/../crates/*/src "$here/../crates.txt" -newer "$archive" -print -quit)" ]; then
+    (cd "$crate" && rt lib) >"$target/lib.log" 2>&1 || { tail -20 "$target/lib.log"; exit 1; }
+fi
+"$here/../.ci/stack" "$archive"
 # The heap of the library is the toolchain's, over malloc.
 build() {
-    cc -std=c11 -O2 -Wall -Wextra "${@:2}" "$crate/out/liblangtag_bench.a" "$(dirname "$(rt doc)")/c/liblibc_c.a" \
+    cc -std=c11 -O2 -Wall -Wextra "${@:2}" "$archive" "$(dirname "$(rt doc)")/c/liblibc_c.a" \
         -o "$target/$1"
 }
 # canonical_bound reads no text, letter_number three letters; fault_at is what validate calls, write_pieces what write_canonical

@@ -5,6 +5,8 @@ import sys
 
 PIECES = "en zh yue Hant HK 419 1996 rozaj u co x X t a abcdefgh 1 i klingon sgn BE de 1abc * abcdefghi iw BU heploc".split()
 
+MOST = 100_000
+
 
 def text(numbers):
     """Subtags in a row, or a tag by its parts, of which one may be long; at times with a byte changed."""
@@ -17,12 +19,14 @@ def text(numbers):
         for _ in range(often[0]):
             made += "-" + numbers.choice(["1996", "rozaj", "heploc", "%05d" % numbers.randrange(100000), "1aBc"])
         for _ in range(often[1]):
+            if len(made) >= MOST:
+                break
             made += "-" + numbers.choice("utaB10") + "".join(
                 "-" + numbers.choice(["co", "phonebk", "Latn", "%d" % numbers.randrange(10, 99)])
                 for _ in range(numbers.choice([1, 1, 2, 3, 900])))[:4000].rstrip("-")
         if often[2]:
             made += "-x" + "".join(f"-{numbers.choice(['a', 'mine', 'X', 'abcdefgh'])}" for _ in range(often[2]))
-        made = made[:100_000]
+        made = made[:MOST]
     if numbers.random() < 0.2 and made:
         at = numbers.randrange(len(made))
         made = made[:at] + numbers.choice(["-", "_", "\\xc3\\xa9", "\\xff", "1", "Z", ""]) + made[at + 1 :]

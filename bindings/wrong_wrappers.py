@@ -274,17 +274,26 @@ TESTS = {"Python": ["test_rows", "test_langtag.Memory", "test_langtag.Negotiatio
          "Python's C": ["test_rows", "test_langtag.Memory", "test_langtag.Negotiation"]}
 
 
+def linked(one: str, other: str) -> None:
+    """Gives a file a second name, or copies it to another disk. What is built or planted is a new file in each copy."""
+    try:
+        os.link(one, other)
+    except OSError:
+        shutil.copy2(one, other)
+
+
 def asked(libraries: pathlib.Path, language: str, fault: Fault | None, test: str) -> str | None:
     """What goes against the expectation, if anything does."""
     with tempfile.TemporaryDirectory() as name:
         folder = pathlib.Path(name)
         copy = folder / "bindings"
-        shutil.copytree(HERE, copy, ignore=shutil.ignore_patterns("target", "dist", "__pycache__", "build"))
+        shutil.copytree(HERE, copy, ignore=shutil.ignore_patterns("target", "dist", "__pycache__", "build"), copy_function=linked)
         (folder / "rows").symlink_to(ROWS)
         if fault:
             text = (copy / fault.file).read_text()
             if fault.old not in text:
                 return "the text is not there"
+            (copy / fault.file).unlink()
             (copy / fault.file).write_text(text.replace(fault.old, fault.new, 1))
         environment = {**os.environ, "LIBRARIES": str(libraries), "PYTHON": os.environ.get("PYTHON", ""), "ROWS": str(ROWS), "TEST": test,
                        "PYTHONDONTWRITEBYTECODE": "1",

@@ -5,15 +5,23 @@ passed=0 failed=0
 # runs random texts twice.
 limit=$((1800 + 2 * FUZZ_SECONDS))
 
-# check NAME COMMAND..: runs a command or a function, and shows what it said where it failed.
+# The processor seconds of the commands that have ended. Only the shell that ran them is told, so this sets a variable.
+count_processors() {
+    times >"$work/times"
+    processors=$(awk 'NR == 2 { gsub(/[ms]/, " "); print int(60 * ($1 + $3) + $2 + $4) }' "$work/times")
+}
+
+# check NAME COMMAND..: runs a command or a function, and says how long it took, and what it said where it failed.
 check() {
-    local name=$1 begun=$SECONDS status
+    local name=$1 begun=$SECONDS status processors used
     shift
+    count_processors && used=$processors
     timeout "$limit" bash -o pipefail -c '"$@"' check "$@" >"$work/log" 2>&1
     status=$?
+    count_processors
     if [ $status = 0 ]; then
         passed=$((passed + 1))
-        echo "passed: $name ($((SECONDS - begun)) s)"
+        echo "passed: $name ($((SECONDS - begun)) s, $((processors - used)) s of processors)"
         return
     fi
     failed=$((failed + 1))

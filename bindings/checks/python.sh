@@ -5,10 +5,11 @@ check "Python: tests and doctests, and C's answers to random calls" unit_tests
 dated() { (cd python && python3 -c 'import langtag; print("File-Date:", langtag.REGISTRY_DATE)') | cmp - <(sed 1q "$root/registry/language-subtag-registry"); }
 check "Python: the date of the registry is that of its file" dated
 
-# The C module, which each Python loads that is there: one binary.
-pythons=
+# The C module, which each Python loads that is there: one binary. A Python that has several names is asked once.
+pythons= programs=
 for python in python3 /usr/bin/python3 python3.8 python3.9 python3.10 python3.11 python3.12 python3.13 python3.14 ~/.pyenv/versions/3.*/bin/python3; do
-    if "$python" -c 'import sys; assert sys.version_info >= (3, 8)' 2>/dev/null; then pythons+=" $python"; fi
+    program=$("$python" -c 'import os, sys; assert sys.version_info >= (3, 8); print(os.path.realpath(sys.executable))' 2>/dev/null) || continue
+    if [[ " $programs " != *" $program "* ]]; then pythons+=" $python" programs+=" $program"; fi
 done
 [[ $pythons == *3.8* ]] || not_run "Python: the tests by Python 3.8" "it is not there"
 
