@@ -9,8 +9,8 @@
  * Each function is proved to return and write what its comment says, for every input, to end, and to touch only the memory of
  * its arguments. No function allocates, keeps state between calls, calls back, prints, exits or sets errno. So they may be
  * called from any thread, several at once, and from signal handlers. Time grows linearly with the length of the texts, except
- * for langtag_repeats, langtag_best_for_header, langtag_match_for_header and langtag_tag_for_header. langtag_next_keyword and
- * langtag_next_field compare each key with the subtags before it.
+ * for langtag_repeats and for the calls that take a list of tags. langtag_next_keyword and langtag_next_field compare each key
+ * with the subtags before it.
  *
  * Only langtag_validity, langtag_canonical and langtag_is_canonical depend on what is registered.
  *

@@ -7,6 +7,7 @@ use std::cell::Cell;
 use langtag::likely::{from_posix, maximized, minimized, PosixError};
 use langtag::matching::{tag_for_header, AcceptLanguage, AcceptLanguageError, LanguageRange};
 use langtag::registry::{canonical, extlang_form};
+use langtag::unicode::extensions_form;
 use langtag::*;
 
 thread_local! {
@@ -107,6 +108,7 @@ fn tags_in_another_form() {
         refuse_each("extlang_form", || is_memory(extlang_form(tag)));
         refuse_each("maximized", || is_memory(maximized(tag)));
         refuse_each("minimized", || is_memory(minimized(tag)));
+        refuse_each("form of extensions", || is_memory(extensions_form(tag)));
         refuse_each("recommended case", || {
             is_memory(tag.try_to_recommended_case())
         });

@@ -16,3 +16,6 @@ SELECT recommended('ZH-hant');
 DO $$ BEGIN RAISE NOTICE '%', variants('sl-rozaj-1994'); END $$;
 SELECT * FROM variants('sl-rozaj-1994');
 SELECT * FROM kind('i-ami');
+-- Keywords: the value of a key, which is empty if the key has none, and all of them in an array of rows.
+SELECT keyword('ar-u-ca-islamic-civil-kn', 'CA') AS ca, keyword('de-u-kn', 'kn') = '' AS kn, keyword('de-u-kn', 'ca') AS absent, keyword('x-u-ca', 'ca') AS private;
+SELECT keywords('ar-u-attr-ca-islamic-civil-kn-nu-latn-ca-roc') AS k, keywords('de') AS none, (keywords('de-u-nu-latn'))[1][2] AS nu;

@@ -43,6 +43,8 @@ FAULTS = [
                                                                                            "BYTES(tag), primary_of(tag, "
                                                                                            "&rest));"),
     (C, "parts.extensions, langtag_next_extension", "parts.extensions, langtag_next_subtag"),
+    (C, "langtag_keyword(BYTES(tag), LEN(tag), BYTES(key), LEN(key), &value)", "langtag_field(BYTES(tag), LEN(tag), BYTES(key), LEN(key), &value)"),
+    (C, "sizes[0] = (int)count, sizes[1] = 2;", "sizes[0] = 2, sizes[1] = (int)count;"),
     (C, "    bool lossy = extended;", "    bool lossy = false;"),
     (C, "if (!IsA(range, Const)) lossy = true;", "if (!IsA(range, Const)) lossy = false;"),
     (C, "else if (extended) end", "else if (!extended) end"),

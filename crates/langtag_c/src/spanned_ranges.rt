@@ -1,4 +1,4 @@
-//! The language ranges that spans of a text are.
+//! Language ranges as spans of a text.
 ghost use Rattle.std.specs.Prelude.{◌≡◌, IfSome, IsTrue};
 ghost use Rattle.std.specs.Option.{option_map};
 ghost use Rattle.langtag_match.specs.Listed.{listed_element};
@@ -10,7 +10,7 @@ use crate::span::Span;
 use langtag_choice::RangeList;
 use langtag_match::{WantedRange, listed_range};
 
-/// A text, and spans of it of which the first is wanted most.
+/// A text, and spans of it, the most wanted first.
 #[derive(Clone, Copy)]
 pub(crate) struct SpannedRanges<'a> {
     pub(crate) text: &'a [u8],

@@ -1,4 +1,4 @@
-//! How far a tag is from another that a reader desires (UTS #35, part 1, section 'Language Matching').
+//! The distance from a desired tag to another (UTS #35, part 1, section 'Language Matching').
 ghost use Rattle.std.specs.Prelude.{◌≡◌, ◌+◌, ◌≤◌, ◌⊎◌, ◌==◌, ◌&&◌, IsTrue, false};
 ghost use Rattle.langtag.specs.Text.{lang_tag_text};
 ghost use Rattle.langtag_match.specs.Listed.{basic_text};

@@ -16,7 +16,7 @@ pub fn are_alike(range: &[u8], text: &[u8]) -> bool
     left.is_empty() && rest.is_empty()
 }
 
-/// Returns what is left of a range and of a text where what both begin with is taken away.
+/// Returns what is left of a range and of a text after their common beginning.
 #[tactic(auto, using(crate::proofs::CommonTexts::common_next, crate::proofs::CommonTexts::common_apart, crate::proofs::CommonTexts::common_end))]
 pub fn after_common<'a, 't>(range: &'a [u8], text: &'t [u8]) -> (&'a [u8], &'t [u8])
     ensures left { (basic_text result.0.now, result.1.now) ≡ spec.after_common (basic_text range.now) text.now }
@@ -34,7 +34,7 @@ pub fn after_common<'a, 't>(range: &'a [u8], text: &'t [u8]) -> (&'a [u8], &'t [
     (left, rest)
 }
 
-/// Returns how many bytes a range has, as it is read.
+/// Returns the length of a range, as it is read.
 #[tactic(auto, using(crate::proofs::CommonTexts::byte_off, crate::proofs::CommonTexts::nothing_read, crate::proofs::CommonTexts::length_read))]
 pub fn basic_len(range: &[u8]) -> usize
     ensures { result ≡ length (basic_text range.now) }

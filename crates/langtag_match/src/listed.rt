@@ -1,4 +1,4 @@
-//! A language range that stands in a list of ranges, as a program has it.
+//! A language range in a list of ranges of a program.
 ghost use Rattle.std.specs.Prelude.{◌≡◌, IfSome, IsTrue};
 ghost use Rattle.std.specs.List.{slice_split};
 ghost use Rattle.std.specs.Option.{option_map};
@@ -11,9 +11,9 @@ use crate::wanted::WantedRange;
 use crate::wanted_element::{is_mark, is_star, trimmed};
 use langtag_scan::split_at_either;
 
-/// Returns the range that a text in a list of ranges is, basic or extended, with the weight 1. As in a header, `_` is read
-/// as `-`, and white space around the range and everything after `.` or `@` are dropped. Returns `None` if the rest is not a
-/// range, such as `de;q=0`.
+/// Returns the range of a text in a list of ranges, basic or extended, with the weight 1. As in a header, `_` is read
+/// as `-`. White space around the range is dropped, and so is everything after `.` or `@`. Returns `None` if the rest
+/// is not a range, such as `de;q=0`.
 ///
 /// ```
 /// use langtag_match::listed_range;

@@ -54,7 +54,7 @@ abbrev pub from_key : (List ℕ → Bool) → List (List ℕ) → List (List ℕ
 from_key test [] = []
 from_key test (s ∷ ss) = cond (test s) (s ∷ ss) (from_key test ss)
 
-before-from : (test : List ℕ → Bool) (ss : List (List ℕ)) → before_key test ss ++ from_key test ss ≡ ss
+pub before-from : (test : List ℕ → Bool) (ss : List (List ℕ)) → before_key test ss ++ from_key test ss ≡ ss
 before-from test [] = refl
 before-from test (s ∷ ss) = by_test (test s) (before-from test ss)
   where
@@ -62,7 +62,7 @@ before-from test (s ∷ ss) = by_test (test s) (before-from test ss)
     by_test true others = refl
     by_test false others = ap (λ xs. s ∷ xs) others
 
-length-with_hyphens : (ss : List (List ℕ)) → length_with_hyphens ss ≡ length (hyphenated ss)
+pub length-with_hyphens : (ss : List (List ℕ)) → length_with_hyphens ss ≡ length (hyphenated ss)
 length-with_hyphens [] = refl
 length-with_hyphens (s ∷ ss) = omega (arith, length-with_hyphens ss, length-append s (hyphenated ss))
 
@@ -150,7 +150,7 @@ segments-whole text end is free =
 
 -- ---- the subtags of the attributes
 
-fits-before_key : (test : List ℕ → Bool) (ss : List (List ℕ)) → AllByRecursion IsSubtag ss → AllByRecursion IsSubtag (before_key test ss)
+pub fits-before_key : (test : List ℕ → Bool) (ss : List (List ℕ)) → AllByRecursion IsSubtag ss → AllByRecursion IsSubtag (before_key test ss)
 fits-before_key test [] fits = tt
 fits-before_key test (s ∷ ss) fits = by_test (test s) (fits-before_key test ss fits.1)
   where
@@ -187,3 +187,9 @@ extension-some b r fits text found option is = ap (option_map subtags) is ∙ by
 pub nothing-some : (text : List ℕ) → subtags text ≡ [] → some_text text ≡ None
 nothing-some [] none = refl
 nothing-some (c ∷ t) none = absurd (omega (arith, ap length none, length-slice_split is_hyphen (c ∷ t)))
+
+-- ---- an extension without its singleton
+
+pub fits-after_singleton : (text : List ℕ) → IsExtension text → AllByRecursion IsSubtag (subtags (drop 2 text))
+fits-after_singleton text (e, spells) =
+    subst (AllByRecursion IsSubtag) (sym (subtags-after_singleton e text spells)) (each_subtag is_extension_subtag of_extension_subtag e.subtags spells.member.subtags)

@@ -2,6 +2,7 @@
 use Rattle.std.specs.Prelude.{ℕ, ◌+◌, Bool, List, [], ◌∷◌, length}
 use Rattle.langtag_unicode.specs.declared.keys.Keys.{Keys}
 use Rattle.langtag_unicode.specs.declared.keys.Keys.TheVariants.{Unicode, Transform}
+use Rattle.langtag_unicode.specs.Form.{transform_value, unicode_value}
 use Rattle.langtag_unicode.specs.Keywords.{is_key}
 use Rattle.langtag_unicode.specs.Transform.{is_field_key}
 
@@ -9,6 +10,11 @@ use Rattle.langtag_unicode.specs.Transform.{is_field_key}
 abbrev pub opens : Keys → List ℕ → Bool
 opens Unicode subtag = is_key subtag
 opens Transform subtag = is_field_key subtag
+
+-- the canonical value of a key
+abbrev pub canonical_value_of : Keys → List ℕ → List ℕ → List ℕ
+canonical_value_of Unicode key value = unicode_value key value
+canonical_value_of Transform key value = transform_value key value
 
 -- how many bytes some subtags take, each with a hyphen after it
 abbrev pub length_with_hyphens : List (List ℕ) → ℕ

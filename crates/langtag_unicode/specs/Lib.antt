@@ -2,3 +2,9 @@ pub mod Keys
 pub mod Keywords
 pub mod Text
 pub mod Transform
+pub mod Alias
+pub mod Aliases
+pub mod Form
+pub mod Alphabet
+pub mod Head
+pub mod Marks

@@ -1,10 +1,11 @@
 //! The subtags of an extension, as one text that is taken apart from its front.
 ghost use Rattle.std.specs.Prelude.{◌≡◌, ◌∷◌, [], take};
-ghost use Rattle.std.specs.List.{list_any};
+ghost use Rattle.std.specs.List.{AllByRecursion, list_any};
 ghost use Rattle.std.specs.Option.{option_map};
 ghost use Rattle.langtag.specs.Part.{PartOf};
 ghost use Rattle.langtag.specs.Text.{lang_tag_text};
 ghost use Rattle.langtag_scan.specs.Case.{are_alike};
+ghost use Rattle.langtag_scan.proofs.SubtagFacts.{IsSubtag};
 ghost use Rattle.langtag_scan.specs.Subtags.{join, segments, segments_left, subtags};
 ghost use Rattle.langtag_extension.specs.Text.{singleton_byte};
 ghost use Rattle.langtag_unicode.specs.Keys.{length_with_hyphens, opens};
@@ -67,6 +68,14 @@ pub(crate) fn before_key<'a>(rest: Option<&'a str>, keys: Keys) -> &'a str
     }
 }
 
+/// Returns the subtags before the first key of a text, if there are any.
+pub(crate) fn preceding(text: &str, keys: Keys) -> Option<&str>
+    requires { AllByRecursion IsSubtag (subtags text.now) }
+    ensures { segments_left result ≡ spec.before_key (opens keys) (subtags text.now) }
+{
+    nonempty(before_key(nonempty(text), keys))
+}
+
 /// Returns what stands before the first key of a text.
 #[tactic(auto, using(crate::proofs::SubtagTexts::cut_before_key))]
 fn cut_before_key(text: &str, keys: Keys) -> &str
@@ -102,13 +111,13 @@ pub(crate) fn is_among_first(text: &str, count: usize, subtag: &str) -> bool
 }
 
 /// Returns the value of a key among subtags.
-pub(crate) fn value_in<'a>(text: &'a str, keys: Keys, key: &str) -> Option<&'a str>
+pub(crate) fn value_in<'a>(text: &'a str, keys: Keys, key: &[u8]) -> Option<&'a str>
     ensures { option_map (λ v. v.now) result ≡ option_map join (spec.value_of (opens keys) key.now (subtags text.now)) }
 {
     let mut rest = nonempty(text);
     while let Some(text) = rest {
         let (subtag, after) = split_first(text);
-        if keys.has(subtag.as_bytes()) && case_insensitive_eq(subtag.as_bytes(), key.as_bytes()) {
+        if keys.has(subtag.as_bytes()) && case_insensitive_eq(subtag.as_bytes(), key) {
             return Some(before_key(after, keys));
         }
         rest = after;

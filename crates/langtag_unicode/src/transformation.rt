@@ -77,7 +77,7 @@ impl<'a> Transformation<'a> {
         ensures value { option_map (λ text. text.now) result ≡ option_map join (keywords.value_of spec.is_field_key key.now (transformation_subtags self.now)) }
         ensures any_case { (k l : List ℕ) (subtags : List (List ℕ)) → Alike k l → keywords.value_of spec.is_field_key k subtags ≡ keywords.value_of spec.is_field_key l subtags }
     {
-        value_in(self.text, Keys::Transform, key)
+        value_in(self.text, Keys::Transform, key.as_bytes())
     }
 
     /// Returns an iterator over the fields, in the order of the tag, each key once with its first value: `m0` with

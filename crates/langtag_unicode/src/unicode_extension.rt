@@ -45,7 +45,7 @@ pub fn keyword<'a>(tag: LangTag<'a>, key: &str) -> Option<&'a str>
 
     ensures any_case { (k l : List ℕ) (subtags : List (List ℕ)) → Alike k l → spec.value_of spec.is_key k subtags ≡ spec.value_of spec.is_key l subtags }
 {
-    value_in(unicode_text(tag), Keys::Unicode, key)
+    value_in(unicode_text(tag), Keys::Unicode, key.as_bytes())
 }
 
 /// Returns an iterator over the keywords of the extension `u` (RFC 6067 section 2.1), in the order of the tag, each key

@@ -1,6 +1,6 @@
 // Made by rust/erase from crates/langtag_choice/src/tag_distance.rt. Change that file, not this one.
 
-//! How far a tag is from another that a reader desires (UTS #35, part 1, section 'Language Matching').
+//! The distance from a desired tag to another (UTS #35, part 1, section 'Language Matching').
 
 use crate::choice::region_distance::region_distance;
 use crate::choice::rule_distance::{language_distance, script_distance};

@@ -11,7 +11,7 @@ pub fn are_alike(range: &[u8], text: &[u8]) -> bool {
     left.is_empty() && rest.is_empty()
 }
 
-/// Returns what is left of a range and of a text where what both begin with is taken away.
+/// Returns what is left of a range and of a text after their common beginning.
 pub fn after_common<'a, 't>(range: &'a [u8], text: &'t [u8]) -> (&'a [u8], &'t [u8]) {
     let mut left = without_stars(range);
     let mut rest = text;
@@ -25,7 +25,7 @@ pub fn after_common<'a, 't>(range: &'a [u8], text: &'t [u8]) -> (&'a [u8], &'t [
     (left, rest)
 }
 
-/// Returns how many bytes a range has, as it is read.
+/// Returns the length of a range, as it is read.
 pub fn basic_len(range: &[u8]) -> usize {
     let mut len = 0;
     let mut left = without_stars(range);

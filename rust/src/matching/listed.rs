@@ -1,15 +1,15 @@
 // Made by rust/erase from crates/langtag_match/src/listed.rt. Change that file, not this one.
 
-//! A language range that stands in a list of ranges, as a program has it.
+//! A language range in a list of ranges of a program.
 
 use crate::matching::range_text::{is_first_subtag, is_range_subtag};
 use crate::matching::wanted::WantedRange;
 use crate::matching::wanted_element::{is_mark, is_star, trimmed};
 use crate::scan::split_at_either;
 
-/// Returns the range that a text in a list of ranges is, basic or extended, with the weight 1. As in a header, `_` is read
-/// as `-`, and white space around the range and everything after `.` or `@` are dropped. Returns `None` if the rest is not a
-/// range, such as `de;q=0`.
+/// Returns the range of a text in a list of ranges, basic or extended, with the weight 1. As in a header, `_` is read
+/// as `-`. White space around the range is dropped, and so is everything after `.` or `@`. Returns `None` if the rest
+/// is not a range, such as `de;q=0`.
 ///
 /// ```
 /// use langtag::matching::listed_range;

@@ -14,14 +14,24 @@
 //! # }
 //! ```
 
+mod alias;
+mod alias_tables;
+mod alphabet;
 mod attributes_iter;
+mod form;
 mod keys;
+mod keyword_form;
 mod keywords_iter;
+mod language_id;
 mod subtags;
+mod transform_form;
 mod transformation;
 mod unicode_extension;
 
 pub use attributes_iter::AttributesIter;
+#[cfg(feature = "alloc")]
+pub use form::extensions_form;
+pub use form::write_extensions_form;
 pub use keys::Keys;
 pub use keywords_iter::KeywordsIter;
 pub use transformation::{transform, Transformation};

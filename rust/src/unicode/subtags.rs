@@ -50,6 +50,12 @@ pub(crate) fn before_key<'a>(rest: Option<&'a str>, keys: Keys) -> &'a str {
     }
 }
 
+/// Returns the subtags before the first key of a text, if there are any.
+#[inline]
+pub(crate) fn preceding(text: &str, keys: Keys) -> Option<&str> {
+    nonempty(before_key(nonempty(text), keys))
+}
+
 /// Returns what stands before the first key of a text.
 #[inline]
 fn cut_before_key(text: &str, keys: Keys) -> &str {
@@ -78,11 +84,11 @@ pub(crate) fn is_among_first(text: &str, count: usize, subtag: &str) -> bool {
 }
 
 /// Returns the value of a key among subtags.
-pub(crate) fn value_in<'a>(text: &'a str, keys: Keys, key: &str) -> Option<&'a str> {
+pub(crate) fn value_in<'a>(text: &'a str, keys: Keys, key: &[u8]) -> Option<&'a str> {
     let mut rest = nonempty(text);
     while let Some(text) = rest {
         let (subtag, after) = split_first(text);
-        if keys.has(subtag.as_bytes()) && case_insensitive_eq(subtag.as_bytes(), key.as_bytes()) {
+        if keys.has(subtag.as_bytes()) && case_insensitive_eq(subtag.as_bytes(), key) {
             return Some(before_key(after, keys));
         }
         rest = after;

@@ -74,7 +74,7 @@ impl<'a> Transformation<'a> {
     /// ```
     #[inline]
     pub fn field(&self, key: &str) -> Option<&'a str> {
-        value_in(self.text, Keys::Transform, key)
+        value_in(self.text, Keys::Transform, key.as_bytes())
     }
 
     /// Returns an iterator over the fields, in the order of the tag, each key once with its first value: `m0` with

@@ -43,7 +43,7 @@ pub struct KeyValue<'a> {
 /// [RFC 6067 section 2.1]: https://www.rfc-editor.org/rfc/rfc6067#section-2.1
 #[inline]
 pub fn keyword<'a>(tag: LangTag<'a>, key: &str) -> Option<&'a str> {
-    value_in(unicode_text(tag), Keys::Unicode, key)
+    value_in(unicode_text(tag), Keys::Unicode, key.as_bytes())
 }
 
 /// Returns an iterator over the keywords of the extension `u` ([RFC 6067 section 2.1]), in the order of the tag, each key

@@ -75,6 +75,7 @@ fn answer(row: &Row) -> String {
         "keywords" => unicode::pairs(row.str(0)),
         "attributes" => unicode::distinct(row.str(0)),
         "transform" => unicode::transformed(row.str(0)),
+        "extensions-form" => unicode::form(row.str(0)),
         call => panic!("no call: {call}"),
     }
 }
@@ -105,6 +106,7 @@ files! {
     names: "posix.txt", 150, ["posix", "unknown-modifier"];
     choices: "choices.txt", 285, ["best", "best-match"];
     preferences: "lists.txt", 15, ["best-accepted", "best-ranges"];
+    extensions: "extensions.txt", 630, ["extensions-form"];
     keywords: "unicode.txt", 500, ["keyword", "keywords", "attributes", "transform"];
 }
 

@@ -41,3 +41,26 @@ pub fn transformed(text: &str) -> String {
     let language = words([Some(transformation.language().unwrap_or(""))]);
     [vec![language], fields].concat().join(" ")
 }
+
+/// The form, which is its own, and which a buffer of its length holds and a shorter one does not.
+pub fn form(text: &str) -> String {
+    let form = extensions_form(tag(text)).expect("there is memory");
+    let again = extensions_form(form.as_lang_tag()).expect("there is memory");
+    assert_eq!(again.as_str(), form.as_str(), "{text}");
+
+    let mut buffer = vec![b'!'; form.as_str().len()];
+    let short = buffer.len() - 1;
+    assert_eq!(
+        write_extensions_form(tag(text), &mut buffer[..short]),
+        short + 1,
+        "{text}"
+    );
+    assert!(buffer.iter().all(|byte| *byte == b'!'), "{text}");
+    assert_eq!(
+        write_extensions_form(tag(text), &mut buffer),
+        short + 1,
+        "{text}"
+    );
+    assert_eq!(buffer, form.as_str().as_bytes(), "{text}");
+    form.as_str().into()
+}

@@ -33,11 +33,11 @@ pub fn langtag_best_for_header(header: &[u8], bytes: &[u8], tags: &[Span]) -> us
     best_among(header, &spanned).unwrap_or(tags.len())
 }
 
-/// Returns the index of the tag that a reader wants who names language ranges of which the first is wanted most: 1 for `nn` and
-/// `de`, and `en` and `nb`. Ranges and tags are spans of texts. The number of the tags where the reader wants none of them.
+/// Returns the index of the best tag for a list of language ranges, the most wanted first, or the number of tags if
+/// none is suitable: 1 for the ranges `nn` and `de`, and the tags `en` and `nb`. Ranges and tags are spans of texts.
 ///
-/// A range is read as that of an element of a header: `zh_TW.UTF-8` as `zh-TW`. An extended one counts without its `*`. A span
-/// that is no range or no tag, or reaches out of its text, is passed over.
+/// A range is read like that of an element of a header: `zh_TW.UTF-8` as `zh-TW`. An extended range counts without its
+/// `*`. A span that is not a range or a tag, or reaches beyond its text, is skipped.
 pub fn langtag_best_for_ranges(text: &[u8], ranges: &[Span], bytes: &[u8], tags: &[Span]) -> usize {
     let wanted = SpannedRanges {
         text,

@@ -1,12 +1,12 @@
 // Made by rust/erase from crates/langtag_c/src/spanned_ranges.rt. Change that file, not this one.
 
-//! The language ranges that spans of a text are.
+//! Language ranges as spans of a text.
 
 use crate::calls::span::Span;
 use crate::choice::RangeList;
 use crate::matching::{listed_range, WantedRange};
 
-/// A text, and spans of it of which the first is wanted most.
+/// A text, and spans of it, the most wanted first.
 #[derive(Clone, Copy)]
 pub(crate) struct SpannedRanges<'a> {
     pub(crate) text: &'a [u8],

@@ -1,0 +1,360 @@
+-- The form of a tag is a tag: its extensions are well-formed.
+use Rattle.std.proofs.Common.{◌≡◌, ℕ, ◌+◌, ◌<◌, ◌≤◌, ◌&&◌, ◌||◌, ◌==◌, not, leb, Bool, true, false, cond, IsTrue, List, [], ◌∷◌, ◌++◌, length, map, find, Option, None, Some, unwrap_or, refl, sym, ap, subst, ◌∙◌, arith, eqb-true, get_or, length-append, zero-add}
+use Rattle.std.proofs.lemmas.Bool.{and_parts, false≢true}
+use Rattle.std.proofs.lemmas.Bool.Decides.{nat_tests}
+use Rattle.std.proofs.lemmas.List.FromFn.{get_or-range_with_len}
+use Rattle.std.specs.List.{AllByRecursion, flat_map, list_all, list_any, range_with_len}
+use Rattle.std.specs.Option.{option_map, option_map_or}
+use Rattle.std.specs.Prelude.{codes}
+use Rattle.langtag_scan.proofs.CaseLaw.{is_digit-fold, is_letter-fold, length-fold}
+use Rattle.langtag_scan.proofs.SubtagFacts.{of_extension_subtag}
+use Rattle.langtag_scan.proofs.SubtagLists.{each_from_test, each_subtag, subtags-joined}
+use Rattle.langtag_tables.proofs.AlikeTexts.{fold_text-twice}
+use Rattle.langtag_scan.specs.Case.{are_alike, fold_byte, fold_text}
+use Rattle.langtag_scan.specs.CaseLaws.{are_alike-decides}
+use Rattle.langtag_scan.specs.Class.{are_alphanumeric, has_length, is_alphanumeric, is_digit, is_extension_subtag, is_letter, is_mark, is_region, is_script, is_singleton}
+use Rattle.langtag_scan.specs.Record.{Extension, IsWellFormed, IsWellFormedExtension, Record}
+use Rattle.langtag_scan.specs.Subtags.{join, subtags}
+use Rattle.langtag_unicode.specs.Alias.{Alias, TypeAlias, alias_for, type_alias_for}
+use Rattle.langtag_unicode.specs.Aliases.{subdivision_aliases, transform_type_aliases, unicode_type_aliases}
+use Rattle.langtag_unicode.specs.Form as form
+use Rattle.langtag_unicode.specs.Form.{extension_form, extensions_record, forms_after, in_alphabet, is_before, is_of, is_transform, letters_and_digits, put_among, transform_form, transform_value, unicode_form, unicode_value}
+use Rattle.langtag_unicode.specs.Keywords.{before_key, is_key, value_of}
+use Rattle.langtag_unicode.specs.Transform.{is_field_key}
+use Rattle.langtag_registry.proofs.PrefixLaws.{list_all_get}
+use Rattle.langtag_unicode.proofs.ExtensionForms.{form_by, form_tested}
+use Rattle.langtag_unicode.proofs.FormSizes.{field-two, key-two}
+
+-- each is a subtag of an extension
+abbrev pub Good : List (List ℕ) → Type 0
+Good ss = AllByRecursion (λ s. IsTrue (is_extension_subtag s)) ss
+
+good-append : (xs ys : List (List ℕ)) → Good xs → Good ys → Good (xs ++ ys)
+good-append [] ys these those = those
+good-append (x ∷ xs) ys these those = (these.0, good-append xs ys these.1 those)
+
+-- ---- case
+
+alphanumeric-fold : (s : List ℕ) → are_alphanumeric (fold_text s) ≡ are_alphanumeric s
+alphanumeric-fold [] = refl
+alphanumeric-fold (b ∷ s) = rw (is_letter-fold b, is_digit-fold b, alphanumeric-fold s) refl
+
+good-fold : (s : List ℕ) → is_extension_subtag (fold_text s) ≡ is_extension_subtag s
+unfolding is_extension_subtag
+good-fold s = rw (length-fold s, alphanumeric-fold s) refl
+
+good-lower : (ss : List (List ℕ)) → Good ss → Good (map fold_text ss)
+good-lower [] good = tt
+good-lower (s ∷ ss) good = (good-fold s ∙ good.0, good-lower ss good.1)
+
+-- ---- in the order of the alphabet
+
+good-put : (x : List ℕ) (ss : List (List ℕ)) → is_extension_subtag x ≡ true → Good ss → Good (put_among x ss)
+good-put x [] one good = (one, tt)
+good-put x (s ∷ ss) one good = by_tests (is_before x s) (is_before s x) (good-put x ss one good.1)
+  where
+    by_tests : (a b : Bool) → Good (put_among x ss) → Good (cond a (x ∷ s ∷ ss) (cond b (s ∷ put_among x ss) (s ∷ ss)))
+    by_tests true b later = (one, good)
+    by_tests false true later = (good.0, later)
+    by_tests false false later = good
+
+good-alphabet : (ss : List (List ℕ)) → Good ss → Good (in_alphabet ss)
+good-alphabet [] good = tt
+good-alphabet (s ∷ ss) good = good-put (fold_text s) (in_alphabet ss) (good-fold s ∙ good.0) (good-alphabet ss good.1)
+
+some-put : (x : List ℕ) (ss : List (List ℕ)) → 1 ≤ length (put_among x ss)
+some-put x [] = omega arith
+some-put x (s ∷ ss) = by_tests (is_before x s) (is_before s x)
+  where
+    by_tests : (a b : Bool) → 1 ≤ length (cond a (x ∷ s ∷ ss) (cond b (s ∷ put_among x ss) (s ∷ ss)))
+    by_tests true b = omega arith
+    by_tests false true = omega arith
+    by_tests false false = omega arith
+
+-- ---- values
+
+good-before : (test : List ℕ → Bool) (ss : List (List ℕ)) → Good ss → Good (before_key test ss)
+good-before test [] good = tt
+good-before test (s ∷ ss) good = by_test (test s) (good-before test ss good.1)
+  where
+    by_test : (b : Bool) → Good (before_key test ss) → Good (cond b [] (s ∷ before_key test ss))
+    by_test true later = tt
+    by_test false later = (good.0, later)
+
+good-value : (test : List ℕ → Bool) (key : List ℕ) (ss v : List (List ℕ)) → Good ss → value_of test key ss ≡ Some v → Good v
+good-value test key [] v good found = absurd cc
+good-value test key (s ∷ ss) v good found = by_test (test s && are_alike s key) (good-value test key ss v good.1) found
+  where
+    by_test :
+        (b : Bool) → (value_of test key ss ≡ Some v → Good v) → cond b (Some (before_key test ss)) (value_of test key ss) ≡ Some v → Good v
+    by_test true later found = let same : before_key test ss ≡ v = cc in subst Good same (good-before test ss good.1)
+    by_test false later found = later found
+
+-- the subtags of a text are those of an extension
+abbrev GoodText : List ℕ → Type 0
+GoodText text = Good (subtags text)
+
+good-joined : (ss : List (List ℕ)) → Good ss → GoodText (join ss)
+good-joined ss good = subst Good (sym (subtags-joined ss (each_subtag is_extension_subtag of_extension_subtag ss good))) good
+
+-- a test of the new texts
+abbrev is_good_text : List ℕ → Bool
+is_good_text text = list_all is_extension_subtag (subtags text)
+
+good-alias : (rows : List Alias) (text : List ℕ) → list_all (λ row. is_good_text row.new) rows ≡ true → GoodText text → GoodText (unwrap_or (alias_for rows text) text)
+good-alias [] text all good = good
+good-alias (row ∷ rows) text all good =
+    let parts = and_parts (is_good_text row.new) (list_all (λ r. is_good_text r.new) rows) all in
+    by_test (are_alike row.old text) (each_from_test is_extension_subtag (subtags row.new) parts.0) (good-alias rows text parts.1 good)
+  where
+    by_test :
+        (t : Bool) → GoodText row.new → GoodText (unwrap_or (alias_for rows text) text) →
+        GoodText (unwrap_or (option_map (λ alias. alias.new) (cond t (Some row) (find (λ alias. are_alike alias.old text) rows))) text)
+    by_test true here later = here
+    by_test false here later = later
+
+good-type :
+    (rows : List TypeAlias) (key text : List ℕ) → list_all (λ row. is_good_text row.new) rows ≡ true → GoodText text → GoodText (unwrap_or (type_alias_for rows key text) text)
+good-type [] key text all good = good
+good-type (row ∷ rows) key text all good =
+    let parts = and_parts (is_good_text row.new) (list_all (λ r. is_good_text r.new) rows) all in
+    by_test (are_alike row.key key && are_alike row.old text) (each_from_test is_extension_subtag (subtags row.new) parts.0) (good-type rows key text parts.1 good)
+  where
+    by_test :
+        (t : Bool) → GoodText row.new → GoodText (unwrap_or (type_alias_for rows key text) text) →
+        GoodText (unwrap_or (option_map (λ alias. alias.new) (cond t (Some row) (find (λ alias. are_alike alias.key key && are_alike alias.old text) rows))) text)
+    by_test true here later = here
+    by_test false here later = later
+
+good-subdivision : (value : List ℕ) → GoodText value → GoodText (form.subdivision value)
+unfolding form.subdivision subdivision_aliases is_extension_subtag is_letter is_digit
+good-subdivision value good = good-alias subdivision_aliases value refl good
+
+good-unicode_type : (key value : List ℕ) → GoodText value → GoodText (form.unicode_type key value)
+unfolding form.unicode_type unicode_type_aliases is_extension_subtag is_letter is_digit
+good-unicode_type key value good = good-type unicode_type_aliases key value refl good
+
+good-transform : (key value : List ℕ) → GoodText value → GoodText (transform_value key value)
+unfolding transform_value transform_type_aliases is_extension_subtag is_letter is_digit
+good-transform key value good = good-type transform_type_aliases key value refl good
+
+good-without : (t : List ℕ) → GoodText t → GoodText (form.without_true t)
+good-without t good = by_test (are_alike t (codes "true"))
+  where
+    by_test : (b : Bool) → GoodText (cond b [] t)
+    by_test true = tt
+    by_test false = good
+
+good-unicode : (key value : List ℕ) → GoodText value → GoodText (unicode_value key value)
+good-unicode key value good = good-without _ (by_test (form.has_subdivision key))
+  where
+    by_test : (b : Bool) → GoodText (cond b (form.subdivision value) (form.unicode_type key value))
+    by_test true = good-subdivision value good
+    by_test false = good-unicode_type key value good
+
+-- ---- keywords
+
+good-flat : (f : ℕ → List (List ℕ)) → ((a : ℕ) → is_alphanumeric a ≡ true → Good (f a)) → (xs : List ℕ) → are_alphanumeric xs ≡ true → Good (flat_map f xs)
+good-flat f good [] all = tt
+good-flat f good (a ∷ xs) all =
+    let parts = and_parts (is_alphanumeric a) (are_alphanumeric xs) all in
+    good-append (f a) (flat_map f xs) (good a parts.0) (good-flat f good xs parts.1)
+
+letters_alphanumeric : are_alphanumeric letters_and_digits ≡ true
+unfolding is_letter is_digit
+letters_alphanumeric = refl
+
+good-key : (a b : ℕ) → is_alphanumeric a ≡ true → is_alphanumeric b ≡ true → is_extension_subtag (a ∷ b ∷ []) ≡ true
+unfolding is_extension_subtag
+good-key a b one two = rw (one, two) refl
+
+-- a letter that is among some puts something
+some-flat : (f : ℕ → List (List ℕ)) (n : ℕ) (xs : List ℕ) → list_any (λ a. a == n) xs ≡ true → 1 ≤ length (f n) → 1 ≤ length (flat_map f xs)
+some-flat f n [] among some = absurd (false≢true among)
+some-flat f n (a ∷ xs) among some = by_test (a == n) refl (some-flat f n xs) among
+  where
+    by_test :
+        (t : Bool) → (a == n) ≡ t → (list_any (λ b. b == n) xs ≡ true → 1 ≤ length (f n) → 1 ≤ length (flat_map f xs)) → (t || list_any (λ b. b == n) xs) ≡ true →
+        1 ≤ length (f a ++ flat_map f xs)
+    by_test true is later among =
+        let here = subst (λ m. 1 ≤ length (f m)) (sym (eqb-true a n is)) some in
+        let both = length-append (f a) (flat_map f xs) in
+        omega (arith, here, both)
+    by_test false is later among =
+        let there = later among some in
+        let both = length-append (f a) (flat_map f xs) in
+        omega (arith, there, both)
+
+-- the fold of a letter or a digit is among them
+abbrev is_among : ℕ → Bool
+is_among x = not (is_alphanumeric x) || list_any (λ a. a == fold_byte x) letters_and_digits
+
+all_among : list_all is_among (range_with_len 0 123) ≡ true
+unfolding is_letter is_digit fold_byte
+all_among = refl
+
+alphanumeric_below : (x : ℕ) → is_alphanumeric x ≡ true → x < 123
+unfolding is_letter is_digit
+alphanumeric_below x is = grind (arith, nat_tests)
+
+among-letters : (x : ℕ) → is_alphanumeric x ≡ true → list_any (λ a. a == fold_byte x) letters_and_digits ≡ true
+among-letters x is =
+    let below = alphanumeric_below x is in
+    let at : get_or (range_with_len 0 123) x 0 ≡ x = get_or-range_with_len 0 123 x 0 below ∙ zero-add x in
+    ap (λ b. not b || list_any (λ a. a == fold_byte x) letters_and_digits) (sym is)
+    ∙ subst (λ y. is_among y ≡ true) at (list_all_get is_among (range_with_len 0 123) x 0 all_among below)
+
+module _ (opens : List ℕ → Bool) (canonical : List ℕ → List ℕ → List ℕ) where
+  good-keyword :
+      ((key value : List ℕ) → GoodText value → GoodText (canonical key value)) → (ss : List (List ℕ)) → Good ss → (a b : ℕ) → is_alphanumeric a ≡ true → is_alphanumeric b ≡ true →
+      Good (form.keyword_form opens canonical ss (a ∷ b ∷ []))
+  good-keyword keeps ss good a b one two = by_value (value_of opens (a ∷ b ∷ []) ss) refl
+    where
+      by_value :
+          (o : Option (List (List ℕ))) → value_of opens (a ∷ b ∷ []) ss ≡ o →
+          Good (option_map_or (λ v. (a ∷ b ∷ []) ∷ map fold_text (subtags (canonical (a ∷ b ∷ []) (join v)))) o [])
+      by_value None is = tt
+      by_value (Some v) is =
+          (good-key a b one two, good-lower (subtags (canonical (a ∷ b ∷ []) (join v))) (keeps (a ∷ b ∷ []) (join v) (good-joined v (good-value opens (a ∷ b ∷ []) ss v good is))))
+
+  good-keywords :
+      ((key value : List ℕ) → GoodText value → GoodText (canonical key value)) → (ss : List (List ℕ)) → Good ss → Good (form.keywords_form opens canonical ss)
+  good-keywords keeps ss good =
+      good-flat (form.keywords_from opens canonical ss)
+      (λ a one. good-flat (λ b. form.keyword_form opens canonical ss (a ∷ b ∷ [])) (λ b two. good-keyword keeps ss good a b one two) letters_and_digits letters_alphanumeric)
+      letters_and_digits letters_alphanumeric
+
+  -- a key puts something
+  some-keywords :
+      (x y : ℕ) (ss : List (List ℕ)) → opens (x ∷ y ∷ []) ≡ true → is_alphanumeric x ≡ true → is_alphanumeric y ≡ true →
+      1 ≤ length (form.keywords_form opens canonical ((x ∷ y ∷ []) ∷ ss))
+  some-keywords x y ss is one two =
+      let key = fold_byte x ∷ fold_byte y ∷ [] in
+      let alike : are_alike (x ∷ y ∷ []) key ≡ true = (are_alike-decides (x ∷ y ∷ []) key).1 (sym (fold_text-twice (x ∷ y ∷ []))) in
+      let found : value_of opens key ((x ∷ y ∷ []) ∷ ss) ≡ Some (before_key opens ss) =
+      ap (λ t. cond (t && are_alike (x ∷ y ∷ []) key) (Some (before_key opens ss)) (value_of opens key ss)) is
+      ∙ ap (λ t. cond t (Some (before_key opens ss)) (value_of opens key ss)) alike in
+      let here : 1 ≤ length (form.keyword_form opens canonical ((x ∷ y ∷ []) ∷ ss) key) =
+      subst (λ o. 1 ≤ length (option_map_or (λ v. key ∷ map fold_text (subtags (canonical key (join v)))) o [])) (sym found) (omega arith) in
+      some-flat (form.keywords_from opens canonical ((x ∷ y ∷ []) ∷ ss)) (fold_byte x) letters_and_digits (among-letters x one)
+      (some-flat (λ b. form.keyword_form opens canonical ((x ∷ y ∷ []) ∷ ss) (fold_byte x ∷ b ∷ [])) (fold_byte y) letters_and_digits (among-letters y two) here)
+
+good_alphanumeric : (s : List ℕ) → is_extension_subtag s ≡ true → are_alphanumeric s ≡ true
+unfolding is_extension_subtag
+good_alphanumeric s good = (and_parts (has_length 2 8 s) (are_alphanumeric s) good).1
+
+some-key :
+    (opens : List ℕ → Bool) (canonical : List ℕ → List ℕ → List ℕ) → ((s : List ℕ) → opens s ≡ true → length s ≡ 2) →
+    (s : List ℕ) (ss : List (List ℕ)) → opens s ≡ true → is_extension_subtag s ≡ true → 1 ≤ length (form.keywords_form opens canonical (s ∷ ss))
+some-key opens canonical two [] ss is good = absurd (omega (arith, two [] is))
+some-key opens canonical two (x ∷ []) ss is good = absurd (omega (arith, two (x ∷ []) is))
+some-key opens canonical two (x ∷ y ∷ z ∷ s) ss is good = absurd (omega (arith, two (x ∷ y ∷ z ∷ s) is))
+some-key opens canonical two (x ∷ y ∷ []) ss is good =
+    let all = good_alphanumeric (x ∷ y ∷ []) good in
+    let one = and_parts (is_alphanumeric x) (is_alphanumeric y && true) all in
+    let other = and_parts (is_alphanumeric y) true one.1 in
+    some-keywords opens canonical x y ss is one.0 other.0
+
+-- ---- the forms of `u` and `t`
+
+two_parts : (n a b : ℕ) → n ≡ a + b → 1 ≤ b → 1 ≤ n
+two_parts n a b both some = omega (arith, both, some)
+
+one_part : (n a b c : ℕ) → n ≡ a + b → a ≡ c → 1 ≤ c → 1 ≤ n
+one_part n a b c both first some = omega (arith, both, first, some)
+
+good-unicode_form : (ss : List (List ℕ)) → Good ss → Good (unicode_form ss)
+good-unicode_form ss good =
+    good-append (in_alphabet (before_key is_key ss)) (form.keywords_form is_key unicode_value ss) (good-alphabet _ (good-before is_key ss good))
+    (good-keywords is_key unicode_value good-unicode ss good)
+
+some-unicode_form : (ss : List (List ℕ)) → Good ss → 1 ≤ length ss → 1 ≤ length (unicode_form ss)
+some-unicode_form [] good some = absurd (omega (arith, some))
+some-unicode_form (s ∷ ss) good some = by_test (is_key s) refl
+  where
+    by_test : (t : Bool) → is_key s ≡ t → 1 ≤ length (unicode_form (s ∷ ss))
+    by_test true is =
+        let keys = some-key is_key unicode_value key-two s ss is good.0 in
+        let both = length-append (in_alphabet (before_key is_key (s ∷ ss))) (form.keywords_form is_key unicode_value (s ∷ ss)) in
+        two_parts _ _ _ both keys
+    by_test false is =
+        let first = ap (λ b. length (in_alphabet (cond b [] (s ∷ before_key is_key ss)))) is in
+        let here = some-put (fold_text s) (in_alphabet (before_key is_key ss)) in
+        let both = length-append (in_alphabet (before_key is_key (s ∷ ss))) (form.keywords_form is_key unicode_value (s ∷ ss)) in
+        one_part _ _ _ _ both first here
+
+good-one : (test : List ℕ → Bool) (ss : List (List ℕ)) → Good ss → Good (form.one_of test ss)
+good-one test [] good = tt
+good-one test (s ∷ ss) good = by_test (test s)
+  where
+    by_test : (b : Bool) → Good (cond b (s ∷ []) [])
+    by_test true = (good.0, tt)
+    by_test false = tt
+
+good-after : (test : List ℕ → Bool) (ss : List (List ℕ)) → Good ss → Good (form.after_one test ss)
+good-after test [] good = tt
+good-after test (s ∷ ss) good = by_test (test s)
+  where
+    by_test : (b : Bool) → Good (cond b ss (s ∷ ss))
+    by_test true = good.1
+    by_test false = good
+
+good-language : (ss : List (List ℕ)) → Good ss → Good (form.language_form ss)
+good-language [] good = tt
+good-language (s ∷ ss) good =
+    let after = form.after_one is_script ss in
+    let good_after = good-after is_script ss good.1 in (
+      good-fold s ∙ good.0,
+      good-append (map fold_text (form.one_of is_script ss)) _ (good-lower _ (good-one is_script ss good.1))
+          (good-append (map fold_text (form.one_of is_region after)) _ (good-lower _ (good-one is_region after good_after))
+          (good-alphabet (form.after_one is_region after) (good-after is_region after good_after))),
+    )
+
+good-transform_form : (ss : List (List ℕ)) → Good ss → Good (transform_form ss)
+good-transform_form ss good =
+    good-append (form.language_form (before_key is_field_key ss)) (form.keywords_form is_field_key transform_value ss) (good-language _ (good-before is_field_key ss good))
+    (good-keywords is_field_key transform_value good-transform ss good)
+
+some-transform_form : (ss : List (List ℕ)) → Good ss → 1 ≤ length ss → 1 ≤ length (transform_form ss)
+some-transform_form [] good some = absurd (omega (arith, some))
+some-transform_form (s ∷ ss) good some = by_test (is_field_key s) refl
+  where
+    by_test : (t : Bool) → is_field_key s ≡ t → 1 ≤ length (transform_form (s ∷ ss))
+    by_test true is =
+        let keys = some-key is_field_key transform_value field-two s ss is good.0 in
+        let both = length-append (form.language_form (before_key is_field_key (s ∷ ss))) (form.keywords_form is_field_key transform_value (s ∷ ss)) in
+        two_parts _ _ _ both keys
+    by_test false is =
+        let first = ap (λ b. length (form.language_form (cond b [] (s ∷ before_key is_field_key ss)))) is in
+        let here : 1 ≤ length (form.language_form (s ∷ before_key is_field_key ss)) = omega arith in
+        let both = length-append (form.language_form (before_key is_field_key (s ∷ ss))) (form.keywords_form is_field_key transform_value (s ∷ ss)) in
+        one_part _ _ _ _ both first here
+
+-- ---- extensions
+
+good-extension : (u t : Bool) (e : Extension) → IsWellFormedExtension e → IsWellFormedExtension (extension_form u t e)
+unfolding is_singleton is_letter is_digit is_mark
+good-extension u t e fits = subst IsWellFormedExtension (sym (form_tested u t _ _ e refl refl)) (by_tests (is_of 117 e && not u) (is_of 116 e && not t && is_transform e.subtags))
+  where
+    by_tests : (a b : Bool) → IsWellFormedExtension (form_by a b e)
+    by_tests true b = record { singleton = refl; some = some-unicode_form e.subtags fits.subtags fits.some; subtags = good-unicode_form e.subtags fits.subtags }
+    by_tests false true = record { singleton = refl; some = some-transform_form e.subtags fits.subtags fits.some; subtags = good-transform_form e.subtags fits.subtags }
+    by_tests false false = fits
+
+good-forms : (u t : Bool) (es : List Extension) → AllByRecursion IsWellFormedExtension es → AllByRecursion IsWellFormedExtension (forms_after u t es)
+good-forms u t [] fits = tt
+good-forms u t (e ∷ es) fits = (good-extension u t e fits.0, good-forms (u || is_of 117 e) (t || is_of 116 e) es fits.1)
+
+pub form_well_formed : (r : Record) → IsWellFormed r → IsWellFormed (extensions_record r)
+unfolding extensions_record
+form_well_formed r well = record {
+  primary = well.primary;
+  extended = well.extended;
+  few = well.few;
+  short = well.short;
+  script = well.script;
+  region = well.region;
+  variants = well.variants;
+  extensions = good-forms false false r.extensions well.extensions;
+  private_use = well.private_use;
+}

@@ -1,0 +1,26 @@
+use Rattle.std.proofs.Common.{◌∷◌, ◌++◌, [], length, take, sym, ap, ◌∙◌, arith}
+use Rattle.std.proofs.lemmas.List.{length-take}
+use Rattle.langtag_registry.proofs.Pushed.{pushes_joined, pushes_same}
+use Rattle.langtag_scan.proofs.SubtagFacts.{of_primary}
+use Rattle.langtag_scan.specs.Record.{one_flat}
+use Rattle.langtag_scan.specs.Subtags.{join}
+use Rattle.langtag_scan.specs.Tag.{IsNormal}
+use Rattle.langtag_unicode.specs.Head.{head}
+use Rattle.langtag_unicode.proofs.ExtensionForms.{head-cut, head_inside}
+use Rattle.langtag_unicode.proofs.form.push_head.Goals as goal
+
+pub slice_bounds-push_subtag-end : goal.slice_bounds-push_subtag-end
+unfolding IsNormal
+slice_bounds-push_subtag-end c =
+    let (r, spells) = c.as_str-text.ensures.in_class in
+    let ends = c.ends.ensures r (spells.0, spells.1 ∙ c.as_str-text.ensures.same_text) in
+    omega (arith, length-take c.ends.result.variants c.as_bytes.result.now, head_inside r, ap (λ e. e.variants) ends, ap length spells.1, ap length c.as_bytes.ensures.value)
+
+pub returns-clause-pushed : goal.returns-clause-pushed
+returns-clause-pushed c = λ r spells.
+    pushes_joined r.primary (r.extended ++ (one_flat r.script ++ (one_flat r.region ++ r.variants))) _ _ (of_primary r.primary spells.0.primary).some
+    (pushes_same _ _ _ _
+    (ap (λ t. t ∷ [])
+    (ap (λ n. take n c.as_bytes.result.now) (ap (λ e. e.variants) (c.ends.ensures r spells))
+    ∙ ap (take (length (join (head r)))) (c.as_bytes.ensures.value ∙ c.as_str-text.ensures.same_text ∙ sym spells.1) ∙ head-cut r))
+    c.push_subtag.ensures.pushed)

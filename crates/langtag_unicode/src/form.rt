@@ -1,0 +1,222 @@
+//! The canonical form of a tag's extensions `u` and `t` (UTS #35, part 1, Annex C).
+ghost use Rattle.std.specs.Prelude.{◌≡◌, ◌≤◌, ◌*◌, ◌∷◌, ◌&&◌, ◌||◌, length, not, [], IfOk, List, Option, false};
+ghost use Rattle.std.specs.List.{AllByRecursion, flat_map};
+ghost use Rattle.std.specs.Option.{option_map};
+ghost use Rattle.langtag.specs.Text.{lang_tag_buf_text, lang_tag_text, normal_lang_tag_text};
+ghost use Rattle.langtag_extension.specs.Spelling.{SpellsExtension, SpellsExtensions};
+ghost use Rattle.langtag_extension.specs.Text.{extension_text, extensions_text};
+ghost use Rattle.langtag_likely.specs.Maximal.{IsOnlyForm};
+ghost use Rattle.langtag_output.specs.Output.{IsCounted, Pushes};
+ghost use Rattle.langtag_output.specs.Writes.{Writes};
+ghost use Rattle.langtag_private.specs.Text.{private_use_text};
+ghost use Rattle.langtag_scan.proofs.SubtagFacts.{IsSubtag};
+ghost use Rattle.langtag_scan.specs.Record as model;
+ghost use Rattle.langtag_scan.specs.Subtags.{join, subtags};
+ghost use Rattle.langtag_unicode.specs.Form as spec;
+ghost use Rattle.langtag_unicode.specs.Head.{head};
+
+use crate::alphabet::push_in_alphabet;
+use crate::keys::Keys;
+use crate::keyword_form::push_keywords;
+use crate::subtags::preceding;
+use crate::transform_form::{is_transform, push_transform};
+use langtag::{
+    Extension, Extensions, LangTag, LangTagBuf, NormalLangTag, PrivateUse, into_smallcase,
+};
+use langtag_output::{Output, write_pieces};
+use std::alloc::{AllocError, Global};
+
+/// Returns a tag with its extensions `u` and `t` in canonical form (UTS #35, part 1, Annex C): `en-u-nu-thai-ca-gregory-kn-true`
+/// becomes `en-u-ca-gregory-kn-nu-thai`.
+///
+/// Attributes, keywords and fields are put in alphabetical order, each once and in lowercase. If one is repeated, the first counts.
+/// Types and subdivisions that CLDR has replaced become their replacements. The value `true` is left out of `u`. The variants in the
+/// language of `t` are put in alphabetical order.
+///
+/// All other bytes of the tag stay, and so does a tag without these extensions. Only the first `u` and the first `t` have a form. A `t`
+/// that UTS #35 does not allow stays, such as `t-m0` or `t-zh-yue`. `langtag_registry::canonical` orders the extensions.
+///
+/// The time is quadratic in the number of attributes, and of variants in the language of `t`.
+///
+/// # Errors
+///
+/// Returns an error if allocation fails.
+///
+/// ```
+/// use langtag::LangTag;
+/// use langtag_unicode::extensions_form;
+///
+/// let tag = LangTag::new("en-u-nu-thai-CA-islamicc-kn-true")?;
+/// extensions_form(alloc, tag)?.as_str(); // "en-u-ca-islamic-civil-kn-nu-thai"
+/// extensions_form(alloc, LangTag::new("en-x-true")?)?.as_str(); // "en-x-true"
+/// ```
+pub fn extensions_form(alloc: Global, tag: LangTag<'_>) -> Result<LangTagBuf, AllocError>
+    ensures form { IfOk result (λ form. spec.IsExtensionsForm (lang_tag_text tag.entry) (lang_tag_buf_text form)) }
+    ensures one { IfOk result (λ form. IsOnlyForm spec.extensions_record (lang_tag_text tag.entry) (lang_tag_buf_text form)) }
+{
+    let Ok(text) = String::from_utf8(form_bytes(alloc, tag)?) else {
+        unreachable!()
+    };
+    let Ok(form) = LangTagBuf::new(text) else {
+        unreachable!()
+    };
+    Ok(form)
+}
+
+/// Returns the bytes of the form.
+fn form_bytes(alloc: Global, tag: LangTag<'_>) -> Result<Vec<u8>, AllocError>
+    ensures { IfOk result (λ bytes. spec.IsExtensionsForm (lang_tag_text tag.entry) bytes.items) }
+{
+    let mut bytes = vec![in alloc; 0; write_extensions_form(tag, &mut [])]?;
+    write_extensions_form(tag, &mut bytes);
+    Ok(bytes)
+}
+
+/// Writes a tag with its extensions `u` and `t` in canonical form to a buffer, as [`extensions_form`] returns it, and returns its
+/// length in bytes. If the buffer is too short, it stays unchanged, and the length says how much room is needed. A buffer of twice
+/// the length of the tag is always long enough. It does not allocate.
+///
+/// ```
+/// use langtag::LangTag;
+/// use langtag_unicode::write_extensions_form;
+///
+/// let mut buffer = [0; 16];
+/// let length = write_extensions_form(LangTag::new("de-u-kn-true")?, &mut buffer);
+/// buffer.get(..length); // Some(&b"de-u-kn"[..])
+/// ```
+#[tactic(auto, using(crate::proofs::FormSizes::form_bounded))]
+pub fn write_extensions_form(tag: LangTag<'_>, buffer: &mut [u8]) -> usize
+    ensures form { Writes (spec.IsExtensionsForm (lang_tag_text tag.entry)) buffer.old buffer.new result }
+    ensures bounded { result ≤ 2 * length (lang_tag_text tag.entry) }
+{
+    match tag.as_normal() {
+        Some(normal) => write_parts(normal, buffer),
+        None => write_text(tag.as_bytes(), buffer),
+    }
+}
+
+/// Writes a text.
+fn write_text(text: &[u8], buffer: &mut [u8]) -> usize
+    ensures { Writes (λ new. new ≡ text.now) buffer.old buffer.new result }
+{
+    write_pieces(&[text], buffer)
+}
+
+/// Writes a tag with its extensions in their forms.
+#[tactic(auto, using(crate::proofs::FormSizes::form_length))]
+fn write_parts(tag: NormalLangTag<'_>, buffer: &mut [u8]) -> usize
+    ensures { model.EachRecord (normal_lang_tag_text tag.entry) (λ r. Writes (λ form. form ≡ model.spell (spec.extensions_record r)) buffer.old buffer.new result) }
+{
+    let len = put_parts(tag, &mut []);
+    if len <= buffer.len() {
+        put_parts(tag, buffer);
+    }
+    len
+}
+
+/// Puts a tag with its extensions in their forms into a buffer, as far as it has room. Returns how long that tag is.
+fn put_parts(tag: NormalLangTag<'_>, buffer: &mut [u8]) -> usize
+    ensures { model.EachRecord (normal_lang_tag_text tag.entry) (λ r. IsCounted (model.spell (spec.extensions_record r)) buffer.old buffer.new result) }
+{
+    let mut out = Output::new(buffer);
+    push_head(&mut out, tag);
+    push_extensions(&mut out, tag.extensions());
+    push_private_use(&mut out, tag.private_use());
+    out.len()
+}
+
+/// Puts what precedes the extensions.
+fn push_head(out: &mut Output<'_>, tag: NormalLangTag<'_>)
+    ensures same_buffer { out.new.buffer.ghost_name ≡ out.old.buffer.ghost_name }
+    ensures pushed { model.EachRecord (normal_lang_tag_text tag.entry) (λ r. Pushes (head r) out.old out.new) }
+{
+    let text = tag.as_str();
+    out.push_subtag(&text.as_bytes()[..tag.ends().variants]);
+}
+
+fn push_extensions(out: &mut Output<'_>, extensions: Extensions<'_>)
+    ensures same_buffer { out.new.buffer.ghost_name ≡ out.old.buffer.ghost_name }
+    ensures pushed { (es : List model.Extension) → SpellsExtensions es (extensions_text extensions.entry)
+        → Pushes (flat_map model.extension_flat (spec.forms_after false false es)) out.old out.new }
+{
+    let mut after_u = false;
+    let mut after_t = false;
+    for extension in extensions.iter() {
+        push_extension(out, extension, after_u, after_t);
+        after_u = is_after(b'u', extension, after_u);
+        after_t = is_after(b't', extension, after_t);
+    }
+}
+
+/// Puts an extension in its form, unless it stands after another of its singleton.
+fn push_extension(out: &mut Output<'_>, extension: Extension<'_>, after_u: bool, after_t: bool)
+    ensures same_buffer { out.new.buffer.ghost_name ≡ out.old.buffer.ghost_name }
+    ensures pushed { (e : model.Extension) → SpellsExtension e (extension_text extension.entry)
+        → Pushes (model.extension_flat (spec.extension_form after_u after_t e)) out.old out.new }
+{
+    if is_first(b'u', extension, after_u) {
+        return push_unicode(out, subtags_of(extension));
+    }
+    if is_first_transform(extension, after_t) {
+        return push_transform(out, subtags_of(extension));
+    }
+    out.push_subtag(extension.as_bytes());
+}
+
+/// Returns whether an extension is the first `t`, and is well-formed.
+fn is_first_transform(extension: Extension<'_>, after_t: bool) -> bool
+    ensures { (e : model.Extension) → SpellsExtension e (extension_text extension.entry)
+        → result ≡ (spec.is_of 116 e && not after_t && spec.is_transform e.subtags) }
+{
+    is_first(b't', extension, after_t) && is_transform(subtags_of(extension))
+}
+
+/// Returns whether an extension is the first of a singleton.
+fn is_first(singleton: u8, extension: Extension<'_>, is_after: bool) -> bool
+    ensures { (e : model.Extension) → SpellsExtension e (extension_text extension.entry) → result ≡ (spec.is_of singleton e && not is_after) }
+{
+    is_of(singleton, extension) && !is_after
+}
+
+/// Returns whether what follows an extension stands after one of a singleton.
+fn is_after(singleton: u8, extension: Extension<'_>, is_after: bool) -> bool
+    ensures { (e : model.Extension) → SpellsExtension e (extension_text extension.entry) → result ≡ (is_after || spec.is_of singleton e) }
+{
+    is_after || is_of(singleton, extension)
+}
+
+/// Returns the subtags after the singleton, joined.
+fn subtags_of<'a>(extension: Extension<'a>) -> &'a str
+    ensures subtags { (e : model.Extension) → SpellsExtension e (extension_text extension.entry) → subtags result.now ≡ e.subtags }
+    ensures each { AllByRecursion IsSubtag (subtags result.now) }
+{
+    &extension.as_str()[2..]
+}
+
+/// Puts the form of the extension `u` that has these subtags.
+fn push_unicode(out: &mut Output<'_>, text: &str)
+    requires { AllByRecursion IsSubtag (subtags text.now) }
+    ensures same_buffer { out.new.buffer.ghost_name ≡ out.old.buffer.ghost_name }
+    ensures pushed { Pushes ((117 ∷ []) ∷ spec.unicode_form (subtags text.now)) out.old out.new }
+{
+    out.push_subtag(b"u");
+    push_in_alphabet(out, preceding(text, Keys::Unicode));
+    push_keywords(out, text, Keys::Unicode);
+}
+
+/// Returns whether an extension is of a singleton, in any case.
+fn is_of(singleton: u8, extension: Extension<'_>) -> bool
+    ensures { (e : model.Extension) → SpellsExtension e (extension_text extension.entry) → result ≡ spec.is_of singleton e }
+{
+    into_smallcase(extension.singleton().unwrap()) == singleton
+}
+
+fn push_private_use(out: &mut Output<'_>, private_use: Option<PrivateUse<'_>>)
+    ensures same_buffer { out.new.buffer.ghost_name ≡ out.old.buffer.ghost_name }
+    ensures pushed { (part : Option model.PrivateUse) → option_map private_use_text private_use.entry
+        ≡ option_map (λ p. join (model.private_use_flat p)) part → Pushes (model.private_part_flat part) out.old out.new }
+{
+    if let Some(private_use) = private_use {
+        out.push_subtag(private_use.as_bytes());
+    }
+}

@@ -1,0 +1,187 @@
+// Made by rust/erase from crates/langtag_unicode/src/form.rt. Change that file, not this one.
+
+//! The canonical form of a tag's extensions `u` and `t` (UTS #35, part 1, Annex C).
+
+use crate::output::{write_pieces, Output};
+#[cfg(feature = "alloc")]
+use crate::shim::{try_vec, AllocError};
+#[cfg(feature = "alloc")]
+use crate::tag::LangTagBuf;
+use crate::tag::{into_smallcase, Extension, Extensions, LangTag, NormalLangTag, PrivateUse};
+use crate::unicode::alphabet::push_in_alphabet;
+use crate::unicode::keys::Keys;
+use crate::unicode::keyword_form::push_keywords;
+use crate::unicode::subtags::preceding;
+use crate::unicode::transform_form::{is_transform, push_transform};
+#[cfg(feature = "alloc")]
+use alloc::string::String;
+#[cfg(feature = "alloc")]
+use alloc::vec::Vec;
+
+/// Returns a tag with its extensions `u` and `t` in canonical form (UTS #35, part 1, Annex C): `en-u-nu-thai-ca-gregory-kn-true`
+/// becomes `en-u-ca-gregory-kn-nu-thai`.
+///
+/// Attributes, keywords and fields are put in alphabetical order, each once and in lowercase. If one is repeated, the first counts.
+/// Types and subdivisions that CLDR has replaced become their replacements. The value `true` is left out of `u`. The variants in the
+/// language of `t` are put in alphabetical order.
+///
+/// All other bytes of the tag stay, and so does a tag without these extensions. Only the first `u` and the first `t` have a form. A `t`
+/// that UTS #35 does not allow stays, such as `t-m0` or `t-zh-yue`. `langtag::registry::canonical` orders the extensions.
+///
+/// The time is quadratic in the number of attributes, and of variants in the language of `t`.
+///
+/// # Errors
+///
+/// Returns an error if allocation fails.
+///
+/// ```
+/// # fn main() -> Result<(), Box<dyn std::error::Error>> {
+/// use langtag::LangTag;
+/// use langtag::unicode::extensions_form;
+///
+/// let tag = LangTag::new("en-u-nu-thai-CA-islamicc-kn-true")?;
+/// assert_eq!(extensions_form(tag)?.as_str(), "en-u-ca-islamic-civil-kn-nu-thai");
+/// assert_eq!(extensions_form(LangTag::new("en-x-true")?)?.as_str(), "en-x-true");
+/// # Ok(())
+/// # }
+/// ```
+#[cfg(feature = "alloc")]
+pub fn extensions_form(tag: LangTag<'_>) -> Result<LangTagBuf, AllocError> {
+    let Ok(text) = String::from_utf8(form_bytes(tag)?) else {
+        unreachable!()
+    };
+    let Ok(form) = LangTagBuf::new(text) else {
+        unreachable!()
+    };
+    Ok(form)
+}
+
+/// Returns the bytes of the form.
+#[cfg(feature = "alloc")]
+#[inline]
+fn form_bytes(tag: LangTag<'_>) -> Result<Vec<u8>, AllocError> {
+    let mut bytes = try_vec(0, write_extensions_form(tag, &mut []))?;
+    write_extensions_form(tag, &mut bytes);
+    Ok(bytes)
+}
+
+/// Writes a tag with its extensions `u` and `t` in canonical form to a buffer, as [`extensions_form`] returns it, and returns its
+/// length in bytes. If the buffer is too short, it stays unchanged, and the length says how much room is needed. A buffer of twice
+/// the length of the tag is always long enough. It does not allocate.
+///
+/// ```
+/// # fn main() -> Result<(), Box<dyn std::error::Error>> {
+/// use langtag::LangTag;
+/// use langtag::unicode::write_extensions_form;
+///
+/// let mut buffer = [0; 16];
+/// let length = write_extensions_form(LangTag::new("de-u-kn-true")?, &mut buffer);
+/// assert_eq!(buffer.get(..length), Some(&b"de-u-kn"[..]));
+/// # Ok(())
+/// # }
+/// ```
+#[inline]
+pub fn write_extensions_form(tag: LangTag<'_>, buffer: &mut [u8]) -> usize {
+    match tag.as_normal() {
+        Some(normal) => write_parts(normal, buffer),
+        None => write_text(tag.as_bytes(), buffer),
+    }
+}
+
+/// Writes a text.
+#[inline]
+fn write_text(text: &[u8], buffer: &mut [u8]) -> usize {
+    write_pieces(&[text], buffer)
+}
+
+/// Writes a tag with its extensions in their forms.
+#[inline]
+fn write_parts(tag: NormalLangTag<'_>, buffer: &mut [u8]) -> usize {
+    let len = put_parts(tag, &mut []);
+    if len <= buffer.len() {
+        put_parts(tag, buffer);
+    }
+    len
+}
+
+/// Puts a tag with its extensions in their forms into a buffer, as far as it has room. Returns how long that tag is.
+fn put_parts(tag: NormalLangTag<'_>, buffer: &mut [u8]) -> usize {
+    let mut out = Output::new(buffer);
+    push_head(&mut out, tag);
+    push_extensions(&mut out, tag.extensions());
+    push_private_use(&mut out, tag.private_use());
+    out.len()
+}
+
+/// Puts what precedes the extensions.
+#[inline]
+fn push_head(out: &mut Output<'_>, tag: NormalLangTag<'_>) {
+    let text = tag.as_str();
+    out.push_subtag(&text.as_bytes()[..tag.ends().variants]);
+}
+
+fn push_extensions(out: &mut Output<'_>, extensions: Extensions<'_>) {
+    let mut after_u = false;
+    let mut after_t = false;
+    for extension in extensions.iter() {
+        push_extension(out, extension, after_u, after_t);
+        after_u = is_after(b'u', extension, after_u);
+        after_t = is_after(b't', extension, after_t);
+    }
+}
+
+/// Puts an extension in its form, unless it stands after another of its singleton.
+fn push_extension(out: &mut Output<'_>, extension: Extension<'_>, after_u: bool, after_t: bool) {
+    if is_first(b'u', extension, after_u) {
+        return push_unicode(out, subtags_of(extension));
+    }
+    if is_first_transform(extension, after_t) {
+        return push_transform(out, subtags_of(extension));
+    }
+    out.push_subtag(extension.as_bytes());
+}
+
+/// Returns whether an extension is the first `t`, and is well-formed.
+#[inline]
+fn is_first_transform(extension: Extension<'_>, after_t: bool) -> bool {
+    is_first(b't', extension, after_t) && is_transform(subtags_of(extension))
+}
+
+/// Returns whether an extension is the first of a singleton.
+#[inline]
+fn is_first(singleton: u8, extension: Extension<'_>, is_after: bool) -> bool {
+    is_of(singleton, extension) && !is_after
+}
+
+/// Returns whether what follows an extension stands after one of a singleton.
+#[inline]
+fn is_after(singleton: u8, extension: Extension<'_>, is_after: bool) -> bool {
+    is_after || is_of(singleton, extension)
+}
+
+/// Returns the subtags after the singleton, joined.
+#[inline]
+fn subtags_of<'a>(extension: Extension<'a>) -> &'a str {
+    &extension.as_str()[2..]
+}
+
+/// Puts the form of the extension `u` that has these subtags.
+#[inline]
+fn push_unicode(out: &mut Output<'_>, text: &str) {
+    out.push_subtag(b"u");
+    push_in_alphabet(out, preceding(text, Keys::Unicode));
+    push_keywords(out, text, Keys::Unicode);
+}
+
+/// Returns whether an extension is of a singleton, in any case.
+#[inline]
+fn is_of(singleton: u8, extension: Extension<'_>) -> bool {
+    into_smallcase(extension.singleton().unwrap()) == singleton
+}
+
+#[inline]
+fn push_private_use(out: &mut Output<'_>, private_use: Option<PrivateUse<'_>>) {
+    if let Some(private_use) = private_use {
+        out.push_subtag(private_use.as_bytes());
+    }
+}

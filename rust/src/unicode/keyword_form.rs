@@ -1,0 +1,107 @@
+// Made by rust/erase from crates/langtag_unicode/src/keyword_form.rt. Change that file, not this one.
+
+//! Keywords and fields with their canonical values, in the order of their keys, written to an output.
+
+use crate::output::Output;
+use crate::tag::{into_smallcase, Subtags};
+use crate::unicode::alias::canonical_value;
+use crate::unicode::alphabet::push_each_lowercase;
+use crate::unicode::keys::Keys;
+use crate::unicode::subtags::value_in;
+
+/// What may stand in a key, in order.
+const LETTERS_AND_DIGITS: [u8; 36] = *b"0123456789abcdefghijklmnopqrstuvwxyz";
+
+/// How many keys there are.
+const KEY_COUNT: usize = 1296;
+
+/// Appends the keywords of a text, each once, in the order of their keys.
+///
+/// The text is read twice for all keys, and once for each key in it, of which there are at most 1,296.
+pub(crate) fn push_keywords(out: &mut Output<'_>, text: &str, keys: Keys) {
+    let marks = marked_keys(text, keys);
+    let firsts = marked_firsts(text, keys);
+    for first in LETTERS_AND_DIGITS {
+        if !firsts[digit(first)] {
+            continue;
+        }
+        push_keywords_from(out, text, keys, &marks, first);
+    }
+}
+
+/// Puts the keywords whose keys begin with a letter or a digit.
+fn push_keywords_from(
+    out: &mut Output<'_>,
+    text: &str,
+    keys: Keys,
+    marks: &[bool; KEY_COUNT],
+    first: u8,
+) {
+    for second in LETTERS_AND_DIGITS {
+        let key = [first, second];
+        if !marks[key_index(&key)] {
+            continue;
+        }
+        push_keyword(out, text, keys, &key);
+    }
+}
+
+/// Puts a key with its canonical value, if the key stands in the text.
+#[inline]
+fn push_keyword(out: &mut Output<'_>, text: &str, keys: Keys, key: &[u8]) {
+    if let Some(value) = value_in(text, keys, key) {
+        out.push_subtag(key);
+        push_each_lowercase(out, canonical_value(keys, key, value));
+    }
+}
+
+/// Returns which keys may stand in a text.
+fn marked_keys(text: &str, keys: Keys) -> [bool; KEY_COUNT] {
+    let mut marks = [false; KEY_COUNT];
+    for subtag in Subtags::new(text) {
+        let key = subtag.as_bytes();
+        if keys.has(key) {
+            marks[key_index(key)] = true;
+        }
+    }
+    marks
+}
+
+/// Returns which letters and digits may begin a key in a text.
+fn marked_firsts(text: &str, keys: Keys) -> [bool; 36] {
+    let mut marks = [false; 36];
+    for subtag in Subtags::new(text) {
+        let key = subtag.as_bytes();
+        if keys.has(key) {
+            marks[first_index(key)] = true;
+        }
+    }
+    marks
+}
+
+/// Returns the index of the first letter or digit of a key among all of them, in any case.
+#[inline]
+fn first_index(key: &[u8]) -> usize {
+    match key {
+        [first, _] => digit(*first),
+        _ => 0,
+    }
+}
+
+/// Returns the index of a key among all of them, in any case.
+#[inline]
+fn key_index(key: &[u8]) -> usize {
+    match key {
+        [first, second] => 36 * digit(*first) + digit(*second),
+        _ => 0,
+    }
+}
+
+/// Returns the index of a letter or a digit among all of them, in any case.
+fn digit(byte: u8) -> usize {
+    match into_smallcase(byte) {
+        digit @ b'0'..=b'9' => usize::from(digit - b'0'),
+        letter @ b'a'..=b'z' => usize::from(letter - b'a') + 10,
+        _ => 0,
+    }
+}

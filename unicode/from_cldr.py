@@ -1,0 +1,57 @@
+#!/usr/bin/env python3
+"""Writes the files of data/ from a release of Unicode's CLDR, as Unicode or Debian's package unicode-cldr-core hands it out.
+
+usage: from_cldr.py COMMON VERSION SOURCE   COMMON is CLDR's folder `common`, which has bcp47/ and supplemental/; VERSION is like 48.2;
+                                            SOURCE says for the head of each file where it came from
+
+Left out are aliases of types that no tag can hold.
+"""
+from __future__ import annotations
+
+import pathlib
+import re
+import sys
+import xml.etree.ElementTree as XML
+from collections.abc import Iterator
+
+DATA = pathlib.Path(__file__).resolve().parent / "data"
+
+HEAD = """# {title}
+# From Unicode CLDR {version} ({files}; {source}).
+# Copyright (c) 1991-2026 Unicode, Inc. Distributed under the Terms of Use in https://www.unicode.org/copyright.html
+# SPDX-License-Identifier: Unicode-3.0 (the notice: LICENSE-UNICODE in the folder above)
+"""
+TYPE = re.compile(r"[a-z0-9]{3,8}(-[a-z0-9]{3,8})*")
+
+
+def type_aliases(common: pathlib.Path) -> Iterator[str]:
+    """The aliases of each type: a type with a preferred one is an alias of it, and has none of its own."""
+    for path in sorted((common / "bcp47").glob("*.xml")):
+        for key in XML.parse(path).getroot().iter("key"):
+            for it in key.iter("type"):
+                name, preferred = it.get("name"), it.get("preferred")
+                aliases = [] if preferred else [alias.lower() for alias in (it.get("alias") or "").split()]
+                pairs = [(name, preferred)] if preferred else [(alias, name) for alias in aliases if TYPE.fullmatch(alias) and alias != name]
+                yield from (f"{key.get('extension', 'u')} {key.get('name')} {old} {new}" for old, new in pairs)
+
+
+def subdivision_aliases(common: pathlib.Path) -> Iterator[str]:
+    """The aliases of subdivisions, each with its reason and its replacements."""
+    for alias in XML.parse(common / "supplemental/supplementalMetadata.xml").getroot().iter("subdivisionAlias"):
+        yield f"{alias.get('type')} {alias.get('reason')} {alias.get('replacement')}"
+
+
+def main(common: pathlib.Path, version: str, source: str) -> None:
+    for name, title, files, rows in (
+        ("type-alias.txt", "Aliases of types that a tag can hold: extension, key, alias, type", "common/bcp47/*.xml", type_aliases(common)),
+        ("subdivision-alias.txt", "Aliases of subdivisions: code, reason, replacements, of which the first is taken", "common/supplemental/supplementalMetadata.xml",
+         subdivision_aliases(common)),
+    ):
+        text = HEAD.format(title=title, version=version, files=files, source=source) + "".join(f"{row}\n" for row in sorted(set(rows)))
+        (DATA / name).write_text(text, encoding="utf-8")
+
+
+if __name__ == "__main__":
+    if len(sys.argv) != 4:
+        sys.exit(__doc__)
+    main(pathlib.Path(sys.argv[1]), *sys.argv[2:])

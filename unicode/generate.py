@@ -1,0 +1,163 @@
+#!/usr/bin/env python3
+"""Writes the tables and the lists of the crate langtag_unicode from Unicode's CLDR, whose aliases of types and of subdivisions are in
+data/.
+
+usage: generate.py            writes them from the data whose checksums stand in data.sha256
+       generate.py --accept   writes them from newer data, and their checksums
+       generate.py --check    writes nothing, and names what is not as it should be: the data by their checksums, or a file that
+                              would be written otherwise
+
+Data that break what the crate rests on are refused: the row that does is named, nothing is written, and the status is 1.
+"""
+from __future__ import annotations
+
+import hashlib
+import pathlib
+import re
+import sys
+
+HERE = pathlib.Path(__file__).resolve().parent
+DATA = HERE / "data"
+CHECKSUMS = HERE / "data.sha256"
+CRATES = HERE.parent / "crates"
+
+SUBTAG = re.compile(r"[a-z0-9]{3,8}")
+KEYS = {"u": re.compile(r"[a-z0-9][a-z]"), "t": re.compile(r"[a-z][0-9]")}
+SUBDIVISION = re.compile(r"[a-z]{2}[a-z0-9]{1,4}|[0-9]{3}[a-z0-9]{1,4}")
+
+
+def read(name: str) -> list[list[str]]:
+    """The rows of the data, in words."""
+    return [line.split() for line in (DATA / name).read_text(encoding="utf-8").splitlines() if not line.startswith("#")]
+
+
+def version() -> str:
+    """The version of CLDR that the head of each file of the data names."""
+    found = {path.name: re.search(r"^# .*Unicode CLDR ([0-9.]+) ", path.read_text(encoding="utf-8"), re.M) for path in DATA.glob("*.txt")}
+    versions = {name: said[1] if said else "none" for name, said in found.items()}
+    if len(set(versions.values())) != 1 or "none" in versions.values():
+        sys.exit(f"the heads of the data do not name one version of CLDR: {versions}")
+    return next(iter(versions.values()))
+
+
+def checksums() -> str:
+    """The lines of sha256sum, by which `sha256sum -c` in data/ tests the files, too."""
+    return "".join(f"{hashlib.sha256(path.read_bytes()).hexdigest()}  {path.name}\n" for path in sorted(DATA.glob("*.txt")))
+
+
+def whole_subdivision(code: str) -> str:
+    """A subdivision, or that of a whole region of two letters (UTS #35, part 1, Annex C)."""
+    return code.lower() + ("zzzz" if len(code) == 2 else "")
+
+
+class Aliases:
+    """The aliases of types by their extension, each with its key, and the aliases of subdivisions."""
+
+    def __init__(self) -> None:
+        rows = read("type-alias.txt")
+        self.types = {x: [(key, old, new) for other, key, old, new in rows if other == x] for x in KEYS}
+        self.subdivisions = [(row[0].lower(), whole_subdivision(row[2])) for row in read("subdivision-alias.txt")]
+        self.test(rows)
+
+    def test(self, rows: list[list[str]]) -> None:
+        def each(name, premise, holds, among):
+            for row in among:
+                if not holds(row):
+                    sys.exit(f"{name}: {premise}: " + " ".join(row))
+
+        def each_type(premise, holds):
+            each("type-alias.txt", premise, holds, rows)
+
+        def each_subdivision(premise, holds):
+            each("subdivision-alias.txt", premise, holds, self.subdivisions)
+
+        left = [row[:3] for row in rows]
+        each_type("the extension is u or t", lambda row: row[0] in KEYS)
+        each_type("a key of its extension", lambda row: KEYS[row[0]].fullmatch(row[1]))
+        each_type("types are subtags in lowercase", lambda row: all(SUBTAG.fullmatch(subtag) for text in row[2:] for subtag in text.split("-")))
+        each_type("a left side once", lambda row: left.count(row[:3]) == 1)
+        each_type("no right side is a left side", lambda row: [*row[:2], row[3]] not in left)
+        each_type("rg and sd have subdivisions alone", lambda row: row[1] not in ("rg", "sd"))
+        each_type("nothing replaces true", lambda row: row[2] != "true")
+        each_type("a right side is at most twice as long", lambda row: len(row[3]) <= 2 * len(row[2]))
+        codes = [old for old, _ in self.subdivisions]
+        each_subdivision("codes in lowercase", lambda row: all(SUBDIVISION.fullmatch(code) for code in row))
+        each_subdivision("a left side once", lambda row: codes.count(row[0]) == 1)
+        each_subdivision("no right side is a left side", lambda row: row[1] not in codes)
+        each_subdivision("a right side is at most twice as long", lambda row: len(row[1]) <= 2 * len(row[0]))
+
+
+def in_lines(items, width=116):
+    lines, line = [], "   "
+    for item in items:
+        if len(line) + 2 + len(item) > width:
+            lines.append(line)
+            line = "   "
+        line += " " + item + ","
+    return "\n".join(lines + [line])
+
+
+def table(name, doc, kind, rows):
+    items = ["(" + ", ".join(f'"{text}"' for text in row) + ")" for row in rows]
+    return f"/// {doc}\n#[rattlefmt::skip]\npub(crate) static {name}: [{kind}; {len(items)}] = [\n{in_lines(items)}\n];\n"
+
+
+def tables(aliases: Aliases) -> str:
+    return "\n".join([
+        f"//! The aliases of Unicode's CLDR {version()}, in tables (the notice: unicode/LICENSE-UNICODE). Written by unicode/generate.py. Do not edit.\n",
+        table("UNICODE_TYPE_ALIASES", "The types of the extension `u` that are replaced, each after its key, and what each of them becomes.", "(&str, &str, &str)", aliases.types["u"]),
+        table("TRANSFORM_TYPE_ALIASES", "Those of the extension `t`.", "(&str, &str, &str)", aliases.types["t"]),
+        table("SUBDIVISION_ALIASES", "The subdivisions that are replaced, and what each of them becomes.", "(&str, &str)", aliases.subdivisions),
+    ])
+
+
+def word_list(name, doc, kind, reader, rows):
+    """A list of words, some rows a text."""
+    rows = [" ".join(row) for row in rows]
+    texts = "\n    ∷ ".join(f"codes \"{' '.join(rows[i:i + 16])}\"" for i in range(0, len(rows), 16))
+    return f"-- {doc}\nunfoldable pub {name} : List {kind}\n{name} =\n    flat_map (λ text. {reader} (words text))\n    ({texts}\n    ∷ [])\n"
+
+
+def lists(aliases: Aliases) -> str:
+    return "\n".join([
+        f"-- The aliases of Unicode's CLDR {version()} (the notice: unicode/LICENSE-UNICODE). Written by unicode/generate.py. Do not edit.\n"
+        "use Rattle.std.specs.Prelude.{[], ◌∷◌, List, codes}\nuse Rattle.std.specs.List.{flat_map}\n"
+        "use Rattle.langtag_tables.specs.Words.{words}\n"
+        "use Rattle.langtag_unicode.specs.Alias.{Alias, TypeAlias, aliases_of, type_aliases_of}\n",
+        word_list("unicode_type_aliases", "types of the extension u that are replaced: a key, a type, and what replaces it", "TypeAlias", "type_aliases_of", aliases.types["u"]),
+        word_list("transform_type_aliases", "those of the extension t", "TypeAlias", "type_aliases_of", aliases.types["t"]),
+        word_list("subdivision_aliases", "subdivisions that are replaced, and what replaces them: the first replacement, and `zzzz` after a region", "Alias", "aliases_of", aliases.subdivisions),
+    ])
+
+
+def written(crates: pathlib.Path, aliases: Aliases) -> dict[pathlib.Path, str]:
+    """The files that are made of the data: of each its path and its text."""
+    crate = crates / "langtag_unicode"
+    return {crate / "src/alias_tables.rt": tables(aliases), crate / "specs/Aliases.antt": lists(aliases)}
+
+
+def main(words: list[str], crates: pathlib.Path) -> bool:
+    check, accept = words == ["--check"], words == ["--accept"]
+    if words and not check and not accept:
+        sys.exit(__doc__)
+    aliases = Aliases()
+    is_known = CHECKSUMS.is_file() and checksums() == CHECKSUMS.read_text(encoding="utf-8")
+    told = []
+    if not is_known:
+        told.append(f"the data are not those of {CHECKSUMS.name}")
+        if not check and not accept:
+            sys.exit(f"{told[0]}; --accept takes newer ones")
+    for path, text in written(crates, aliases).items():
+        if check and (not path.is_file() or path.read_text(encoding="utf-8") != text):
+            told.append(f"{path.name} would be written otherwise")
+        elif not check:
+            path.write_text(text, encoding="utf-8")
+    if accept:
+        CHECKSUMS.write_text(checksums(), encoding="utf-8")
+    if check and told:
+        print("\n".join(told))
+    return check and bool(told)
+
+
+if __name__ == "__main__":
+    sys.exit(main(sys.argv[1:], CRATES))

@@ -1,0 +1,114 @@
+#!/usr/bin/env python3
+"""Tests of generate.py and from_cldr.py: data that break a premise are refused, newer ones are taken, and --check sees what a file or the data lose."""
+import contextlib
+import io
+import pathlib
+import shutil
+import tempfile
+import unittest
+from unittest import mock
+
+import from_cldr
+import generate
+
+WRITTEN = ["langtag_unicode/src/alias_tables.rt", "langtag_unicode/specs/Aliases.antt"]
+
+
+class Generating(unittest.TestCase):
+    def setUp(self):
+        folder = tempfile.TemporaryDirectory()
+        self.addCleanup(folder.cleanup)
+        self.folder = pathlib.Path(folder.name)
+        self.crates = self.folder / "crates"
+        shutil.copytree(generate.DATA, self.folder / "data")
+        shutil.copy(generate.CHECKSUMS, self.folder / "data.sha256")
+        for name in WRITTEN:
+            (self.crates / name).parent.mkdir(parents=True, exist_ok=True)
+            shutil.copy(generate.CRATES / name, self.crates / name)
+        for name, path in (("DATA", "data"), ("CHECKSUMS", "data.sha256")):
+            patch = mock.patch.object(generate, name, self.folder / path)
+            self.addCleanup(patch.stop)
+            patch.start()
+
+    def run_with(self, *words):
+        """The status, and the lines that are printed."""
+        out = io.StringIO()
+        with contextlib.redirect_stdout(out):
+            status = generate.main(list(words), self.crates)
+        return status, out.getvalue().splitlines()
+
+    def edit(self, name, old, new):
+        """Data in which something stands otherwise."""
+        path = generate.DATA / name
+        text = path.read_text(encoding="utf-8")
+        self.assertIn(old, text)
+        path.write_text(text.replace(old, new, 1), encoding="utf-8")
+
+    def test_as_it_stands(self):
+        self.assertEqual(self.run_with("--check"), (False, []))
+        self.assertEqual(self.run_with(), (False, []))
+        self.assertEqual(self.run_with("--check"), (False, []))
+
+    def test_other_data(self):
+        self.edit("type-alias.txt", "\nu tz aqams aqmcm\n", "\n")
+        with self.assertRaisesRegex(SystemExit, "the data are not those of data.sha256; --accept takes newer ones"):
+            self.run_with()
+        told = self.run_with("--check")
+        self.assertEqual(told, (True, ["the data are not those of data.sha256"] + [f"{pathlib.Path(name).name} would be written otherwise" for name in WRITTEN]))
+        self.assertEqual(self.run_with("--accept"), (False, []))
+        self.assertEqual(self.run_with("--check"), (False, []))
+
+    def test_a_file_is_changed(self):
+        for name in WRITTEN:
+            with self.subTest(name=name):
+                path = self.crates / name
+                text = path.read_text(encoding="utf-8")
+                path.write_text(text.replace("aqams", "aqamt"), encoding="utf-8")
+                self.assertEqual(self.run_with("--check"), (True, [f"{path.name} would be written otherwise"]))
+                path.write_text(text, encoding="utf-8")
+
+    def test_two_versions(self):
+        self.edit("type-alias.txt", f"Unicode CLDR {generate.version()} ", "Unicode CLDR 99.1 ")
+        with self.assertRaisesRegex(SystemExit, "do not name one version"):
+            self.run_with("--accept")
+
+    def test_premises(self):
+        types, places = "type-alias.txt", "subdivision-alias.txt"
+        for name, old, new, told in (
+            (types, "\nu tz aqams aqmcm\n", "\na tz aqams aqmcm\n", "the extension is u or t"),
+            (types, "\nu tz aqams aqmcm\n", "\nu t0 aqams aqmcm\n", "a key of its extension"),
+            (types, "\nu tz aqams aqmcm\n", "\nu tz aqams Aqmcm\n", "types are subtags in lowercase"),
+            (types, "\nu tz aqams aqmcm\n", "\nu tz aqams aqmcm\nu tz aqams aqmcn\n", "a left side once"),
+            (types, "\nu tz aqams aqmcm\n", "\nu tz aqams eire\n", "no right side is a left side"),
+            (types, "\nu tz aqams aqmcm\n", "\nu sd aqams aqmcm\n", "rg and sd have subdivisions alone"),
+            (types, "\nu tz aqams aqmcm\n", "\nu tz true aqmcm\n", "nothing replaces true"),
+            (types, "\nu tz aqams aqmcm\n", "\nu tz aqams aqmcm-aqmcm\n", "at most twice as long"),
+            (places, "\ncn11 deprecated cnbj\n", "\nc11 deprecated cnbj\n", "codes in lowercase"),
+            (places, "\ncn11 deprecated cnbj\n", "\ncn11 deprecated cnbj\ncn11 deprecated cntj\n", "a left side once"),
+            (places, "\ncn11 deprecated cnbj\n", "\ncn11 deprecated cn12\n", "no right side is a left side"),
+        ):
+            with self.subTest(told=told):
+                standing = (generate.DATA / name).read_bytes()
+                self.edit(name, old, new)
+                with self.assertRaisesRegex(SystemExit, told):
+                    self.run_with("--accept")
+                (generate.DATA / name).write_bytes(standing)
+
+    def test_from_cldr(self):
+        common = self.folder / "common"
+        for name, text in (
+            ("bcp47/a.xml", '<k><key name="ca"><type name="islamic-civil" alias="islamicc"/><type name="gregory" alias="gregorian GREGORY"/></key></k>'),
+            ("bcp47/b.xml", '<k><key extension="t" name="m0"><type name="names" preferred="prprname" alias="other"/></key></k>'),
+            ("supplemental/supplementalMetadata.xml", '<s><subdivisionAlias type="fi01" replacement="AX" reason="overlong"/></s>'),
+        ):
+            (common / name).parent.mkdir(parents=True, exist_ok=True)
+            (common / name).write_text(text, encoding="utf-8")
+        with mock.patch.object(from_cldr, "DATA", generate.DATA):
+            from_cldr.main(common, "99.1", "a test")
+        self.assertEqual(generate.version(), "99.1")
+        self.assertEqual(generate.read("type-alias.txt"), [["t", "m0", "names", "prprname"], ["u", "ca", "islamicc", "islamic-civil"]])
+        self.assertEqual(generate.Aliases().subdivisions, [("fi01", "axzzzz")])
+
+
+if __name__ == "__main__":
+    unittest.main()
