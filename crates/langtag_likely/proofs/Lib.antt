@@ -8,6 +8,7 @@ pub mod CompletedForms
 pub mod FieldClasses
 pub mod FirstIndex
 pub mod FormLaws
+pub mod FormLengths
 pub mod FormsTwice
 pub mod GoodForms
 pub mod KeyNumbers

@@ -1,5 +1,5 @@
 //! The maximal and the minimal form of a tag (UTS #35, part 1, section 'Likely Subtags').
-ghost use Rattle.std.specs.Prelude.{◌≡◌, IfOk};
+ghost use Rattle.std.specs.Prelude.{◌≡◌, ◌+◌, ◌-◌, ◌^◌, length, min, IfOk};
 ghost use Rattle.langtag.specs.Text.{lang_tag_text, lang_tag_buf_text};
 ghost use Rattle.langtag_scan.specs.Tag.{IsTag};
 ghost use Rattle.langtag_output.specs.Writes.{Writes};
@@ -96,19 +96,29 @@ pub fn write_minimized(tag: LangTag<'_>, buffer: &mut [u8]) -> usize
     write_changed(normal, remove_likely(TagFields::of(normal)), buffer)
 }
 
+/// Returns a buffer that has room for each form of a tag.
+fn form_buffer(alloc: Global, tag: LangTag<'_>) -> Result<Vec<u8>, AllocError>
+    ensures { IfOk result (λ buffer. length buffer.items ≡ min (length (lang_tag_text tag.entry) + 17) (2 ^ 64 - 1)) }
+{
+    // A language has at most 8 letters, a script has 4, and a region 3, with a hyphen before each of the last two.
+    vec![in alloc; 0; tag.as_bytes().len().saturating_add(17)]
+}
+
 fn maximal_bytes(alloc: Global, tag: LangTag<'_>) -> Result<Vec<u8>, AllocError>
     ensures { IfOk result (λ bytes. IsMaximalForm (lang_tag_text tag.entry) bytes.items) }
 {
-    let mut bytes = vec![in alloc; 0; write_maximized(tag, &mut [])]?;
-    write_maximized(tag, &mut bytes);
+    let mut bytes = form_buffer(alloc, tag)?;
+    let len = write_maximized(tag, &mut bytes);
+    bytes.truncate(len);
     Ok(bytes)
 }
 
 fn minimal_bytes(alloc: Global, tag: LangTag<'_>) -> Result<Vec<u8>, AllocError>
     ensures { IfOk result (λ bytes. IsMinimalForm (lang_tag_text tag.entry) bytes.items) }
 {
-    let mut bytes = vec![in alloc; 0; write_minimized(tag, &mut [])]?;
-    write_minimized(tag, &mut bytes);
+    let mut bytes = form_buffer(alloc, tag)?;
+    let len = write_minimized(tag, &mut bytes);
+    bytes.truncate(len);
     Ok(bytes)
 }
 

@@ -19,6 +19,7 @@ pub(crate) fn add_likely<'a>(fields: TagFields<'a>) -> Option<TagFields<'a>>
 }
 
 /// Returns the right side of the first row that fits.
+#[inline(always)]
 fn looked_up(fields: TagFields<'_>) -> Option<TagFields<'static>>
     ensures { option_map (filled (field_texts fields.entry)) (option_map field_texts result)
         ≡ option_map (filled (field_texts fields.entry)) (looked_up likely_subtags (field_texts fields.entry)) }

@@ -34,6 +34,7 @@ pub(crate) fn write_changed(
 }
 
 /// Writes a tag with these fields into a buffer, where it has room, and returns how long that tag is.
+#[inline(always)]
 fn write_fields<'a>(tag: NormalLangTag<'a>, fields: TagFields<'a>, buffer: &mut [u8]) -> usize
     ensures { EachRecord (normal_lang_tag_text tag.entry)
         (λ r. Writes (λ form. form ≡ spell (put_fields r (field_texts fields.entry))) buffer.old buffer.new result) }

@@ -7,6 +7,8 @@ ghost use Rattle.langtag_registry.specs.CanonicalLaws.{IsOnlyForm, IsAlikeForm, 
 ghost use Rattle.langtag_registry.specs.Canonical as form;
 ghost use Rattle.langtag_registry.specs.Canonical.{IsCanonicalForm, canonical_text};
 ghost use Rattle.langtag_registry.specs.Fields as field;
+ghost use Rattle.langtag_registry.specs.Form.{IsForm};
+ghost use Rattle.langtag_registry.specs.declared.form.Form.TheVariants.{Parts};
 ghost use Rattle.langtag_output.specs.Writes.{Writes};
 
 use crate::canonical_parts::put_canonical_parts;
@@ -54,13 +56,7 @@ pub fn canonical(alloc: Global, tag: LangTag<'_>) -> Result<LangTagBuf, AllocErr
     ensures valid { IfOk result (λ form. IsValidForm (lang_tag_text tag.entry) (lang_tag_buf_text form)) }
     ensures no_extlang { IfOk result (λ form. HasNoExtlang (lang_tag_text tag.entry) (lang_tag_buf_text form)) }
 {
-    let Ok(text) = String::from_utf8(canonical_bytes(alloc, tag)?) else {
-        unreachable!()
-    };
-    let Ok(form) = LangTagBuf::new(text) else {
-        unreachable!()
-    };
-    Ok(form)
+    form_as_tag(alloc, tag)
 }
 
 /// Returns whether a tag is its own canonical form (RFC 5646 section 4.5): `true` for `he`, `zh-min` and `x-iw`,
@@ -113,12 +109,47 @@ pub fn canonical_bound(tag_len: usize) -> usize
     tag_len.saturating_mul(2).saturating_add(LONGEST_PREFERRED)
 }
 
-/// Returns the bytes of the canonical form of a tag.
-fn canonical_bytes(alloc: Global, tag: LangTag<'_>) -> Result<Vec<u8>, AllocError>
+/// Returns the canonical form of a tag. A copy of the tag, or of what is preferred to it, is not parsed again.
+fn form_as_tag(alloc: Global, tag: LangTag<'_>) -> Result<LangTagBuf, AllocError>
+    ensures { IfOk result (λ form. IsCanonicalForm (lang_tag_text tag.entry) (lang_tag_buf_text form)) }
+{
+    match form_of(tag) {
+        Form::Same => tag.try_to_owned(alloc),
+        Form::Whole(preferred) => preferred.try_to_owned(alloc),
+        Form::Parts(normal) => parts_as_tag(alloc, tag, normal),
+    }
+}
+
+/// Returns the canonical form of a tag that is its parts in their canonical forms, or what is preferred to that as a whole.
+fn parts_as_tag(
+    alloc: Global,
+    tag: LangTag<'_>,
+    normal: NormalLangTag<'_>,
+) -> Result<LangTagBuf, AllocError>
+    requires { IsForm (lang_tag_text tag) (Parts normal) }
+    ensures { IfOk result (λ form. IsCanonicalForm (lang_tag_text tag.entry) (lang_tag_buf_text form)) }
+{
+    let Ok(text) = String::from_utf8(parts_as_bytes(alloc, tag, normal)?) else {
+        unreachable!()
+    };
+    let Ok(form) = LangTagBuf::new(text) else {
+        unreachable!()
+    };
+    Ok(form)
+}
+
+/// Returns the bytes of this form.
+#[tactic(auto, using(crate::proofs::FormLengths::form_bounded))]
+fn parts_as_bytes(
+    alloc: Global,
+    tag: LangTag<'_>,
+    normal: NormalLangTag<'_>,
+) -> Result<Vec<u8>, AllocError>
+    requires { IsForm (lang_tag_text tag) (Parts normal) }
     ensures { IfOk result (λ bytes. IsCanonicalForm (lang_tag_text tag.entry) bytes.items) }
 {
     let mut bytes = vec![in alloc; 0; canonical_bound(tag.as_bytes().len())]?;
-    let len = write_canonical(tag, &mut bytes);
+    let len = write_parts(normal, &mut bytes);
     bytes.truncate(len);
     Ok(bytes)
 }

@@ -93,19 +93,29 @@ pub fn write_minimized(tag: LangTag<'_>, buffer: &mut [u8]) -> usize {
     write_changed(normal, remove_likely(TagFields::of(normal)), buffer)
 }
 
+/// Returns a buffer that has room for each form of a tag.
+#[cfg(feature = "alloc")]
+#[inline]
+fn form_buffer(tag: LangTag<'_>) -> Result<Vec<u8>, AllocError> {
+    // A language has at most 8 letters, a script has 4, and a region 3, with a hyphen before each of the last two.
+    try_vec(0, tag.as_bytes().len().saturating_add(17))
+}
+
 #[cfg(feature = "alloc")]
 #[inline]
 fn maximal_bytes(tag: LangTag<'_>) -> Result<Vec<u8>, AllocError> {
-    let mut bytes = try_vec(0, write_maximized(tag, &mut []))?;
-    write_maximized(tag, &mut bytes);
+    let mut bytes = form_buffer(tag)?;
+    let len = write_maximized(tag, &mut bytes);
+    bytes.truncate(len);
     Ok(bytes)
 }
 
 #[cfg(feature = "alloc")]
 #[inline]
 fn minimal_bytes(tag: LangTag<'_>) -> Result<Vec<u8>, AllocError> {
-    let mut bytes = try_vec(0, write_minimized(tag, &mut []))?;
-    write_minimized(tag, &mut bytes);
+    let mut bytes = form_buffer(tag)?;
+    let len = write_minimized(tag, &mut bytes);
+    bytes.truncate(len);
     Ok(bytes)
 }
 

@@ -15,6 +15,7 @@ pub(crate) fn add_likely<'a>(fields: TagFields<'a>) -> Option<TagFields<'a>> {
 }
 
 /// Returns the right side of the first row that fits.
+#[inline(always)]
 fn looked_up(fields: TagFields<'_>) -> Option<TagFields<'static>> {
     if let Some(likely) = likely_for(fields) {
         return Some(likely);

@@ -22,6 +22,7 @@ pub(crate) fn write_changed(
 }
 
 /// Writes a tag with these fields into a buffer, where it has room, and returns how long that tag is.
+#[inline(always)]
 fn write_fields<'a>(tag: NormalLangTag<'a>, fields: TagFields<'a>, buffer: &mut [u8]) -> usize {
     let pieces = [
         put_language(tag.language(), fields.language),

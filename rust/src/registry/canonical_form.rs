@@ -51,14 +51,9 @@ const LONGEST_PREFERRED: usize = 14;
 ///
 /// [RFC 5646 section 4.5]: https://www.rfc-editor.org/rfc/rfc5646#section-4.5
 #[cfg(feature = "alloc")]
+#[inline]
 pub fn canonical(tag: LangTag<'_>) -> Result<LangTagBuf, AllocError> {
-    let Ok(text) = String::from_utf8(canonical_bytes(tag)?) else {
-        unreachable!()
-    };
-    let Ok(form) = LangTagBuf::new(text) else {
-        unreachable!()
-    };
-    Ok(form)
+    form_as_tag(tag)
 }
 
 /// Returns whether a tag is its own canonical form ([RFC 5646 section 4.5]): `true` for `he`, `zh-min` and `x-iw`,
@@ -111,11 +106,33 @@ pub fn canonical_bound(tag_len: usize) -> usize {
     tag_len.saturating_mul(2).saturating_add(LONGEST_PREFERRED)
 }
 
-/// Returns the bytes of the canonical form of a tag.
+/// Returns the canonical form of a tag. A copy of the tag, or of what is preferred to it, is not parsed again.
 #[cfg(feature = "alloc")]
-fn canonical_bytes(tag: LangTag<'_>) -> Result<Vec<u8>, AllocError> {
+fn form_as_tag(tag: LangTag<'_>) -> Result<LangTagBuf, AllocError> {
+    match form_of(tag) {
+        Form::Same => tag.try_to_owned(),
+        Form::Whole(preferred) => preferred.try_to_owned(),
+        Form::Parts(normal) => parts_as_tag(tag, normal),
+    }
+}
+
+/// Returns the canonical form of a tag that is its parts in their canonical forms, or what is preferred to that as a whole.
+#[cfg(feature = "alloc")]
+fn parts_as_tag(tag: LangTag<'_>, normal: NormalLangTag<'_>) -> Result<LangTagBuf, AllocError> {
+    let Ok(text) = String::from_utf8(parts_as_bytes(tag, normal)?) else {
+        unreachable!()
+    };
+    let Ok(form) = LangTagBuf::new(text) else {
+        unreachable!()
+    };
+    Ok(form)
+}
+
+/// Returns the bytes of this form.
+#[cfg(feature = "alloc")]
+fn parts_as_bytes(tag: LangTag<'_>, normal: NormalLangTag<'_>) -> Result<Vec<u8>, AllocError> {
     let mut bytes = try_vec(0, canonical_bound(tag.as_bytes().len()))?;
-    let len = write_canonical(tag, &mut bytes);
+    let len = write_parts(normal, &mut bytes);
     bytes.truncate(len);
     Ok(bytes)
 }

@@ -1,15 +1,16 @@
-use Rattle.std.proofs.Common.{◌≡◌, length, sym, ap, subst, arith}
-use Rattle.std.proofs.lemmas.List.{take_at}
+use Rattle.std.proofs.Common.{◌≤◌, sym, subst, arith}
 use Rattle.langtag.specs.Text.{lang_tag_text}
+use Rattle.langtag_output.proofs.Taken.{written_taken}
 use Rattle.langtag_likely.specs.Maximal.{IsForm, maximal_record}
-use Rattle.langtag_likely.proofs.FormLaws.{written_whole}
+use Rattle.langtag_likely.proofs.FormLengths.{form_bounded, maximal_length}
 use Rattle.langtag_likely.proofs.forms.maximal_bytes.Goals as goal
 
--- both calls write the one form, and the second one has just the room for it
 pub returns : goal.returns
 returns c =
-    let before = c.deref_mut.result.now in
-    let room : length before ≡ c.write_maximized.result = omega (arith, ap length c.deref_mut.ensures.value, c.in_ok-bytes.ensures.len, c.in_ok-bytes.bytes.ok) in
-    let whole = written_whole maximal_record _ _ _ before c.write_maximized-2.new.buffer _ _ c.write_maximized.ensures c.write_maximized-2.ensures room in
-    let len : length c.write_maximized-2.new.buffer ≡ c.in_ok-bytes.bytes.len = omega (arith, whole.0, room, ap length c.deref_mut.ensures.value, c.in_ok-bytes.bytes.ok) in
-    subst (IsForm maximal_record (lang_tag_text c.args.tag)) (sym (take_at c.write_maximized-2.new.buffer _ c.in_ok-bytes.bytes.len len)) whole.1
+    let old = lang_tag_text c.args.tag in
+    let w = c.write_maximized-len.ensures in
+    let bound = form_bounded maximal_record maximal_length old w.text w.is_so in
+    let within : c.write_maximized-len.result ≤ c.in_ok-bytes.bytes.len = omega (arith, bound, w.whole, c.in_ok-bytes.ensures, c.in_ok-bytes.bytes.ok) in
+    let taken = written_taken (IsForm maximal_record old) c.deref_mut.result.now c.write_maximized-len.new.buffer _ c.write_maximized-len.result c.in_ok-bytes.bytes.len w
+    (omega (arith, c.deref_mut.ensures.len)) within in
+    subst (IsForm maximal_record old) (sym c.truncate.ensures.items) taken
