@@ -281,6 +281,12 @@ def script_list():
     ])
 
 
+def code_list(likely):
+    return (f"-- The codes of the scripts in the likely subtags of Unicode's CLDR {version()} (the notice: likely/LICENSE-UNICODE). Written by likely/generate.py. Do not edit.\n"
+            "use Rattle.std.specs.Prelude.{ℕ, List, codes}\nuse Rattle.langtag_tables.specs.Words.{words}\n\n"
+            f"-- of either side of a row, in alphabetical order\nunfoldable pub script_codes : List (List ℕ)\nscript_codes = words (codes \"{' '.join(likely.scripts)}\")\n")
+
+
 def major_version():
     return version().partition(".")[0]
 
@@ -295,7 +301,7 @@ def written(crates, likely, matching):
     subtags, choice = crates / "langtag_likely", crates / "langtag_choice"
     return {subtags / "src/tables.rt": tables(likely), subtags / "src/alias_tables.rt": alias_tables(matching),
             subtags / "specs/LikelySubtags.antt": likely_lists(likely), subtags / "specs/Aliases.antt": alias_lists(matching),
-            subtags / "specs/RightToLeft.antt": script_list(), choice / "src/matching_tables.rt": matching_tables(matching),
+            subtags / "specs/RightToLeft.antt": script_list(), subtags / "specs/Scripts.antt": code_list(likely), choice / "src/matching_tables.rt": matching_tables(matching),
             choice / "specs/MatchingData.antt": matching_lists(matching), MODULE: module_version()}
 
 

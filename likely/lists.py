@@ -7,7 +7,7 @@ from pathlib import Path
 
 import oracle
 
-PAGES = ["langtag_likely/specs/LikelySubtags", "langtag_likely/specs/Aliases", "langtag_likely/specs/RightToLeft", "langtag_choice/specs/MatchingData",
+PAGES = ["langtag_likely/specs/LikelySubtags", "langtag_likely/specs/Aliases", "langtag_likely/specs/RightToLeft", "langtag_likely/specs/Scripts", "langtag_choice/specs/MatchingData",
          "langtag_choice/specs/Nearness"]
 
 # How many words a row of a list has; one, where it is not named.
@@ -65,6 +65,7 @@ def wanted() -> dict[str, list[tuple]]:
         "region_aliases": [("", "", name, "", "", to) for name, to in oracle.REGION_ALIASES.items()],
         "language_rules": both_ways(oracle.LANGUAGE_RULES, lambda language: [language]),
         "script_rules": both_ways(oracle.SCRIPT_RULES, lambda text: text.split("-")),
+        "script_codes": [(name,) for name in oracle.SCRIPT_CODES],
         "right_to_left_scripts": [(name,) for name in oracle.RIGHT_TO_LEFT],
         "is_paradigm": [(language, region) for language, _, region in paradigms if region and oracle.unlikely(f"{language}-{region}") > 0],
         **dict(regions_of_sets()),

@@ -50,6 +50,8 @@ SETS = {row[0]: set(row[1:]) for row in rows("region-sets.txt")}
 LANGUAGE_RULES = [((d, s), int(far), one_way == "1") for d, s, far, one_way in rows("language-distance.txt")]
 SCRIPT_RULES = [((d + "-" + a, s + "-" + b), int(far), one_way == "1") for d, a, s, b, far, one_way in rows("script-distance.txt")]
 REGION_RULES = list(rows("region-distance.txt"))
+# the scripts of both sides, in small letters
+SCRIPT_CODES = {row[1].lower() for both in LIKELY.items() for row in both if row[1]} | {text.split("-")[1].lower() for pair, _, _ in SCRIPT_RULES for text in pair}
 # and the variants of two of them that have codes of their own (ISO 15924)
 RIGHT_TO_LEFT = {row[0] for row in rows("right-to-left.txt")} | {"Aran", "Syre", "Syrj", "Syrn"}
 
@@ -276,17 +278,39 @@ PARADIGMS = {tuple(most) for row in rows("paradigms.txt") for most in [add_likel
 # ---- the names of POSIX locales
 
 
+MODIFIER_SCRIPTS = {"latin": "Latn", "iqtelif": "Latn", "ijekavianlatin": "Latn", "cyrillic": "Cyrl", "devanagari": "Deva"}
+MODIFIER_VARIANTS = {"ijekavian": "ijekavsk", "ijekavianlatin": "ijekavsk", "tarask": "tarask", "valencia": "valencia"}
+SAYS_NOTHING = "euro preeuro abegede phonebook pinyin radical stroke cjknarrow quot boldquot".split()
+
+
+def modifier_says(modifier):
+    """The script and the variant of a modifier."""
+    script = MODIFIER_SCRIPTS.get(modifier.lower()) or (modifier if modifier.lower() in SCRIPT_CODES else None)
+    return script, MODIFIER_VARIANTS.get(modifier.lower())
+
+
 def posix(name):
-    place, _, modifier = name.partition("@")
-    place = place.partition(".")[0].replace("_", "-")
+    front, _, modifier = name.partition("@")
+    place, hash, behind = front.partition(".")[0].partition("#")
+    if hash:
+        place = re.sub("_{1,2}$", "", place)
+    place = place.replace("_", "-")
     if not is_tag(place) or place.lower() == "posix" or len(place) > 255:
         return "-"
-    tag, modifier = Tag(place), modifier.lower()
+    tag = Tag(place)
     if tag is None:
         return place
-    script = {"latin": "Latn", "cyrillic": "Cyrl", "devanagari": "Deva"}.get(modifier, tag.script)
-    variants = "-valencia" if modifier == "valencia" else tag.variants
+    script, variant = modifier_says(modifier)
+    behind = behind.split("_")[0]
+    script = script or (behind if re.fullmatch("[A-Za-z]{4}", behind) else tag.script)
+    variants = "-" + variant if variant else tag.variants
     return "-".join(filter(None, (tag.language, script, tag.region))) + variants + tag.rest
+
+
+def unknown_modifier(name):
+    modifier = name.partition("@")[2]
+    known = modifier == "" or any(modifier_says(modifier)) or modifier.lower() in SAYS_NOTHING
+    return "-" if known else modifier
 
 
 # ---- rows
@@ -321,7 +345,7 @@ def written(find):
     return lambda text: form(text, find) if is_tag(text) else "-"
 
 
-CALLS = {"maximized": written(add_likely), "minimized": written(remove_likely), "right-to-left": is_right_to_left, "posix": posix}
+CALLS = {"maximized": written(add_likely), "minimized": written(remove_likely), "right-to-left": is_right_to_left, "posix": posix, "unknown-modifier": unknown_modifier}
 
 
 COLUMNS = {"forms": forms, "distance": distance, "rows": answer}

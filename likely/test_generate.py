@@ -15,7 +15,7 @@ import lists
 import matching
 
 WRITTEN = ["langtag_likely/src/tables.rt", "langtag_likely/src/alias_tables.rt", "langtag_likely/specs/LikelySubtags.antt", "langtag_likely/specs/Aliases.antt",
-           "langtag_likely/specs/RightToLeft.antt", "langtag_choice/src/matching_tables.rt", "langtag_choice/specs/MatchingData.antt"]
+           "langtag_likely/specs/RightToLeft.antt", "langtag_likely/specs/Scripts.antt", "langtag_choice/src/matching_tables.rt", "langtag_choice/specs/MatchingData.antt"]
 BY_HAND = ["langtag_choice/specs/Nearness.antt"]
 
 

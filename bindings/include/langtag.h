@@ -448,10 +448,11 @@ LANGTAG_PURE size_t langtag_best_for_ranges(const char *text, size_t text_len, c
 
 /*
  * Writes the tag for the name of a POSIX locale to `buffer` (IEEE Std 1003.1, section 8.2), and returns its length: pt_BR.UTF-8
- * becomes pt-BR, sr_RS@latin becomes sr-Latn-RS, ca_ES@valencia becomes ca-ES-valencia. The buffer is written, or not, as by
- * langtag_canonical.
+ * becomes pt-BR, sr_RS@latin becomes sr-Latn-RS, ca_ES@valencia becomes ca-ES-valencia, zh_TW_#Hant, as Java prints it, becomes
+ * zh-Hant-TW. The buffer is written, or not, as by langtag_canonical.
  *
- * The codeset is dropped. Of the modifiers, latin, cyrillic, devanagari and valencia count, ignoring case.
+ * The codeset is dropped. The modifiers latin, cyrillic, devanagari, iqtelif, valencia, tarask, ijekavian, ijekavianlatin and the
+ * codes of scripts count, ignoring case.
  *
  * Returns 0 and writes nothing if language and territory are not a tag, such as in C, if they are POSIX, or if they have more
  * than 255 bytes.

@@ -4,10 +4,10 @@ use Rattle.langtag_scan.specs.Tag.{IsTag}
 use Rattle.langtag_registry.proofs.CanonicalParts as canonical
 use Rattle.langtag_registry.specs.Canonical.{IsCanonicalForm}
 use Rattle.langtag_likely.specs.Maximal.{IsMaximalForm, IsMinimalForm, maximal_record, minimal_record}
-use Rattle.langtag_likely.specs.Posix.{IsTagOfName, NamesTag, hyphenated, modifier_of, place_of, with_modifier}
+use Rattle.langtag_likely.specs.Posix.{IsTagOfName, NamesTag, hyphenated, place_of, with_said}
 use Rattle.langtag_likely.proofs.FormLaws.{form_is_tag}
 use Rattle.langtag_likely.proofs.GoodForms.{maximal_well_formed, minimal_well_formed}
-use Rattle.langtag_likely.proofs.PosixLaws.{modified_well_formed}
+use Rattle.langtag_likely.proofs.PosixLaws.{said_well_formed}
 use Rattle.langtag_c.proofs.TagLengths.{some_tag}
 
 pub some_canonical : (old new : List ℕ) → IsTag old → IsCanonicalForm old new → 1 ≤ length new
@@ -20,6 +20,4 @@ pub some_minimal : (old new : List ℕ) → IsTag old → IsMinimalForm old new 
 some_minimal old new tag is = some_tag new (form_is_tag minimal_record minimal_well_formed old new tag is)
 
 pub some_named : (name new : List ℕ) → NamesTag name → IsTagOfName name new → 1 ≤ length new
-some_named name new names is =
-    let modifier = modifier_of name in
-    some_tag new (form_is_tag (with_modifier modifier) (modified_well_formed modifier) (hyphenated (place_of name)) new names.tag is)
+some_named name new names is = some_tag new (form_is_tag (with_said name) (said_well_formed name) (hyphenated (place_of name)) new names.tag is)

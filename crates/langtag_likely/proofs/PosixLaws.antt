@@ -1,26 +1,58 @@
 -- The tag of a POSIX locale's name: its parts, and its length.
-use Rattle.std.proofs.Common.{ℕ, true, false, Bool, cond, List, [], ◌∷◌, Option, None, Some, IsTrue, refl}
-use Rattle.std.specs.Prelude.{codes, MatchOption}
-use Rattle.langtag_scan.specs.Case.{are_alike}
-use Rattle.langtag_scan.specs.Class.{is_letter, is_digit, is_script, is_variant}
-use Rattle.langtag_scan.specs.Record.{Record, IsWellFormed}
-use Rattle.langtag.specs.Edit.{with_script, with_variants}
+use Rattle.std.proofs.Common.{◌≡◌, ℕ, suc, ◌+◌, ◌≤◌, true, false, Bool, cond, List, [], ◌∷◌, ◌++◌, length, length-take, not, Option, None, Some, inl, IsTrue, refl, sym, ap, subst, ◌∙◌, arith}
+use Rattle.std.specs.Prelude.{◌==◌, ◌||◌, codes, IfSome, MatchOption}
+use Rattle.std.specs.List.{after_first, before_first, flat_map, list_any, position_or_len}
+use Rattle.std.specs.Borrow.{Bor}
+use Rattle.std.specs.Option.{option_map, option_or}
+use Rattle.std.specs.Str.{IsUtf8}
+use Rattle.std.proofs.lemmas.Str.{IsUtf8-from_ascii}
+use Rattle.std.proofs.lemmas.Bool.{and_parts, eqb-true}
+use Rattle.std.proofs.Math.ListN.{drop_of_length-le}
+use Rattle.std.proofs.lemmas.List.{length-append}
+use Rattle.std.proofs.lemmas.List.Sums.{take_while-cons}
+use Rattle.langtag_scan.specs.Case.{are_alike, fold_byte}
+use Rattle.langtag_scan.specs.Class.{are_letters, is_letter, is_digit, is_script, is_variant}
+use Rattle.langtag_scan.specs.Record.{EachRecord, Record, IsWellFormed, Spells, extension_flat, one_flat, private_part_flat, spell}
+use Rattle.langtag_scan.specs.Tag.{IsNormal, IsTag}
+use Rattle.langtag_scan.proofs.Ascii.{IsAscii-spelled}
+use Rattle.langtag_scan.proofs.Joins.{hyphenated, length-hyphenated, length-join}
+use Rattle.langtag_scan.proofs.SubtagFacts.{of_script}
+use Rattle.langtag.specs.Edit.{SetsVariants, with_script}
 use Rattle.langtag.proofs.EditLaws.{script-replaces}
-use Rattle.langtag_place.specs.Variants.{SpellsVariants}
-use Rattle.langtag_likely.specs.Posix.{with_modifier}
+use Rattle.langtag_place.specs.Text.{script_text}
+use Rattle.langtag_place.specs.declared.script.Script.{Script}
+use Rattle.langtag_place.specs.Variants.{IsVariants, SpellsVariants}
+use Rattle.langtag_likely.proofs.FormLaws.{record_form}
+use Rattle.langtag_likely.specs.declared.tables.TheConstants.{SCRIPT_NAMES}
+use Rattle.langtag_likely.specs.Scripts.{script_codes}
+use Rattle.langtag_likely.specs.Likely.{or_else}
+use Rattle.langtag_likely.specs.Maximal.{IsForm}
+use Rattle.langtag_likely.specs.Modifiers.{is_script_code, modifier_script, modifier_variant}
+use Rattle.langtag_likely.specs.Posix.{front_of, is_hash, is_underscore, modifier_of, said_script, script_behind, with_said, with_said_script, with_said_variant}
 
--- ---- a tag with what a modifier says is well-formed
+-- ---- the table of scripts has the codes of the list: by computation
 
-pub valencia_spelled : SpellsVariants (codes "valencia" ∷ []) (codes "valencia")
-unfolding is_variant is_letter is_digit
-valencia_spelled = record { members = (refl, tt); joined = refl }
+pub scripts_listed : SCRIPT_NAMES ≡ script_codes
+unfolding script_codes fold_byte
+scripts_listed = refl
 
-script_fits : (script : List ℕ) → IsTrue (is_script script) → (r : Record) → IsWellFormed r → IsWellFormed (with_script r (Some script))
-script_fits script is r fits = (script-replaces (Some script) is).fits r fits
+-- ---- what a name says is well-formed
 
-variants_fit : (r : Record) → IsWellFormed r → IsWellFormed (with_variants r (codes "valencia" ∷ []))
-variants_fit r fits =
-    record { primary = fits.primary; extended = fits.extended; few = fits.few; short = fits.short; script = fits.script; region = fits.region; variants = valencia_spelled.members; extensions = fits.extensions; private_use = fits.private_use }
+one_variant : (variant : List ℕ) → IsTrue (is_variant variant) → SpellsVariants (variant ∷ []) variant
+one_variant variant is = record { members = (is, tt); joined = refl }
+
+pub is_variants : (variant : List ℕ) → IsTrue (is_variant variant) → IsVariants variant
+is_variants variant is = (variant ∷ [], one_variant variant is)
+
+module _ (r : Record) (fits : IsWellFormed r) where
+  variant_fits : (variant : Option (List ℕ)) → IfSome variant (λ v. IsTrue (is_variant v)) → IsWellFormed (with_said_variant variant r)
+  variant_fits None is = fits
+  variant_fits (Some v) is =
+      record { primary = fits.primary; extended = fits.extended; few = fits.few; short = fits.short; script = fits.script; region = fits.region; variants = (is, tt); extensions = fits.extensions; private_use = fits.private_use }
+
+  script_fits : (script : Option (List ℕ)) → IfSome script (λ s. IsTrue (is_script s)) → IsWellFormed (with_said_script script r)
+  script_fits None is = fits
+  script_fits (Some s) is = (script-replaces (Some s) is).fits r fits
 
 latin : IsTrue (is_script (codes "Latn"))
 unfolding is_script is_letter
@@ -34,18 +66,160 @@ devanagari : IsTrue (is_script (codes "Deva"))
 unfolding is_script is_letter
 devanagari = refl
 
-pub modified_well_formed : (modifier : List ℕ) (r : Record) → IsWellFormed r → IsWellFormed (with_modifier modifier r)
-modified_well_formed modifier r fits =
-    by_tests (are_alike (codes "latin") modifier) (are_alike (codes "cyrillic") modifier) (are_alike (codes "devanagari") modifier) (are_alike (codes "valencia") modifier)
+pub modifier_script-fits : (modifier : List ℕ) → IfSome (modifier_script modifier) (λ s. IsTrue (is_script s))
+modifier_script-fits modifier =
+    by_tests (are_alike (codes "latin") modifier || (are_alike (codes "iqtelif") modifier || are_alike (codes "ijekavianlatin") modifier)) (are_alike (codes "cyrillic") modifier)
+    (are_alike (codes "devanagari") modifier) (is_script_code modifier) (λ yes. (and_parts (is_script modifier) _ yes).0)
   where
     by_tests :
-        (a b c d : Bool) →
-        IsWellFormed (cond a (with_script r (Some (codes "Latn"))) (cond b (with_script r (Some (codes "Cyrl"))) (cond c (with_script r (Some (codes "Deva"))) (cond d (with_variants r (codes "valencia" ∷ [])) r))))
-    by_tests true b c d = script_fits (codes "Latn") latin r fits
-    by_tests false true c d = script_fits (codes "Cyrl") cyrillic r fits
-    by_tests false false true d = script_fits (codes "Deva") devanagari r fits
-    by_tests false false false true = variants_fit r fits
-    by_tests false false false false = fits
+        (a b c d : Bool) → (d ≡ true → IsTrue (is_script modifier)) →
+        IfSome (cond a (Some (codes "Latn")) (cond b (Some (codes "Cyrl")) (cond c (Some (codes "Deva")) (cond d (Some modifier) None)))) (λ s. IsTrue (is_script s))
+    by_tests true b c d is = latin
+    by_tests false true c d is = cyrillic
+    by_tests false false true d is = devanagari
+    by_tests false false false true is = is refl
+    by_tests false false false false is = tt
+
+ijekavsk : IsTrue (is_variant (codes "ijekavsk"))
+unfolding is_variant is_letter is_digit
+ijekavsk = refl
+
+tarask : IsTrue (is_variant (codes "tarask"))
+unfolding is_variant is_letter is_digit
+tarask = refl
+
+valencia : IsTrue (is_variant (codes "valencia"))
+unfolding is_variant is_letter is_digit
+valencia = refl
+
+pub modifier_variant-fits : (modifier : List ℕ) → IfSome (modifier_variant modifier) (λ v. IsTrue (is_variant v))
+modifier_variant-fits modifier = by_tests (are_alike (codes "ijekavian") modifier || are_alike (codes "ijekavianlatin") modifier) (are_alike (codes "tarask") modifier) (are_alike (codes "valencia") modifier)
+  where
+    by_tests :
+        (a b c : Bool) → IfSome (cond a (Some (codes "ijekavsk")) (cond b (Some (codes "tarask")) (cond c (Some (codes "valencia")) None))) (λ v. IsTrue (is_variant v))
+    by_tests true b c = ijekavsk
+    by_tests false true c = tarask
+    by_tests false false true = valencia
+    by_tests false false false = tt
+
+behind-fits : (front : List ℕ) → IfSome (script_behind front) (λ s. IsTrue (is_script s))
+behind-fits front = by_test (is_script (before_first is_underscore (after_first is_hash front))) refl
+  where
+    by_test :
+        (b : Bool) → is_script (before_first is_underscore (after_first is_hash front)) ≡ b →
+        IfSome (cond b (Some (before_first is_underscore (after_first is_hash front))) None) (λ s. IsTrue (is_script s))
+    by_test true is = is
+    by_test false is = tt
+
+pub said_script-fits : (name : List ℕ) → IfSome (said_script name) (λ s. IsTrue (is_script s))
+said_script-fits name = by_first (modifier_script (modifier_of name)) (modifier_script-fits (modifier_of name))
+  where
+    by_first : (o : Option (List ℕ)) → IfSome o (λ s. IsTrue (is_script s)) → IfSome (or_else o (script_behind (front_of name))) (λ s. IsTrue (is_script s))
+    by_first None is = behind-fits (front_of name)
+    by_first (Some s) is = is
+
+pub script_well_formed : (script : Option (List ℕ)) → IfSome script (λ s. IsTrue (is_script s)) → (r : Record) → IsWellFormed r → IsWellFormed (with_said_script script r)
+script_well_formed script is r fits = script_fits r fits script is
+
+pub said_well_formed : (name : List ℕ) (r : Record) → IsWellFormed r → IsWellFormed (with_said name r)
+said_well_formed name r fits =
+    variant_fits (with_said_script (said_script name) r) (script_fits r fits (said_script name) (said_script-fits name)) (modifier_variant (modifier_of name)) (modifier_variant-fits (modifier_of name))
+
+-- ---- values of the code
+
+pub variant_of : (o : Option (Bor (List ℕ))) (variant : Option (List ℕ)) → option_map (λ v. v.now) o ≡ variant → IfSome variant (λ v. IsTrue (is_variant v)) → IfSome o (λ v. IsTrue (is_variant v.now))
+variant_of None variant same is = tt
+variant_of (Some v) variant same is = subst (λ o. IfSome o (λ v. IsTrue (is_variant v))) (sym same) is
+
+pub script_or : (a b : Option Script) → option_map script_text (option_or a b) ≡ or_else (option_map script_text a) (option_map script_text b)
+script_or None b = refl
+script_or (Some s) b = refl
+
+-- ---- a script makes a text at most five bytes longer
+
+pub longer_by_script : (r : Record) (script : List ℕ) → length script ≡ 4 → length (spell (with_script r (Some script))) ≤ length (spell r) + 5
+longer_by_script r script four =
+    let rest = one_flat r.region ++ (r.variants ++ (flat_map extension_flat r.extensions ++ private_part_flat r.private_use)) in
+    let new = length-join r.primary (r.extended ++ (one_flat (Some script) ++ rest)) in
+    let old = length-join r.primary (r.extended ++ (one_flat r.script ++ rest)) in
+    let a = length-hyphenated r.extended (one_flat (Some script) ++ rest) in
+    let b = length-hyphenated r.extended (one_flat r.script ++ rest) in
+    let c = length-hyphenated (one_flat (Some script)) rest in
+    let d = length-hyphenated (one_flat r.script) rest in
+    let e : length (hyphenated (script ∷ [])) ≡ suc (length script + 0) = ap suc (length-append script []) in
+    omega (arith, new, old, a, b, c, d, e, four)
+
+script_length : (script : List ℕ) → is_script script ≡ true → length script ≡ 4
+unfolding is_script
+script_length script is = eqb-true (length script) 4 (and_parts (length script == 4) (are_letters script) is).0
+
+-- a text that is spelled with a script, and what the other text's record spells
+pub set_script :
+    (old new script : List ℕ) → is_script script ≡ true → IsNormal old → EachRecord old (λ r. Spells (with_script r (Some script)) new) →
+    IsTag new × (length new ≤ length old + 5) × IsForm (with_said_script (Some script)) old new
+unfolding IsTag IsNormal
+set_script old new script is (r, spells) set =
+    let spelled = set r spells in
+    let longer = longer_by_script r script (script_length script is) in
+    let few : length new ≤ length old + 5 = omega (arith, longer, ap length spelled.1, ap length spells.1) in
+    (inl (with_script r (Some script), spelled), few, record_form (with_said_script (Some script)) old new r spells (sym spelled.1))
+
+pub set_variant :
+    (old new variant : List ℕ) → IsTrue (is_variant variant) → IsNormal old → SetsVariants variant old new → IsForm (with_said_variant (Some variant)) old new
+unfolding IsNormal
+set_variant old new variant is (r, spells) set =
+    record_form (with_said_variant (Some variant)) old new r spells (sym (set r spells (variant ∷ []) (one_variant variant is)).1)
+
+pub form_same : (text : List ℕ) → IsForm (λ r. r) text text
+form_same text = record { kept = λ other. refl; parts = λ r spells. sym spells.1 }
+
+-- ---- what stands before `#`
+
+hash_place : (front : List ℕ) → length (before_first is_hash front) ≡ length front → length front ≤ position_or_len is_hash front
+hash_place front whole = let taken = length-take (position_or_len is_hash front) front in omega (arith, taken, whole)
+
+pub no_hash : (front : List ℕ) → length (before_first is_hash front) ≡ length front → list_any is_hash front ≡ false
+no_hash [] whole = refl
+no_hash (x ∷ front) whole = by_test (is_hash x) refl (no_hash front)
+  where
+    by_test : (b : Bool) → is_hash x ≡ b → (length (before_first is_hash front) ≡ length front → list_any is_hash front ≡ false) → list_any is_hash (x ∷ front) ≡ false
+    by_test true is later = absurd (let none : length (before_first is_hash (x ∷ front)) ≡ 0 = rw is refl in omega (arith, none, whole))
+    by_test false is later =
+        let step = ap length (take_while-cons (λ b. not (is_hash b)) x front ∙ ap (λ b. cond (not b) (x ∷ before_first is_hash front) []) is) in
+        rw is (later (omega (arith, step, whole)))
+
+pub some_hash : (front : List ℕ) → (length (before_first is_hash front) ≡ length front → ⊥) → list_any is_hash front ≡ true
+some_hash [] other = absurd (other refl)
+some_hash (x ∷ front) other = by_test (is_hash x) refl (some_hash front)
+  where
+    by_test :
+        (b : Bool) → is_hash x ≡ b → ((length (before_first is_hash front) ≡ length front → ⊥) → list_any is_hash front ≡ true) → list_any is_hash (x ∷ front) ≡ true
+    by_test true is later = rw is refl
+    by_test false is later =
+        let step = ap length (take_while-cons (λ b. not (is_hash b)) x front ∙ ap (λ b. cond (not b) (x ∷ before_first is_hash front) []) is) in
+        rw is (later (λ same. other (omega (arith, step, same))))
+
+pub nothing_behind : (front : List ℕ) → length (before_first is_hash front) ≡ length front → script_behind front ≡ None
+unfolding is_script
+nothing_behind front whole =
+    let past = hash_place front whole in
+    let none : after_first is_hash front ≡ [] = drop_of_length-le front (omega (arith, past)) in
+    rw none refl
+
+-- ---- the form of a form
+
+pub form_composed :
+    (f g : Record → Record) → ((r : Record) → IsWellFormed r → IsWellFormed (f r)) → (old mid new : List ℕ) → IsForm f old mid → IsForm g mid new → IsForm (λ r. g (f r)) old new
+unfolding IsNormal
+form_composed f g well old mid new first second = record {
+  kept = λ other. second.kept (λ normal. other (subst IsNormal (first.kept other) normal)) ∙ first.kept other;
+  parts = λ r spells. second.parts (f r) (well r spells.0, sym (first.parts r spells));
+}
+
+-- ---- a script is ASCII
+
+pub utf8_script : (text : List ℕ) → is_script text ≡ true → IsUtf8 text
+utf8_script text is = IsUtf8-from_ascii text (IsAscii-spelled text (text ∷ []) refl (of_script text is, tt))
 
 -- ---- where a name says a tag, one is written
 

@@ -6,10 +6,12 @@ pub mod LikelySubtags
 pub mod Matching
 pub mod Maximal
 pub mod MaximalLaws
+pub mod Modifiers
 pub mod Numbers
 pub mod Posix
 pub mod Ranges
 pub mod RightToLeft
 pub mod Rows
+pub mod Scripts
 pub mod TextFields
 pub mod Texts

@@ -19,6 +19,7 @@ mod forms;
 mod keys;
 mod likely;
 mod matching;
+mod modifiers;
 mod names;
 mod posix;
 mod posix_error;
@@ -31,6 +32,7 @@ mod text_fields;
 
 pub use direction::is_right_to_left;
 pub use forms::{maximized, minimized, write_maximized, write_minimized};
+pub use modifiers::unknown_modifier;
 pub use posix::{from_posix, write_from_posix};
 pub use posix_error::PosixError;
 pub use tables::CLDR_VERSION;

@@ -1,18 +1,20 @@
 //! The tag of a POSIX locale's name.
-ghost use Rattle.std.specs.Prelude.{◌≡◌, ℕ, IsTrue, List, None, Some, IfOk, IfErr, MatchOption};
-ghost use Rattle.langtag_scan.specs.Record.{Record, EachRecord, Spells};
-ghost use Rattle.langtag.specs.Edit.{SetsPart, SetsScript, SetsVariants};
+ghost use Rattle.std.specs.Prelude.{◌≡◌, ◌+◌, ◌≤◌, ℕ, IsTrue, List, None, Some, IfOk, IfErr, IfSome, MatchOption, length};
+ghost use Rattle.std.specs.Option.{option_map};
+ghost use Rattle.langtag.specs.Edit.{SetsPart, SetsVariants};
 ghost use Rattle.langtag_place.specs.Variants.{IsVariants};
-ghost use Rattle.langtag_scan.specs.Class.{is_script};
+ghost use Rattle.langtag_place.specs.Text.{script_text};
+ghost use Rattle.langtag_scan.specs.Class.{is_variant};
 ghost use Rattle.langtag.specs.Text.{lang_tag_text, lang_tag_buf_text, normal_lang_tag_text};
 ghost use Rattle.langtag_output.specs.Writes.{Writes};
 ghost use Rattle.langtag_likely.specs.Maximal.{IsForm};
-ghost use Rattle.langtag_likely.specs.Posix.{IsPlace, IsRefusal, IsTagOfName, NamesTag, hyphenated, with_modifier};
+ghost use Rattle.langtag_likely.specs.Posix.{IsPlace, IsRefusal, IsTagOfName, NamesTag, front_of, hyphenated, modifier_of, place_before, script_behind, with_said_script, with_said_variant, without_mark};
 
 use crate::forms::tag_of;
+use crate::modifiers::{modifier_script, modifier_variant, script_of};
 use crate::posix_error::PosixError;
 use crate::put::write_text;
-use langtag::{LangTag, LangTagBuf, NormalLangTag, Part, case_insensitive_eq, put_part};
+use langtag::{LangTag, LangTagBuf, NormalLangTag, Part, put_part};
 use langtag_output::write_pieces;
 use langtag_place::{Script, Variants};
 use langtag_scan::split_at_byte;
@@ -21,13 +23,23 @@ use std::alloc::{AllocError, Global};
 /// The greatest length of a language and a territory, in bytes.
 const MOST: usize = 255;
 
+/// The greatest length of these with a script.
+const MOST_WITH_SCRIPT: usize = MOST + 5;
+
 /// Returns the tag of a POSIX locale's name (IEEE Std 1003.1, section 8.2),
 /// `language[_territory][.codeset][@modifier]`: `pt-BR` for `pt_BR.UTF-8`, `sr-Latn-RS` for `sr_RS@latin`,
 /// `ca-ES-valencia` for `ca_ES.UTF-8@valencia`.
 ///
-/// The codeset is dropped. The modifiers `latin`, `cyrillic` and `devanagari` name a script, and `valencia` a variant,
-/// ignoring case. Other modifiers, such as `euro` or `phonebook`, are dropped, because they do not name a language.
-/// Each `_` is read as a hyphen. Case and deprecated subtags stay as they are.
+/// The codeset is dropped. These modifiers name a script or a variant, ignoring case:
+///
+/// - `latin`, `cyrillic`, `devanagari`, `iqtelif`, and the code of a script, such as `Cyrl` and `shaw`;
+/// - `valencia`, `tarask`, `ijekavian`, and `ijekavianlatin`, which names both.
+///
+/// Other modifiers are dropped, such as `euro`; [`unknown_modifier`] returns one whose meaning is not known. A script
+/// behind `_#` is read as Java and Android print it: `zh-Hant-TW` for `zh_TW_#Hant`. Each `_` is read as a hyphen. Case
+/// and deprecated subtags stay as they are.
+///
+/// [`unknown_modifier`]: crate::unknown_modifier
 ///
 /// # Errors
 ///
@@ -74,11 +86,46 @@ pub fn write_from_posix(name: &[u8], buffer: &mut [u8]) -> Option<usize>
         (λ len. NamesTag name.now × Writes (IsTagOfName name.now) buffer.old buffer.new len) }
     ensures nothing { result ≡ None → buffer.new ≡ buffer.old }
 {
-    let (place_and_codeset, modifier) = split_at_byte(name, b'@');
-    let (place, _codeset) = split_at_byte(place_and_codeset, b'.');
+    let (front, modifier) = front_and_modifier(name);
+    let (place, script) = place_and_script(front);
     let mut room = [0; MOST];
     let tag = tag_of_place(place, &mut room)?;
-    Some(write_modified(tag, modifier, buffer))
+    let mut longer = [0; MOST_WITH_SCRIPT];
+    let tag = tag_with_script(tag, modifier_script(modifier).or(script), &mut longer);
+    Some(write_with_variant(tag, modifier_variant(modifier), buffer))
+}
+
+/// Returns what stands before the modifier and before the codeset, and the modifier.
+fn front_and_modifier(name: &[u8]) -> (&[u8], &[u8])
+    ensures front { result.0.now ≡ front_of name.now }
+    ensures modifier { result.1.now ≡ modifier_of name.now }
+{
+    let (place_and_codeset, modifier) = split_at_byte(name, b'@');
+    let (front, _codeset) = split_at_byte(place_and_codeset, b'.');
+    (front, modifier)
+}
+
+/// Returns the language and the territory, and the script behind `#`.
+fn place_and_script(front: &[u8]) -> (&[u8], Option<Script<'_>>)
+    ensures place { result.0.now ≡ place_before front.now }
+    ensures script { option_map script_text result.1 ≡ script_behind front.now }
+{
+    let (before, behind) = split_at_byte(front, b'#');
+    if before.len() == front.len() {
+        return (front, None);
+    }
+    let (script, _extensions) = split_at_byte(behind, b'_');
+    (without_mark(without_mark(before)), script_of(script))
+}
+
+/// Returns a text without a `_` at its end.
+fn without_mark(text: &[u8]) -> &[u8]
+    ensures { result.now ≡ without_mark text.now }
+{
+    match text {
+        [front @ .., b'_'] => front,
+        _ => text,
+    }
 }
 
 /// Returns the tag that a language and a territory are, written into this room.
@@ -107,49 +154,38 @@ fn hyphenate(bytes: &mut [u8])
     }
 }
 
-/// Writes a tag with what a modifier says of its script or its variant.
-fn write_modified(tag: LangTag<'_>, modifier: &[u8], buffer: &mut [u8]) -> usize
-    ensures { Writes (IsForm (with_modifier modifier.now) (lang_tag_text tag.entry)) buffer.old buffer.new result }
+/// Returns a tag with a script, written into this room.
+fn tag_with_script<'a>(
+    tag: LangTag<'a>,
+    script: Option<Script<'_>>,
+    room: &'a mut [u8; MOST_WITH_SCRIPT],
+) -> LangTag<'a>
+    requires { length (lang_tag_text tag) ≤ 255 }
+    ensures { IsForm (with_said_script (option_map script_text script.entry)) (lang_tag_text tag.entry) (lang_tag_text result) }
 {
+    let Some(script) = script else { return tag };
+    let Some(normal) = tag.as_normal() else {
+        return tag;
+    };
+    let len = write_with(normal, Part::Script(Some(script)), room);
+    match LangTag::from_bytes(&room[..len]) {
+        Ok(tag) => tag,
+        Err(_) => unreachable!(),
+    }
+}
+
+/// Writes a tag with a variant in place of its variants.
+fn write_with_variant(tag: LangTag<'_>, variant: Option<&'static str>, buffer: &mut [u8]) -> usize
+    requires { IfSome variant (λ variant. IsTrue (is_variant variant.now)) }
+    ensures { Writes (IsForm (with_said_variant (option_map (λ variant. variant.now) variant.entry)) (lang_tag_text tag.entry)) buffer.old buffer.new result }
+{
+    let Some(variant) = variant else {
+        return write_text(tag.as_bytes(), buffer);
+    };
     let Some(normal) = tag.as_normal() else {
         return write_text(tag.as_bytes(), buffer);
     };
-    match part_of(modifier) {
-        Some(part) => write_with(normal, part, buffer),
-        None => write_text(tag.as_bytes(), buffer),
-    }
-}
-
-/// Returns the part that a modifier says; None of one that says nothing of the language.
-#[tactic(auto, using(crate::proofs::PosixLaws::valencia_spelled), unfolding(langtag_scan::specs::Class::is_script, langtag_scan::specs::Class::is_letter))]
-fn part_of(modifier: &[u8]) -> Option<Part<'static>>
-    ensures { MatchOption result ((r : Record) → with_modifier modifier.now r ≡ r)
-        (λ part. (old new : List ℕ) → SetsPart part old new → EachRecord old (λ r. Spells (with_modifier modifier.now r) new)) }
-{
-    if case_insensitive_eq(b"latin", modifier) {
-        return Some(script_part("Latn"));
-    }
-    if case_insensitive_eq(b"cyrillic", modifier) {
-        return Some(script_part("Cyrl"));
-    }
-    if case_insensitive_eq(b"devanagari", modifier) {
-        return Some(script_part("Deva"));
-    }
-    if case_insensitive_eq(b"valencia", modifier) {
-        return Some(variants_part("valencia"));
-    }
-    None
-}
-
-/// Returns the part that a script is.
-fn script_part(script: &str) -> Part<'_>
-    requires { IsTrue (is_script script.now) }
-    ensures { (old new : List ℕ) → SetsPart result old new → SetsScript (Some script.now) old new }
-{
-    match Script::new(script) {
-        Ok(script) => Part::Script(Some(script)),
-        Err(_) => unreachable!(),
-    }
+    write_with(normal, variants_part(variant), buffer)
 }
 
 /// Returns the part that variants are.

@@ -23,6 +23,7 @@ mod forms;
 mod keys;
 mod likely;
 mod matching;
+mod modifiers;
 mod names;
 mod posix;
 mod posix_error;
@@ -37,6 +38,7 @@ pub use direction::is_right_to_left;
 #[cfg(feature = "alloc")]
 pub use forms::{maximized, minimized};
 pub use forms::{write_maximized, write_minimized};
+pub use modifiers::unknown_modifier;
 #[cfg(feature = "alloc")]
 pub use posix::from_posix;
 pub use posix::write_from_posix;

@@ -4,6 +4,7 @@
 
 #[cfg(feature = "alloc")]
 use crate::likely::forms::tag_of;
+use crate::likely::modifiers::{modifier_script, modifier_variant, script_of};
 #[cfg(feature = "alloc")]
 use crate::likely::posix_error::PosixError;
 use crate::likely::put::write_text;
@@ -14,20 +15,30 @@ use crate::scan::split_at_byte;
 use crate::shim::{try_vec, AllocError};
 #[cfg(feature = "alloc")]
 use crate::tag::LangTagBuf;
-use crate::tag::{case_insensitive_eq, put_part, LangTag, NormalLangTag, Part};
+use crate::tag::{put_part, LangTag, NormalLangTag, Part};
 #[cfg(feature = "alloc")]
 use alloc::vec::Vec;
 
 /// The greatest length of a language and a territory, in bytes.
 const MOST: usize = 255;
 
+/// The greatest length of these with a script.
+const MOST_WITH_SCRIPT: usize = MOST + 5;
+
 /// Returns the tag of a POSIX locale's name (IEEE Std 1003.1, section 8.2),
 /// `language[_territory][.codeset][@modifier]`: `pt-BR` for `pt_BR.UTF-8`, `sr-Latn-RS` for `sr_RS@latin`,
 /// `ca-ES-valencia` for `ca_ES.UTF-8@valencia`.
 ///
-/// The codeset is dropped. The modifiers `latin`, `cyrillic` and `devanagari` name a script, and `valencia` a variant,
-/// ignoring case. Other modifiers, such as `euro` or `phonebook`, are dropped, because they do not name a language.
-/// Each `_` is read as a hyphen. Case and deprecated subtags stay as they are.
+/// The codeset is dropped. These modifiers name a script or a variant, ignoring case:
+///
+/// - `latin`, `cyrillic`, `devanagari`, `iqtelif`, and the code of a script, such as `Cyrl` and `shaw`;
+/// - `valencia`, `tarask`, `ijekavian`, and `ijekavianlatin`, which names both.
+///
+/// Other modifiers are dropped, such as `euro`; [`unknown_modifier`] returns one whose meaning is not known. A script
+/// behind `_#` is read as Java and Android print it: `zh-Hant-TW` for `zh_TW_#Hant`. Each `_` is read as a hyphen. Case
+/// and deprecated subtags stay as they are.
+///
+/// [`unknown_modifier`]: crate::likely::unknown_modifier
 ///
 /// # Errors
 ///
@@ -67,11 +78,40 @@ fn bytes_of(name: &[u8]) -> Result<Option<Vec<u8>>, AllocError> {
 /// or `None` if the name has no tag. If the buffer is too short, it stays unchanged, and the length says how much room
 /// is needed. It does not allocate.
 pub fn write_from_posix(name: &[u8], buffer: &mut [u8]) -> Option<usize> {
-    let (place_and_codeset, modifier) = split_at_byte(name, b'@');
-    let (place, _codeset) = split_at_byte(place_and_codeset, b'.');
+    let (front, modifier) = front_and_modifier(name);
+    let (place, script) = place_and_script(front);
     let mut room = [0; MOST];
     let tag = tag_of_place(place, &mut room)?;
-    Some(write_modified(tag, modifier, buffer))
+    let mut longer = [0; MOST_WITH_SCRIPT];
+    let tag = tag_with_script(tag, modifier_script(modifier).or(script), &mut longer);
+    Some(write_with_variant(tag, modifier_variant(modifier), buffer))
+}
+
+/// Returns what stands before the modifier and before the codeset, and the modifier.
+#[inline]
+fn front_and_modifier(name: &[u8]) -> (&[u8], &[u8]) {
+    let (place_and_codeset, modifier) = split_at_byte(name, b'@');
+    let (front, _codeset) = split_at_byte(place_and_codeset, b'.');
+    (front, modifier)
+}
+
+/// Returns the language and the territory, and the script behind `#`.
+fn place_and_script(front: &[u8]) -> (&[u8], Option<Script<'_>>) {
+    let (before, behind) = split_at_byte(front, b'#');
+    if before.len() == front.len() {
+        return (front, None);
+    }
+    let (script, _extensions) = split_at_byte(behind, b'_');
+    (without_mark(without_mark(before)), script_of(script))
+}
+
+/// Returns a text without a `_` at its end.
+#[inline]
+fn without_mark(text: &[u8]) -> &[u8] {
+    match text {
+        [front @ .., b'_'] => front,
+        _ => text,
+    }
 }
 
 /// Returns the tag that a language and a territory are, written into this room.
@@ -96,41 +136,32 @@ fn hyphenate(bytes: &mut [u8]) {
     }
 }
 
-/// Writes a tag with what a modifier says of its script or its variant.
-fn write_modified(tag: LangTag<'_>, modifier: &[u8], buffer: &mut [u8]) -> usize {
+/// Returns a tag with a script, written into this room.
+fn tag_with_script<'a>(
+    tag: LangTag<'a>,
+    script: Option<Script<'_>>,
+    room: &'a mut [u8; MOST_WITH_SCRIPT],
+) -> LangTag<'a> {
+    let Some(script) = script else { return tag };
+    let Some(normal) = tag.as_normal() else {
+        return tag;
+    };
+    let len = write_with(normal, Part::Script(Some(script)), room);
+    match LangTag::from_bytes(&room[..len]) {
+        Ok(tag) => tag,
+        Err(_) => unreachable!(),
+    }
+}
+
+/// Writes a tag with a variant in place of its variants.
+fn write_with_variant(tag: LangTag<'_>, variant: Option<&'static str>, buffer: &mut [u8]) -> usize {
+    let Some(variant) = variant else {
+        return write_text(tag.as_bytes(), buffer);
+    };
     let Some(normal) = tag.as_normal() else {
         return write_text(tag.as_bytes(), buffer);
     };
-    match part_of(modifier) {
-        Some(part) => write_with(normal, part, buffer),
-        None => write_text(tag.as_bytes(), buffer),
-    }
-}
-
-/// Returns the part that a modifier says; None of one that says nothing of the language.
-fn part_of(modifier: &[u8]) -> Option<Part<'static>> {
-    if case_insensitive_eq(b"latin", modifier) {
-        return Some(script_part("Latn"));
-    }
-    if case_insensitive_eq(b"cyrillic", modifier) {
-        return Some(script_part("Cyrl"));
-    }
-    if case_insensitive_eq(b"devanagari", modifier) {
-        return Some(script_part("Deva"));
-    }
-    if case_insensitive_eq(b"valencia", modifier) {
-        return Some(variants_part("valencia"));
-    }
-    None
-}
-
-/// Returns the part that a script is.
-#[inline]
-fn script_part(script: &str) -> Part<'_> {
-    match Script::new(script) {
-        Ok(script) => Part::Script(Some(script)),
-        Err(_) => unreachable!(),
-    }
+    write_with(normal, variants_part(variant), buffer)
 }
 
 /// Returns the part that variants are.

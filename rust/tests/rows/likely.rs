@@ -81,6 +81,13 @@ pub fn posix(name: Option<&str>) -> String {
     }
 }
 
+pub fn unknown(name: &[u8]) -> String {
+    match unknown_modifier(name) {
+        Some(modifier) => String::from_utf8_lossy(modifier).into_owned(),
+        None => "-".into(),
+    }
+}
+
 fn shown(best: Option<usize>, tags: &[LangTag<'_>]) -> String {
     best.map_or("-".into(), |index| tags[index].to_string())
 }

@@ -66,6 +66,7 @@ fn answer(row: &Row) -> String {
         "distance" => likely::far(row.text(0), row.text(1)),
         "right-to-left" => likely::direction(row.text(0)),
         "posix" => likely::posix(row.text(0)),
+        "unknown-modifier" => likely::unknown(&row.arguments[0]),
         "best" => likely::best(&row.arguments[0], row.str(1)),
         "best-match" => likely::best_match(&row.arguments[0], row.str(1)),
         "best-accepted" => likely::best_accepted(row.str(0), row.str(1)),
@@ -102,7 +103,7 @@ files! {
     forms: "likely.txt", 250, ["maximized", "minimized"];
     distances: "distance.txt", 140, ["distance"];
     directions: "direction.txt", 325, ["right-to-left"];
-    names: "posix.txt", 80, ["posix"];
+    names: "posix.txt", 150, ["posix", "unknown-modifier"];
     choices: "choices.txt", 285, ["best", "best-match"];
     preferences: "lists.txt", 15, ["best-accepted", "best-ranges"];
     extensions: "extensions.txt", 630, ["extensions-form"];

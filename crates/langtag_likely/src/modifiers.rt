@@ -1,0 +1,142 @@
+//! What the modifiers of locales' names say.
+ghost use Rattle.std.specs.Prelude.{◌≡◌, ◌||◌, IsTrue, MatchOption, None, Some, codes, false, if◌then◌else◌};
+ghost use Rattle.std.specs.List.{list_any};
+ghost use Rattle.std.specs.Option.{option_map};
+ghost use Rattle.langtag_scan.specs.Case.{are_alike};
+ghost use Rattle.langtag_scan.specs.Class.{is_script, is_variant};
+ghost use Rattle.langtag_place.specs.Text.{script_text};
+ghost use Rattle.langtag_likely.specs.Modifiers as spec;
+ghost use Rattle.langtag_likely.specs.Posix.{modifier_of};
+ghost use Rattle.langtag_likely.specs.Scripts.{script_codes};
+
+use crate::tables;
+use langtag::case_insensitive_eq;
+use langtag_place::Script;
+use langtag_scan::{is_script, split_at_byte};
+
+/// Returns the modifier of a locale's name if [`write_from_posix`] and [`from_posix`] drop it without knowing what it says: `b"foo"`
+/// for `de_DE@foo`.
+///
+/// Returns `None` without a modifier, if it says a script or a variant, and if it says nothing of the language, such as `euro`.
+///
+/// ```
+/// use langtag_likely::unknown_modifier;
+///
+/// unknown_modifier(b"de_DE@foo"); // Some(&b"foo"[..])
+/// unknown_modifier(b"sr_RS@latin"); // None
+/// ```
+///
+/// [`write_from_posix`]: crate::write_from_posix
+/// [`from_posix`]: crate::from_posix
+pub fn unknown_modifier(name: &[u8]) -> Option<&[u8]>
+    ensures { MatchOption result (IsTrue (spec.is_known (modifier_of name.now)))
+        (λ modifier. (modifier.now ≡ modifier_of name.now) × (spec.is_known modifier.now ≡ false)) }
+{
+    let (_, modifier) = split_at_byte(name, b'@');
+    if is_known(modifier) {
+        None
+    } else {
+        Some(modifier)
+    }
+}
+
+#[tactic(auto, unfolding(crate::specs::Modifiers::is_known))]
+fn is_known(modifier: &[u8]) -> bool
+    ensures { result ≡ spec.is_known modifier.now }
+{
+    modifier.is_empty()
+        || modifier_script(modifier).is_some()
+        || modifier_variant(modifier).is_some()
+        || says_nothing(modifier)
+}
+
+/// Returns the script that a modifier says.
+#[tactic(auto, unfolding(langtag_scan::specs::Class::is_script, langtag_scan::specs::Class::is_letter))]
+pub(crate) fn modifier_script(modifier: &[u8]) -> Option<Script<'_>>
+    ensures { option_map script_text result ≡ spec.modifier_script modifier.now }
+{
+    if says_latin(modifier) {
+        return script_of(b"Latn");
+    }
+    if case_insensitive_eq(b"cyrillic", modifier) {
+        return script_of(b"Cyrl");
+    }
+    if case_insensitive_eq(b"devanagari", modifier) {
+        return script_of(b"Deva");
+    }
+    if is_script_code(modifier) {
+        return script_of(modifier);
+    }
+    None
+}
+
+fn says_latin(modifier: &[u8]) -> bool
+    ensures { result ≡ (are_alike (codes "latin") modifier.now || (are_alike (codes "iqtelif") modifier.now || are_alike (codes "ijekavianlatin") modifier.now)) }
+{
+    case_insensitive_eq(b"latin", modifier)
+        || case_insensitive_eq(b"iqtelif", modifier)
+        || case_insensitive_eq(b"ijekavianlatin", modifier)
+}
+
+/// Returns whether a text is the code of a script.
+fn is_script_code(text: &[u8]) -> bool
+    ensures { result ≡ spec.is_script_code text.now }
+{
+    is_script(text) && is_listed(text)
+}
+
+fn is_listed(text: &[u8]) -> bool
+    ensures { result ≡ list_any (λ code. are_alike code text.now) script_codes }
+{
+    scripts().iter().any(|code| case_insensitive_eq(code, text))
+}
+
+#[tactic(auto, using(crate::proofs::PosixLaws::scripts_listed))]
+fn scripts() -> &'static [[u8; 4]]
+    ensures { result.now ≡ script_codes }
+{
+    &tables::SCRIPT_NAMES
+}
+
+/// Returns the script that a text is.
+#[tactic(auto, using(crate::proofs::PosixLaws::utf8_script))]
+pub(crate) fn script_of(text: &[u8]) -> Option<Script<'_>>
+    ensures { option_map script_text result ≡ if is_script text.now then Some text.now else None }
+{
+    let text = str::from_utf8(text).ok()?;
+    Script::new(text).ok()
+}
+
+/// Returns the variant that a modifier says.
+pub(crate) fn modifier_variant(modifier: &[u8]) -> Option<&'static str>
+    ensures { option_map (λ variant. variant.now) result ≡ spec.modifier_variant modifier.now }
+{
+    if case_insensitive_eq(b"ijekavian", modifier)
+        || case_insensitive_eq(b"ijekavianlatin", modifier)
+    {
+        return Some("ijekavsk");
+    }
+    if case_insensitive_eq(b"tarask", modifier) {
+        return Some("tarask");
+    }
+    if case_insensitive_eq(b"valencia", modifier) {
+        return Some("valencia");
+    }
+    None
+}
+
+/// Returns whether a modifier says how to sort, to quote or to pay, and nothing of the language.
+fn says_nothing(modifier: &[u8]) -> bool
+    ensures { result ≡ spec.says_nothing modifier.now }
+{
+    case_insensitive_eq(b"euro", modifier)
+        || case_insensitive_eq(b"preeuro", modifier)
+        || case_insensitive_eq(b"abegede", modifier)
+        || case_insensitive_eq(b"phonebook", modifier)
+        || case_insensitive_eq(b"pinyin", modifier)
+        || case_insensitive_eq(b"radical", modifier)
+        || case_insensitive_eq(b"stroke", modifier)
+        || case_insensitive_eq(b"cjknarrow", modifier)
+        || case_insensitive_eq(b"quot", modifier)
+        || case_insensitive_eq(b"boldquot", modifier)
+}
