@@ -3,7 +3,6 @@ use Rattle.std.proofs.Common.{◌≡◌, ℕ, ◌+◌, ◌-◌, ◌<◌, ◌≤�
 use Rattle.std.specs.List.{AllByRecursion, position, position_or_len, prefix_len, slice_range, sum_by}
 use Rattle.std.specs.Option.{IfSome, option_map, option_map_or, option_or}
 use Rattle.std.proofs.Math.Seq.{drop-append_seam, take-append_seam}
-use Rattle.std.proofs.Math.Bool.{or-true}
 use Rattle.std.proofs.lemmas.Bool.Decides.{nat_tests}
 use Rattle.std.proofs.lemmas.List.{drop_more, length-map, take_more}
 use Rattle.std.proofs.lemmas.List.Folds.{list_all-append, list_all_at}
@@ -13,7 +12,7 @@ use Rattle.std.proofs.lemmas.Option.{get_or_from_slice_get, slice_get_read, slic
 use Rattle.langtag.specs.declared.lang_tag.LangTag.{LangTag}
 use Rattle.langtag.specs.Text.{lang_tag_text}
 use Rattle.langtag_scan.specs.Case.{are_alike}
-use Rattle.langtag_match.specs.AcceptLanguage.{Element, FallsTo, IsByWeight, StandsAt, acceptable, are_good, bad_part, element, elements, is_comma, is_good, is_ows, items, weight_in}
+use Rattle.langtag_match.specs.AcceptLanguage.{Element, FallsTo, IsByWeight, StandsAt, acceptable, are_good, bad_part, element, elements, is_comma, is_good, items, weight_in}
 use Rattle.langtag_match.specs.Fallback.{fallbacks}
 use Rattle.langtag_match.specs.Stable.{IsOrderedBy, with_key}
 use Rattle.langtag_match.specs.declared.accept_language_error.ElementPart.{ElementPart}
@@ -431,13 +430,3 @@ not_good header span part bad =
     let within = slice_get_within (items header) bad.commas item bad.first.there in
     let there = get_or_from_slice_get (items header) bad.commas item item bad.first.there in
     list_all_at is_good (items header) bad.commas item within (ap is_good there ∙ bad.first.bad)
-
--- which part is bad, where one is
-pub none_bad : (item : List ℕ) (e : Element) → element item ≡ Some e → is_good item ≡ true
-none_bad item e some = rw some (or-true (is_ows item))
-
-pub empty_good : (item : List ℕ) → is_ows item ≡ true → is_good item ≡ true
-empty_good item empty = rw empty refl
-
-pub is_not_good : (item : List ℕ) → is_ows item ≡ false → element item ≡ None → is_good item ≡ false
-is_not_good item filled none = rw (filled, none) refl

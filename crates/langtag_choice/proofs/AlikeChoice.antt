@@ -12,7 +12,7 @@ use Rattle.langtag_match.specs.Wanted.{folded, wanted_elements}
 use Rattle.langtag_match.proofs.AlikeHeaders.{alike_headers}
 use Rattle.langtag_match.proofs.AlikeTexts.{is_star-fold}
 use Rattle.langtag_tables.proofs.AlikeTexts.{fold_text-twice}
-use Rattle.langtag_choice.specs.Best.{IsAtMost, IsChoice, Pair, is_wish, is_zero, is_refused, longest, matches, rank, rank_of_pair, reach, serves}
+use Rattle.langtag_choice.specs.Best.{IsAtMost, IsChoice, Pair, is_wish, is_excluded, is_refused, longest, matches, rank, rank_of_pair, reach, serves}
 use Rattle.langtag_choice.specs.ChoiceLaws.{IgnoresCase, IgnoresHeaderCase}
 use Rattle.langtag_choice.specs.Nearness.{is_fallback, kept}
 use Rattle.langtag_choice.proofs.AlikeRanges.{distance-alike, unlikely-alike}
@@ -80,8 +80,8 @@ longest-fold of_kind same (element ∷ elements) tag =
 is_refused-fold : (elements : List Element) (tag : List ℕ) → is_refused (map folded elements) (fold_text tag) ≡ is_refused elements tag
 unfolding is_refused
 is_refused-fold elements tag =
-    ap (λ n. nat_lt n (longest is_zero (map folded elements) (fold_text tag))) (longest-fold is_wish (λ element. refl) elements tag)
-    ∙ ap (nat_lt (longest is_wish elements tag)) (longest-fold is_zero (λ element. refl) elements tag)
+    ap (λ n. nat_lt n (longest is_excluded (map folded elements) (fold_text tag))) (longest-fold is_wish (λ element. refl) elements tag)
+    ∙ ap (nat_lt (longest is_wish elements tag)) (longest-fold is_excluded (λ element. refl) elements tag)
 
 -- ---- what is chosen
 

@@ -6,7 +6,7 @@ use Rattle.langtag_choice.specs.Distance.{distance_of_texts}
 use Rattle.langtag_choice.specs.Best.{IsAtMost, IsChoice, IsMatchOf, Pair, rank, rank_of_pair, serves}
 use Rattle.langtag_choice.specs.declared.best_match.BestMatch.{BestMatch}
 use Rattle.langtag_choice.specs.ChoiceLaws.{IsOnlyChoice}
-use Rattle.langtag_choice.specs.Found.{IsBestFound, IsBestOf, IsFor, IsOpen, rank_of}
+use Rattle.langtag_choice.specs.Found.{IsBestFound, IsBestOf, IsFor, IsUnrefusedAt, rank_of}
 use Rattle.langtag_choice.specs.declared.candidate.Candidate.{Candidate}
 use Rattle.langtag_choice.proofs.Ranks.{both_at_most}
 
@@ -35,7 +35,7 @@ module _ (elements : List Element) (tags : List (Option (List ℕ))) where
   only_choice answer is = λ other also. same_choice answer other is also
 
   -- a candidate that is open and at most all pairs is the choice
-  pub least_chosen : (c : Candidate) → IsFor elements tags c → IsOpen elements tags c.index → ((pair : Pair elements tags) → IsAtMost (rank_of c) (rank_of_pair elements tags pair)) → IsBestOf elements tags c
+  pub least_chosen : (c : Candidate) → IsFor elements tags c → IsUnrefusedAt elements tags c.index → ((pair : Pair elements tags) → IsAtMost (rank_of c) (rank_of_pair elements tags pair)) → IsBestOf elements tags c
   least_chosen c for chosen least =
       let same = for.there chosen.0 chosen.1 in
       record {

@@ -6,7 +6,7 @@ use Rattle.std.proofs.lemmas.Bool.{ltb-true, ltb-false}
 use Rattle.std.proofs.lemmas.Option.{get_or_from_slice_get, slice_get-get_or, slice_get_within}
 use Rattle.langtag_match.specs.AcceptLanguage.{Element}
 use Rattle.langtag_choice.specs.Best.{Pair, is_refused, rank, rank_of_pair, serves}
-use Rattle.langtag_choice.specs.Found.{AreOpen, Covers, CoversOpen, CoversRanges, CoversTags, IsAt, IsBestFound, IsBestOf, IsFor, IsFrom, IsOf, IsOpen, IsReal, IsWithin, Keeps, Takes, wish_element}
+use Rattle.langtag_choice.specs.Found.{AreOpen, Covers, CoversOpen, CoversRanges, CoversTags, IsAt, IsBestFound, IsBestOf, IsFor, IsOldOrAt, IsOf, IsUnrefusedAt, IsReal, IsNotAfter, Keeps, Takes, wish_element}
 use Rattle.langtag_choice.specs.declared.candidate.Candidate.{Candidate}
 use Rattle.langtag_choice.specs.declared.wish.Wish.{Wish}
 use Rattle.langtag_choice.proofs.ChoiceLaws.{least_chosen}
@@ -19,7 +19,7 @@ text_at tags index text same tag there = same tag (get_or_from_slice_get tags in
 
 pub one_more_tag :
     (element : Element) (place : ℕ) (tags : List (Option (List ℕ))) (index : ℕ) (old new : Option Candidate) → CoversTags element place tags index old → Keeps old new →
-    ((tag : List ℕ) → slice_get tags index ≡ Some (Some tag) → serves element tag ≡ true → IsWithin new (rank place element index tag)) → CoversTags element place tags (index + 1) new
+    ((tag : List ℕ) → slice_get tags index ≡ Some (Some tag) → serves element tag ≡ true → IsNotAfter new (rank place element index tag)) → CoversTags element place tags (index + 1) new
 one_more_tag element place tags index old new so_far keeps here =
     below_more _ _ (λ k below tag there served. keeps (rank place element k tag) (so_far k below tag there served)) here
 
@@ -31,17 +31,17 @@ one_more_range elements tags place element old new so_far keeps wanted here =
     (λ other index tag at there served.
     let both : Some element ≡ Some other = sym wanted ∙ at in
     let same : element ≡ other = cc in
-    subst (λ e. IsWithin new (rank place e index tag)) same (here index (slice_get_within tags index (Some tag) there) tag there (subst (λ e. serves e tag ≡ true) (sym same) served)))
+    subst (λ e. IsNotAfter new (rank place e index tag)) same (here index (slice_get_within tags index (Some tag) there) tag there (subst (λ e. serves e tag ≡ true) (sym same) served)))
 
 pub one_more_range_for_tag :
     (elements : List Element) (tag : List ℕ) (index place : ℕ) (element : Element) (old new : Option Candidate) → CoversRanges elements tag index place old → Keeps old new →
-    slice_get elements place ≡ Some element → (serves element tag ≡ true → IsWithin new (rank place element index tag)) → CoversRanges elements tag index (place + 1) new
+    slice_get elements place ≡ Some element → (serves element tag ≡ true → IsNotAfter new (rank place element index tag)) → CoversRanges elements tag index (place + 1) new
 one_more_range_for_tag elements tag index place element old new so_far keeps wanted here =
     below_more _ _ (λ k below other at served. keeps (rank k other index tag) (so_far k below other at served))
     (λ other at served.
     let both : Some element ≡ Some other = sym wanted ∙ at in
     let same : element ≡ other = cc in
-    subst (λ e. IsWithin new (rank place e index tag)) same (here (subst (λ e. serves e tag ≡ true) (sym same) served)))
+    subst (λ e. IsNotAfter new (rank place e index tag)) same (here (subst (λ e. serves e tag ≡ true) (sym same) served)))
 
 pub one_more_open :
     (elements : List Element) (tags : List (Option (List ℕ))) (index : ℕ) (old new : Option Candidate) → CoversOpen elements tags index old → Keeps old new →
@@ -84,71 +84,64 @@ at_is_for elements tags tag index c inside there at = record {
 
 pub real_from :
     (elements : List Element) (tags : List (Option (List ℕ))) (tag : List ℕ) (index : ℕ) (old new : Option Candidate) → index < length tags → ((other : List ℕ) → slice_get tags index ≡ Some (Some other) → tag ≡ other) →
-    IsReal elements tags old → IsFrom elements tag index old new → IsReal elements tags new
+    IsReal elements tags old → IsOldOrAt elements tag index old new → IsReal elements tags new
 real_from elements tags tag index old new inside there real (inl same) = subst (IsReal elements tags) (sym same) real
 real_from elements tags tag index old None inside there real (inr at) = tt
 real_from elements tags tag index old (Some c) inside there real (inr at) = at_is_for elements tags tag index c inside there at
 
 pub from_of :
     (elements : List Element) (wish : Wish) (tag : List ℕ) (index : ℕ) (old new : Option Candidate) → slice_get elements wish.place ≡ Some (wish_element wish) →
-    (new ≡ old) ⊎ MatchOption new ⊥ (IsOf wish tag index) → IsFrom elements tag index old new
+    (new ≡ old) ⊎ MatchOption new ⊥ (IsOf wish tag index) → IsOldOrAt elements tag index old new
 from_of elements wish tag index old new wanted (inl same) = inl same
 from_of elements wish tag index old None wanted (inr of) = inr of
 from_of elements wish tag index old (Some c) wanted (inr of) = inr (of_is_at elements wish tag index c wanted of)
 
 -- from one step to the next
 pub from_later :
-    (elements : List Element) (tag : List ℕ) (index : ℕ) (first old new : Option Candidate) → IsFrom elements tag index first old → IsFrom elements tag index old new → IsFrom elements tag index first new
-from_later elements tag index first old new before (inl same) = subst (IsFrom elements tag index first) (sym same) before
+    (elements : List Element) (tag : List ℕ) (index : ℕ) (first old new : Option Candidate) → IsOldOrAt elements tag index first old → IsOldOrAt elements tag index old new → IsOldOrAt elements tag index first new
+from_later elements tag index first old new before (inl same) = subst (IsOldOrAt elements tag index first) (sym same) before
 from_later elements tag index first old new before (inr at) = inr at
 
 -- ---- of the tag at an index
 
 pub open_at :
-    (elements : List Element) (tags : List (Option (List ℕ))) (index : ℕ) (tag : List ℕ) → index < length tags → get_or tags index None ≡ Some tag → is_refused elements tag ≡ false → IsOpen elements tags index
+    (elements : List Element) (tags : List (Option (List ℕ))) (index : ℕ) (tag : List ℕ) → index < length tags → get_or tags index None ≡ Some tag → is_refused elements tag ≡ false → IsUnrefusedAt elements tags index
 open_at elements tags index tag inside at free = (tag, slice_get-get_or tags index None inside ∙ ap Some at, free)
 
 pub takes_covers :
     (tags : List (Option (List ℕ))) (element : Element) (place : ℕ) (wish : Wish) (text : List ℕ) (index : ℕ) (old new : Option Candidate) → wish_element wish ≡ element → wish.place ≡ place →
     ForSome (get_or tags index None) (λ found. text ≡ found) → Takes wish text index old new → (tag : List ℕ) → slice_get tags index ≡ Some (Some tag) → serves element tag ≡ true →
-    IsWithin new (rank place element index tag)
+    IsNotAfter new (rank place element index tag)
 takes_covers tags element place wish text index old new same_element same_place at takes tag there served =
     let same : text ≡ tag = text_at tags index text at tag there in
-    subst (λ p. IsWithin new (rank p element index tag)) same_place
-    (subst (λ e. IsWithin new (rank wish.place e index tag)) same_element
-    (subst (λ t. IsWithin new (rank wish.place (wish_element wish) index t)) same
+    subst (λ p. IsNotAfter new (rank p element index tag)) same_place
+    (subst (λ e. IsNotAfter new (rank wish.place e index tag)) same_element
+    (subst (λ t. IsNotAfter new (rank wish.place (wish_element wish) index t)) same
     (takes.covers (subst (λ t. serves (wish_element wish) t ≡ true) (sym same) (subst (λ e. serves e tag ≡ true) (sym same_element) served)))))
-
-pub open_from :
-    (elements : List Element) (tags : List (Option (List ℕ))) (text : List ℕ) (index : ℕ) (old new : Option Candidate) → IsOpen elements tags index → AreOpen elements tags old →
-    IsFrom elements text index old new → AreOpen elements tags new
-open_from elements tags text index old new here before (inl same) = subst (AreOpen elements tags) (sym same) before
-open_from elements tags text index old None here before (inr at) = tt
-open_from elements tags text index old (Some c) here before (inr at) = subst (IsOpen elements tags) (sym at.index) here
 
 -- ---- what is first of all
 
 module _ (elements : List Element) (tags : List (Option (List ℕ))) (found : Option Candidate) where
   pub none_first : found ≡ None → Covers elements tags (length elements) found → Pair elements tags → ⊥
   none_first is covers pair =
-      subst (λ o. IsWithin o (rank_of_pair elements tags pair)) is
+      subst (λ o. IsNotAfter o (rank_of_pair elements tags pair)) is
       (covers pair.place (slice_get_within elements pair.place pair.element pair.wanted) pair.element pair.index pair.tag pair.wanted pair.there pair.served)
 
-  pub first_chosen : (c : Candidate) → found ≡ Some c → Covers elements tags (length elements) found → IsReal elements tags found → IsOpen elements tags c.index → IsBestOf elements tags c
+  pub first_chosen : (c : Candidate) → found ≡ Some c → Covers elements tags (length elements) found → IsReal elements tags found → IsUnrefusedAt elements tags c.index → IsBestOf elements tags c
   first_chosen c is covers real here =
       least_chosen elements tags c (subst (IsReal elements tags) is real) here
-      (λ pair. subst (λ o. IsWithin o (rank_of_pair elements tags pair)) is
+      (λ pair. subst (λ o. IsNotAfter o (rank_of_pair elements tags pair)) is
       (covers pair.place (slice_get_within elements pair.place pair.element pair.wanted) pair.element pair.index pair.tag pair.wanted pair.there pair.served))
 
   pub none_open : found ≡ None → CoversOpen elements tags (length tags) found → Pair elements tags → ⊥
   none_open is covers pair =
-      subst (λ o. IsWithin o (rank_of_pair elements tags pair)) is
+      subst (λ o. IsNotAfter o (rank_of_pair elements tags pair)) is
       (covers pair.index (slice_get_within tags pair.index (Some pair.tag) pair.there) pair.place pair.element pair.tag pair.wanted pair.there pair.unrefused pair.served)
 
   pub open_chosen : (c : Candidate) → found ≡ Some c → CoversOpen elements tags (length tags) found → IsReal elements tags found → AreOpen elements tags found → IsBestOf elements tags c
   open_chosen c is covers real here =
       least_chosen elements tags c (subst (IsReal elements tags) is real) (subst (AreOpen elements tags) is here)
-      (λ pair. subst (λ o. IsWithin o (rank_of_pair elements tags pair)) is
+      (λ pair. subst (λ o. IsNotAfter o (rank_of_pair elements tags pair)) is
       (covers pair.index (slice_get_within tags pair.index (Some pair.tag) pair.there) pair.place pair.element pair.tag pair.wanted pair.there pair.unrefused pair.served))
 
 pub first_open :

@@ -3,7 +3,7 @@ use Rattle.std.proofs.Common.{◌≡◌, ℕ, Bool, true, false, ◌||◌, List,
 use Rattle.std.specs.List.{list_any}
 use Rattle.std.proofs.lemmas.Bool.Decides.{nat_tests}
 use Rattle.langtag_match.specs.AcceptLanguage.{Element}
-use Rattle.langtag_choice.specs.Best.{is_zero, is_refused, longest}
+use Rattle.langtag_choice.specs.Best.{is_excluded, is_refused, longest}
 
 longest_none : (of_kind : Element → Bool) (elements : List Element) (tag : List ℕ) → list_any of_kind elements ≡ false → longest of_kind elements tag ≡ 0
 longest_none of_kind [] tag none = refl
@@ -15,6 +15,6 @@ longest_none of_kind (element ∷ elements) tag none = by_first (of_kind element
     by_first true is some others = absurd cc
     by_first false is some others = rw is (others some)
 
-pub none_refused : (elements : List Element) (tag : List ℕ) → list_any is_zero elements ≡ false → is_refused elements tag ≡ false
+pub none_refused : (elements : List Element) (tag : List ℕ) → list_any is_excluded elements ≡ false → is_refused elements tag ≡ false
 unfolding is_refused
-none_refused elements tag none = let zero = longest_none is_zero elements tag none in rw zero (grind (arith, nat_tests))
+none_refused elements tag none = let zero = longest_none is_excluded elements tag none in rw zero (grind (arith, nat_tests))

@@ -1,40 +1,18 @@
 -- How ranks compare.
 use Rattle.std.proofs.Common.{◌≡◌, inl, inr, ℕ, ◌-◌, ◌==◌, ◌≤◌, Bool, true, false, ◌&&◌, ◌||◌, nat_lt, List, ap, refl, sym, ◌∙◌, arith}
 use Rattle.std.specs.Cmp.Lexicographic.{bytes_decides, slice_cmp, texts_ties}
-use Rattle.std.specs.Ordering.{is_eq, is_gt, is_lt, nat_cmp, ordering_reverse, ordering_then}
+use Rattle.std.specs.Ordering.{is_eq, is_gt, nat_cmp, ordering_reverse, ordering_then}
 use Rattle.std.specs.declared.cmp.Ordering.{Ordering}
 use Rattle.std.specs.declared.cmp.Ordering.TheVariants.{Less, Equal, Greater}
 use Rattle.std.proofs.lemmas.Bool.{and_parts, eqb-true, ltb-false, ltb-true, or_cases}
 use Rattle.std.proofs.lemmas.Bool.Decides.{eqb_tells, nat_tests}
-use Rattle.std.proofs.lemmas.Cmp.{nat_list_cmp_total, tied_itself, upto}
+use Rattle.std.proofs.lemmas.Cmp.{nat_list_cmp_total}
 use Rattle.langtag_match.specs.AcceptLanguage.{Element}
 use Rattle.langtag_choice.specs.Best.{IsAtMost, rank, reach, serves, service}
 use Rattle.langtag_choice.specs.Distance.{distance_of_texts}
-use Rattle.langtag_choice.specs.Found.{number_of, rank_of}
+use Rattle.langtag_choice.specs.Found.{service_number, rank_of}
 use Rattle.langtag_choice.specs.Nearness.{kept}
 use Rattle.langtag_choice.specs.declared.candidate.Candidate.{Candidate}
-
-pub at_most_then : (a b c : List ℕ) → IsAtMost a b → IsAtMost b c → IsAtMost a c
-at_most_then a b c one other = upto nat_list_cmp_total a b c one other
-
-pub at_most_itself : (a : List ℕ) → IsAtMost a a
-at_most_itself a = ap is_gt (tied_itself nat_list_cmp_total a)
-
-pub before_at_most : (a b : List ℕ) → is_lt (slice_cmp nat_cmp a b) ≡ true → IsAtMost a b
-before_at_most a b before = by_order (slice_cmp nat_cmp a b) before
-  where
-    by_order : (o : Ordering) → is_lt o ≡ true → is_gt o ≡ false
-    by_order Less before = refl
-    by_order Equal before = absurd cc
-    by_order Greater before = absurd cc
-
-pub after_at_most : (a b : List ℕ) → is_lt (slice_cmp nat_cmp a b) ≡ false → IsAtMost b a
-after_at_most a b later = ap is_gt (nat_list_cmp_total.antisymm b a) ∙ by_order (slice_cmp nat_cmp a b) later
-  where
-    by_order : (o : Ordering) → is_lt o ≡ false → is_gt (ordering_reverse o) ≡ false
-    by_order Less later = absurd cc
-    by_order Equal later = refl
-    by_order Greater later = refl
 
 -- two that are at most each other are one
 pub both_at_most : (a b : List ℕ) → IsAtMost a b → IsAtMost b a → a ≡ b
@@ -72,19 +50,19 @@ reach_most range tag = grind (arith, nat_tests)
 
 -- what was found for a heavier range, or for an earlier one of that weight, and serves it no worse
 pub settled :
-    (c : Candidate) (place : ℕ) (element : Element) (index : ℕ) (tag : List ℕ) → number_of c.rank.service ≤ service (reach element.range tag) →
+    (c : Candidate) (place : ℕ) (element : Element) (index : ℕ) (tag : List ℕ) → service_number c.rank.service ≤ service (reach element.range tag) →
     (nat_lt c.rank.lack (1000 - element.weight) || ((c.rank.lack == (1000 - element.weight)) && nat_lt c.rank.place place)) ≡ true → IsAtMost (rank_of c) (rank place element index tag)
 unfolding rank
 settled c place element index tag serves before = elim (or_cases (nat_lt c.rank.lack (1000 - element.weight)) ((c.rank.lack == (1000 - element.weight)) && nat_lt c.rank.place place) before) [
   | inl heavier ↦
       let less = ltb-true c.rank.lack (1000 - element.weight) heavier in
-      le_then (number_of c.rank.service) (service (reach element.range tag)) _ serves (λ r.
+      le_then (service_number c.rank.service) (service (reach element.range tag)) _ serves (λ r.
       le_then c.rank.lack (1000 - element.weight) _ (omega (arith, less)) (λ same. absurd (omega (arith, less, same))))
   | inr earlier ↦
       let parts = and_parts (c.rank.lack == (1000 - element.weight)) (nat_lt c.rank.place place) earlier in
       let equal = eqb-true c.rank.lack (1000 - element.weight) parts.0 in
       let less = ltb-true c.rank.place place parts.1 in
-      le_then (number_of c.rank.service) (service (reach element.range tag)) _ serves (λ r.
+      le_then (service_number c.rank.service) (service (reach element.range tag)) _ serves (λ r.
       le_then c.rank.lack (1000 - element.weight) _ (omega (arith, equal)) (λ s.
       le_then c.rank.place place _ (omega (arith, less)) (λ same. absurd (omega (arith, less, same)))))
 ]

@@ -1,9 +1,8 @@
 -- Ranges as they are read: "_" as "-", and without each "-*".
 use Rattle.std.proofs.Common.{◌≡◌, ℕ, ◌-◌, ◌≤◌, Bool, true, false, cond, not, ◌==◌, List, [], ◌∷◌, length, length-drop, length-take, take, drop, filter, refl, sym, ap, ◌∙◌, arith}
 use Rattle.std.specs.Prelude.{◌&&◌, ◌||◌, codes}
-use Rattle.std.proofs.lemmas.Bool.{eqb-true}
 use Rattle.std.proofs.lemmas.Bool.Decides.{nat_tests}
-use Rattle.langtag_scan.specs.Case.{are_alike, fold_byte, fold_text}
+use Rattle.langtag_scan.specs.Case.{are_alike, fold_byte}
 use Rattle.langtag_scan.specs.CaseLaws.{are_alike-decides}
 use Rattle.langtag_scan.specs.Subtags.{subtags}
 use Rattle.langtag_match.proofs.AlikeTexts.{is_star-fold}
@@ -18,7 +17,7 @@ use Rattle.langtag_match.specs.LookUp.{basic_form}
 use Rattle.langtag_match.specs.Range.{are_extended_range, is_basic_range, is_language_range, is_star}
 use Rattle.langtag_match.specs.Wanted.{hyphened}
 use Rattle.langtag_likely.proofs.CommonTexts.{nothing_read, read_byte, read_nothing, some_length}
-use Rattle.langtag_likely.specs.Matching.{matching_fields, matching_form}
+use Rattle.langtag_likely.specs.Matching.{matching_form}
 use Rattle.langtag_likely.specs.Ranges.{after_common, BeginsPlain}
 use Rattle.langtag_likely.specs.TextFields.{counted, counts, fields_of_subtags, text_fields}
 use Rattle.langtag_choice.specs.Nearness.{is_fallback}

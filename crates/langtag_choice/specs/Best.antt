@@ -13,11 +13,11 @@ use Rattle.langtag_choice.specs.declared.best_match.BestMatch.{BestMatch}
 
 -- ---- which tags are refused
 
-abbrev pub is_zero : Element → Bool
-is_zero element = element.weight == 0
+abbrev pub is_excluded : Element → Bool
+is_excluded element = element.weight == 0
 
 abbrev pub is_wish : Element → Bool
-is_wish element = not (is_zero element)
+is_wish element = not (is_excluded element)
 
 -- a range, other than "*", matches a tag by basic filtering (RFC 4647 section 3.3.1)
 abbrev pub matches : Element → List ℕ → Bool
@@ -32,7 +32,7 @@ longest of_kind (element ∷ elements) tag =
 
 -- the longest range that matches a tag has the weight 0
 unfoldable pub is_refused : List Element → List ℕ → Bool
-is_refused elements tag = nat_lt (longest is_wish elements tag) (longest is_zero elements tag)
+is_refused elements tag = nat_lt (longest is_wish elements tag) (longest is_excluded elements tag)
 
 -- ---- which tags may serve a range
 

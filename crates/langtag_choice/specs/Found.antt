@@ -19,24 +19,24 @@ use Rattle.langtag_choice.specs.declared.wish.Wish.{Wish}
 abbrev pub wish_element : Wish → Element
 wish_element wish = record { range = basic_text wish.range.now; weight = wish.weight }
 
-abbrev pub number_of : Service → ℕ
-number_of Near = 0
-number_of Acceptable = 1
-number_of LookUp = 2
+abbrev pub service_number : Service → ℕ
+service_number Near = 0
+service_number Acceptable = 1
+service_number LookUp = 2
 
 abbrev pub rank_of : Candidate → List ℕ
 rank_of c =
-    number_of c.rank.service ∷ c.rank.lack ∷ c.rank.place ∷ c.rank.distance ∷
+    service_number c.rank.service ∷ c.rank.lack ∷ c.rank.place ∷ c.rank.distance ∷
     (length (basic_text c.range.now) - kept (basic_text c.range.now) c.tag.now) ∷ unlikely c.tag.now ∷ c.index ∷ []
 
 -- what was found has at most a rank
-abbrev pub IsWithin : Option Candidate → List ℕ → Type 0
-IsWithin None rank = ⊥
-IsWithin (Some c) rank = IsAtMost (rank_of c) rank
+abbrev pub IsNotAfter : Option Candidate → List ℕ → Type 0
+IsNotAfter None rank = ⊥
+IsNotAfter (Some c) rank = IsAtMost (rank_of c) rank
 
 -- what has at most a rank still has
 abbrev pub Keeps : Option Candidate → Option Candidate → Type 0
-Keeps old new = (r : List ℕ) → IsWithin old r → IsWithin new r
+Keeps old new = (r : List ℕ) → IsNotAfter old r → IsNotAfter new r
 
 -- how near a tag is to a range that it may serve
 pub record IsNear (range tag : List ℕ) (near : Nearness) : Type 0 where
@@ -62,7 +62,7 @@ pub record IsOf (wish : Wish) (text : List ℕ) (there : ℕ) (c : Candidate) : 
 -- what was found, before and after a text at an index is taken for a range
 pub record Takes (wish : Wish) (tag : List ℕ) (index : ℕ) (old new : Option Candidate) : Type 0 where
   pub keeps : Keeps old new
-  pub covers : serves (wish_element wish) tag ≡ true → IsWithin new (rank wish.place (wish_element wish) index tag)
+  pub covers : serves (wish_element wish) tag ≡ true → IsNotAfter new (rank wish.place (wish_element wish) index tag)
   pub from : (new ≡ old) ⊎ MatchOption new ⊥ (IsOf wish tag index)
 
 -- a candidate that a text at an index is for one of some ranges
@@ -76,8 +76,8 @@ pub record IsAt (elements : List Element) (text : List ℕ) (there : ℕ) (c : C
   pub same_rank : rank_of c ≡ rank c.rank.place element there text
 
 -- what was found is what it was, or such a candidate
-abbrev pub IsFrom : List Element → List ℕ → ℕ → Option Candidate → Option Candidate → Type 0
-IsFrom elements tag index old new = (new ≡ old) ⊎ MatchOption new ⊥ (IsAt elements tag index)
+abbrev pub IsOldOrAt : List Element → List ℕ → ℕ → Option Candidate → Option Candidate → Type 0
+IsOldOrAt elements tag index old new = (new ≡ old) ⊎ MatchOption new ⊥ (IsAt elements tag index)
 
 -- a candidate for one of some ranges. What stands at its index need not be a tag, and may be refused
 pub record IsFor (elements : List Element) (tags : List (Option (List ℕ))) (c : Candidate) : Type 0 where
@@ -86,8 +86,8 @@ pub record IsFor (elements : List Element) (tags : List (Option (List ℕ))) (c 
   pub there : (tag : List ℕ) → slice_get tags c.index ≡ Some (Some tag) → c.tag.now ≡ tag
 
 -- at an index stands a tag, and it is not refused
-abbrev pub IsOpen : List Element → List (Option (List ℕ)) → ℕ → Type 0
-IsOpen elements tags index = (tag : List ℕ) × (slice_get tags index ≡ Some (Some tag)) × (is_refused elements tag ≡ false)
+abbrev pub IsUnrefusedAt : List Element → List (Option (List ℕ)) → ℕ → Type 0
+IsUnrefusedAt elements tags index = (tag : List ℕ) × (slice_get tags index ≡ Some (Some tag)) × (is_refused elements tag ≡ false)
 
 -- what was found serves one of some ranges
 abbrev pub IsReal : List Element → List (Option (List ℕ)) → Option Candidate → Type 0
@@ -97,27 +97,27 @@ IsReal elements tags found = IfSome found (IsFor elements tags)
 abbrev pub Covers : List Element → List (Option (List ℕ)) → ℕ → Option Candidate → Type 0
 Covers elements tags count found =
     (place : ℕ) → place < count → (element : Element) (index : ℕ) (tag : List ℕ) → slice_get elements place ≡ Some element → slice_get tags index ≡ Some (Some tag) →
-    serves element tag ≡ true → IsWithin found (rank place element index tag)
+    serves element tag ≡ true → IsNotAfter found (rank place element index tag)
 
 -- of a range at a place and one of the first tags
 abbrev pub CoversTags : Element → ℕ → List (Option (List ℕ)) → ℕ → Option Candidate → Type 0
 CoversTags element place tags count found =
-    (index : ℕ) → index < count → (tag : List ℕ) → slice_get tags index ≡ Some (Some tag) → serves element tag ≡ true → IsWithin found (rank place element index tag)
+    (index : ℕ) → index < count → (tag : List ℕ) → slice_get tags index ≡ Some (Some tag) → serves element tag ≡ true → IsNotAfter found (rank place element index tag)
 
 -- of a tag at an index and one of the first ranges
 abbrev pub CoversRanges : List Element → List ℕ → ℕ → ℕ → Option Candidate → Type 0
 CoversRanges elements tag index count found =
-    (place : ℕ) → place < count → (element : Element) → slice_get elements place ≡ Some element → serves element tag ≡ true → IsWithin found (rank place element index tag)
+    (place : ℕ) → place < count → (element : Element) → slice_get elements place ≡ Some element → serves element tag ≡ true → IsNotAfter found (rank place element index tag)
 
 -- of one of the first tags that are not refused
 abbrev pub CoversOpen : List Element → List (Option (List ℕ)) → ℕ → Option Candidate → Type 0
 CoversOpen elements tags count found =
     (index : ℕ) → index < count → (place : ℕ) (element : Element) (tag : List ℕ) → slice_get elements place ≡ Some element → slice_get tags index ≡ Some (Some tag) →
-    is_refused elements tag ≡ false → serves element tag ≡ true → IsWithin found (rank place element index tag)
+    is_refused elements tag ≡ false → serves element tag ≡ true → IsNotAfter found (rank place element index tag)
 
 -- what was found is of such a tag
 abbrev pub AreOpen : List Element → List (Option (List ℕ)) → Option Candidate → Type 0
-AreOpen elements tags found = IfSome found (λ c. IsOpen elements tags c.index)
+AreOpen elements tags found = IfSome found (λ c. IsUnrefusedAt elements tags c.index)
 
 -- a candidate is that of the least of all pairs
 pub record IsBestOf (elements : List Element) (tags : List (Option (List ℕ))) (c : Candidate) : Type 0 where

@@ -11,8 +11,8 @@ pub record Rule : Type 0 where
 -- ---- how the lists of data are read
 
 -- a number in decimal digits
-abbrev pub decimal : List ℕ → ℕ
-decimal digits = fold (λ number digit. number * 10 + (digit - 48)) 0 digits
+abbrev pub decimal_number : List ℕ → ℕ
+decimal_number digits = fold (λ number digit. number * 10 + (digit - 48)) 0 digits
 
 -- of words, three a row: two languages, and a distance
 abbrev pub rules_of_languages : List (List ℕ) → List Rule
@@ -20,7 +20,7 @@ rules_of_languages [] = []
 rules_of_languages (d ∷ []) = []
 rules_of_languages (d ∷ s ∷ []) = []
 rules_of_languages (d ∷ s ∷ n ∷ words) =
-    record { desired = record { language = d; script = []; region = [] }; supported = record { language = s; script = []; region = [] }; distance = decimal n }
+    record { desired = record { language = d; script = []; region = [] }; supported = record { language = s; script = []; region = [] }; distance = decimal_number n }
     ∷ rules_of_languages words
 
 -- of words, five a row: a language and a script, twice, and a distance
@@ -31,7 +31,7 @@ rules_of_scripts (d ∷ a ∷ []) = []
 rules_of_scripts (d ∷ a ∷ s ∷ []) = []
 rules_of_scripts (d ∷ a ∷ s ∷ b ∷ []) = []
 rules_of_scripts (d ∷ a ∷ s ∷ b ∷ n ∷ words) =
-    record { desired = record { language = d; script = a; region = [] }; supported = record { language = s; script = b; region = [] }; distance = decimal n }
+    record { desired = record { language = d; script = a; region = [] }; supported = record { language = s; script = b; region = [] }; distance = decimal_number n }
     ∷ rules_of_scripts words
 
 -- ---- a rule for two

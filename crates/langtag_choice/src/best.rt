@@ -8,7 +8,7 @@ ghost use Rattle.langtag_match.specs.Wanted.{wanted_elements};
 ghost use Rattle.langtag_choice.specs.Best as spec;
 ghost use Rattle.langtag_choice.specs.ChoiceLaws as laws;
 ghost use Rattle.langtag_choice.specs.Distance.{distance_of_texts};
-ghost use Rattle.langtag_choice.specs.Found.{IsBestFound, IsOpen};
+ghost use Rattle.langtag_choice.specs.Found.{IsBestFound, IsUnrefusedAt};
 ghost use Rattle.langtag_choice.specs.ListTexts.{ordered_elements, tag_texts, weighted_elements};
 
 use crate::best_match::BestMatch;
@@ -167,8 +167,8 @@ fn is_chosen<'a, R: RangeList<'a>, T: TagList>(
     has_zero: bool,
 ) -> bool
     requires inside { index < length (T.texts tags.now) }
-    requires zero { has_zero ≡ list_any spec.is_zero (R.elements ranges) }
-    ensures { IsTrue result → IsOpen (R.elements ranges) (T.texts tags.now) index }
+    requires zero { has_zero ≡ list_any spec.is_excluded (R.elements ranges) }
+    ensures { IsTrue result → IsUnrefusedAt (R.elements ranges) (T.texts tags.now) index }
 {
     match tags.tag_at(index) {
         Some(tag) => !has_zero || !is_refused(ranges, tag.as_bytes()),

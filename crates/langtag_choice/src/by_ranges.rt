@@ -5,7 +5,7 @@ ghost use Rattle.langtag_match.specs.AcceptLanguage.{Element};
 ghost use Rattle.langtag_match.specs.Listed.{listed_element};
 ghost use Rattle.langtag_match.specs.Range.{is_language_range};
 ghost use Rattle.langtag_match.specs.Wanted.{hyphened};
-ghost use Rattle.langtag_choice.specs.Best.{is_zero};
+ghost use Rattle.langtag_choice.specs.Best.{is_excluded};
 ghost use Rattle.langtag_choice.specs.Found.{Covers, CoversTags, IsReal, Keeps};
 
 use crate::candidate::Candidate;
@@ -22,7 +22,7 @@ pub(crate) fn first_by_ranges<'a, 't, R: RangeList<'a>, T: TagList>(
 ) -> (Option<Candidate<'a, 't>>, bool)
     ensures least { Covers (R.elements ranges) (T.texts tags.now) (length (R.elements ranges)) result.0 }
     ensures real { IsReal (R.elements ranges) (T.texts tags.now) result.0 }
-    ensures zero { result.1 ≡ list_any is_zero (R.elements ranges) }
+    ensures zero { result.1 ≡ list_any is_excluded (R.elements ranges) }
 {
     let mut first = None;
     let mut has_zero = false;

@@ -6,7 +6,7 @@ ghost use Rattle.langtag_match.specs.Listed.{listed_element};
 ghost use Rattle.langtag_match.specs.Range.{is_language_range};
 ghost use Rattle.langtag_match.specs.Wanted.{hyphened};
 ghost use Rattle.langtag_choice.specs.Best.{is_refused, rank, serves};
-ghost use Rattle.langtag_choice.specs.Found.{AreOpen, CoversOpen, CoversRanges, IsFrom, IsOpen, IsReal, IsWithin, Keeps};
+ghost use Rattle.langtag_choice.specs.Found.{AreOpen, CoversOpen, CoversRanges, IsOldOrAt, IsUnrefusedAt, IsReal, IsNotAfter, Keeps};
 
 use crate::candidate::Candidate;
 use crate::improve::{improve, limit};
@@ -53,7 +53,7 @@ fn improve_at<'a, 't, R: RangeList<'a>, T: TagList>(
 /// Returns whether a tag stands at an index, which is not refused.
 fn is_open<'a, R: RangeList<'a>, T: TagList>(ranges: R, tags: &T, index: usize) -> bool
     requires { index < length (T.texts tags.now) }
-    ensures { IsTrue result ↔ IsOpen (R.elements ranges) (T.texts tags.now) index }
+    ensures { IsTrue result ↔ IsUnrefusedAt (R.elements ranges) (T.texts tags.now) index }
 {
     match tags.tag_at(index) {
         Some(tag) => !is_refused(ranges, tag.as_bytes()),
@@ -70,7 +70,7 @@ fn improve_for_tag<'a, 't, R: RangeList<'a>>(
 )
     ensures keeps { Keeps found.old found.new }
     ensures covers { CoversRanges (R.elements ranges) tag.now index (length (R.elements ranges)) found.new }
-    ensures from { IsFrom (R.elements ranges) tag.now index found.old found.new }
+    ensures from { IsOldOrAt (R.elements ranges) tag.now index found.old found.new }
 {
     let mut place = 0;
     let mut left = ranges;
@@ -91,8 +91,8 @@ fn improve_for_pair<'a, 't>(
 )
     requires in_class { IsTrue (is_language_range (hyphened wanted.bytes.now)) }
     ensures keeps { Keeps found.old found.new }
-    ensures covers { IsTrue (serves (listed_element wanted.entry) tag.now) → IsWithin found.new (rank place (listed_element wanted.entry) index tag.now) }
-    ensures from { (elements : List Element) → slice_get elements place ≡ Some (listed_element wanted.entry) → IsFrom elements tag.now index found.old found.new }
+    ensures covers { IsTrue (serves (listed_element wanted.entry) tag.now) → IsNotAfter found.new (rank place (listed_element wanted.entry) index tag.now) }
+    ensures from { (elements : List Element) → slice_get elements place ≡ Some (listed_element wanted.entry) → IsOldOrAt elements tag.now index found.old found.new }
 {
     if limit(found, wanted.weight, place) == 0 {
         return;

@@ -22,11 +22,11 @@ pub(crate) enum Service {
 impl Service {
     ghost use Rattle.std.specs.Prelude.{◌≤◌, ℕ};
     ghost use Rattle.langtag_choice.specs.Best.{service};
-    ghost use Rattle.langtag_choice.specs.Found.{number_of};
+    ghost use Rattle.langtag_choice.specs.Found.{service_number};
 
     /// Returns how a tag serves a range at a distance, which is 50 if only look-up finds it.
     pub(crate) fn at(distance: u8) -> Service
-        ensures { number_of result ≡ service distance }
+        ensures { service_number result ≡ service distance }
     {
         if distance < 16 {
             Service::Near
@@ -39,7 +39,7 @@ impl Service {
 
     /// Returns the least distance at which a tag serves a range in this way.
     pub(crate) fn least_distance(self) -> u8
-        ensures { (distance : ℕ) → result ≤ distance → number_of self ≤ service distance }
+        ensures { (distance : ℕ) → result ≤ distance → service_number self ≤ service distance }
     {
         match self {
             Service::Near => 0,

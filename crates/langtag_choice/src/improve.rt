@@ -2,7 +2,7 @@
 ghost use Rattle.std.specs.Prelude.{◌≡◌, ◌-◌, ◌≤◌, ℕ, List, IsTrue, MatchOption, Some, false};
 ghost use Rattle.langtag_match.specs.AcceptLanguage.{Element};
 ghost use Rattle.langtag_choice.specs.Best as spec;
-ghost use Rattle.langtag_choice.specs.Found.{IsOf, IsWithin, Keeps, Takes, rank_of, wish_element};
+ghost use Rattle.langtag_choice.specs.Found.{IsOf, IsNotAfter, Keeps, Takes, rank_of, wish_element};
 
 use crate::candidate::{Candidate, Rank, Service};
 use crate::nearness::measured;
@@ -11,7 +11,7 @@ use crate::wish::Wish;
 /// Returns the distance below which a tag may be better than what was found, for a range with a weight at a place. It
 /// is 0 if no tag can be better, and 51 if a tag that only look-up finds may be.
 pub(crate) fn limit(found: &Option<Candidate<'_, '_>>, weight: u32, place: usize) -> u8
-    ensures { (element : Element) (index : ℕ) (tag : List ℕ) → element.weight ≡ weight → result ≤ spec.reach element.range tag → IsWithin found.now (spec.rank place element index tag) }
+    ensures { (element : Element) (index : ℕ) (tag : List ℕ) → element.weight ≡ weight → result ≤ spec.reach element.range tag → IsNotAfter found.now (spec.rank place element index tag) }
 {
     match found {
         Some(found) if found.rank.is_wanted_more(lack(weight), place) => {
@@ -65,7 +65,7 @@ fn improve_near<'a, 't>(
 /// Returns whether a candidate goes before what was found.
 fn is_first(next: &Candidate<'_, '_>, found: &Option<Candidate<'_, '_>>) -> bool
     ensures first { IsTrue result → Keeps found.now (Some next.now) }
-    ensures later { result ≡ false → IsWithin found.now (rank_of next.now) }
+    ensures later { result ≡ false → IsNotAfter found.now (rank_of next.now) }
 {
     match found {
         Some(found) => next.goes_before(found),

@@ -18,10 +18,6 @@ pub read_byte : (a : ℕ) (range : List ℕ) → BeginsPlain (a ∷ range) → b
 unfolding basic_text
 read_byte a range plain = basic_form-byte (hyphened_byte a) (hyphened range) plain
 
-pub read_star : (a : ℕ) (range : List ℕ) → hyphened_byte a ≡ 45 → basic_text (a ∷ 42 ∷ range) ≡ basic_text range
-unfolding basic_text
-read_star a range mark = rw mark refl
-
 pub read_nothing : basic_text [] ≡ []
 unfolding basic_text
 read_nothing = refl

@@ -1,5 +1,5 @@
 -- The subtags of a text in which "_" is read as "-", one after the other.
-use Rattle.std.proofs.Common.{◌≡◌, ℕ, Bool, true, false, cond, codes, Some, None, List, [], ◌∷◌, inl, inr, refl, sym, ap, ◌∙◌}
+use Rattle.std.proofs.Common.{◌≡◌, ℕ, true, false, cond, codes, Some, None, List, [], ◌∷◌, inl, inr, refl, sym, ap, ◌∙◌}
 use Rattle.std.specs.List.{before_first, after_first}
 use Rattle.langtag_scan.specs.Class.{is_primary}
 use Rattle.langtag_scan.specs.Subtags.{subtags}

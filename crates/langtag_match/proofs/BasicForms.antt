@@ -1,6 +1,6 @@
 -- A range without its "*": what stays, and what becomes of a range that has none.
 use Rattle.std.proofs.Common.{◌≡◌, ℕ, ◌<◌, ◌≤◌, Bool, true, false, not, eqb, cond, ◌||◌, List, [], ◌∷◌, ◌++◌, length, filter, inl, inr, refl, sym, subst, ap, ◌∙◌, arith}
-use Rattle.std.specs.List.{AllByRecursion, list_all}
+use Rattle.std.specs.List.{AllByRecursion}
 use Rattle.std.proofs.lemmas.Bool.{and_parts, or_cases}
 use Rattle.std.proofs.lemmas.Bool.Decides.{nat_tests}
 use Rattle.std.proofs.lemmas.List.Elements.{All-from_recursion}

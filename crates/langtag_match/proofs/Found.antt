@@ -1,7 +1,7 @@
 -- Filtering of a list, a tag and a range at a time.
-use Rattle.std.proofs.Common.{◌≡◌, ℕ, ◌+◌, ◌<◌, ◌≤◌, ◌&&◌, Bool, true, false, not, List, [], ◌∷◌, ◌++◌, Some, length, take, drop, get_or, refl, sym, ap, ◌∙◌}
+use Rattle.std.proofs.Common.{◌≡◌, ℕ, ◌+◌, ◌<◌, ◌&&◌, Bool, true, not, List, [], ◌∷◌, ◌++◌, Some, length, take, drop, get_or, refl, sym, ap, ◌∙◌}
 use Rattle.std.specs.List.{list_any, slice_get}
-use Rattle.std.proofs.lemmas.List.{at_drop_more, drop_all, take_more}
+use Rattle.std.proofs.lemmas.List.{at_drop_more, take_more}
 use Rattle.std.proofs.lemmas.Option.{get_or_from_slice_get}
 use Rattle.langtag.specs.declared.lang_tag.LangTag.{LangTag}
 use Rattle.langtag_match.specs.Filter.{finds, newly_found, found_after, found_from}
@@ -24,21 +24,6 @@ module _ (matches : List ℕ → List ℕ → Bool) (before : List LanguageRange
     where
       kept : newly_found matches before range (tag ∷ drop (index + 1) tags) ≡ tag ∷ newly_found matches before range (drop (index + 1) tags)
       kept = rw new refl
-
-  -- and is not
-  pub newly_found-not_here :
-      (tags : List LangTag) (index : ℕ) (tag : LangTag) → index < length tags → tag ≡ get_or tags index tag → is_new tag ≡ false →
-      newly_found matches before range (drop index tags) ≡ newly_found matches before range (drop (index + 1) tags)
-  newly_found-not_here tags index tag below at old =
-      at_drop_more (newly_found matches before range) tags index tag below
-      ∙ ap (λ t. newly_found matches before range (t ∷ drop (index + 1) tags)) (sym at)
-      ∙ passed
-    where
-      passed : newly_found matches before range (tag ∷ drop (index + 1) tags) ≡ newly_found matches before range (drop (index + 1) tags)
-      passed = rw old refl
-
-  pub newly_found-end : (tags : List LangTag) (index : ℕ) → length tags ≤ index → newly_found matches before range (drop index tags) ≡ []
-  newly_found-end tags index past = ap (newly_found matches before range) (drop_all index tags past)
 
 module _ (matches : List ℕ → List ℕ → Bool) (tags : List LangTag) where
   pub found_from-start : (before ranges : List LanguageRange) → found_from matches before ranges tags tags ≡ found_after matches before ranges tags
@@ -78,8 +63,3 @@ module _ (matches : List ℕ → List ℕ → Bool) (tags : List LangTag) where
         ∙ ap (λ l. l ++ found_after matches (take index ranges ++ range ∷ []) (drop (index + 1) ranges) tags) none
         ∙ ap (λ b. found_after matches b (drop (index + 1) ranges) tags) (sym more)
         ∙ sym (found_from-start (take (index + 1) ranges) (drop (index + 1) ranges))
-
-  pub found_from-end :
-      (ranges : List LanguageRange) (index : ℕ) (left : List LangTag) → length ranges ≤ index →
-      found_from matches (take index ranges) (drop index ranges) left tags ≡ []
-  found_from-end ranges index left past = ap (λ rs. found_from matches (take index ranges) rs left tags) (drop_all index ranges past)

@@ -1,5 +1,5 @@
 -- Ranges in which "_" is read as "-", and the parts of a list that is cut one after the other.
-use Rattle.std.proofs.Common.{◌≡◌, ◌⊎◌, take, not, nat_lt, inl, inr, cond, Option, ℕ, ◌+◌, ◌<◌, ◌≤◌, Bool, true, false, ◌&&◌, ◌||◌, List, [], ◌∷◌, Some, None, map, length, length-drop, ap, refl, sym, ◌∙◌, arith}
+use Rattle.std.proofs.Common.{◌≡◌, ◌⊎◌, take, not, nat_lt, inl, inr, cond, Option, ℕ, ◌+◌, ◌<◌, ◌≤◌, Bool, true, false, ◌&&◌, ◌||◌, List, [], ◌∷◌, Some, None, length, length-drop, ap, refl, sym, ◌∙◌, arith}
 use Rattle.std.specs.List.{slice_split, before_first, after_first, onto_first, position, position_or_len, cons_option}
 use Rattle.std.proofs.lemmas.Bool.{and_parts, cases_lt, or_cases, or_right}
 use Rattle.std.proofs.lemmas.Bool.Decides.{nat_tests, eqb_tells}

@@ -1,4 +1,4 @@
-use Rattle.std.proofs.Common.{◌≡◌, None, Some, length, refl, rules}
+use Rattle.std.proofs.Common.{None, Some, refl, rules}
 use Rattle.langtag_match.specs.Wanted.{wanted_elements}
 use Rattle.langtag_c.proofs.HeaderRanges.{is_match_at, no_match_at}
 use Rattle.langtag_c.proofs.TagsAt.{is_best, within_spans}

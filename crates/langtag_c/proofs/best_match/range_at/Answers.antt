@@ -1,4 +1,4 @@
-use Rattle.std.proofs.Common.{◌≡◌, ◌+◌, arith, length, refl, rules, subst, sym, tests, true, ◌∙◌, ap}
+use Rattle.std.proofs.Common.{◌+◌, arith, length, refl, rules, sym, tests, ap}
 use Rattle.std.proofs.lemmas.Iterator.Splits.{YieldsList-from_slice_split}
 use Rattle.std.proofs.lemmas.Iterator.Consumers.{YieldsList-at, YieldsList-turn, YieldsList-end}
 use Rattle.std.proofs.lemmas.List.{length-map, take_all}

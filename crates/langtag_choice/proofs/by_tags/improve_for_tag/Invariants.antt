@@ -1,5 +1,5 @@
 use Rattle.std.proofs.Common.{◌≡◌, ◌⊎◌, ◌+◌, ◌<◌, ◌^◌, length}
-use Rattle.langtag_choice.specs.Found.{CoversRanges, IsFrom, Keeps}
+use Rattle.langtag_choice.specs.Found.{CoversRanges, IsOldOrAt, Keeps}
 use Rattle.langtag_choice.proofs.FoundLaws.{IsRest}
 use Rattle.langtag_choice.proofs.by_tags.improve_for_tag.Given as goal
 
@@ -9,7 +9,7 @@ invariant-loop-wanted g l = record {
   rest : IsRest (g.R.RangeList.elements l.fn.ranges) (g.R.RangeList.elements l.left) l.place;
   keeps : Keeps l.fn.found l.found;
   covers : CoversRanges (g.R.RangeList.elements l.fn.ranges) l.tag l.index l.place l.found;
-  from : IsFrom (g.R.RangeList.elements l.fn.ranges) l.tag l.index l.fn.found l.found;
+  from : IsOldOrAt (g.R.RangeList.elements l.fn.ranges) l.tag l.index l.fn.found l.found;
 }
 
 abbrev pub decreases-loop-wanted : goal.decreases-loop-wanted

@@ -1,11 +1,11 @@
 use Rattle.std.proofs.Common.{◌≡◌, length, max}
-use Rattle.langtag_choice.specs.Best.{is_wish, is_zero, longest}
+use Rattle.langtag_choice.specs.Best.{is_wish, is_excluded, longest}
 use Rattle.langtag_choice.proofs.refused.is_refused.Given as goal
 
 abbrev pub invariant-loop-range : goal.invariant-loop-range
 invariant-loop-range g l = record {
   wishes : max l.wanted (longest is_wish (g.R.RangeList.elements l.left) l.tag) ≡ longest is_wish (g.R.RangeList.elements l.fn.ranges) l.tag;
-  zeros : max l.refused (longest is_zero (g.R.RangeList.elements l.left) l.tag) ≡ longest is_zero (g.R.RangeList.elements l.fn.ranges) l.tag;
+  zeros : max l.refused (longest is_excluded (g.R.RangeList.elements l.left) l.tag) ≡ longest is_excluded (g.R.RangeList.elements l.fn.ranges) l.tag;
 }
 
 abbrev pub decreases-loop-range : goal.decreases-loop-range
