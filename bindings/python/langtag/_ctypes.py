@@ -210,7 +210,7 @@ class TagBase(_Value):
     def _pairs(self, which: int) -> Iterable[tuple[str, str]]:
         passed, key, value = ctypes.c_size_t(), Span(), Span()
         take = (_c.langtag_next_keyword, _c.langtag_next_field)[which]
-        return [(self._at(key), self._at(value)) for _ in iter(lambda: self._ask(take, passed, key, value), False)]
+        return [(self._at(key), self._at(value)) for _ in iter(lambda: bool(self._ask(take, passed, key, value)), False)]
 
     def _before_keys(self, which: int) -> str | None:
         found, call = Span(), (_c.langtag_attributes, _c.langtag_transform)[which]
