@@ -32,6 +32,12 @@ macro_rules! errors {
         #[cfg(feature = "alloc")]
         impl $error<&str> {
             /// Returns the same error with a copy of the text, which outlives what was read.
+            ///
+            /// ```
+            /// # use langtag::{matching::*, *};
+            #[doc = concat!("let error = ", stringify!($name), "::new(\"_\").unwrap_err();")]
+            /// assert_eq!(error.into_owned().0, "_");
+            /// ```
             pub fn into_owned(self) -> $error<alloc::string::String> {
                 $error(self.0.into())
             }

@@ -44,6 +44,14 @@ pub enum InvalidSubtagBuf {
 
 impl InvalidSubtagBuf {
     /// Returns the borrowed form.
+    ///
+    /// ```
+    /// use langtag::registry::{validate, InvalidSubtag};
+    /// use langtag::LangTag;
+    ///
+    /// let error = validate(LangTag::new("qt-FR").unwrap()).unwrap_err().into_owned();
+    /// assert!(matches!(error.as_invalid_subtag(), InvalidSubtag::Language(language) if language == "qt"));
+    /// ```
     pub fn as_invalid_subtag(&self) -> InvalidSubtag<'_> {
         match self {
             InvalidSubtagBuf::Language(subtag) => {
@@ -95,6 +103,18 @@ impl fmt::Display for InvalidSubtagBuf {
 }
 
 /// The error of [`AcceptLanguage::new`](matching::AcceptLanguage::new), which owns the header.
+///
+/// ```
+/// use langtag::matching::{AcceptLanguage, AcceptLanguageError};
+/// use langtag::AcceptLanguageErrorBuf;
+///
+/// fn count(header: String) -> Result<usize, AcceptLanguageErrorBuf> {
+///     let accepted = AcceptLanguage::new(&header).map_err(AcceptLanguageError::into_owned)?;
+///     Ok(accepted.ranges().len())
+/// }
+/// assert_eq!(count("de, fr;q=0.5".into()).ok(), Some(2));
+/// assert_eq!(count("de, fr_FR".into()).unwrap_err().to_string(), "element 1 has a bad language range");
+/// ```
 #[derive(Debug)]
 pub enum AcceptLanguageErrorBuf {
     /// A malformed element, as in [`AcceptLanguageError::BadElement`].
@@ -144,6 +164,17 @@ impl fmt::Display for AcceptLanguageErrorBuf {
 }
 
 /// The error of [`from_posix`](likely::from_posix), which owns the name.
+///
+/// ```
+/// use langtag::likely::{from_posix, PosixError};
+/// use langtag::{LangTagBuf, PosixErrorBuf};
+///
+/// fn read(name: String) -> Result<LangTagBuf, PosixErrorBuf> {
+///     from_posix(&name).map_err(PosixError::into_owned)
+/// }
+/// assert_eq!(read("pt_BR.UTF-8".into()).unwrap(), "pt-BR");
+/// assert_eq!(read("C".into()), Err(PosixErrorBuf::NoTag("C".into())));
+/// ```
 #[derive(Clone, Debug, PartialEq, Eq)]
 pub enum PosixErrorBuf {
     /// The name has no language.

@@ -27,6 +27,14 @@ use core::str::FromStr;
 use crate::{Ends, LangTag, LangTagBuf, NormalLangTag, Subtags};
 
 /// A language tag over a text of any kind, with the parts of oxilangtag.
+///
+/// ```
+/// use langtag::oxilangtag::LanguageTag;
+///
+/// let tag = LanguageTag::parse("zh-Hant-TW")?;
+/// assert_eq!((tag.script(), tag.region()), (Some("Hant"), Some("TW")));
+/// # Ok::<(), langtag::oxilangtag::LanguageTagParseError>(())
+/// ```
 #[derive(Clone, Copy)]
 pub struct LanguageTag<T> {
     tag: T,
@@ -40,6 +48,14 @@ impl<T: Deref<Target = str>> LanguageTag<T> {
     /// # Errors
     ///
     /// Returns an error if the text is not a tag.
+    ///
+    /// ```
+    /// use langtag::oxilangtag::LanguageTag;
+    ///
+    /// assert_eq!(LanguageTag::parse("ZH-hant")?.as_str(), "ZH-hant");
+    /// assert!(LanguageTag::parse("zh_Hant").is_err());
+    /// # Ok::<(), langtag::oxilangtag::LanguageTagParseError>(())
+    /// ```
     pub fn parse(tag: T) -> Result<Self, LanguageTagParseError> {
         let read = LangTag::new(&tag).map_err(|error| LanguageTagParseError::of(error.0))?;
         let ends = match read.as_normal() {
@@ -50,49 +66,120 @@ impl<T: Deref<Target = str>> LanguageTag<T> {
     }
 
     /// Returns the text.
+    ///
+    /// ```
+    /// use langtag::oxilangtag::LanguageTag;
+    ///
+    /// assert_eq!(LanguageTag::parse("en-US")?.as_str(), "en-US");
+    /// # Ok::<(), langtag::oxilangtag::LanguageTagParseError>(())
+    /// ```
     #[inline]
     pub fn as_str(&self) -> &str {
         &self.tag
     }
 
     /// Returns the text that it was made of.
+    ///
+    /// ```
+    /// use langtag::oxilangtag::LanguageTag;
+    ///
+    /// let tag = LanguageTag::parse(String::from("en-US"))?;
+    /// assert_eq!(tag.into_inner(), String::from("en-US"));
+    /// # Ok::<(), langtag::oxilangtag::LanguageTagParseError>(())
+    /// ```
     #[inline]
     pub fn into_inner(self) -> T {
         self.tag
     }
 
     /// Returns the primary language, such as `zh`, or the whole text of a tag without parts.
+    ///
+    /// ```
+    /// use langtag::oxilangtag::LanguageTag;
+    ///
+    /// assert_eq!(LanguageTag::parse("zh-cmn-Hans")?.primary_language(), "zh");
+    /// assert_eq!(LanguageTag::parse("x-mine")?.primary_language(), "x-mine");
+    /// # Ok::<(), langtag::oxilangtag::LanguageTagParseError>(())
+    /// ```
     pub fn primary_language(&self) -> &str {
         self.normal()
             .map_or(&self.tag, |tag| tag.language().primary().into())
     }
 
     /// Returns the extended languages as one text, such as `cmn`.
+    ///
+    /// ```
+    /// use langtag::oxilangtag::LanguageTag;
+    ///
+    /// assert_eq!(LanguageTag::parse("zh-cmn-Hans")?.extended_language(), Some("cmn"));
+    /// assert_eq!(LanguageTag::parse("zh-Hans")?.extended_language(), None);
+    /// # Ok::<(), langtag::oxilangtag::LanguageTagParseError>(())
+    /// ```
     pub fn extended_language(&self) -> Option<&str> {
         self.normal()?.language().extension().map(Into::into)
     }
 
     /// Iterates over the extended languages.
+    ///
+    /// ```
+    /// use langtag::oxilangtag::LanguageTag;
+    ///
+    /// let tag = LanguageTag::parse("zh-cmn-Hans")?;
+    /// assert_eq!(tag.extended_language_subtags().collect::<Vec<_>>(), ["cmn"]);
+    /// # Ok::<(), langtag::oxilangtag::LanguageTagParseError>(())
+    /// ```
     pub fn extended_language_subtags(&self) -> impl Iterator<Item = &str> {
         Subtags::new(self.extended_language().unwrap_or(""))
     }
 
     /// Returns the primary and the extended languages, such as `zh-cmn`, or the whole text of a tag without parts.
+    ///
+    /// ```
+    /// use langtag::oxilangtag::LanguageTag;
+    ///
+    /// assert_eq!(LanguageTag::parse("zh-cmn-Hans")?.full_language(), "zh-cmn");
+    /// assert_eq!(LanguageTag::parse("i-klingon")?.full_language(), "i-klingon");
+    /// # Ok::<(), langtag::oxilangtag::LanguageTagParseError>(())
+    /// ```
     pub fn full_language(&self) -> &str {
         self.normal().map_or(&self.tag, |tag| tag.language().into())
     }
 
     /// Returns the script, such as `Hans`.
+    ///
+    /// ```
+    /// use langtag::oxilangtag::LanguageTag;
+    ///
+    /// assert_eq!(LanguageTag::parse("zh-Hans-CN")?.script(), Some("Hans"));
+    /// assert_eq!(LanguageTag::parse("zh-CN")?.script(), None);
+    /// # Ok::<(), langtag::oxilangtag::LanguageTagParseError>(())
+    /// ```
     pub fn script(&self) -> Option<&str> {
         self.normal()?.script().map(Into::into)
     }
 
     /// Returns the region, such as `CN`.
+    ///
+    /// ```
+    /// use langtag::oxilangtag::LanguageTag;
+    ///
+    /// assert_eq!(LanguageTag::parse("zh-Hans-CN")?.region(), Some("CN"));
+    /// assert_eq!(LanguageTag::parse("zh-Hans")?.region(), None);
+    /// # Ok::<(), langtag::oxilangtag::LanguageTagParseError>(())
+    /// ```
     pub fn region(&self) -> Option<&str> {
         self.normal()?.region().map(Into::into)
     }
 
     /// Returns the variants as one text, such as `rozaj-1994`.
+    ///
+    /// ```
+    /// use langtag::oxilangtag::LanguageTag;
+    ///
+    /// assert_eq!(LanguageTag::parse("sl-rozaj-1994")?.variant(), Some("rozaj-1994"));
+    /// assert_eq!(LanguageTag::parse("sl")?.variant(), None);
+    /// # Ok::<(), langtag::oxilangtag::LanguageTagParseError>(())
+    /// ```
     pub fn variant(&self) -> Option<&str> {
         self.normal()
             .map(|tag| tag.variants().into())
@@ -100,11 +187,27 @@ impl<T: Deref<Target = str>> LanguageTag<T> {
     }
 
     /// Iterates over the variants.
+    ///
+    /// ```
+    /// use langtag::oxilangtag::LanguageTag;
+    ///
+    /// let tag = LanguageTag::parse("sl-rozaj-1994")?;
+    /// assert_eq!(tag.variant_subtags().collect::<Vec<_>>(), ["rozaj", "1994"]);
+    /// # Ok::<(), langtag::oxilangtag::LanguageTagParseError>(())
+    /// ```
     pub fn variant_subtags(&self) -> impl Iterator<Item = &str> {
         Subtags::new(self.variant().unwrap_or(""))
     }
 
     /// Returns the extensions as one text, such as `u-co-phonebk`.
+    ///
+    /// ```
+    /// use langtag::oxilangtag::LanguageTag;
+    ///
+    /// let tag = LanguageTag::parse("de-u-co-phonebk-x-mine")?;
+    /// assert_eq!(tag.extension(), Some("u-co-phonebk"));
+    /// # Ok::<(), langtag::oxilangtag::LanguageTagParseError>(())
+    /// ```
     pub fn extension(&self) -> Option<&str> {
         self.normal()
             .map(|tag| tag.extensions().into())
@@ -112,12 +215,28 @@ impl<T: Deref<Target = str>> LanguageTag<T> {
     }
 
     /// Iterates over the extensions, each with its singleton, such as `('u', "co-phonebk")`.
+    ///
+    /// ```
+    /// use langtag::oxilangtag::LanguageTag;
+    ///
+    /// let tag = LanguageTag::parse("de-t-en-u-co-phonebk")?;
+    /// assert_eq!(tag.extension_subtags().collect::<Vec<_>>(), [('t', "en"), ('u', "co-phonebk")]);
+    /// # Ok::<(), langtag::oxilangtag::LanguageTagParseError>(())
+    /// ```
     pub fn extension_subtags(&self) -> impl Iterator<Item = (char, &str)> {
         let extensions = self.normal().into_iter().flat_map(|tag| tag.extensions());
         extensions.map(|extension| (extension.singleton().into(), &extension.as_str()[2..]))
     }
 
     /// Returns the private-use part, such as `x-mine`, or the whole text of a private-use tag.
+    ///
+    /// ```
+    /// use langtag::oxilangtag::LanguageTag;
+    ///
+    /// assert_eq!(LanguageTag::parse("de-x-mine")?.private_use(), Some("x-mine"));
+    /// assert_eq!(LanguageTag::parse("x-mine")?.private_use(), Some("x-mine"));
+    /// # Ok::<(), langtag::oxilangtag::LanguageTagParseError>(())
+    /// ```
     pub fn private_use(&self) -> Option<&str> {
         match self.normal() {
             Some(tag) => tag.private_use().map(Into::into),
@@ -126,6 +245,14 @@ impl<T: Deref<Target = str>> LanguageTag<T> {
     }
 
     /// Iterates over the subtags of the private-use part, without its `x`: `mine`.
+    ///
+    /// ```
+    /// use langtag::oxilangtag::LanguageTag;
+    ///
+    /// let tag = LanguageTag::parse("de-x-mine-1")?;
+    /// assert_eq!(tag.private_use_subtags().collect::<Vec<_>>(), ["mine", "1"]);
+    /// # Ok::<(), langtag::oxilangtag::LanguageTagParseError>(())
+    /// ```
     pub fn private_use_subtags(&self) -> impl Iterator<Item = &str> {
         Subtags::new(self.private_use().map_or("", |part| &part[2..]))
     }
@@ -146,6 +273,14 @@ impl LanguageTag<String> {
     /// # Errors
     ///
     /// Returns an error if the text is not a tag.
+    ///
+    /// ```
+    /// use langtag::oxilangtag::LanguageTag;
+    ///
+    /// assert_eq!(LanguageTag::parse_and_normalize("EN-us")?.as_str(), "en-US");
+    /// assert!(LanguageTag::parse_and_normalize("en_US").is_err());
+    /// # Ok::<(), langtag::oxilangtag::LanguageTagParseError>(())
+    /// ```
     pub fn parse_and_normalize(tag: &str) -> Result<Self, LanguageTagParseError> {
         let mut tag: LangTagBuf = tag.parse().map_err(|_| LanguageTagParseError::of(tag))?;
         tag.make_recommended_case();
@@ -154,6 +289,13 @@ impl LanguageTag<String> {
 }
 
 /// The error for a text that is not a tag. Its message says how much of the text can begin a tag.
+///
+/// ```
+/// use langtag::oxilangtag::LanguageTag;
+///
+/// let error = LanguageTag::parse("en_US").unwrap_err();
+/// assert_eq!(error.to_string(), "invalid language tag, of which the first 2 bytes can begin one");
+/// ```
 #[derive(Clone, Debug)]
 pub struct LanguageTagParseError {
     viable_len: usize,

@@ -95,6 +95,13 @@ pub enum GrandfatheredLangTag {
 }
 
 /// All grandfathered tags, in the order of [`GrandfatheredLangTag`].
+///
+/// ```
+/// use langtag::GRANDFATHERED;
+///
+/// GRANDFATHERED.first().map(|tag| tag.as_str()); // Some("en-GB-oed")
+/// GRANDFATHERED.len(); // 26
+/// ```
 pub const GRANDFATHERED: [GrandfatheredLangTag; 26] = [
     GrandfatheredLangTag::EnGbOed,
     GrandfatheredLangTag::IAmi,
@@ -202,8 +209,14 @@ impl GrandfatheredLangTag {
         }
     }
 
-    /// Returns the primary language of a regular tag: `zh` for `zh-min-nan`. An irregular one has none: `None` for
-    /// `i-lux`.
+    /// Returns the primary language of a regular tag. An irregular tag has none.
+    ///
+    /// ```
+    /// use langtag::GrandfatheredLangTag;
+    ///
+    /// GrandfatheredLangTag::ZhMinNan.language().map(|it| it.as_str()); // Some("zh")
+    /// GrandfatheredLangTag::ILux.language(); // None
+    /// ```
     pub fn language(&self) -> Option<Language<'static>>
         ensures { option_map language_text result ≡ language_of self.now }
     {
@@ -211,7 +224,7 @@ impl GrandfatheredLangTag {
         Some(Language::from_checked(language))
     }
 
-    /// Returns the registered spelling: `sgn-BE-FR` for `GrandfatheredLangTag::SgnBeFr`.
+    /// Returns the registered spelling: `GrandfatheredLangTag::SgnBeFr.as_str()` is `"sgn-BE-FR"`.
     pub fn as_str(&self) -> &'static str
         ensures { result.now ≡ text_of self.now }
     {
@@ -226,7 +239,7 @@ impl GrandfatheredLangTag {
         LangTag::from_checked(self.as_str())
     }
 
-    /// Returns the bytes of the registered spelling: `b"i-lux"` for `GrandfatheredLangTag::ILux`.
+    /// Returns the bytes of the registered spelling: `GrandfatheredLangTag::ILux.as_bytes()` is `b"i-lux"`.
     pub fn as_bytes(&self) -> &'static [u8]
         ensures { result.now ≡ text_of self.now }
     {

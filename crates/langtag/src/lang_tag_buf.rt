@@ -61,6 +61,14 @@ impl LangTagBuf {
     /// # Errors
     ///
     /// Returns the same `String` if it is not a tag, such as `x-`.
+    ///
+    /// ```
+    /// use langtag::LangTagBuf;
+    /// use std::str::FromStr;
+    ///
+    /// LangTagBuf::new(String::from_str(alloc, "zh-TW")?)?.as_str(); // "zh-TW"
+    /// LangTagBuf::new(String::from_str(alloc, "x-")?).is_err(); // true
+    /// ```
     pub fn new(text: String) -> Result<LangTagBuf, InvalidLangTag<String>>
         ensures accepts { IsTrue (is_ok result) ↔ IsTag (string_bytes text) }
         ensures same_text { IfOk result (λ tag. lang_tag_buf_text tag ≡ string_bytes text) }
@@ -84,7 +92,8 @@ impl LangTagBuf {
         }
     }
 
-    /// Borrows the tag, without parsing it again.
+    /// Borrows the tag, without parsing it again: `LangTag::new("x-A")?.try_to_owned(alloc)?.as_lang_tag().as_str()` is
+    /// `"x-A"`.
     ///
     /// It is proved that comparisons and hashes of owned tags ignore case.
     pub fn as_lang_tag(&self) -> LangTag<'_>
@@ -94,7 +103,7 @@ impl LangTagBuf {
         LangTag::with_found(self.as_str(), self.found)
     }
 
-    /// Returns the text, in its original case.
+    /// Returns the text, in its original case: `LangTag::new("x-A")?.try_to_owned(alloc)?.as_str()` is `"x-A"`.
     pub fn as_str(&self) -> &str
         ensures same_text { result.now ≡ lang_tag_buf_text self.now }
         ensures in_class { IsTag result.now }
@@ -108,6 +117,13 @@ impl LangTagBuf {
     /// # Errors
     ///
     /// Returns the tag if it is of another kind, such as `x-a`.
+    ///
+    /// ```
+    /// use langtag::LangTag;
+    ///
+    /// LangTag::new("zh-TW")?.try_to_owned(alloc)?.into_normal().is_ok(); // true
+    /// LangTag::new("x-a")?.try_to_owned(alloc)?.into_normal().is_err(); // true
+    /// ```
     pub fn into_normal(self) -> Result<NormalLangTagBuf, LangTagBuf>
         ensures accepts { IsTrue (is_ok result) ↔ IsNormal (lang_tag_buf_text self) }
         ensures same_text { IfOk result (λ tag. normal_lang_tag_buf_text tag ≡ lang_tag_buf_text self) }
@@ -120,7 +136,7 @@ impl LangTagBuf {
         Ok(NormalLangTagBuf::with_ends(self.text.0, ends))
     }
 
-    /// Returns the `String`, without copying it.
+    /// Returns the `String`, without copying it: `LangTag::new("x-A")?.try_to_owned(alloc)?.into_string()` is `"x-A"`.
     pub fn into_string(self) -> String
         ensures same_text { string_bytes result ≡ lang_tag_buf_text self }
         ensures same_string { result ≡ lang_tag_buf_string self }
@@ -135,6 +151,14 @@ impl LangTagBuf {
     /// In a normal tag, the script becomes titlecase, the region uppercase, and everything else lowercase. The tag
     /// still equals the old one, and its parts keep their offsets. It neither allocates nor parses. Equal tags become
     /// the same bytes, so the text can be a key in a store that compares bytes.
+    ///
+    /// ```
+    /// use langtag::LangTag;
+    ///
+    /// let mut tag = LangTag::new("MN-cYRL-mn")?.try_to_owned(alloc)?;
+    /// tag.make_recommended_case();
+    /// tag.as_str(); // "mn-Cyrl-MN"
+    /// ```
     pub fn make_recommended_case(&mut self)
         ensures case { lang_tag_buf_text self.new ≡ recommended_text (lang_tag_buf_text self.old) }
         ensures same_block { SameBlock (string_vec (lang_tag_buf_string self.old)) (string_vec (lang_tag_buf_string self.new)) }

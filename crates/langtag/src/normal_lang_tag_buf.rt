@@ -64,6 +64,14 @@ impl NormalLangTagBuf {
     /// # Errors
     ///
     /// Returns the same `String` if it is not a normal tag, such as `x-a`.
+    ///
+    /// ```
+    /// use langtag::NormalLangTagBuf;
+    /// use std::str::FromStr;
+    ///
+    /// NormalLangTagBuf::new(String::from_str(alloc, "zh-TW")?)?.as_str(); // "zh-TW"
+    /// NormalLangTagBuf::new(String::from_str(alloc, "x-a")?).is_err(); // true
+    /// ```
     pub fn new(text: String) -> Result<NormalLangTagBuf, InvalidNormalLangTag<String>>
         ensures accepts { IsTrue (is_ok result) ↔ IsNormal (string_bytes text) }
         ensures same_text { IfOk result (λ tag. normal_lang_tag_buf_text tag ≡ string_bytes text) }
@@ -127,7 +135,8 @@ impl NormalLangTagBuf {
         }
     }
 
-    /// Borrows the tag, without parsing it again.
+    /// Borrows the tag, without parsing it again:
+    /// `NormalLangTag::new("ZH-tw")?.try_to_owned(alloc)?.as_normal_lang_tag().as_str()` is `"ZH-tw"`.
     ///
     /// It is proved that comparisons and hashes of owned normal tags ignore case.
     pub fn as_normal_lang_tag(&self) -> NormalLangTag<'_>
@@ -137,7 +146,8 @@ impl NormalLangTagBuf {
         NormalLangTag::with_ends(self.as_str(), self.ends)
     }
 
-    /// Returns the text, in its original case.
+    /// Returns the text, in its original case: `NormalLangTag::new("ZH-tw")?.try_to_owned(alloc)?.as_str()` is
+    /// `"ZH-tw"`.
     pub fn as_str(&self) -> &str
         ensures same_text { result.now ≡ normal_lang_tag_buf_text self.now }
         ensures in_class { IsNormal result.now }
@@ -146,6 +156,13 @@ impl NormalLangTagBuf {
     }
 
     /// Converts the tag into a [`LangTagBuf`] over the same `String`, without parsing it again.
+    ///
+    /// ```
+    /// use langtag::NormalLangTag;
+    ///
+    /// let tag = NormalLangTag::new("zh-TW")?.try_to_owned(alloc)?;
+    /// tag.into_lang_tag().as_str(); // "zh-TW"
+    /// ```
     pub fn into_lang_tag(self) -> LangTagBuf
         ensures same_text { lang_tag_buf_text result ≡ normal_lang_tag_buf_text self }
         ensures same_string { lang_tag_buf_string result ≡ normal_lang_tag_buf_string self }
@@ -154,7 +171,8 @@ impl NormalLangTagBuf {
         LangTagBuf::with_found(self.text.0, Recognised::Normal(self.ends))
     }
 
-    /// Returns the `String`, without copying it.
+    /// Returns the `String`, without copying it: `NormalLangTag::new("ZH-tw")?.try_to_owned(alloc)?.into_string()` is
+    /// `"ZH-tw"`.
     pub fn into_string(self) -> String
         ensures same_text { string_bytes result ≡ normal_lang_tag_buf_text self }
         ensures same_string { result ≡ normal_lang_tag_buf_string self }
@@ -165,6 +183,14 @@ impl NormalLangTagBuf {
 
     /// Changes the letters to the case that RFC 5646 section 2.1.1 recommends, as [`LangTagBuf::make_recommended_case`]
     /// does: `MN-cYRL-mn` becomes `mn-Cyrl-MN`. It does not allocate, and parses nothing.
+    ///
+    /// ```
+    /// use langtag::NormalLangTag;
+    ///
+    /// let mut tag = NormalLangTag::new("MN-cYRL-mn")?.try_to_owned(alloc)?;
+    /// tag.make_recommended_case();
+    /// tag.as_str(); // "mn-Cyrl-MN"
+    /// ```
     pub fn make_recommended_case(&mut self)
         ensures case { normal_lang_tag_buf_text self.new ≡ recommended_text (normal_lang_tag_buf_text self.old) }
         ensures same_block { SameBlock (string_vec (normal_lang_tag_buf_string self.old)) (string_vec (normal_lang_tag_buf_string self.new)) }

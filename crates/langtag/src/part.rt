@@ -65,6 +65,14 @@ pub struct Replacement<'a> {
 ///
 /// To put the region `AT` into `de-DE-1996`, replace the bytes from 2 to 5 by a hyphen and `AT`. It is proved that a
 /// clone of a part is the same part.
+///
+/// ```
+/// use langtag::{NormalLangTag, Part, Region, put_part};
+///
+/// let region = Part::Region(Some(Region::new("AT")?));
+/// let new = put_part(NormalLangTag::new("de-DE-1996")?, region);
+/// (new.start, new.end, new.hyphen, new.part); // (2, 5, "-", "AT")
+/// ```
 pub fn put_part<'a>(tag: NormalLangTag<'_>, part: Part<'a>) -> Replacement<'a>
     ensures order { result.start ≤ result.end }
     ensures within { result.end ≤ length (normal_lang_tag_text tag.entry) }
@@ -81,8 +89,8 @@ pub fn put_part<'a>(tag: NormalLangTag<'_>, part: Part<'a>) -> Replacement<'a>
 }
 
 impl<'a> Part<'a> {
-    /// Returns the text of the part: `Latn` for `Part::Script(Script::new("Latn").ok())`, and the empty text for an
-    /// absent part.
+    /// Returns the text of the part: `Part::Script(Script::new("Latn").ok()).as_str()` is `"Latn"`. An absent part has
+    /// the empty text.
     pub fn as_str(&self) -> &'a str
         ensures { result.now ≡ part_text self.now }
     {

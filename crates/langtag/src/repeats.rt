@@ -43,7 +43,13 @@ fn first_repeated_of_few(variants: Variants<'_>) -> Option<usize>
 /// Returns whether a variant equals one of the first `count` variants of a list, ignoring case
 /// (RFC 5646 section 2.2.5). If the list is shorter, all its variants are compared.
 ///
-/// For `rozaj-1996-1996` and `1996` it is `true` with a count of 2, and `false` with a count of 1.
+/// ```
+/// use langtag::{Variant, Variants, is_among_first};
+///
+/// let variants = Variants::new("rozaj-1996-1996")?;
+/// is_among_first(variants, 2, Variant::new("1996")?); // true
+/// is_among_first(variants, 1, Variant::new("1996")?); // false
+/// ```
 pub fn is_among_first(variants: Variants<'_>, count: usize, variant: Variant<'_>) -> bool
     ensures { result ≡ list_any (are_alike (variant_text variant.entry)) (take count (subtags (variants_text variants.entry))) }
 {

@@ -34,6 +34,13 @@ impl<'a> TypedLangTag<'a> {
 
     /// Returns the language of a normal tag, or the primary language of a regular grandfathered one: `zh` for `zh-TW`,
     /// `None` for `x-a` and `i-lux`.
+    ///
+    /// ```
+    /// use langtag::LangTag;
+    ///
+    /// LangTag::new("zh-TW")?.as_typed().language().map(|it| it.as_str()); // Some("zh")
+    /// LangTag::new("i-lux")?.as_typed().language().map(|it| it.as_str()); // None
+    /// ```
     pub fn language(&self) -> Option<Language<'a>>
         ensures { HasLanguage self.now result }
     {
@@ -44,8 +51,9 @@ impl<'a> TypedLangTag<'a> {
         }
     }
 
-    /// Returns the kind of the tag: `Kind::PrivateUse` for `x-a`. It is proved that typed tags are equal if they have
-    /// the same kind and their texts are equal, ignoring case, and that a clone is the same value.
+    /// Returns the kind of the tag: `LangTag::new("x-a")?.as_typed().kind()` is `Kind::PrivateUse`. It is proved that
+    /// typed tags are equal if they have the same kind and their texts are equal, ignoring case, and that a clone is
+    /// the same value.
     pub fn kind(&self) -> Kind
         ensures kind { result ≡ kind_of self.now }
         ensures compared { TypedLangTagsCompareByKind }
@@ -60,6 +68,13 @@ impl<'a> TypedLangTag<'a> {
     }
 
     /// Returns whether this is a normal tag: `true` for `zh-TW` and `art-lojban`, `false` for `x-a`.
+    ///
+    /// ```
+    /// use langtag::LangTag;
+    ///
+    /// LangTag::new("art-lojban")?.as_typed().is_normal(); // true
+    /// LangTag::new("x-a")?.as_typed().is_normal(); // false
+    /// ```
     pub fn is_normal(&self) -> bool
         ensures { IsTrue result ↔ (kind_of self.now ≡ Kind.Normal) }
     {
@@ -67,6 +82,13 @@ impl<'a> TypedLangTag<'a> {
     }
 
     /// Returns whether this is a private-use tag: `true` for `x-a`, `false` for `fr-x-a`.
+    ///
+    /// ```
+    /// use langtag::LangTag;
+    ///
+    /// LangTag::new("x-a")?.as_typed().is_private_use(); // true
+    /// LangTag::new("fr-x-a")?.as_typed().is_private_use(); // false
+    /// ```
     pub fn is_private_use(&self) -> bool
         ensures { IsTrue result ↔ (kind_of self.now ≡ Kind.PrivateUse) }
     {
@@ -77,6 +99,13 @@ impl<'a> TypedLangTag<'a> {
     ///
     /// For `art-lojban`, a regular grandfathered tag, [`LangTag::as_typed`](crate::LangTag::as_typed) returns a normal
     /// tag, so this is `false`, while [`LangTag::is_grandfathered`](crate::LangTag::is_grandfathered) is `true`.
+    ///
+    /// ```
+    /// use langtag::LangTag;
+    ///
+    /// LangTag::new("i-lux")?.as_typed().is_grandfathered(); // true
+    /// LangTag::new("art-lojban")?.as_typed().is_grandfathered(); // false
+    /// ```
     pub fn is_grandfathered(&self) -> bool
         ensures { IsTrue result ↔ (kind_of self.now ≡ Kind.Grandfathered) }
     {
@@ -84,6 +113,13 @@ impl<'a> TypedLangTag<'a> {
     }
 
     /// Returns the normal tag if this is one: `Some` for `zh-TW`, `None` for `x-a`.
+    ///
+    /// ```
+    /// use langtag::LangTag;
+    ///
+    /// LangTag::new("zh-TW")?.as_typed().as_normal().is_some(); // true
+    /// LangTag::new("x-a")?.as_typed().as_normal().is_some(); // false
+    /// ```
     pub fn as_normal(&self) -> Option<NormalLangTag<'a>>
         ensures { result ≡ normal_of self.now }
     {
@@ -94,6 +130,13 @@ impl<'a> TypedLangTag<'a> {
     }
 
     /// Returns the private-use tag if this is one: `Some` for `x-a`, `None` for `fr-x-a`.
+    ///
+    /// ```
+    /// use langtag::LangTag;
+    ///
+    /// LangTag::new("x-a")?.as_typed().as_private_use().is_some(); // true
+    /// LangTag::new("fr-x-a")?.as_typed().as_private_use().is_some(); // false
+    /// ```
     pub fn as_private_use(&self) -> Option<PrivateUseLangTag<'a>>
         ensures { result ≡ private_use_of self.now }
     {
@@ -104,6 +147,13 @@ impl<'a> TypedLangTag<'a> {
     }
 
     /// Returns the grandfathered tag if this is one: `Some` for `i-lux`, `None` for `art-lojban`, which is normal.
+    ///
+    /// ```
+    /// use langtag::LangTag;
+    ///
+    /// LangTag::new("i-lux")?.as_typed().as_grandfathered().is_some(); // true
+    /// LangTag::new("art-lojban")?.as_typed().as_grandfathered().is_some(); // false
+    /// ```
     pub fn as_grandfathered(&self) -> Option<GrandfatheredLangTag>
         ensures { result ≡ grandfathered_of self.now }
     {

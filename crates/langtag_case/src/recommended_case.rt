@@ -16,6 +16,14 @@ use crate::recommended_bytes::RecommendedBytes;
 /// uppercase, those of four bytes titlecase, and the rest lowercase. A byte that is not an ASCII letter stays as it is.
 ///
 /// Texts that differ only in case become the same bytes, so the result can be a key in a store that compares bytes.
+///
+/// ```
+/// use langtag_case::make_recommended_case;
+///
+/// let mut text = *b"MN-cYRL-mn";
+/// make_recommended_case(&mut text);
+/// &text; // b"mn-Cyrl-MN"
+/// ```
 pub fn make_recommended_case(text: &mut [u8])
     ensures case { text.new ≡ recommended_text text.old }
 
@@ -57,8 +65,14 @@ fn capitalise(text: &mut [u8], capitals: usize)
     }
 }
 
-/// Returns whether a text is in its recommended case, so that [`make_recommended_case`] would change nothing: `true`
-/// for `en-CA-x-ca`, `false` for `en-CA-x-CA`.
+/// Returns whether a text is in its recommended case, so that [`make_recommended_case`] would change nothing.
+///
+/// ```
+/// use langtag_case::is_in_recommended_case;
+///
+/// is_in_recommended_case(b"en-CA-x-ca"); // true
+/// is_in_recommended_case(b"en-CA-x-CA"); // false
+/// ```
 pub fn is_in_recommended_case(text: &[u8]) -> bool
     ensures { IsTrue result ↔ (recommended_text text.now ≡ text.now) }
 {

@@ -100,6 +100,30 @@ pub fn match_for_header<'a>(header: &'a [u8], tags: &[LangTag<'_>]) -> Option<Be
 }
 
 /// Returns the best tag with the range that it serves, as [`match_for_header`] does, for any list of ranges and any list of tags.
+///
+/// ```
+/// use langtag::LangTag;
+/// use langtag_choice::{TagList, match_among};
+///
+/// struct Texts(&'static [&'static str]);
+///
+/// impl TagList for Texts {
+///     fn count(&self) -> usize {
+///         self.0.len()
+///     }
+///
+///     fn tag_at(&self, index: usize) -> Option<LangTag<'_>> {
+///         LangTag::new(self.0[index]).ok()
+///     }
+///
+///     fn bytes_at(&self, index: usize) -> &[u8] {
+///         self.0[index].as_bytes()
+///     }
+/// }
+///
+/// let found = match_among(&b"tlh, gsw"[..], &Texts(&["en", "de"]));
+/// found.map(|found| (found.index, found.place, found.distance)); // Some((1, 1, 8))
+/// ```
 pub fn match_among<'a, R: RangeList<'a>, T: TagList>(ranges: R, tags: &T) -> Option<BestMatch<'a>>
     ensures found { spec.IsMatch (R.elements ranges) (T.texts tags.now) result }
     ensures choice { spec.IsChoice (R.elements ranges) (T.texts tags.now) (option_map (λ found. found.index) result) }
@@ -126,6 +150,32 @@ fn match_of<'a>(found: Candidate<'a, '_>) -> BestMatch<'a>
 }
 
 /// Returns the index of the best tag, as [`best_for_header`] does, for any list of ranges and any list of tags.
+///
+/// ```
+/// use langtag::LangTag;
+/// use langtag_choice::{TagList, best_among};
+/// use langtag_match::LanguageRange;
+///
+/// struct One<'t>(LangTag<'t>);
+///
+/// impl TagList for One<'_> {
+///     fn count(&self) -> usize {
+///         1
+///     }
+///
+///     fn tag_at(&self, _: usize) -> Option<LangTag<'_>> {
+///         Some(self.0)
+///     }
+///
+///     fn bytes_at(&self, _: usize) -> &[u8] {
+///         self.0.as_bytes()
+///     }
+/// }
+///
+/// let ranges = [LanguageRange::new("nn")?];
+/// best_among(&ranges[..], &One(LangTag::new("nb")?)); // Some(0)
+/// best_among(&ranges[..], &One(LangTag::new("ja")?)); // None
+/// ```
 pub fn best_among<'a, R: RangeList<'a>, T: TagList>(ranges: R, tags: &T) -> Option<usize>
     ensures choice { spec.IsChoice (R.elements ranges) (T.texts tags.now) result }
     ensures one { laws.IsOnlyChoice (R.elements ranges) (T.texts tags.now) result }

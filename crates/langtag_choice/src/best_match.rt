@@ -1,6 +1,14 @@
 //! The best tag with the range that it serves.
 
 /// The best tag for a reader, the range that it serves, and its distance from that range.
+///
+/// ```
+/// use langtag::LangTag;
+/// use langtag_choice::match_for_header;
+///
+/// let found = match_for_header(b"tlh, gsw", &[LangTag::new("de")?]);
+/// found.map(|found| (found.range, found.place)); // Some((&b"gsw"[..], 1))
+/// ```
 #[derive(Clone, Copy, Debug, Drop)]
 pub struct BestMatch<'a> {
     /// The index of the tag.

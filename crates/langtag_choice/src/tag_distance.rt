@@ -17,6 +17,13 @@ use langtag_scan::case_insensitive_eq;
 
 /// The distance of two different tags of which one has no known language: it is only `und`, or is for private use, or
 /// begins with `i-`.
+///
+/// ```
+/// use langtag::LangTag;
+/// use langtag_choice::{FORMLESS_DISTANCE, distance};
+///
+/// distance(LangTag::new("x-a")?, LangTag::new("de")?) == FORMLESS_DISTANCE; // true
+/// ```
 pub const FORMLESS_DISTANCE: u8 = 255;
 
 /// Returns the distance from a desired tag to a supported tag (UTS #35, Language Matching): 0 from `zh-TW` to

@@ -191,11 +191,19 @@ impl ExtensionBuf {
     ghost use Rattle.langtag_extension.specs.Compared.{ExtensionBufsCompareByCase};
     ghost use Rattle.langtag_extension.specs.Text.{extension_text, extension_buf_string, extension_buf_text};
 
-    /// Parses a `String` as an extension and keeps it, without copying: `u-co` is `Ok`.
+    /// Parses a `String` as an extension and keeps it, without copying.
     ///
     /// # Errors
     ///
     /// Returns the same `String` if it is not one extension, such as `a`.
+    ///
+    /// ```
+    /// use langtag_extension::ExtensionBuf;
+    /// use std::str::FromStr;
+    ///
+    /// ExtensionBuf::new(String::from_str(alloc, "u-co")?)?.as_str(); // "u-co"
+    /// ExtensionBuf::new(String::from_str(alloc, "a")?).is_err(); // true
+    /// ```
     pub fn new(text: String) -> Result<ExtensionBuf, InvalidExtension<String>>
         ensures accepts { IsTrue (is_ok result) ↔ IsExtension (string_bytes text) }
         ensures same_text { IfOk result (λ extension. extension_buf_text extension ≡ string_bytes text) }

@@ -29,7 +29,7 @@ pub struct ExtensionIter<'a> {
 impl<'a> ExtensionIter<'a> {
     ghost use Rattle.langtag_extension.specs.Text.{extension_subtags_left};
 
-    /// Returns an iterator over no subtags: `ExtensionIter::empty().count()` is 0.
+    /// Returns an iterator over no subtags: `ExtensionIter::empty().count()` is `0`.
     pub fn empty() -> Self
         ensures { extension_subtags_left result ≡ [] }
     {

@@ -151,11 +151,19 @@ impl ExtensionSubtagBuf {
     ghost use Rattle.langtag_extension.specs.Compared.{ExtensionSubtagBufsCompareByCase};
     ghost use Rattle.langtag_extension.specs.Text.{extension_subtag_text, extension_subtag_buf_string, extension_subtag_buf_text};
 
-    /// Parses a `String` as a subtag and keeps it, without copying: `co` is `Ok`.
+    /// Parses a `String` as a subtag and keeps it, without copying.
     ///
     /// # Errors
     ///
     /// Returns the same `String` if it is not two to eight letters and digits, such as `c`.
+    ///
+    /// ```
+    /// use langtag_extension::ExtensionSubtagBuf;
+    /// use std::str::FromStr;
+    ///
+    /// ExtensionSubtagBuf::new(String::from_str(alloc, "co")?)?.as_str(); // "co"
+    /// ExtensionSubtagBuf::new(String::from_str(alloc, "c")?).is_err(); // true
+    /// ```
     pub fn new(text: String) -> Result<ExtensionSubtagBuf, InvalidExtensionSubtag<String>>
         ensures accepts { is_ok result ≡ class.is_extension_subtag (string_bytes text) }
         ensures same_text { IfOk result (λ subtag. extension_subtag_buf_text subtag ≡ string_bytes text) }

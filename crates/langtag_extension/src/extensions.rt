@@ -227,11 +227,19 @@ impl ExtensionsBuf {
     ghost use Rattle.langtag_extension.specs.Compared.{ExtensionsBufsCompareByCase};
     ghost use Rattle.langtag_extension.specs.Text.{extensions_text, extensions_buf_string, extensions_buf_text};
 
-    /// Parses a `String` as extensions and keeps it, without copying: `a-ext1-u-co` is `Ok`.
+    /// Parses a `String` as extensions and keeps it, without copying.
     ///
     /// # Errors
     ///
     /// Returns the same `String` if it is not extensions joined by hyphens, such as `u-`.
+    ///
+    /// ```
+    /// use langtag_extension::ExtensionsBuf;
+    /// use std::str::FromStr;
+    ///
+    /// ExtensionsBuf::new(String::from_str(alloc, "a-ext1-u-co")?)?.as_str(); // "a-ext1-u-co"
+    /// ExtensionsBuf::new(String::from_str(alloc, "u-")?).is_err(); // true
+    /// ```
     pub fn new(text: String) -> Result<ExtensionsBuf, InvalidExtensions<String>>
         ensures accepts { IsTrue (is_ok result) ↔ IsExtensions (string_bytes text) }
         ensures same_text { IfOk result (λ extensions. extensions_buf_text extensions ≡ string_bytes text) }

@@ -148,11 +148,19 @@ impl ExtendedLangTagBuf {
     ghost use Rattle.langtag_language.specs.Compared.{ExtendedLangTagBufsCompareByCase};
     ghost use Rattle.langtag_language.specs.Text.{extended_lang_tag_text, extended_lang_tag_buf_text, extended_lang_tag_buf_string};
 
-    /// Parses a `String` as a subtag and keeps it, without copying: `yue` is `Ok`.
+    /// Parses a `String` as a subtag and keeps it, without copying.
     ///
     /// # Errors
     ///
     /// Returns the same `String` if it is not three letters, such as `yu`.
+    ///
+    /// ```
+    /// use langtag_language::ExtendedLangTagBuf;
+    /// use std::str::FromStr;
+    ///
+    /// ExtendedLangTagBuf::new(String::from_str(alloc, "yue")?)?.as_str(); // "yue"
+    /// ExtendedLangTagBuf::new(String::from_str(alloc, "yu")?).is_err(); // true
+    /// ```
     pub fn new(text: String) -> Result<ExtendedLangTagBuf, InvalidExtendedLangTag<String>>
         ensures accepts { is_ok result ≡ class.is_extended (string_bytes text) }
         ensures same_text { IfOk result (λ extended. extended_lang_tag_buf_text extended ≡ string_bytes text) }

@@ -224,11 +224,19 @@ impl LanguageBuf {
     ghost use Rattle.langtag_language.specs.Compared.{LanguageBufsCompareByCase};
     ghost use Rattle.langtag_language.specs.Text.{language_text, language_buf_text, language_buf_string};
 
-    /// Parses a `String` as a language and keeps it, without copying: `zh-yue` is `Ok`.
+    /// Parses a `String` as a language and keeps it, without copying.
     ///
     /// # Errors
     ///
     /// Returns the same `String` if it is not a language, such as `zh-`.
+    ///
+    /// ```
+    /// use langtag_language::LanguageBuf;
+    /// use std::str::FromStr;
+    ///
+    /// LanguageBuf::new(String::from_str(alloc, "zh-yue")?)?.as_str(); // "zh-yue"
+    /// LanguageBuf::new(String::from_str(alloc, "zh-")?).is_err(); // true
+    /// ```
     pub fn new(text: String) -> Result<LanguageBuf, InvalidLanguage<String>>
         ensures accepts { IsTrue (is_ok result) ↔ (IsLanguage (string_bytes text)) }
         ensures same_text { IfOk result (λ language. language_buf_text language ≡ string_bytes text) }

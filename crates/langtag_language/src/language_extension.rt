@@ -177,12 +177,20 @@ impl LanguageExtensionBuf {
     ghost use Rattle.langtag_language.specs.Compared.{LanguageExtensionBufsCompareByCase};
     ghost use Rattle.langtag_language.specs.Text.{language_extension_text, language_extension_buf_text, language_extension_buf_string};
 
-    /// Parses a `String` as a language extension and keeps it, without copying: `min-nan` is `Ok`.
+    /// Parses a `String` as a language extension and keeps it, without copying.
     ///
     /// # Errors
     ///
     /// Returns the same `String` if it is not one to three extended subtags with one hyphen between neighbours, such as
     /// `min-`.
+    ///
+    /// ```
+    /// use langtag_language::LanguageExtensionBuf;
+    /// use std::str::FromStr;
+    ///
+    /// LanguageExtensionBuf::new(String::from_str(alloc, "min-nan")?)?.as_str(); // "min-nan"
+    /// LanguageExtensionBuf::new(String::from_str(alloc, "min-")?).is_err(); // true
+    /// ```
     pub fn new(text: String) -> Result<LanguageExtensionBuf, InvalidLanguageExtension<String>>
         ensures accepts { IsTrue (is_ok result) ↔ (IsLanguageExtension (string_bytes text)) }
         ensures same_text { IfOk result (λ extension. language_extension_buf_text extension ≡ string_bytes text) }

@@ -28,7 +28,7 @@ pub struct LanguageExtensionIter<'a> {
 impl<'a> LanguageExtensionIter<'a> {
     ghost use Rattle.langtag_language.specs.Text.{extended_subtags_left};
 
-    /// Returns an iterator over no extended subtags: `LanguageExtensionIter::empty().next()` is None.
+    /// Returns an iterator over no extended subtags: `LanguageExtensionIter::empty().next()` is `None`.
     pub fn empty() -> Self
         ensures { extended_subtags_left result ≡ [] }
     {

@@ -149,11 +149,19 @@ impl PrimaryLanguageBuf {
     ghost use Rattle.langtag_language.specs.Compared.{PrimaryLanguageBufsCompareByCase};
     ghost use Rattle.langtag_language.specs.Text.{primary_language_text, primary_language_buf_text, primary_language_buf_string};
 
-    /// Parses a `String` as a subtag and keeps it, without copying: `fr` is `Ok`.
+    /// Parses a `String` as a subtag and keeps it, without copying.
     ///
     /// # Errors
     ///
     /// Returns the same `String` if it is not two to eight letters, such as `f`.
+    ///
+    /// ```
+    /// use langtag_language::PrimaryLanguageBuf;
+    /// use std::str::FromStr;
+    ///
+    /// PrimaryLanguageBuf::new(String::from_str(alloc, "fr")?)?.as_str(); // "fr"
+    /// PrimaryLanguageBuf::new(String::from_str(alloc, "f")?).is_err(); // true
+    /// ```
     pub fn new(text: String) -> Result<PrimaryLanguageBuf, InvalidPrimaryLanguage<String>>
         ensures accepts { is_ok result ≡ class.is_primary (string_bytes text) }
         ensures same_text { IfOk result (λ primary. primary_language_buf_text primary ≡ string_bytes text) }

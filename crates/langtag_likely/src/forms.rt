@@ -87,6 +87,15 @@ pub fn write_maximized(tag: LangTag<'_>, buffer: &mut [u8]) -> usize
 
 /// Writes a tag without its likely subtags to a buffer, as [`minimized`] returns it, and returns its length in bytes.
 /// If the buffer is too short, it stays unchanged. It does not allocate.
+///
+/// ```
+/// use langtag::LangTag;
+/// use langtag_likely::write_minimized;
+///
+/// let mut buffer = [0; 16];
+/// let length = write_minimized(LangTag::new("zh-Hant-TW")?, &mut buffer);
+/// buffer.get(..length); // Some(&b"zh-TW"[..])
+/// ```
 pub fn write_minimized(tag: LangTag<'_>, buffer: &mut [u8]) -> usize
     ensures { Writes (IsMinimalForm (lang_tag_text tag.entry)) buffer.old buffer.new result }
 {

@@ -81,8 +81,15 @@ impl<'a> AcceptLanguage<'a> {
         Ok(AcceptLanguage { ranges })
     }
 
-    /// Returns the ranges, the greatest weight first: `ranges()[0].range.as_str()` is `"de"` for `fr;q=0.5, de`. It is
-    /// proved which ranges are equal, and that a clone is the same value.
+    /// Returns the ranges, the greatest weight first. It is proved which ranges are equal, and that a clone is the same
+    /// value.
+    ///
+    /// ```
+    /// use langtag_match::AcceptLanguage;
+    ///
+    /// let accepted = AcceptLanguage::new(alloc, "fr;q=0.5, de")?;
+    /// accepted.ranges().first().map(|first| first.range.as_str()); // Some("de")
+    /// ```
     pub fn ranges(&self) -> &[WeightedRange<'a>]
         ensures list { result.now ≡ accept_language_ranges self.now }
 
@@ -93,8 +100,16 @@ impl<'a> AcceptLanguage<'a> {
         self.ranges.as_slice()
     }
 
-    /// Returns the tag that look-up finds for the ranges, or the default, as [`look_up`](crate::look_up) does: `de-CH`
-    /// for `fr;q=0.3, DE-ch-1996;q=0.9` and the tags `de-CH` and `fr`.
+    /// Returns the tag that look-up finds for the ranges, or the default, as [`look_up`](crate::look_up) does.
+    ///
+    /// ```
+    /// use langtag::LangTag;
+    /// use langtag_match::AcceptLanguage;
+    ///
+    /// let accepted = AcceptLanguage::new(alloc, "fr;q=0.3, DE-ch-1996;q=0.9")?;
+    /// let tags = [LangTag::new("de-CH")?, LangTag::new("fr")?];
+    /// accepted.look_up(&tags, LangTag::new("en")?).as_str(); // "de-CH"
+    /// ```
     pub fn look_up<'t>(&self, tags: &[LangTag<'t>], default: LangTag<'t>) -> LangTag<'t>
         ensures { result ≡ choice tags.now default.entry (spec.range_texts (accept_language_ranges self.now)) }
     {

@@ -64,6 +64,13 @@ pub fn element_at(item: &[u8]) -> Result<Element<'_>, ElementPart>
 
 /// Returns whether the text between two commas of a header is empty except for spaces and tabs. Such an element must be
 /// skipped (RFC 9110 section 5.6.1.2).
+///
+/// ```
+/// use langtag_match::is_empty_element;
+///
+/// is_empty_element(b" \t"); // true
+/// is_empty_element(b" fr"); // false
+/// ```
 pub fn is_empty_element(item: &[u8]) -> bool
     ensures { result ≡ spec.is_ows item.now }
 {

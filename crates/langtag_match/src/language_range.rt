@@ -218,11 +218,19 @@ impl LanguageRangeBuf {
     ghost use Rattle.langtag_match.specs.Compared.{LanguageRangeBufsCompareByCase};
     ghost use Rattle.langtag_match.specs.Text.{language_range_text, language_range_buf_string, language_range_buf_text};
 
-    /// Parses a `String` as a range and keeps it, without copying: `de-*` is `Ok`.
+    /// Parses a `String` as a range and keeps it, without copying.
     ///
     /// # Errors
     ///
     /// Returns the same `String` if it is not a range, such as `de-`.
+    ///
+    /// ```
+    /// use langtag_match::LanguageRangeBuf;
+    /// use std::str::FromStr;
+    ///
+    /// LanguageRangeBuf::new(String::from_str(alloc, "de-*")?)?.as_str(); // "de-*"
+    /// LanguageRangeBuf::new(String::from_str(alloc, "de-")?).is_err(); // true
+    /// ```
     pub fn new(text: String) -> Result<LanguageRangeBuf, InvalidLanguageRange<String>>
         ensures accepts { is_ok result ≡ spec.is_language_range (string_bytes text) }
         ensures same_text { IfOk result (λ range. language_range_buf_text range ≡ string_bytes text) }

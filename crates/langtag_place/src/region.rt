@@ -149,11 +149,19 @@ impl RegionBuf {
     ghost use Rattle.langtag_place.specs.Compared.{RegionBufsCompareByCase};
     ghost use Rattle.langtag_place.specs.Text.{region_text, region_buf_string, region_buf_text};
 
-    /// Parses a `String` as a region and keeps it, without copying: `fr` is `Ok`.
+    /// Parses a `String` as a region and keeps it, without copying.
     ///
     /// # Errors
     ///
     /// Returns the same `String` if it is neither two letters nor three digits, such as `FR1`.
+    ///
+    /// ```
+    /// use langtag_place::RegionBuf;
+    /// use std::str::FromStr;
+    ///
+    /// RegionBuf::new(String::from_str(alloc, "fr")?)?.as_str(); // "fr"
+    /// RegionBuf::new(String::from_str(alloc, "FR1")?).is_err(); // true
+    /// ```
     pub fn new(text: String) -> Result<RegionBuf, InvalidRegion<String>>
         ensures accepts { is_ok result ≡ class.is_region (string_bytes text) }
         ensures same_text { IfOk result (λ region. region_buf_text region ≡ string_bytes text) }

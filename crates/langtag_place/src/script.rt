@@ -146,11 +146,19 @@ impl ScriptBuf {
     ghost use Rattle.langtag_place.specs.Compared.{ScriptBufsCompareByCase};
     ghost use Rattle.langtag_place.specs.Text.{script_text, script_buf_string, script_buf_text};
 
-    /// Parses a `String` as a script and keeps it, without copying: `Latn` is `Ok`.
+    /// Parses a `String` as a script and keeps it, without copying.
     ///
     /// # Errors
     ///
     /// Returns the same `String` if it is not four letters, such as `Lat`.
+    ///
+    /// ```
+    /// use langtag_place::ScriptBuf;
+    /// use std::str::FromStr;
+    ///
+    /// ScriptBuf::new(String::from_str(alloc, "Latn")?)?.as_str(); // "Latn"
+    /// ScriptBuf::new(String::from_str(alloc, "Lat")?).is_err(); // true
+    /// ```
     pub fn new(text: String) -> Result<ScriptBuf, InvalidScript<String>>
         ensures accepts { is_ok result ≡ class.is_script (string_bytes text) }
         ensures same_text { IfOk result (λ script. script_buf_text script ≡ string_bytes text) }

@@ -153,12 +153,20 @@ impl VariantBuf {
     ghost use Rattle.langtag_place.specs.Compared.{VariantBufsCompareByCase};
     ghost use Rattle.langtag_place.specs.Text.{variant_text, variant_buf_string, variant_buf_text};
 
-    /// Parses a `String` as a variant and keeps it, without copying: `rozaj` is `Ok`.
+    /// Parses a `String` as a variant and keeps it, without copying.
     ///
     /// # Errors
     ///
     /// Returns the same `String` if it is neither five to eight letters and digits nor four of which the first is a
     /// digit, such as `roza`.
+    ///
+    /// ```
+    /// use langtag_place::VariantBuf;
+    /// use std::str::FromStr;
+    ///
+    /// VariantBuf::new(String::from_str(alloc, "rozaj")?)?.as_str(); // "rozaj"
+    /// VariantBuf::new(String::from_str(alloc, "roza")?).is_err(); // true
+    /// ```
     pub fn new(text: String) -> Result<VariantBuf, InvalidVariant<String>>
         ensures accepts { is_ok result ≡ class.is_variant (string_bytes text) }
         ensures same_text { IfOk result (λ variant. variant_buf_text variant ≡ string_bytes text) }

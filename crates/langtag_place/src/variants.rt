@@ -213,11 +213,19 @@ impl VariantsBuf {
     ghost use Rattle.langtag_place.specs.Compared.{VariantsBufsCompareByCase};
     ghost use Rattle.langtag_place.specs.Text.{variants_text, variants_buf_string, variants_buf_text};
 
-    /// Parses a `String` as variants and keeps it, without copying: `rozaj-1994` is `Ok`.
+    /// Parses a `String` as variants and keeps it, without copying.
     ///
     /// # Errors
     ///
     /// Returns the same `String` if it is not variants with one hyphen between neighbours, such as `rozaj-`.
+    ///
+    /// ```
+    /// use langtag_place::VariantsBuf;
+    /// use std::str::FromStr;
+    ///
+    /// VariantsBuf::new(String::from_str(alloc, "rozaj-1994")?)?.as_str(); // "rozaj-1994"
+    /// VariantsBuf::new(String::from_str(alloc, "rozaj-")?).is_err(); // true
+    /// ```
     pub fn new(text: String) -> Result<VariantsBuf, InvalidVariants<String>>
         ensures accepts { IsTrue (is_ok result) ↔ (IsVariants (string_bytes text)) }
         ensures same_text { IfOk result (λ variants. variants_buf_text variants ≡ string_bytes text) }

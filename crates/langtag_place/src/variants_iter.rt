@@ -30,7 +30,7 @@ pub struct VariantsIter<'a> {
 impl<'a> VariantsIter<'a> {
     ghost use Rattle.langtag_place.specs.Text.{variants_left};
 
-    /// Returns an iterator over no variants: `VariantsIter::empty().count()` is 0.
+    /// Returns an iterator over no variants: `VariantsIter::empty().count()` is `0`.
     pub fn empty() -> Self
         ensures { variants_left result ≡ [] }
     {

@@ -199,11 +199,19 @@ impl PrivateUseBuf {
     ghost use Rattle.langtag_private.specs.Compared.{PrivateUseBufsCompareByCase};
     ghost use Rattle.langtag_private.specs.Text.{private_use_text, private_use_buf_text, private_use_buf_string};
 
-    /// Parses a `String` as a private use part and keeps it, without copying: `x-twain` is `Ok`.
+    /// Parses a `String` as a private use part and keeps it, without copying.
     ///
     /// # Errors
     ///
     /// Returns the same `String` if it is not a private use part, such as `x`.
+    ///
+    /// ```
+    /// use langtag_private::PrivateUseBuf;
+    /// use std::str::FromStr;
+    ///
+    /// PrivateUseBuf::new(String::from_str(alloc, "x-twain")?)?.as_str(); // "x-twain"
+    /// PrivateUseBuf::new(String::from_str(alloc, "x")?).is_err(); // true
+    /// ```
     pub fn new(text: String) -> Result<PrivateUseBuf, InvalidPrivateUse<String>>
         ensures accepts { IsTrue (is_ok result) ↔ (IsPrivateUse (string_bytes text)) }
         ensures same_text { IfOk result (λ private_use. private_use_buf_text private_use ≡ string_bytes text) }

@@ -28,7 +28,7 @@ pub struct PrivateUseIter<'a> {
 impl<'a> PrivateUseIter<'a> {
     ghost use Rattle.langtag_private.specs.Text.{private_use_subtags_left};
 
-    /// Returns an iterator over no subtags: `PrivateUseIter::empty().next()` is None.
+    /// Returns an iterator over no subtags: `PrivateUseIter::empty().next()` is `None`.
     pub fn empty() -> Self
         ensures { private_use_subtags_left result ≡ [] }
     {

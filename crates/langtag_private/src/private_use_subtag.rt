@@ -151,11 +151,19 @@ impl PrivateUseSubtagBuf {
     ghost use Rattle.langtag_private.specs.Compared.{PrivateUseSubtagBufsCompareByCase};
     ghost use Rattle.langtag_private.specs.Text.{private_use_subtag_text, private_use_subtag_buf_text, private_use_subtag_buf_string};
 
-    /// Parses a `String` as a subtag and keeps it, without copying: `twain` is `Ok`.
+    /// Parses a `String` as a subtag and keeps it, without copying.
     ///
     /// # Errors
     ///
     /// Returns the same `String` if it is not one to eight letters and digits, such as `a-b`.
+    ///
+    /// ```
+    /// use langtag_private::PrivateUseSubtagBuf;
+    /// use std::str::FromStr;
+    ///
+    /// PrivateUseSubtagBuf::new(String::from_str(alloc, "twain")?)?.as_str(); // "twain"
+    /// PrivateUseSubtagBuf::new(String::from_str(alloc, "a-b")?).is_err(); // true
+    /// ```
     pub fn new(text: String) -> Result<PrivateUseSubtagBuf, InvalidPrivateUseSubtag<String>>
         ensures accepts { is_ok result ≡ class.is_private_subtag (string_bytes text) }
         ensures same_text { IfOk result (λ subtag. private_use_subtag_buf_text subtag ≡ string_bytes text) }

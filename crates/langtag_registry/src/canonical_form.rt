@@ -103,6 +103,12 @@ pub fn write_canonical(tag: LangTag<'_>, buffer: &mut [u8]) -> usize
 
 /// Returns the greatest length in bytes of the canonical form of a tag of a given length, as the size of a buffer for
 /// [`write_canonical`]. It is twice the length plus 14.
+///
+/// ```
+/// use langtag_registry::canonical_bound;
+///
+/// canonical_bound(5); // 24
+/// ```
 pub fn canonical_bound(tag_len: usize) -> usize
     ensures { result ≡ min (form.canonical_bound tag_len) (2 ^ 64 - 1) }
 {

@@ -9,7 +9,12 @@ use std::hash::Hasher;
 
 /// Returns a byte in lowercase if it is an ASCII letter, and any other byte unchanged (RFC 5646 section 2.1.1).
 ///
-/// `into_smallcase(b'L')` is `b'l'`, and `into_smallcase(b'[')` is `b'['`.
+/// ```
+/// use langtag_scan::into_smallcase;
+///
+/// into_smallcase(b'L'); // b'l'
+/// into_smallcase(b'['); // b'['
+/// ```
 #[tactic(auto, unfolding(crate::specs::Case::fold_byte))]
 pub fn into_smallcase(c: u8) -> u8
     ensures { result ≡ fold_byte c }
@@ -19,7 +24,11 @@ pub fn into_smallcase(c: u8) -> u8
 
 /// Returns whether two texts are equal, ignoring the case of ASCII letters (RFC 5646 section 2.1.1).
 ///
-/// `case_insensitive_eq(b"zh-Latn", b"ZH-LATN")` is `true`.
+/// ```
+/// use langtag_scan::case_insensitive_eq;
+///
+/// case_insensitive_eq(b"zh-Latn", b"ZH-LATN"); // true
+/// ```
 #[tactic(auto, unfolding(crate::specs::Case::fold_byte))]
 pub fn case_insensitive_eq(a: &[u8], b: &[u8]) -> bool
     ensures test { result ≡ are_alike a.now b.now }
@@ -29,7 +38,15 @@ pub fn case_insensitive_eq(a: &[u8], b: &[u8]) -> bool
 }
 
 /// Compares two texts by their lowercase bytes (RFC 5646 section 2.1.1). If one begins the other, the shorter is
-/// greater: `case_insensitive_cmp(b"zh", b"zh-Latn")` is `Greater`.
+/// greater.
+///
+/// ```
+/// use langtag_scan::case_insensitive_cmp;
+/// use std::cmp::Ordering;
+///
+/// case_insensitive_cmp(b"zh-Latn", b"ZH-LATN"); // Ordering::Equal
+/// case_insensitive_cmp(b"zh", b"zh-Latn"); // Ordering::Greater
+/// ```
 pub fn case_insensitive_cmp(a: &[u8], b: &[u8]) -> Ordering
     ensures order { result ≡ case_cmp a.now b.now }
     ensures ends_first { EndsFirst a.now b.now → result ≡ Ordering.Greater }
@@ -47,6 +64,17 @@ pub fn case_insensitive_cmp(a: &[u8], b: &[u8]) -> Ordering
 /// their number nor an end.
 ///
 /// For `b"FR"` it writes `b'f'` and then `b'r'`.
+///
+/// ```
+/// use langtag_scan::case_insensitive_hash;
+/// use std::hash::{DefaultHasher, Hasher};
+///
+/// let mut upper = DefaultHasher::new();
+/// case_insensitive_hash(b"ZH-TW", &mut upper);
+/// let mut lower = DefaultHasher::new();
+/// case_insensitive_hash(b"zh-tw", &mut lower);
+/// upper.finish() == lower.finish(); // true
+/// ```
 pub fn case_insensitive_hash<H: Hasher>(bytes: &[u8], hasher: &mut H)
     ensures { hasher.new ≡ fold H.write hasher.old (case_writes bytes.now) }
 {

@@ -54,7 +54,13 @@ fn starts_with_digit(bytes: &[u8]) -> bool
 
 /// Returns whether the bytes are a primary language subtag (section 2.2.1): two to eight letters.
 ///
-/// `is_primary(b"zh")` is `true`, and `is_primary(b"z")` and `is_primary(b"z4")` are `false`.
+/// ```
+/// use langtag_scan::is_primary;
+///
+/// is_primary(b"zh"); // true
+/// is_primary(b"z"); // false
+/// is_primary(b"z4"); // false
+/// ```
 #[tactic(auto, unfolding(crate::specs::Class::is_primary))]
 pub fn is_primary(bytes: &[u8]) -> bool
     ensures { result ≡ class.is_primary bytes.now }
@@ -64,7 +70,12 @@ pub fn is_primary(bytes: &[u8]) -> bool
 
 /// Returns whether the bytes are an extended language subtag (section 2.2.2): three letters.
 ///
-/// `is_extended(b"min")` is `true`, and `is_extended(b"419")` is `false`.
+/// ```
+/// use langtag_scan::is_extended;
+///
+/// is_extended(b"min"); // true
+/// is_extended(b"419"); // false
+/// ```
 #[tactic(auto, unfolding(crate::specs::Class::is_extended))]
 pub fn is_extended(bytes: &[u8]) -> bool
     ensures { result ≡ class.is_extended bytes.now }
@@ -74,7 +85,12 @@ pub fn is_extended(bytes: &[u8]) -> bool
 
 /// Returns whether the bytes are a script subtag (section 2.2.3): four letters.
 ///
-/// `is_script(b"Latn")` is `true`, and `is_script(b"1694")` is `false`.
+/// ```
+/// use langtag_scan::is_script;
+///
+/// is_script(b"Latn"); // true
+/// is_script(b"1694"); // false
+/// ```
 #[tactic(auto, unfolding(crate::specs::Class::is_script))]
 pub fn is_script(bytes: &[u8]) -> bool
     ensures { result ≡ class.is_script bytes.now }
@@ -84,7 +100,13 @@ pub fn is_script(bytes: &[u8]) -> bool
 
 /// Returns whether the bytes are a region subtag (section 2.2.4): two letters, or three digits.
 ///
-/// `is_region(b"FR")` and `is_region(b"419")` are `true`, and `is_region(b"4F")` is `false`.
+/// ```
+/// use langtag_scan::is_region;
+///
+/// is_region(b"FR"); // true
+/// is_region(b"419"); // true
+/// is_region(b"4F"); // false
+/// ```
 #[tactic(auto, unfolding(crate::specs::Class::is_region))]
 pub fn is_region(bytes: &[u8]) -> bool
     ensures { result ≡ class.is_region bytes.now }
@@ -95,7 +117,13 @@ pub fn is_region(bytes: &[u8]) -> bool
 /// Returns whether the bytes are a variant subtag (section 2.2.5): five to eight letters and digits, or four of which
 /// the first is a digit.
 ///
-/// `is_variant(b"rozaj")` and `is_variant(b"1694")` are `true`, and `is_variant(b"Latn")` is `false`.
+/// ```
+/// use langtag_scan::is_variant;
+///
+/// is_variant(b"rozaj"); // true
+/// is_variant(b"1694"); // true
+/// is_variant(b"Latn"); // false
+/// ```
 #[tactic(auto, unfolding(crate::specs::Class::is_variant))]
 pub fn is_variant(bytes: &[u8]) -> bool
     ensures { result ≡ class.is_variant bytes.now }
@@ -106,7 +134,12 @@ pub fn is_variant(bytes: &[u8]) -> bool
 
 /// Returns whether the bytes are a subtag of an extension (section 2.2.6): two to eight letters and digits.
 ///
-/// `is_extension_subtag(b"co")` is `true`, and `is_extension_subtag(b"c")` is `false`.
+/// ```
+/// use langtag_scan::is_extension_subtag;
+///
+/// is_extension_subtag(b"co"); // true
+/// is_extension_subtag(b"c"); // false
+/// ```
 #[tactic(auto, unfolding(crate::specs::Class::is_extension_subtag))]
 pub fn is_extension_subtag(bytes: &[u8]) -> bool
     ensures { result ≡ class.is_extension_subtag bytes.now }
@@ -116,7 +149,12 @@ pub fn is_extension_subtag(bytes: &[u8]) -> bool
 
 /// Returns whether the bytes are a private use subtag (section 2.2.7): one to eight letters and digits.
 ///
-/// `is_private_subtag(b"a")` is `true`, and `is_private_subtag(b"")` is `false`.
+/// ```
+/// use langtag_scan::is_private_subtag;
+///
+/// is_private_subtag(b"a"); // true
+/// is_private_subtag(b""); // false
+/// ```
 #[tactic(auto, unfolding(crate::specs::Class::is_private_subtag))]
 pub fn is_private_subtag(bytes: &[u8]) -> bool
     ensures { result ≡ class.is_private_subtag bytes.now }
@@ -126,7 +164,12 @@ pub fn is_private_subtag(bytes: &[u8]) -> bool
 
 /// Returns whether the byte begins a private use part (section 2.2.7): `x` or `X`.
 ///
-/// `is_mark(b'X')` is `true`, and `is_mark(b'u')` is `false`.
+/// ```
+/// use langtag_scan::is_mark;
+///
+/// is_mark(b'X'); // true
+/// is_mark(b'u'); // false
+/// ```
 #[tactic(auto, unfolding(crate::specs::Class::is_mark))]
 pub fn is_mark(byte: u8) -> bool
     ensures { result ≡ class.is_mark byte }
@@ -137,7 +180,13 @@ pub fn is_mark(byte: u8) -> bool
 /// Returns whether the byte is a singleton (section 2.2.6), which begins an extension: a letter or digit other than `x`
 /// and `X`.
 ///
-/// `is_singleton(b'u')` and `is_singleton(b'1')` are `true`, and `is_singleton(b'X')` is `false`.
+/// ```
+/// use langtag_scan::is_singleton;
+///
+/// is_singleton(b'u'); // true
+/// is_singleton(b'1'); // true
+/// is_singleton(b'X'); // false
+/// ```
 #[tactic(auto, unfolding(crate::specs::Class::is_singleton))]
 pub fn is_singleton(byte: u8) -> bool
     ensures { result ≡ class.is_singleton byte }

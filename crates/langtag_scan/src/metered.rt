@@ -24,7 +24,13 @@ pub struct Metered<'a> {
 }
 
 impl<'a> Metered<'a> {
-    /// Returns the bytes of a text, with no reads yet: `Metered::new("fr").reads()` is 0.
+    /// Returns the bytes of a text, with no reads yet.
+    ///
+    /// ```
+    /// use langtag_scan::{ByteSource, Metered};
+    ///
+    /// Metered::new("fr").reads(); // 0
+    /// ```
     pub fn new(text: &'a str) -> Self
         ensures bytes { ⟦<Metered<'a> as ByteSource>⟧.bytes result ≡ text.now }
         ensures reads { ⟦<Metered<'a> as ByteSource>⟧.reads result ≡ 0 }
@@ -33,8 +39,13 @@ impl<'a> Metered<'a> {
         Metered::of_bytes(text.as_bytes())
     }
 
-    /// Returns a source over bytes, which need not be UTF-8, with no reads yet: `Metered::of_bytes(b"fr\xFF").len()` is
-    /// 3.
+    /// Returns a source over bytes, which need not be UTF-8, with no reads yet.
+    ///
+    /// ```
+    /// use langtag_scan::{ByteSource, Metered};
+    ///
+    /// Metered::of_bytes(b"fr\xFF").len(); // 3
+    /// ```
     pub fn of_bytes(bytes: &'a [u8]) -> Self
         ensures bytes { ⟦<Metered<'a> as ByteSource>⟧.bytes result ≡ bytes.now }
         ensures reads { ⟦<Metered<'a> as ByteSource>⟧.reads result ≡ 0 }

@@ -17,6 +17,13 @@ use crate::state::{Ending, State};
 /// It reads each byte once, in order, and stops after the first byte with which no tag can go on:
 /// `recognise(&mut Metered::new("i-notexist"))` is `None` after four reads. It does not allocate. It is proved that it
 /// accepts exactly the tags.
+///
+/// ```
+/// use langtag_scan::{Metered, recognise};
+///
+/// recognise(&mut Metered::new("zh-TW")).is_some(); // true
+/// recognise(&mut Metered::new("zh_TW")).is_none(); // true
+/// ```
 #[inline(always)]
 #[tactic(auto, using(crate::proofs::OneKind::normal_no_private, crate::proofs::OneKind::normal_no_irregular, crate::proofs::OneKind::private_no_irregular, crate::proofs::IrregularTexts::irregular_once, crate::proofs::FillLaw::viable_fill))]
 pub fn recognise<S: ByteSource>(source: &mut S) -> Option<Found>
@@ -58,7 +65,13 @@ pub fn recognise<S: ByteSource>(source: &mut S) -> Option<Found>
 /// Decides whether the bytes of a source are a normal tag (rule `langtag` of RFC 5646 section 2.1), as [`recognise`]
 /// does. It is proved that a normal tag splits into its parts in only one way.
 ///
-/// `recognise_normal(&mut Metered::new("zh-min"))` is `Some`. For `x-a` and `i-lux` it is `None`.
+/// ```
+/// use langtag_scan::{Metered, recognise_normal};
+///
+/// recognise_normal(&mut Metered::new("zh-min")).is_some(); // true
+/// recognise_normal(&mut Metered::new("x-a")).is_none(); // true
+/// recognise_normal(&mut Metered::new("i-lux")).is_none(); // true
+/// ```
 #[tactic(auto, using(crate::proofs::FoundLaws::normal_found, crate::proofs::TagLaws::tag_normal))]
 pub fn recognise_normal<S: ByteSource>(source: &mut S) -> Option<Found>
     requires { S.reads source.old ≤ 2 ^ 126 }

@@ -31,7 +31,16 @@ impl<'a> Model for Subtags<'a> {
 }
 
 impl<'a> Subtags<'a> {
-    /// Returns an iterator over all subtags of a text: `fr` and `FR` for `fr-FR`, and nothing for the empty text.
+    /// Returns an iterator over all subtags of a text. The empty text has none.
+    ///
+    /// ```
+    /// use langtag_scan::Subtags;
+    ///
+    /// let mut subtags = Subtags::new("fr-FR");
+    /// subtags.next(); // Some("fr")
+    /// subtags.next(); // Some("FR")
+    /// subtags.next(); // None
+    /// ```
     pub fn new(text: &'a str) -> Self
         ensures list { result ≡ subtags text.now }
         ensures joined { join result ≡ text.now }
@@ -46,7 +55,7 @@ impl<'a> Subtags<'a> {
         Subtags { rest: Some(text) }
     }
 
-    /// Returns an iterator over no subtags: `Subtags::empty().next()` is None.
+    /// Returns an iterator over no subtags: `Subtags::empty().next()` is `None`.
     pub fn empty() -> Self
         ensures { result ≡ [] }
     {

@@ -10,7 +10,17 @@ use crate::source::ByteSource;
 /// complete what a user types.
 ///
 /// For a tag it is the whole length. Otherwise it is the index of the first wrong byte, or the length if the bytes end
-/// too soon: 2 for `zh_Hant`, 3 for `i-notexist`, 4 for `de-x` and 0 for no bytes. It does not allocate.
+/// too soon. It does not allocate.
+///
+/// ```
+/// use langtag_scan::viable_len;
+///
+/// viable_len(b"zh-TW"); // 5
+/// viable_len(b"zh_Hant"); // 2
+/// viable_len(b"i-notexist"); // 3
+/// viable_len(b"de-x"); // 4
+/// viable_len(b""); // 0
+/// ```
 #[tactic(auto, using(crate::proofs::ViableLaws::viable_before))]
 pub fn viable_len(bytes: &[u8]) -> usize
     ensures { IsViableLength bytes.now result }

@@ -9,6 +9,13 @@ use langtag::Subtags;
 use std::alloc::AllocError;
 
 /// The iterator that `attributes` returns: the attributes of the extension `u`, in the order of the tag, each once.
+///
+/// ```
+/// use langtag::LangTag;
+/// use langtag_unicode::attributes;
+///
+/// attributes(LangTag::new("de-u-attr-foo-ATTR-ca-buddhist")?).count(); // 2
+/// ```
 #[derive(Debug, Drop)]
 pub struct AttributesIter<'a> {
     text: &'a str,

@@ -21,7 +21,7 @@ pub enum Keys {
 }
 
 impl Keys {
-    /// Returns whether a subtag is a key of the extension.
+    /// Returns whether a subtag is a key of the extension: `Keys::Transform.has(b"m0")` is `true`.
     pub fn has(self, subtag: &[u8]) -> bool
         ensures is_key { result ≡ opens self subtag.now }
         ensures cloned { (keys copy : Keys) → ⟦<Keys as Clone>⟧.is_clone keys copy → copy ≡ keys }

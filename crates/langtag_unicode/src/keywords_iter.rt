@@ -13,6 +13,13 @@ use std::alloc::AllocError;
 /// An iterator over the keywords of the extension `u`, or the fields of the extension `t`, in the order of the tag.
 ///
 /// Each key comes once, with its first value.
+///
+/// ```
+/// use langtag::LangTag;
+/// use langtag_unicode::keywords;
+///
+/// keywords(LangTag::new("de-u-kn-ca-buddhist-kn-false")?).count(); // 2
+/// ```
 #[derive(Debug, Drop)]
 pub struct KeywordsIter<'a> {
     text: &'a str,

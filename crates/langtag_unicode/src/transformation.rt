@@ -53,8 +53,18 @@ pub fn transform<'a>(tag: LangTag<'a>) -> Option<Transformation<'a>>
 }
 
 impl<'a> Transformation<'a> {
-    /// Returns the language of the source text, as a slice of the tag: `ja-latn` for `und-t-ja-latn-m0-hepburn`, `None`
-    /// for `und-t-m0-hepburn`. It need not be a tag: for `und-t-abcd-efgh-ijkl` it is `abcd-efgh-ijkl`.
+    /// Returns the language of the source text, as a slice of the tag. It need not be a tag: for `und-t-abcd-efgh-ijkl`
+    /// it is `abcd-efgh-ijkl`.
+    ///
+    /// ```
+    /// use langtag::LangTag;
+    /// use langtag_unicode::transform;
+    ///
+    /// let found = transform(LangTag::new("und-t-ja-latn-m0-hepburn")?);
+    /// found.and_then(|it| it.language()); // Some("ja-latn")
+    /// let found = transform(LangTag::new("und-t-m0-hepburn")?);
+    /// found.and_then(|it| it.language()); // None
+    /// ```
     pub fn language(&self) -> Option<&'a str>
         ensures { option_map (λ text. text.now) result ≡ spec.language_of (transformation_subtags self.now) }
     {
@@ -80,8 +90,16 @@ impl<'a> Transformation<'a> {
         value_in(self.text, Keys::Transform, key.as_bytes())
     }
 
-    /// Returns an iterator over the fields, in the order of the tag, each key once with its first value: `m0` with
-    /// `hepburn` for `und-t-ja-m0-hepburn`.
+    /// Returns an iterator over the fields, in the order of the tag, each key once with its first value.
+    ///
+    /// ```
+    /// use langtag::LangTag;
+    /// use langtag_unicode::transform;
+    ///
+    /// let found = transform(LangTag::new("und-t-ja-m0-hepburn")?);
+    /// let first = found.and_then(|it| it.fields().next());
+    /// first.map(|field| (field.key, field.value)); // Some(("m0", "hepburn"))
+    /// ```
     #[tactic(auto, using(crate::proofs::WalkLaws::keyword_laws))]
     pub fn fields(&self) -> KeywordsIter<'a>
         ensures list { keywords_left result ≡ keywords.keywords_of spec.is_field_key (transformation_subtags self.now) }

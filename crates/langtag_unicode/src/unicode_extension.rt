@@ -15,7 +15,15 @@ use crate::subtags::{before_key, nonempty, unicode_text, value_in};
 use langtag::LangTag;
 
 /// A keyword of the extension `u` (RFC 6067 section 2.1), or a field of the extension `t` (RFC 6497 section 2.2), as
-/// slices of the tag: the key `ca` with the value `islamic-civil` in `ar-u-ca-islamic-civil`.
+/// slices of the tag.
+///
+/// ```
+/// use langtag::LangTag;
+/// use langtag_unicode::keywords;
+///
+/// let first = keywords(LangTag::new("ar-u-ca-islamic-civil")?).next();
+/// first.map(|it| (it.key, it.value)); // Some(("ca", "islamic-civil"))
+/// ```
 #[derive(Clone, Copy, Debug, Drop)]
 pub struct KeyValue<'a> {
     /// The key, as it is written.

@@ -13,6 +13,14 @@ use crate::case::recommended_bytes::RecommendedBytes;
 ///
 /// Texts that differ only in case become the same bytes, so the result can be a key in a store that compares bytes.
 ///
+/// ```
+/// use langtag::make_recommended_case;
+///
+/// let mut text = *b"MN-cYRL-mn";
+/// make_recommended_case(&mut text);
+/// assert_eq!(&text, b"mn-Cyrl-MN");
+/// ```
+///
 /// [RFC 5646 section 2.1.1]: https://www.rfc-editor.org/rfc/rfc5646#section-2.1.1
 #[inline]
 pub fn make_recommended_case(text: &mut [u8]) {
@@ -41,8 +49,14 @@ fn capitalise(text: &mut [u8], capitals: usize) {
     }
 }
 
-/// Returns whether a text is in its recommended case, so that [`make_recommended_case`] would change nothing: `true`
-/// for `en-CA-x-ca`, `false` for `en-CA-x-CA`.
+/// Returns whether a text is in its recommended case, so that [`make_recommended_case`] would change nothing.
+///
+/// ```
+/// use langtag::is_in_recommended_case;
+///
+/// assert!(is_in_recommended_case(b"en-CA-x-ca"));
+/// assert!(!is_in_recommended_case(b"en-CA-x-CA"));
+/// ```
 #[inline]
 pub fn is_in_recommended_case(text: &[u8]) -> bool {
     RecommendedBytes::new(text)

@@ -100,6 +100,30 @@ pub fn match_for_header<'a>(header: &'a [u8], tags: &[LangTag<'_>]) -> Option<Be
 }
 
 /// Returns the best tag with the range that it serves, as [`match_for_header`] does, for any list of ranges and any list of tags.
+///
+/// ```
+/// use langtag::LangTag;
+/// use langtag::choice::{TagList, match_among};
+///
+/// struct Texts(&'static [&'static str]);
+///
+/// impl TagList for Texts {
+///     fn count(&self) -> usize {
+///         self.0.len()
+///     }
+///
+///     fn tag_at(&self, index: usize) -> Option<LangTag<'_>> {
+///         LangTag::new(self.0[index]).ok()
+///     }
+///
+///     fn bytes_at(&self, index: usize) -> &[u8] {
+///         self.0[index].as_bytes()
+///     }
+/// }
+///
+/// let found = match_among(&b"tlh, gsw"[..], &Texts(&["en", "de"]));
+/// assert_eq!(found.map(|found| (found.index, found.place, found.distance)), Some((1, 1, 8)));
+/// ```
 #[inline]
 pub fn match_among<'a, R: RangeList<'a>, T: TagList>(ranges: R, tags: &T) -> Option<BestMatch<'a>> {
     match best(ranges, tags) {
@@ -120,6 +144,35 @@ fn match_of<'a>(found: Candidate<'a, '_>) -> BestMatch<'a> {
 }
 
 /// Returns the index of the best tag, as [`best_for_header`] does, for any list of ranges and any list of tags.
+///
+/// ```
+/// # fn main() -> Result<(), Box<dyn std::error::Error>> {
+/// use langtag::LangTag;
+/// use langtag::choice::{TagList, best_among};
+/// use langtag::matching::LanguageRange;
+///
+/// struct One<'t>(LangTag<'t>);
+///
+/// impl TagList for One<'_> {
+///     fn count(&self) -> usize {
+///         1
+///     }
+///
+///     fn tag_at(&self, _: usize) -> Option<LangTag<'_>> {
+///         Some(self.0)
+///     }
+///
+///     fn bytes_at(&self, _: usize) -> &[u8] {
+///         self.0.as_bytes()
+///     }
+/// }
+///
+/// let ranges = [LanguageRange::new("nn")?];
+/// assert_eq!(best_among(&ranges[..], &One(LangTag::new("nb")?)), Some(0));
+/// assert_eq!(best_among(&ranges[..], &One(LangTag::new("ja")?)), None);
+/// # Ok(())
+/// # }
+/// ```
 #[inline]
 pub fn best_among<'a, R: RangeList<'a>, T: TagList>(ranges: R, tags: &T) -> Option<usize> {
     best_index(ranges, tags)

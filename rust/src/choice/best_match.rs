@@ -3,6 +3,17 @@
 //! The best tag with the range that it serves.
 
 /// The best tag for a reader, the range that it serves, and its distance from that range.
+///
+/// ```
+/// # fn main() -> Result<(), Box<dyn std::error::Error>> {
+/// use langtag::LangTag;
+/// use langtag::choice::match_for_header;
+///
+/// let found = match_for_header(b"tlh, gsw", &[LangTag::new("de")?]);
+/// assert_eq!(found.map(|found| (found.range, found.place)), Some((&b"gsw"[..], 1)));
+/// # Ok(())
+/// # }
+/// ```
 #[derive(Clone, Copy, Debug)]
 pub struct BestMatch<'a> {
     /// The index of the tag.

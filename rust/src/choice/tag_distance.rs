@@ -10,6 +10,16 @@ use crate::tag::LangTag;
 
 /// The distance of two different tags of which one has no known language: it is only `und`, or is for private use, or
 /// begins with `i-`.
+///
+/// ```
+/// # fn main() -> Result<(), Box<dyn std::error::Error>> {
+/// use langtag::LangTag;
+/// use langtag::choice::{FORMLESS_DISTANCE, distance};
+///
+/// assert!(distance(LangTag::new("x-a")?, LangTag::new("de")?) == FORMLESS_DISTANCE);
+/// # Ok(())
+/// # }
+/// ```
 pub const FORMLESS_DISTANCE: u8 = 255;
 
 /// Returns the distance from a desired tag to a supported tag (UTS #35, Language Matching): 0 from `zh-TW` to

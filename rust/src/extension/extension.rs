@@ -218,11 +218,22 @@ pub struct ExtensionBuf {
 
 #[cfg(feature = "alloc")]
 impl ExtensionBuf {
-    /// Parses a `String` as an extension and keeps it, without copying: `u-co` is `Ok`.
+    /// Parses a `String` as an extension and keeps it, without copying.
     ///
     /// # Errors
     ///
     /// Returns the same `String` if it is not one extension, such as `a`.
+    ///
+    /// ```
+    /// # fn main() -> Result<(), Box<dyn std::error::Error>> {
+    /// use langtag::ExtensionBuf;
+    /// use std::str::FromStr;
+    ///
+    /// assert_eq!(ExtensionBuf::new(String::from_str("u-co")?)?.as_str(), "u-co");
+    /// assert!(ExtensionBuf::new(String::from_str("a")?).is_err());
+    /// # Ok(())
+    /// # }
+    /// ```
     #[inline]
     pub fn new(text: String) -> Result<ExtensionBuf, InvalidExtension<String>> {
         if !is_extension(text.as_str()) {

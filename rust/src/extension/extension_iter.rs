@@ -27,7 +27,13 @@ pub struct ExtensionIter<'a> {
 }
 
 impl<'a> ExtensionIter<'a> {
-    /// Returns an iterator over no subtags: `ExtensionIter::empty().count()` is 0.
+    /// Returns an iterator over no subtags.
+    ///
+    /// ```
+    /// use langtag::ExtensionIter;
+    ///
+    /// assert_eq!(ExtensionIter::empty().count(), 0);
+    /// ```
     #[inline]
     pub fn empty() -> Self {
         ExtensionIter {

@@ -178,11 +178,22 @@ pub struct ExtensionSubtagBuf {
 
 #[cfg(feature = "alloc")]
 impl ExtensionSubtagBuf {
-    /// Parses a `String` as a subtag and keeps it, without copying: `co` is `Ok`.
+    /// Parses a `String` as a subtag and keeps it, without copying.
     ///
     /// # Errors
     ///
     /// Returns the same `String` if it is not two to eight letters and digits, such as `c`.
+    ///
+    /// ```
+    /// # fn main() -> Result<(), Box<dyn std::error::Error>> {
+    /// use langtag::ExtensionSubtagBuf;
+    /// use std::str::FromStr;
+    ///
+    /// assert_eq!(ExtensionSubtagBuf::new(String::from_str("co")?)?.as_str(), "co");
+    /// assert!(ExtensionSubtagBuf::new(String::from_str("c")?).is_err());
+    /// # Ok(())
+    /// # }
+    /// ```
     #[inline]
     pub fn new(text: String) -> Result<ExtensionSubtagBuf, InvalidExtensionSubtag<String>> {
         if !is_extension_subtag(text.as_bytes()) {

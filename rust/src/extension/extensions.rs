@@ -254,11 +254,22 @@ pub struct ExtensionsBuf {
 
 #[cfg(feature = "alloc")]
 impl ExtensionsBuf {
-    /// Parses a `String` as extensions and keeps it, without copying: `a-ext1-u-co` is `Ok`.
+    /// Parses a `String` as extensions and keeps it, without copying.
     ///
     /// # Errors
     ///
     /// Returns the same `String` if it is not extensions joined by hyphens, such as `u-`.
+    ///
+    /// ```
+    /// # fn main() -> Result<(), Box<dyn std::error::Error>> {
+    /// use langtag::ExtensionsBuf;
+    /// use std::str::FromStr;
+    ///
+    /// assert_eq!(ExtensionsBuf::new(String::from_str("a-ext1-u-co")?)?.as_str(), "a-ext1-u-co");
+    /// assert!(ExtensionsBuf::new(String::from_str("u-")?).is_err());
+    /// # Ok(())
+    /// # }
+    /// ```
     #[inline]
     pub fn new(text: String) -> Result<ExtensionsBuf, InvalidExtensions<String>> {
         if !are_extensions(text.as_str()) {

@@ -177,11 +177,22 @@ pub struct ExtendedLangTagBuf {
 
 #[cfg(feature = "alloc")]
 impl ExtendedLangTagBuf {
-    /// Parses a `String` as a subtag and keeps it, without copying: `yue` is `Ok`.
+    /// Parses a `String` as a subtag and keeps it, without copying.
     ///
     /// # Errors
     ///
     /// Returns the same `String` if it is not three letters, such as `yu`.
+    ///
+    /// ```
+    /// # fn main() -> Result<(), Box<dyn std::error::Error>> {
+    /// use langtag::ExtendedLangTagBuf;
+    /// use std::str::FromStr;
+    ///
+    /// assert_eq!(ExtendedLangTagBuf::new(String::from_str("yue")?)?.as_str(), "yue");
+    /// assert!(ExtendedLangTagBuf::new(String::from_str("yu")?).is_err());
+    /// # Ok(())
+    /// # }
+    /// ```
     #[inline]
     pub fn new(text: String) -> Result<ExtendedLangTagBuf, InvalidExtendedLangTag<String>> {
         if !is_extended(text.as_bytes()) {

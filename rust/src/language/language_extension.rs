@@ -202,12 +202,23 @@ pub struct LanguageExtensionBuf {
 
 #[cfg(feature = "alloc")]
 impl LanguageExtensionBuf {
-    /// Parses a `String` as a language extension and keeps it, without copying: `min-nan` is `Ok`.
+    /// Parses a `String` as a language extension and keeps it, without copying.
     ///
     /// # Errors
     ///
     /// Returns the same `String` if it is not one to three extended subtags with one hyphen between neighbours, such as
     /// `min-`.
+    ///
+    /// ```
+    /// # fn main() -> Result<(), Box<dyn std::error::Error>> {
+    /// use langtag::LanguageExtensionBuf;
+    /// use std::str::FromStr;
+    ///
+    /// assert_eq!(LanguageExtensionBuf::new(String::from_str("min-nan")?)?.as_str(), "min-nan");
+    /// assert!(LanguageExtensionBuf::new(String::from_str("min-")?).is_err());
+    /// # Ok(())
+    /// # }
+    /// ```
     #[inline]
     pub fn new(text: String) -> Result<LanguageExtensionBuf, InvalidLanguageExtension<String>> {
         if !is_language_extension(text.as_str()) {

@@ -26,7 +26,13 @@ pub struct LanguageExtensionIter<'a> {
 }
 
 impl<'a> LanguageExtensionIter<'a> {
-    /// Returns an iterator over no extended subtags: `LanguageExtensionIter::empty().next()` is None.
+    /// Returns an iterator over no extended subtags.
+    ///
+    /// ```
+    /// use langtag::LanguageExtensionIter;
+    ///
+    /// assert_eq!(LanguageExtensionIter::empty().next(), None);
+    /// ```
     #[inline]
     pub fn empty() -> Self {
         LanguageExtensionIter {

@@ -177,11 +177,22 @@ pub struct PrimaryLanguageBuf {
 
 #[cfg(feature = "alloc")]
 impl PrimaryLanguageBuf {
-    /// Parses a `String` as a subtag and keeps it, without copying: `fr` is `Ok`.
+    /// Parses a `String` as a subtag and keeps it, without copying.
     ///
     /// # Errors
     ///
     /// Returns the same `String` if it is not two to eight letters, such as `f`.
+    ///
+    /// ```
+    /// # fn main() -> Result<(), Box<dyn std::error::Error>> {
+    /// use langtag::PrimaryLanguageBuf;
+    /// use std::str::FromStr;
+    ///
+    /// assert_eq!(PrimaryLanguageBuf::new(String::from_str("fr")?)?.as_str(), "fr");
+    /// assert!(PrimaryLanguageBuf::new(String::from_str("f")?).is_err());
+    /// # Ok(())
+    /// # }
+    /// ```
     #[inline]
     pub fn new(text: String) -> Result<PrimaryLanguageBuf, InvalidPrimaryLanguage<String>> {
         if !is_primary(text.as_bytes()) {

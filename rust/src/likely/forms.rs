@@ -86,6 +86,18 @@ pub fn write_maximized(tag: LangTag<'_>, buffer: &mut [u8]) -> usize {
 
 /// Writes a tag without its likely subtags to a buffer, as [`minimized`] returns it, and returns its length in bytes.
 /// If the buffer is too short, it stays unchanged. It does not allocate.
+///
+/// ```
+/// # fn main() -> Result<(), Box<dyn std::error::Error>> {
+/// use langtag::LangTag;
+/// use langtag::likely::write_minimized;
+///
+/// let mut buffer = [0; 16];
+/// let length = write_minimized(LangTag::new("zh-Hant-TW")?, &mut buffer);
+/// assert_eq!(buffer.get(..length), Some(&b"zh-TW"[..]));
+/// # Ok(())
+/// # }
+/// ```
 pub fn write_minimized(tag: LangTag<'_>, buffer: &mut [u8]) -> usize {
     let Some(normal) = tag.as_normal() else {
         return write_text(tag.as_bytes(), buffer);

@@ -77,6 +77,15 @@ fn bytes_of(name: &[u8]) -> Result<Option<Vec<u8>>, AllocError> {
 /// Writes the tag of a POSIX locale's name to a buffer, as [`from_posix`] returns it, and returns its length in bytes,
 /// or `None` if the name has no tag. If the buffer is too short, it stays unchanged, and the length says how much room
 /// is needed. It does not allocate.
+///
+/// ```
+/// use langtag::likely::write_from_posix;
+///
+/// let mut buffer = [0; 16];
+/// assert_eq!(write_from_posix(b"pt_BR.UTF-8", &mut buffer), Some(5));
+/// assert_eq!(buffer.get(..5), Some(&b"pt-BR"[..]));
+/// assert_eq!(write_from_posix(b"C", &mut buffer), None);
+/// ```
 pub fn write_from_posix(name: &[u8], buffer: &mut [u8]) -> Option<usize> {
     let (front, modifier) = front_and_modifier(name);
     let (place, script) = place_and_script(front);

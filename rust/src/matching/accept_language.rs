@@ -84,15 +84,36 @@ impl<'a> AcceptLanguage<'a> {
         Ok(AcceptLanguage { ranges })
     }
 
-    /// Returns the ranges, the greatest weight first: `ranges()[0].range.as_str()` is `"de"` for `fr;q=0.5, de`. It is
-    /// proved which ranges are equal, and that a clone is the same value.
+    /// Returns the ranges, the greatest weight first. It is proved which ranges are equal, and that a clone is the same
+    /// value.
+    ///
+    /// ```
+    /// # fn main() -> Result<(), Box<dyn std::error::Error>> {
+    /// use langtag::matching::AcceptLanguage;
+    ///
+    /// let accepted = AcceptLanguage::new("fr;q=0.5, de")?;
+    /// assert_eq!(accepted.ranges().first().map(|first| first.range.as_str()), Some("de"));
+    /// # Ok(())
+    /// # }
+    /// ```
     #[inline]
     pub fn ranges(&self) -> &[WeightedRange<'a>] {
         self.ranges.as_slice()
     }
 
-    /// Returns the tag that look-up finds for the ranges, or the default, as [`look_up`](crate::matching::look_up) does: `de-CH`
-    /// for `fr;q=0.3, DE-ch-1996;q=0.9` and the tags `de-CH` and `fr`.
+    /// Returns the tag that look-up finds for the ranges, or the default, as [`look_up`](crate::matching::look_up) does.
+    ///
+    /// ```
+    /// # fn main() -> Result<(), Box<dyn std::error::Error>> {
+    /// use langtag::LangTag;
+    /// use langtag::matching::AcceptLanguage;
+    ///
+    /// let accepted = AcceptLanguage::new("fr;q=0.3, DE-ch-1996;q=0.9")?;
+    /// let tags = [LangTag::new("de-CH")?, LangTag::new("fr")?];
+    /// assert_eq!(accepted.look_up(&tags, LangTag::new("en")?).as_str(), "de-CH");
+    /// # Ok(())
+    /// # }
+    /// ```
     #[inline]
     pub fn look_up<'t>(&self, tags: &[LangTag<'t>], default: LangTag<'t>) -> LangTag<'t> {
         for weighted in self.ranges() {

@@ -58,6 +58,13 @@ pub fn element_at(item: &[u8]) -> Result<Element<'_>, ElementPart> {
 /// Returns whether the text between two commas of a header is empty except for spaces and tabs. Such an element must be
 /// skipped ([RFC 9110 section 5.6.1.2]).
 ///
+/// ```
+/// use langtag::matching::is_empty_element;
+///
+/// assert!(is_empty_element(b" \t"));
+/// assert!(!is_empty_element(b" fr"));
+/// ```
+///
 /// [RFC 9110 section 5.6.1.2]: https://www.rfc-editor.org/rfc/rfc9110#section-5.6.1.2
 #[inline]
 pub fn is_empty_element(item: &[u8]) -> bool {

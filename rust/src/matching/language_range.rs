@@ -248,11 +248,22 @@ pub struct LanguageRangeBuf {
 
 #[cfg(feature = "alloc")]
 impl LanguageRangeBuf {
-    /// Parses a `String` as a range and keeps it, without copying: `de-*` is `Ok`.
+    /// Parses a `String` as a range and keeps it, without copying.
     ///
     /// # Errors
     ///
     /// Returns the same `String` if it is not a range, such as `de-`.
+    ///
+    /// ```
+    /// # fn main() -> Result<(), Box<dyn std::error::Error>> {
+    /// use langtag::matching::LanguageRangeBuf;
+    /// use std::str::FromStr;
+    ///
+    /// assert_eq!(LanguageRangeBuf::new(String::from_str("de-*")?)?.as_str(), "de-*");
+    /// assert!(LanguageRangeBuf::new(String::from_str("de-")?).is_err());
+    /// # Ok(())
+    /// # }
+    /// ```
     #[inline]
     pub fn new(text: String) -> Result<LanguageRangeBuf, InvalidLanguageRange<String>> {
         if !is_language_range(text.as_str()) {

@@ -70,8 +70,15 @@ impl<'a> Iterator for WantedRanges<'a> {
     }
 }
 
-/// Returns the first range of a header, as [`wanted_ranges`] reads it, and the text after its comma: `de` and `en` for
-/// `de,en`. Returns `None` if there is no range. Use it to walk over the ranges with a `Copy` value.
+/// Returns the first range of a header, as [`wanted_ranges`] reads it, and the text after its comma. Returns `None` if
+/// there is no range. Use it to walk over the ranges with a `Copy` value.
+///
+/// ```
+/// use langtag::matching::split_wanted;
+///
+/// let found = split_wanted(b"de,en");
+/// assert_eq!(found.map(|(first, rest)| (first.bytes, rest)), Some((&b"de"[..], &b"en"[..])));
+/// ```
 pub fn split_wanted(header: &[u8]) -> Option<(WantedRange<'_>, &[u8])> {
     let mut left = header;
     while !left.is_empty() {

@@ -177,11 +177,22 @@ pub struct RegionBuf {
 
 #[cfg(feature = "alloc")]
 impl RegionBuf {
-    /// Parses a `String` as a region and keeps it, without copying: `fr` is `Ok`.
+    /// Parses a `String` as a region and keeps it, without copying.
     ///
     /// # Errors
     ///
     /// Returns the same `String` if it is neither two letters nor three digits, such as `FR1`.
+    ///
+    /// ```
+    /// # fn main() -> Result<(), Box<dyn std::error::Error>> {
+    /// use langtag::RegionBuf;
+    /// use std::str::FromStr;
+    ///
+    /// assert_eq!(RegionBuf::new(String::from_str("fr")?)?.as_str(), "fr");
+    /// assert!(RegionBuf::new(String::from_str("FR1")?).is_err());
+    /// # Ok(())
+    /// # }
+    /// ```
     #[inline]
     pub fn new(text: String) -> Result<RegionBuf, InvalidRegion<String>> {
         if !is_region(text.as_bytes()) {

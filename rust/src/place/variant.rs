@@ -178,12 +178,23 @@ pub struct VariantBuf {
 
 #[cfg(feature = "alloc")]
 impl VariantBuf {
-    /// Parses a `String` as a variant and keeps it, without copying: `rozaj` is `Ok`.
+    /// Parses a `String` as a variant and keeps it, without copying.
     ///
     /// # Errors
     ///
     /// Returns the same `String` if it is neither five to eight letters and digits nor four of which the first is a
     /// digit, such as `roza`.
+    ///
+    /// ```
+    /// # fn main() -> Result<(), Box<dyn std::error::Error>> {
+    /// use langtag::VariantBuf;
+    /// use std::str::FromStr;
+    ///
+    /// assert_eq!(VariantBuf::new(String::from_str("rozaj")?)?.as_str(), "rozaj");
+    /// assert!(VariantBuf::new(String::from_str("roza")?).is_err());
+    /// # Ok(())
+    /// # }
+    /// ```
     #[inline]
     pub fn new(text: String) -> Result<VariantBuf, InvalidVariant<String>> {
         if !is_variant(text.as_bytes()) {

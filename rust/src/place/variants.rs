@@ -243,11 +243,22 @@ pub struct VariantsBuf {
 
 #[cfg(feature = "alloc")]
 impl VariantsBuf {
-    /// Parses a `String` as variants and keeps it, without copying: `rozaj-1994` is `Ok`.
+    /// Parses a `String` as variants and keeps it, without copying.
     ///
     /// # Errors
     ///
     /// Returns the same `String` if it is not variants with one hyphen between neighbours, such as `rozaj-`.
+    ///
+    /// ```
+    /// # fn main() -> Result<(), Box<dyn std::error::Error>> {
+    /// use langtag::VariantsBuf;
+    /// use std::str::FromStr;
+    ///
+    /// assert_eq!(VariantsBuf::new(String::from_str("rozaj-1994")?)?.as_str(), "rozaj-1994");
+    /// assert!(VariantsBuf::new(String::from_str("rozaj-")?).is_err());
+    /// # Ok(())
+    /// # }
+    /// ```
     #[inline]
     pub fn new(text: String) -> Result<VariantsBuf, InvalidVariants<String>> {
         if !all_variants(text.as_str()) {

@@ -28,7 +28,13 @@ pub struct VariantsIter<'a> {
 }
 
 impl<'a> VariantsIter<'a> {
-    /// Returns an iterator over no variants: `VariantsIter::empty().count()` is 0.
+    /// Returns an iterator over no variants.
+    ///
+    /// ```
+    /// use langtag::VariantsIter;
+    ///
+    /// assert_eq!(VariantsIter::empty().count(), 0);
+    /// ```
     #[inline]
     pub fn empty() -> Self {
         Variants::EMPTY.iter()

@@ -223,11 +223,22 @@ pub struct PrivateUseBuf {
 
 #[cfg(feature = "alloc")]
 impl PrivateUseBuf {
-    /// Parses a `String` as a private use part and keeps it, without copying: `x-twain` is `Ok`.
+    /// Parses a `String` as a private use part and keeps it, without copying.
     ///
     /// # Errors
     ///
     /// Returns the same `String` if it is not a private use part, such as `x`.
+    ///
+    /// ```
+    /// # fn main() -> Result<(), Box<dyn std::error::Error>> {
+    /// use langtag::PrivateUseBuf;
+    /// use std::str::FromStr;
+    ///
+    /// assert_eq!(PrivateUseBuf::new(String::from_str("x-twain")?)?.as_str(), "x-twain");
+    /// assert!(PrivateUseBuf::new(String::from_str("x")?).is_err());
+    /// # Ok(())
+    /// # }
+    /// ```
     #[inline]
     pub fn new(text: String) -> Result<PrivateUseBuf, InvalidPrivateUse<String>> {
         if !is_private_use(text.as_str()) {

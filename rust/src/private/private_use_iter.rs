@@ -26,7 +26,13 @@ pub struct PrivateUseIter<'a> {
 }
 
 impl<'a> PrivateUseIter<'a> {
-    /// Returns an iterator over no subtags: `PrivateUseIter::empty().next()` is None.
+    /// Returns an iterator over no subtags.
+    ///
+    /// ```
+    /// use langtag::PrivateUseIter;
+    ///
+    /// assert_eq!(PrivateUseIter::empty().next(), None);
+    /// ```
     #[inline]
     pub fn empty() -> Self {
         PrivateUseIter {

@@ -177,11 +177,22 @@ pub struct PrivateUseSubtagBuf {
 
 #[cfg(feature = "alloc")]
 impl PrivateUseSubtagBuf {
-    /// Parses a `String` as a subtag and keeps it, without copying: `twain` is `Ok`.
+    /// Parses a `String` as a subtag and keeps it, without copying.
     ///
     /// # Errors
     ///
     /// Returns the same `String` if it is not one to eight letters and digits, such as `a-b`.
+    ///
+    /// ```
+    /// # fn main() -> Result<(), Box<dyn std::error::Error>> {
+    /// use langtag::PrivateUseSubtagBuf;
+    /// use std::str::FromStr;
+    ///
+    /// assert_eq!(PrivateUseSubtagBuf::new(String::from_str("twain")?)?.as_str(), "twain");
+    /// assert!(PrivateUseSubtagBuf::new(String::from_str("a-b")?).is_err());
+    /// # Ok(())
+    /// # }
+    /// ```
     #[inline]
     pub fn new(text: String) -> Result<PrivateUseSubtagBuf, InvalidPrivateUseSubtag<String>> {
         if !is_private_subtag(text.as_bytes()) {

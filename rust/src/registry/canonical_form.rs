@@ -101,6 +101,12 @@ pub fn write_canonical(tag: LangTag<'_>, buffer: &mut [u8]) -> usize {
 
 /// Returns the greatest length in bytes of the canonical form of a tag of a given length, as the size of a buffer for
 /// [`write_canonical`]. It is twice the length plus 14.
+///
+/// ```
+/// use langtag::registry::canonical_bound;
+///
+/// assert_eq!(canonical_bound(5), 24);
+/// ```
 #[inline]
 pub fn canonical_bound(tag_len: usize) -> usize {
     tag_len.saturating_mul(2).saturating_add(LONGEST_PREFERRED)

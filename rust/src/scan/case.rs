@@ -8,7 +8,12 @@ use core::hash::Hasher;
 
 /// Returns a byte in lowercase if it is an ASCII letter, and any other byte unchanged ([RFC 5646 section 2.1.1]).
 ///
-/// `into_smallcase(b'L')` is `b'l'`, and `into_smallcase(b'[')` is `b'['`.
+/// ```
+/// use langtag::into_smallcase;
+///
+/// assert_eq!(into_smallcase(b'L'), b'l');
+/// assert_eq!(into_smallcase(b'['), b'[');
+/// ```
 ///
 /// [RFC 5646 section 2.1.1]: https://www.rfc-editor.org/rfc/rfc5646#section-2.1.1
 #[inline]
@@ -18,7 +23,11 @@ pub fn into_smallcase(c: u8) -> u8 {
 
 /// Returns whether two texts are equal, ignoring the case of ASCII letters ([RFC 5646 section 2.1.1]).
 ///
-/// `case_insensitive_eq(b"zh-Latn", b"ZH-LATN")` is `true`.
+/// ```
+/// use langtag::case_insensitive_eq;
+///
+/// assert!(case_insensitive_eq(b"zh-Latn", b"ZH-LATN"));
+/// ```
 ///
 /// [RFC 5646 section 2.1.1]: https://www.rfc-editor.org/rfc/rfc5646#section-2.1.1
 #[inline]
@@ -27,7 +36,15 @@ pub fn case_insensitive_eq(a: &[u8], b: &[u8]) -> bool {
 }
 
 /// Compares two texts by their lowercase bytes ([RFC 5646 section 2.1.1]). If one begins the other, the shorter is
-/// greater: `case_insensitive_cmp(b"zh", b"zh-Latn")` is `Greater`.
+/// greater.
+///
+/// ```
+/// use langtag::case_insensitive_cmp;
+/// use std::cmp::Ordering;
+///
+/// assert_eq!(case_insensitive_cmp(b"zh-Latn", b"ZH-LATN"), Ordering::Equal);
+/// assert_eq!(case_insensitive_cmp(b"zh", b"zh-Latn"), Ordering::Greater);
+/// ```
 ///
 /// [RFC 5646 section 2.1.1]: https://www.rfc-editor.org/rfc/rfc5646#section-2.1.1
 pub fn case_insensitive_cmp(a: &[u8], b: &[u8]) -> Ordering {
@@ -44,6 +61,17 @@ pub fn case_insensitive_cmp(a: &[u8], b: &[u8]) -> Ordering {
 /// their number nor an end.
 ///
 /// For `b"FR"` it writes `b'f'` and then `b'r'`.
+///
+/// ```
+/// use langtag::case_insensitive_hash;
+/// use std::hash::{DefaultHasher, Hasher};
+///
+/// let mut upper = DefaultHasher::new();
+/// case_insensitive_hash(b"ZH-TW", &mut upper);
+/// let mut lower = DefaultHasher::new();
+/// case_insensitive_hash(b"zh-tw", &mut lower);
+/// assert!(upper.finish() == lower.finish());
+/// ```
 ///
 /// [RFC 5646 section 2.1.1]: https://www.rfc-editor.org/rfc/rfc5646#section-2.1.1
 #[inline]

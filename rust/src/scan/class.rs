@@ -45,7 +45,13 @@ fn starts_with_digit(bytes: &[u8]) -> bool {
 
 /// Returns whether the bytes are a primary language subtag (section 2.2.1): two to eight letters.
 ///
-/// `is_primary(b"zh")` is `true`, and `is_primary(b"z")` and `is_primary(b"z4")` are `false`.
+/// ```
+/// use langtag::is_primary;
+///
+/// assert!(is_primary(b"zh"));
+/// assert!(!is_primary(b"z"));
+/// assert!(!is_primary(b"z4"));
+/// ```
 #[inline]
 pub fn is_primary(bytes: &[u8]) -> bool {
     bytes.len() >= 2 && bytes.len() <= 8 && are_letters(bytes)
@@ -53,7 +59,12 @@ pub fn is_primary(bytes: &[u8]) -> bool {
 
 /// Returns whether the bytes are an extended language subtag (section 2.2.2): three letters.
 ///
-/// `is_extended(b"min")` is `true`, and `is_extended(b"419")` is `false`.
+/// ```
+/// use langtag::is_extended;
+///
+/// assert!(is_extended(b"min"));
+/// assert!(!is_extended(b"419"));
+/// ```
 #[inline]
 pub fn is_extended(bytes: &[u8]) -> bool {
     bytes.len() == 3 && are_letters(bytes)
@@ -61,7 +72,12 @@ pub fn is_extended(bytes: &[u8]) -> bool {
 
 /// Returns whether the bytes are a script subtag (section 2.2.3): four letters.
 ///
-/// `is_script(b"Latn")` is `true`, and `is_script(b"1694")` is `false`.
+/// ```
+/// use langtag::is_script;
+///
+/// assert!(is_script(b"Latn"));
+/// assert!(!is_script(b"1694"));
+/// ```
 #[inline]
 pub fn is_script(bytes: &[u8]) -> bool {
     bytes.len() == 4 && are_letters(bytes)
@@ -69,7 +85,13 @@ pub fn is_script(bytes: &[u8]) -> bool {
 
 /// Returns whether the bytes are a region subtag (section 2.2.4): two letters, or three digits.
 ///
-/// `is_region(b"FR")` and `is_region(b"419")` are `true`, and `is_region(b"4F")` is `false`.
+/// ```
+/// use langtag::is_region;
+///
+/// assert!(is_region(b"FR"));
+/// assert!(is_region(b"419"));
+/// assert!(!is_region(b"4F"));
+/// ```
 #[inline]
 pub fn is_region(bytes: &[u8]) -> bool {
     (bytes.len() == 2 && are_letters(bytes)) || (bytes.len() == 3 && are_digits(bytes))
@@ -78,7 +100,13 @@ pub fn is_region(bytes: &[u8]) -> bool {
 /// Returns whether the bytes are a variant subtag (section 2.2.5): five to eight letters and digits, or four of which
 /// the first is a digit.
 ///
-/// `is_variant(b"rozaj")` and `is_variant(b"1694")` are `true`, and `is_variant(b"Latn")` is `false`.
+/// ```
+/// use langtag::is_variant;
+///
+/// assert!(is_variant(b"rozaj"));
+/// assert!(is_variant(b"1694"));
+/// assert!(!is_variant(b"Latn"));
+/// ```
 pub fn is_variant(bytes: &[u8]) -> bool {
     (bytes.len() >= 5 && bytes.len() <= 8 && are_alphanumeric(bytes))
         || (bytes.len() == 4 && are_alphanumeric(bytes) && starts_with_digit(bytes))
@@ -86,7 +114,12 @@ pub fn is_variant(bytes: &[u8]) -> bool {
 
 /// Returns whether the bytes are a subtag of an extension (section 2.2.6): two to eight letters and digits.
 ///
-/// `is_extension_subtag(b"co")` is `true`, and `is_extension_subtag(b"c")` is `false`.
+/// ```
+/// use langtag::is_extension_subtag;
+///
+/// assert!(is_extension_subtag(b"co"));
+/// assert!(!is_extension_subtag(b"c"));
+/// ```
 #[inline]
 pub fn is_extension_subtag(bytes: &[u8]) -> bool {
     bytes.len() >= 2 && bytes.len() <= 8 && are_alphanumeric(bytes)
@@ -94,7 +127,12 @@ pub fn is_extension_subtag(bytes: &[u8]) -> bool {
 
 /// Returns whether the bytes are a private use subtag (section 2.2.7): one to eight letters and digits.
 ///
-/// `is_private_subtag(b"a")` is `true`, and `is_private_subtag(b"")` is `false`.
+/// ```
+/// use langtag::is_private_subtag;
+///
+/// assert!(is_private_subtag(b"a"));
+/// assert!(!is_private_subtag(b""));
+/// ```
 #[inline]
 pub fn is_private_subtag(bytes: &[u8]) -> bool {
     !bytes.is_empty() && bytes.len() <= 8 && are_alphanumeric(bytes)
@@ -102,7 +140,12 @@ pub fn is_private_subtag(bytes: &[u8]) -> bool {
 
 /// Returns whether the byte begins a private use part (section 2.2.7): `x` or `X`.
 ///
-/// `is_mark(b'X')` is `true`, and `is_mark(b'u')` is `false`.
+/// ```
+/// use langtag::is_mark;
+///
+/// assert!(is_mark(b'X'));
+/// assert!(!is_mark(b'u'));
+/// ```
 #[inline]
 pub fn is_mark(byte: u8) -> bool {
     byte == b'x' || byte == b'X'
@@ -111,7 +154,13 @@ pub fn is_mark(byte: u8) -> bool {
 /// Returns whether the byte is a singleton (section 2.2.6), which begins an extension: a letter or digit other than `x`
 /// and `X`.
 ///
-/// `is_singleton(b'u')` and `is_singleton(b'1')` are `true`, and `is_singleton(b'X')` is `false`.
+/// ```
+/// use langtag::is_singleton;
+///
+/// assert!(is_singleton(b'u'));
+/// assert!(is_singleton(b'1'));
+/// assert!(!is_singleton(b'X'));
+/// ```
 #[inline]
 pub fn is_singleton(byte: u8) -> bool {
     is_alphanumeric(byte) && !is_mark(byte)

@@ -23,14 +23,25 @@ pub struct Metered<'a> {
 }
 
 impl<'a> Metered<'a> {
-    /// Returns the bytes of a text, with no reads yet: `Metered::new("fr").reads()` is 0.
+    /// Returns the bytes of a text, with no reads yet.
+    ///
+    /// ```
+    /// use langtag::{ByteSource, Metered};
+    ///
+    /// assert_eq!(Metered::new("fr").reads(), 0);
+    /// ```
     #[inline]
     pub fn new(text: &'a str) -> Self {
         Metered::of_bytes(text.as_bytes())
     }
 
-    /// Returns a source over bytes, which need not be UTF-8, with no reads yet: `Metered::of_bytes(b"fr\xFF").len()` is
-    /// 3.
+    /// Returns a source over bytes, which need not be UTF-8, with no reads yet.
+    ///
+    /// ```
+    /// use langtag::{ByteSource, Metered};
+    ///
+    /// assert_eq!(Metered::of_bytes(b"fr\xFF").len(), 3);
+    /// ```
     #[inline]
     pub fn of_bytes(bytes: &'a [u8]) -> Self {
         Metered::followed(bytes, b"")

@@ -15,6 +15,13 @@ use crate::scan::state::{Ending, State};
 /// `recognise(&mut Metered::new("i-notexist"))` is `None` after four reads. It does not allocate. It is proved that it
 /// accepts exactly the tags.
 ///
+/// ```
+/// use langtag::{Metered, recognise};
+///
+/// assert!(recognise(&mut Metered::new("zh-TW")).is_some());
+/// assert!(recognise(&mut Metered::new("zh_TW")).is_none());
+/// ```
+///
 /// [RFC 5646 section 2.1]: https://www.rfc-editor.org/rfc/rfc5646#section-2.1
 #[inline(always)]
 ///
@@ -44,7 +51,13 @@ pub fn recognise<S: ByteSource>(source: &mut S) -> Option<Found> {
 /// Decides whether the bytes of a source are a normal tag (rule `langtag` of [RFC 5646 section 2.1]), as [`recognise`]
 /// does. It is proved that a normal tag splits into its parts in only one way.
 ///
-/// `recognise_normal(&mut Metered::new("zh-min"))` is `Some`. For `x-a` and `i-lux` it is `None`.
+/// ```
+/// use langtag::{Metered, recognise_normal};
+///
+/// assert!(recognise_normal(&mut Metered::new("zh-min")).is_some());
+/// assert!(recognise_normal(&mut Metered::new("x-a")).is_none());
+/// assert!(recognise_normal(&mut Metered::new("i-lux")).is_none());
+/// ```
 ///
 /// A source that counts wrongly or that changes its bytes gets a wrong answer or a panic, and nothing worse.
 ///

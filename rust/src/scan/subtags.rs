@@ -25,7 +25,16 @@ pub struct Subtags<'a> {
 }
 
 impl<'a> Subtags<'a> {
-    /// Returns an iterator over all subtags of a text: `fr` and `FR` for `fr-FR`, and nothing for the empty text.
+    /// Returns an iterator over all subtags of a text. The empty text has none.
+    ///
+    /// ```
+    /// use langtag::Subtags;
+    ///
+    /// let mut subtags = Subtags::new("fr-FR");
+    /// assert_eq!(subtags.next(), Some("fr"));
+    /// assert_eq!(subtags.next(), Some("FR"));
+    /// assert_eq!(subtags.next(), None);
+    /// ```
     #[inline]
     pub fn new(text: &'a str) -> Self {
         if text.is_empty() {
@@ -34,7 +43,13 @@ impl<'a> Subtags<'a> {
         Subtags { rest: Some(text) }
     }
 
-    /// Returns an iterator over no subtags: `Subtags::empty().next()` is None.
+    /// Returns an iterator over no subtags.
+    ///
+    /// ```
+    /// use langtag::Subtags;
+    ///
+    /// assert_eq!(Subtags::empty().next(), None);
+    /// ```
     #[inline]
     pub fn empty() -> Self {
         Subtags { rest: None }

@@ -10,7 +10,17 @@ use crate::scan::source::ByteSource;
 /// complete what a user types.
 ///
 /// For a tag it is the whole length. Otherwise it is the index of the first wrong byte, or the length if the bytes end
-/// too soon: 2 for `zh_Hant`, 3 for `i-notexist`, 4 for `de-x` and 0 for no bytes. It does not allocate.
+/// too soon. It does not allocate.
+///
+/// ```
+/// use langtag::viable_len;
+///
+/// assert_eq!(viable_len(b"zh-TW"), 5);
+/// assert_eq!(viable_len(b"zh_Hant"), 2);
+/// assert_eq!(viable_len(b"i-notexist"), 3);
+/// assert_eq!(viable_len(b"de-x"), 4);
+/// assert_eq!(viable_len(b""), 0);
+/// ```
 ///
 /// [RFC 5646 section 2.1]: https://www.rfc-editor.org/rfc/rfc5646#section-2.1
 #[inline]

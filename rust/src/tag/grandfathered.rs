@@ -98,6 +98,13 @@ pub enum GrandfatheredLangTag {
 }
 
 /// All grandfathered tags, in the order of [`GrandfatheredLangTag`].
+///
+/// ```
+/// use langtag::GRANDFATHERED;
+///
+/// assert_eq!(GRANDFATHERED.first().map(|tag| tag.as_str()), Some("en-GB-oed"));
+/// assert_eq!(GRANDFATHERED.len(), 26);
+/// ```
 pub const GRANDFATHERED: [GrandfatheredLangTag; 26] = [
     GrandfatheredLangTag::EnGbOed,
     GrandfatheredLangTag::IAmi,
@@ -188,15 +195,27 @@ impl GrandfatheredLangTag {
         }
     }
 
-    /// Returns the primary language of a regular tag: `zh` for `zh-min-nan`. An irregular one has none: `None` for
-    /// `i-lux`.
+    /// Returns the primary language of a regular tag. An irregular tag has none.
+    ///
+    /// ```
+    /// use langtag::GrandfatheredLangTag;
+    ///
+    /// assert_eq!(GrandfatheredLangTag::ZhMinNan.language().map(|it| it.as_str()), Some("zh"));
+    /// assert_eq!(GrandfatheredLangTag::ILux.language(), None);
+    /// ```
     #[inline]
     pub fn language(&self) -> Option<Language<'static>> {
         let language = self.registered().1?;
         Some(Language::from_checked(language))
     }
 
-    /// Returns the registered spelling: `sgn-BE-FR` for `GrandfatheredLangTag::SgnBeFr`.
+    /// Returns the registered spelling.
+    ///
+    /// ```
+    /// use langtag::GrandfatheredLangTag;
+    ///
+    /// assert_eq!(GrandfatheredLangTag::SgnBeFr.as_str(), "sgn-BE-FR");
+    /// ```
     #[inline]
     pub fn as_str(&self) -> &'static str {
         self.registered().0
@@ -214,7 +233,13 @@ impl GrandfatheredLangTag {
         LangTag::from_checked(self.as_str())
     }
 
-    /// Returns the bytes of the registered spelling: `b"i-lux"` for `GrandfatheredLangTag::ILux`.
+    /// Returns the bytes of the registered spelling.
+    ///
+    /// ```
+    /// use langtag::GrandfatheredLangTag;
+    ///
+    /// assert_eq!(GrandfatheredLangTag::ILux.as_bytes(), b"i-lux");
+    /// ```
     #[inline]
     pub fn as_bytes(&self) -> &'static [u8] {
         self.as_str().as_bytes()

@@ -53,6 +53,17 @@ impl LangTagBuf {
     /// # Errors
     ///
     /// Returns the same `String` if it is not a tag, such as `x-`.
+    ///
+    /// ```
+    /// # fn main() -> Result<(), Box<dyn std::error::Error>> {
+    /// use langtag::LangTagBuf;
+    /// use std::str::FromStr;
+    ///
+    /// assert_eq!(LangTagBuf::new(String::from_str("zh-TW")?)?.as_str(), "zh-TW");
+    /// assert!(LangTagBuf::new(String::from_str("x-")?).is_err());
+    /// # Ok(())
+    /// # }
+    /// ```
     #[inline]
     pub fn new(text: String) -> Result<LangTagBuf, InvalidLangTag<String>> {
         let Some(found) = recognise_text(text.as_str()) else {
@@ -73,12 +84,30 @@ impl LangTagBuf {
     /// Borrows the tag, without parsing it again.
     ///
     /// It is proved that comparisons and hashes of owned tags ignore case.
+    ///
+    /// ```
+    /// # fn main() -> Result<(), Box<dyn std::error::Error>> {
+    /// use langtag::LangTag;
+    ///
+    /// assert_eq!(LangTag::new("x-A")?.try_to_owned()?.as_lang_tag().as_str(), "x-A");
+    /// # Ok(())
+    /// # }
+    /// ```
     #[inline]
     pub fn as_lang_tag(&self) -> LangTag<'_> {
         LangTag::with_found(self.as_str(), self.found)
     }
 
     /// Returns the text, in its original case.
+    ///
+    /// ```
+    /// # fn main() -> Result<(), Box<dyn std::error::Error>> {
+    /// use langtag::LangTag;
+    ///
+    /// assert_eq!(LangTag::new("x-A")?.try_to_owned()?.as_str(), "x-A");
+    /// # Ok(())
+    /// # }
+    /// ```
     #[inline]
     pub fn as_str(&self) -> &str {
         self.text.0.as_str()
@@ -90,6 +119,16 @@ impl LangTagBuf {
     /// # Errors
     ///
     /// Returns the tag if it is of another kind, such as `x-a`.
+    ///
+    /// ```
+    /// # fn main() -> Result<(), Box<dyn std::error::Error>> {
+    /// use langtag::LangTag;
+    ///
+    /// assert!(LangTag::new("zh-TW")?.try_to_owned()?.into_normal().is_ok());
+    /// assert!(LangTag::new("x-a")?.try_to_owned()?.into_normal().is_err());
+    /// # Ok(())
+    /// # }
+    /// ```
     #[inline]
     pub fn into_normal(self) -> Result<NormalLangTagBuf, LangTagBuf> {
         let Some(ends) = self.found.ends() else {
@@ -99,6 +138,15 @@ impl LangTagBuf {
     }
 
     /// Returns the `String`, without copying it.
+    ///
+    /// ```
+    /// # fn main() -> Result<(), Box<dyn std::error::Error>> {
+    /// use langtag::LangTag;
+    ///
+    /// assert_eq!(LangTag::new("x-A")?.try_to_owned()?.into_string(), "x-A");
+    /// # Ok(())
+    /// # }
+    /// ```
     #[inline]
     pub fn into_string(self) -> String {
         self.text.0
@@ -110,6 +158,17 @@ impl LangTagBuf {
     /// In a normal tag, the script becomes titlecase, the region uppercase, and everything else lowercase. The tag
     /// still equals the old one, and its parts keep their offsets. It neither allocates nor parses. Equal tags become
     /// the same bytes, so the text can be a key in a store that compares bytes.
+    ///
+    /// ```
+    /// # fn main() -> Result<(), Box<dyn std::error::Error>> {
+    /// use langtag::LangTag;
+    ///
+    /// let mut tag = LangTag::new("MN-cYRL-mn")?.try_to_owned()?;
+    /// tag.make_recommended_case();
+    /// assert_eq!(tag.as_str(), "mn-Cyrl-MN");
+    /// # Ok(())
+    /// # }
+    /// ```
     ///
     /// [RFC 5646 section 2.1.1]: https://www.rfc-editor.org/rfc/rfc5646#section-2.1.1
     #[inline]

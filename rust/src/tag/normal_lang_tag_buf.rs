@@ -54,6 +54,17 @@ impl NormalLangTagBuf {
     /// # Errors
     ///
     /// Returns the same `String` if it is not a normal tag, such as `x-a`.
+    ///
+    /// ```
+    /// # fn main() -> Result<(), Box<dyn std::error::Error>> {
+    /// use langtag::NormalLangTagBuf;
+    /// use std::str::FromStr;
+    ///
+    /// assert_eq!(NormalLangTagBuf::new(String::from_str("zh-TW")?)?.as_str(), "zh-TW");
+    /// assert!(NormalLangTagBuf::new(String::from_str("x-a")?).is_err());
+    /// # Ok(())
+    /// # }
+    /// ```
     #[inline]
     pub fn new(text: String) -> Result<NormalLangTagBuf, InvalidNormalLangTag<String>> {
         let Some(ends) = normal_ends(text.as_str()) else {
@@ -112,24 +123,61 @@ impl NormalLangTagBuf {
     /// Borrows the tag, without parsing it again.
     ///
     /// It is proved that comparisons and hashes of owned normal tags ignore case.
+    ///
+    /// ```
+    /// # fn main() -> Result<(), Box<dyn std::error::Error>> {
+    /// use langtag::NormalLangTag;
+    ///
+    /// assert_eq!(NormalLangTag::new("ZH-tw")?.try_to_owned()?.as_normal_lang_tag().as_str(), "ZH-tw");
+    /// # Ok(())
+    /// # }
+    /// ```
     #[inline]
     pub fn as_normal_lang_tag(&self) -> NormalLangTag<'_> {
         NormalLangTag::with_ends(self.as_str(), self.ends)
     }
 
     /// Returns the text, in its original case.
+    ///
+    /// ```
+    /// # fn main() -> Result<(), Box<dyn std::error::Error>> {
+    /// use langtag::NormalLangTag;
+    ///
+    /// assert_eq!(NormalLangTag::new("ZH-tw")?.try_to_owned()?.as_str(), "ZH-tw");
+    /// # Ok(())
+    /// # }
+    /// ```
     #[inline]
     pub fn as_str(&self) -> &str {
         self.text.0.as_str()
     }
 
     /// Converts the tag into a [`LangTagBuf`] over the same `String`, without parsing it again.
+    ///
+    /// ```
+    /// # fn main() -> Result<(), Box<dyn std::error::Error>> {
+    /// use langtag::NormalLangTag;
+    ///
+    /// let tag = NormalLangTag::new("zh-TW")?.try_to_owned()?;
+    /// assert_eq!(tag.into_lang_tag().as_str(), "zh-TW");
+    /// # Ok(())
+    /// # }
+    /// ```
     #[inline]
     pub fn into_lang_tag(self) -> LangTagBuf {
         LangTagBuf::with_found(self.text.0, Recognised::Normal(self.ends))
     }
 
     /// Returns the `String`, without copying it.
+    ///
+    /// ```
+    /// # fn main() -> Result<(), Box<dyn std::error::Error>> {
+    /// use langtag::NormalLangTag;
+    ///
+    /// assert_eq!(NormalLangTag::new("ZH-tw")?.try_to_owned()?.into_string(), "ZH-tw");
+    /// # Ok(())
+    /// # }
+    /// ```
     #[inline]
     pub fn into_string(self) -> String {
         self.text.0
@@ -137,6 +185,17 @@ impl NormalLangTagBuf {
 
     /// Changes the letters to the case that [RFC 5646 section 2.1.1] recommends, as [`LangTagBuf::make_recommended_case`]
     /// does: `MN-cYRL-mn` becomes `mn-Cyrl-MN`. It does not allocate, and parses nothing.
+    ///
+    /// ```
+    /// # fn main() -> Result<(), Box<dyn std::error::Error>> {
+    /// use langtag::NormalLangTag;
+    ///
+    /// let mut tag = NormalLangTag::new("MN-cYRL-mn")?.try_to_owned()?;
+    /// tag.make_recommended_case();
+    /// assert_eq!(tag.as_str(), "mn-Cyrl-MN");
+    /// # Ok(())
+    /// # }
+    /// ```
     ///
     /// [RFC 5646 section 2.1.1]: https://www.rfc-editor.org/rfc/rfc5646#section-2.1.1
     #[inline]

@@ -69,14 +69,30 @@ pub struct Replacement<'a> {
 ///
 /// To put the region `AT` into `de-DE-1996`, replace the bytes from 2 to 5 by a hyphen and `AT`. It is proved that a
 /// clone of a part is the same part.
+///
+/// ```
+/// # fn main() -> Result<(), Box<dyn std::error::Error>> {
+/// use langtag::{NormalLangTag, Part, Region, put_part};
+///
+/// let region = Part::Region(Some(Region::new("AT")?));
+/// let new = put_part(NormalLangTag::new("de-DE-1996")?, region);
+/// assert_eq!((new.start, new.end, new.hyphen, new.part), (2, 5, "-", "AT"));
+/// # Ok(())
+/// # }
+/// ```
 #[inline]
 pub fn put_part<'a>(tag: NormalLangTag<'_>, part: Part<'a>) -> Replacement<'a> {
     part.replacement(&tag.ends())
 }
 
 impl<'a> Part<'a> {
-    /// Returns the text of the part: `Latn` for `Part::Script(Script::new("Latn").ok())`, and the empty text for an
-    /// absent part.
+    /// Returns the text of the part. An absent part has the empty text.
+    ///
+    /// ```
+    /// use langtag::{Part, Script};
+    ///
+    /// assert_eq!(Part::Script(Script::new("Latn").ok()).as_str(), "Latn");
+    /// ```
     pub fn as_str(&self) -> &'a str {
         match self {
             Part::Language(language) => language.as_str(),

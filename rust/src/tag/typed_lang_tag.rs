@@ -37,6 +37,16 @@ pub enum TypedLangTag<'a> {
 impl<'a> TypedLangTag<'a> {
     /// Returns the language of a normal tag, or the primary language of a regular grandfathered one: `zh` for `zh-TW`,
     /// `None` for `x-a` and `i-lux`.
+    ///
+    /// ```
+    /// # fn main() -> Result<(), Box<dyn std::error::Error>> {
+    /// use langtag::LangTag;
+    ///
+    /// assert_eq!(LangTag::new("zh-TW")?.as_typed().language().map(|it| it.as_str()), Some("zh"));
+    /// assert_eq!(LangTag::new("i-lux")?.as_typed().language().map(|it| it.as_str()), None);
+    /// # Ok(())
+    /// # }
+    /// ```
     pub fn language(&self) -> Option<Language<'a>> {
         match self {
             TypedLangTag::Normal(tag) => Some(tag.language()),
@@ -45,8 +55,17 @@ impl<'a> TypedLangTag<'a> {
         }
     }
 
-    /// Returns the kind of the tag: `Kind::PrivateUse` for `x-a`. It is proved that typed tags are equal if they have
-    /// the same kind and their texts are equal, ignoring case, and that a clone is the same value.
+    /// Returns the kind of the tag. It is proved that typed tags are equal if they have the same kind and their
+    /// texts are equal, ignoring case, and that a clone is the same value.
+    ///
+    /// ```
+    /// # fn main() -> Result<(), Box<dyn std::error::Error>> {
+    /// use langtag::{Kind, LangTag};
+    ///
+    /// assert_eq!(LangTag::new("x-a")?.as_typed().kind(), Kind::PrivateUse);
+    /// # Ok(())
+    /// # }
+    /// ```
     pub fn kind(&self) -> Kind {
         match self {
             TypedLangTag::Normal(_) => Kind::Normal,
@@ -56,12 +75,32 @@ impl<'a> TypedLangTag<'a> {
     }
 
     /// Returns whether this is a normal tag: `true` for `zh-TW` and `art-lojban`, `false` for `x-a`.
+    ///
+    /// ```
+    /// # fn main() -> Result<(), Box<dyn std::error::Error>> {
+    /// use langtag::LangTag;
+    ///
+    /// assert!(LangTag::new("art-lojban")?.as_typed().is_normal());
+    /// assert!(!LangTag::new("x-a")?.as_typed().is_normal());
+    /// # Ok(())
+    /// # }
+    /// ```
     #[inline]
     pub fn is_normal(&self) -> bool {
         self.kind().is_normal()
     }
 
     /// Returns whether this is a private-use tag: `true` for `x-a`, `false` for `fr-x-a`.
+    ///
+    /// ```
+    /// # fn main() -> Result<(), Box<dyn std::error::Error>> {
+    /// use langtag::LangTag;
+    ///
+    /// assert!(LangTag::new("x-a")?.as_typed().is_private_use());
+    /// assert!(!LangTag::new("fr-x-a")?.as_typed().is_private_use());
+    /// # Ok(())
+    /// # }
+    /// ```
     #[inline]
     pub fn is_private_use(&self) -> bool {
         self.kind().is_private_use()
@@ -71,12 +110,32 @@ impl<'a> TypedLangTag<'a> {
     ///
     /// For `art-lojban`, a regular grandfathered tag, [`LangTag::as_typed`](crate::LangTag::as_typed) returns a normal
     /// tag, so this is `false`, while [`LangTag::is_grandfathered`](crate::LangTag::is_grandfathered) is `true`.
+    ///
+    /// ```
+    /// # fn main() -> Result<(), Box<dyn std::error::Error>> {
+    /// use langtag::LangTag;
+    ///
+    /// assert!(LangTag::new("i-lux")?.as_typed().is_grandfathered());
+    /// assert!(!LangTag::new("art-lojban")?.as_typed().is_grandfathered());
+    /// # Ok(())
+    /// # }
+    /// ```
     #[inline]
     pub fn is_grandfathered(&self) -> bool {
         self.kind().is_grandfathered()
     }
 
     /// Returns the normal tag if this is one: `Some` for `zh-TW`, `None` for `x-a`.
+    ///
+    /// ```
+    /// # fn main() -> Result<(), Box<dyn std::error::Error>> {
+    /// use langtag::LangTag;
+    ///
+    /// assert!(LangTag::new("zh-TW")?.as_typed().as_normal().is_some());
+    /// assert!(!LangTag::new("x-a")?.as_typed().as_normal().is_some());
+    /// # Ok(())
+    /// # }
+    /// ```
     #[inline]
     pub fn as_normal(&self) -> Option<NormalLangTag<'a>> {
         match self {
@@ -86,6 +145,16 @@ impl<'a> TypedLangTag<'a> {
     }
 
     /// Returns the private-use tag if this is one: `Some` for `x-a`, `None` for `fr-x-a`.
+    ///
+    /// ```
+    /// # fn main() -> Result<(), Box<dyn std::error::Error>> {
+    /// use langtag::LangTag;
+    ///
+    /// assert!(LangTag::new("x-a")?.as_typed().as_private_use().is_some());
+    /// assert!(!LangTag::new("fr-x-a")?.as_typed().as_private_use().is_some());
+    /// # Ok(())
+    /// # }
+    /// ```
     #[inline]
     pub fn as_private_use(&self) -> Option<PrivateUseLangTag<'a>> {
         match self {
@@ -95,6 +164,16 @@ impl<'a> TypedLangTag<'a> {
     }
 
     /// Returns the grandfathered tag if this is one: `Some` for `i-lux`, `None` for `art-lojban`, which is normal.
+    ///
+    /// ```
+    /// # fn main() -> Result<(), Box<dyn std::error::Error>> {
+    /// use langtag::LangTag;
+    ///
+    /// assert!(LangTag::new("i-lux")?.as_typed().as_grandfathered().is_some());
+    /// assert!(!LangTag::new("art-lojban")?.as_typed().as_grandfathered().is_some());
+    /// # Ok(())
+    /// # }
+    /// ```
     #[inline]
     pub fn as_grandfathered(&self) -> Option<GrandfatheredLangTag> {
         match self {

@@ -6,6 +6,16 @@ use crate::tag::Subtags;
 use crate::unicode::subtags::is_among_first;
 
 /// The iterator that `attributes` returns: the attributes of the extension `u`, in the order of the tag, each once.
+///
+/// ```
+/// # fn main() -> Result<(), Box<dyn std::error::Error>> {
+/// use langtag::LangTag;
+/// use langtag::unicode::attributes;
+///
+/// assert_eq!(attributes(LangTag::new("de-u-attr-foo-ATTR-ca-buddhist")?).count(), 2);
+/// # Ok(())
+/// # }
+/// ```
 #[derive(Debug)]
 pub struct AttributesIter<'a> {
     text: &'a str,

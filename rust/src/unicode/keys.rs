@@ -21,6 +21,12 @@ pub enum Keys {
 
 impl Keys {
     /// Returns whether a subtag is a key of the extension.
+    ///
+    /// ```
+    /// use langtag::unicode::Keys;
+    ///
+    /// assert!(Keys::Transform.has(b"m0"));
+    /// ```
     #[inline]
     pub fn has(self, subtag: &[u8]) -> bool {
         match self {

@@ -9,6 +9,16 @@ use crate::unicode::unicode_extension::KeyValue;
 /// An iterator over the keywords of the extension `u`, or the fields of the extension `t`, in the order of the tag.
 ///
 /// Each key comes once, with its first value.
+///
+/// ```
+/// # fn main() -> Result<(), Box<dyn std::error::Error>> {
+/// use langtag::LangTag;
+/// use langtag::unicode::keywords;
+///
+/// assert_eq!(keywords(LangTag::new("de-u-kn-ca-buddhist-kn-false")?).count(), 2);
+/// # Ok(())
+/// # }
+/// ```
 #[derive(Debug)]
 pub struct KeywordsIter<'a> {
     text: &'a str,

@@ -51,8 +51,21 @@ pub fn transform<'a>(tag: LangTag<'a>) -> Option<Transformation<'a>> {
 }
 
 impl<'a> Transformation<'a> {
-    /// Returns the language of the source text, as a slice of the tag: `ja-latn` for `und-t-ja-latn-m0-hepburn`, `None`
-    /// for `und-t-m0-hepburn`. It need not be a tag: for `und-t-abcd-efgh-ijkl` it is `abcd-efgh-ijkl`.
+    /// Returns the language of the source text, as a slice of the tag. It need not be a tag: for `und-t-abcd-efgh-ijkl`
+    /// it is `abcd-efgh-ijkl`.
+    ///
+    /// ```
+    /// # fn main() -> Result<(), Box<dyn std::error::Error>> {
+    /// use langtag::LangTag;
+    /// use langtag::unicode::transform;
+    ///
+    /// let found = transform(LangTag::new("und-t-ja-latn-m0-hepburn")?);
+    /// assert_eq!(found.and_then(|it| it.language()), Some("ja-latn"));
+    /// let found = transform(LangTag::new("und-t-m0-hepburn")?);
+    /// assert_eq!(found.and_then(|it| it.language()), None);
+    /// # Ok(())
+    /// # }
+    /// ```
     #[inline]
     pub fn language(&self) -> Option<&'a str> {
         nonempty(before_key(nonempty(self.text), Keys::Transform))
@@ -77,8 +90,19 @@ impl<'a> Transformation<'a> {
         value_in(self.text, Keys::Transform, key.as_bytes())
     }
 
-    /// Returns an iterator over the fields, in the order of the tag, each key once with its first value: `m0` with
-    /// `hepburn` for `und-t-ja-m0-hepburn`.
+    /// Returns an iterator over the fields, in the order of the tag, each key once with its first value.
+    ///
+    /// ```
+    /// # fn main() -> Result<(), Box<dyn std::error::Error>> {
+    /// use langtag::LangTag;
+    /// use langtag::unicode::transform;
+    ///
+    /// let found = transform(LangTag::new("und-t-ja-m0-hepburn")?);
+    /// let first = found.and_then(|it| it.fields().next());
+    /// assert_eq!(first.map(|field| (field.key, field.value)), Some(("m0", "hepburn")));
+    /// # Ok(())
+    /// # }
+    /// ```
     #[inline]
     pub fn fields(&self) -> KeywordsIter<'a> {
         KeywordsIter::new(self.text, Keys::Transform)

@@ -9,7 +9,18 @@ use crate::unicode::keywords_iter::KeywordsIter;
 use crate::unicode::subtags::{before_key, nonempty, unicode_text, value_in};
 
 /// A keyword of the extension `u` ([RFC 6067 section 2.1]), or a field of the extension `t` ([RFC 6497 section 2.2]), as
-/// slices of the tag: the key `ca` with the value `islamic-civil` in `ar-u-ca-islamic-civil`.
+/// slices of the tag.
+///
+/// ```
+/// # fn main() -> Result<(), Box<dyn std::error::Error>> {
+/// use langtag::LangTag;
+/// use langtag::unicode::keywords;
+///
+/// let first = keywords(LangTag::new("ar-u-ca-islamic-civil")?).next();
+/// assert_eq!(first.map(|it| (it.key, it.value)), Some(("ca", "islamic-civil")));
+/// # Ok(())
+/// # }
+/// ```
 ///
 /// [RFC 6067 section 2.1]: https://www.rfc-editor.org/rfc/rfc6067#section-2.1
 /// [RFC 6497 section 2.2]: https://www.rfc-editor.org/rfc/rfc6497#section-2.2
