@@ -3,6 +3,7 @@ pub mod AlphabetLaws
 pub mod ExtensionForms
 pub mod FormRecords
 pub mod FormSizes
+pub mod FormTwice
 pub mod KeywordForms
 pub mod SubtagTexts
 pub mod WalkLaws
