@@ -1,4 +1,4 @@
-//! How a test asks, and how it ends.
+//! How a test asks questions, and how it fails.
 use std::alloc::{AllocError, Global};
 use std::process::Abort;
 
@@ -9,7 +9,7 @@ pub(crate) fn expect_true(rt: &impl Abort, holds: bool, case: usize) {
     assert!(rt; holds, "of {case}");
 }
 
-/// Asks each question, and again where memory was refused, and fails the test where the answer is another one than is wanted.
+/// Asks each question, and asks again if allocation failed. Fails the test if the answer is not the expected one.
 pub(crate) fn are_answered(
     rt: &impl Abort,
     alloc: Global,
