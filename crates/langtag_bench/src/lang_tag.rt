@@ -8,7 +8,7 @@ ghost use Rattle.langtag_bench.specs.PartLengths.{part_lengths};
 
 use langtag::LangTag;
 
-/// The lengths of the parts of a normal tag, in bytes; 0 for a part that is absent.
+/// The lengths of the parts of a normal tag, in bytes. An absent part has the length 0.
 #[repr(C)]
 pub struct PartLengths {
     pub language: usize,

@@ -46,7 +46,8 @@ pub extern "C" fn langtag_bench_minimized(
     }
 }
 
-/// Does the same as [`langtag_bench_maximized`], but with the tag of a POSIX locale's name.
+/// Writes the tag of a POSIX locale's name into a buffer, if there is room, and returns its length. Returns 0 if the
+/// name has no tag, or if an allocation fails. A failed allocation is counted in `refused`.
 #[unsafe(no_mangle)]
 pub extern "C" fn langtag_bench_from_posix(
     alloc: Global,
