@@ -18,7 +18,7 @@ use langtag_match::{LanguageRange, filter_basic, filter_extended, look_up};
 use std::alloc::{AllocError, Global};
 use std::hash::{DefaultHasher, Hash, Hasher};
 
-/// Returns what a hasher answers that a tag was fed to, and 0 for another text.
+/// Returns the hash of a tag, or 0 if the text is not a tag.
 #[unsafe(no_mangle)]
 pub extern "C" fn langtag_bench_hash(bytes: &[u8]) -> u64
     ensures { (IsTag bytes.now → ⊥) → result ≡ 0 }
@@ -31,7 +31,7 @@ pub extern "C" fn langtag_bench_hash(bytes: &[u8]) -> u64
     hasher.finish()
 }
 
-/// Returns how many subtags a tag has, and 0 for another text.
+/// Returns the number of subtags of a tag, or 0 if the text is not a tag.
 #[unsafe(no_mangle)]
 pub extern "C" fn langtag_bench_subtags(bytes: &[u8]) -> usize
     ensures { IsTag bytes.now → result ≡ length (subtags bytes.now) }
@@ -42,8 +42,8 @@ pub extern "C" fn langtag_bench_subtags(bytes: &[u8]) -> usize
     }
 }
 
-/// Walks over the variants, the extensions and the private use subtags of a tag, and returns how many the most numerous of
-/// them are; 0 for another text.
+/// Counts the variants, the extensions and the private use subtags of a tag, and returns the greatest of these numbers.
+/// Returns 0 if the text is not a tag.
 #[unsafe(no_mangle)]
 pub extern "C" fn langtag_bench_walk(bytes: &[u8]) -> usize
     ensures { (IsTag bytes.now → ⊥) → result ≡ 0 }
@@ -57,8 +57,8 @@ pub extern "C" fn langtag_bench_walk(bytes: &[u8]) -> usize
     variants.max(extensions).max(private_use)
 }
 
-/// Returns whether the bytes are a part of a tag, by the types that lend it, and by the owned ones, as far as memory can be
-/// had.
+/// Returns whether the bytes are a part of a tag, by the borrowed types and by the owned types. Returns `false` if
+/// allocation fails.
 #[unsafe(no_mangle)]
 pub extern "C" fn langtag_bench_part(alloc: Global, bytes: &[u8]) -> bool
     ensures { IsTrue result → IsUtf8 bytes.now }
@@ -69,7 +69,7 @@ pub extern "C" fn langtag_bench_part(alloc: Global, bytes: &[u8]) -> bool
     is_lent_part(text) && is_owned_part(alloc, text).unwrap_or(false)
 }
 
-/// Returns whether a text is a part of a tag, by the types that lend it.
+/// Returns whether a text is a part of a tag, by the borrowed types.
 fn is_lent_part(text: &str) -> bool {
     PrimaryLanguage::new(text).is_ok()
         || ExtendedLangTag::new(text).is_ok()
@@ -86,7 +86,7 @@ fn is_lent_part(text: &str) -> bool {
         || PrivateUse::new(text).is_ok()
 }
 
-/// Returns the same by the owned types.
+/// Returns whether a text is a part of a tag, by the owned types.
 fn is_owned_part(alloc: Global, text: &str) -> Result<bool, AllocError> {
     Ok(
         PrimaryLanguageBuf::new(String::from_str(alloc, text)?).is_ok()
@@ -105,7 +105,7 @@ fn is_owned_part(alloc: Global, text: &str) -> Result<bool, AllocError> {
     )
 }
 
-/// Returns how many fallbacks a range has, and 0 for another text.
+/// Returns the number of fallbacks of a range, or 0 if the text is not a range.
 #[unsafe(no_mangle)]
 pub extern "C" fn langtag_bench_fallbacks(bytes: &[u8]) -> usize
     ensures { IsTrue (is_language_range bytes.now) → result ≡ length (fallbacks bytes.now) }
@@ -116,8 +116,8 @@ pub extern "C" fn langtag_bench_fallbacks(bytes: &[u8]) -> usize
     }
 }
 
-/// Returns whether memory could be had for the ranges among the bytes, with commas between them, and basic filtering finds
-/// one of the twenty tags.
+/// Returns whether basic filtering finds one of the twenty tags for the ranges in a text, which commas separate.
+/// Returns `false` if allocation fails.
 #[unsafe(no_mangle)]
 pub extern "C" fn langtag_bench_filter_basic(alloc: Global, bytes: &[u8]) -> bool
     ensures { IsTrue result → IsUtf8 bytes.now }
@@ -133,7 +133,8 @@ pub extern "C" fn langtag_bench_filter_basic(alloc: Global, bytes: &[u8]) -> boo
     }
 }
 
-/// Returns the same by extended filtering.
+/// Returns whether extended filtering finds one of the twenty tags for the ranges in a text, which commas separate.
+/// Returns `false` if allocation fails.
 #[unsafe(no_mangle)]
 pub extern "C" fn langtag_bench_filter_extended(alloc: Global, bytes: &[u8]) -> bool
     ensures { IsTrue result → IsUtf8 bytes.now }
@@ -149,8 +150,8 @@ pub extern "C" fn langtag_bench_filter_extended(alloc: Global, bytes: &[u8]) -> 
     }
 }
 
-/// Returns whether memory could be had for the ranges among the bytes, with commas between them, and another tag than
-/// the default is looked up for them among the twenty.
+/// Looks up a tag among the twenty tags for the ranges in a text, which commas separate. Returns whether it is another
+/// tag than the default. Returns `false` if allocation fails.
 #[unsafe(no_mangle)]
 pub extern "C" fn langtag_bench_look_up(alloc: Global, bytes: &[u8]) -> bool
     ensures { IsTrue result → IsUtf8 bytes.now }
@@ -166,7 +167,7 @@ pub extern "C" fn langtag_bench_look_up(alloc: Global, bytes: &[u8]) -> bool
     }
 }
 
-/// The ranges of a text, with commas between them.
+/// Returns the ranges in a text, which commas separate.
 fn ranges_of(alloc: Global, text: &str) -> Result<Vec<LanguageRange<'_>>, AllocError> {
     let mut ranges = Vec::new(alloc);
     for item in text.split(',') {

@@ -8,8 +8,8 @@ use langtag_examples::tag_for_request;
 use langtag_match::AcceptLanguage;
 use std::alloc::{AllocError, Global};
 
-/// Returns how many ranges a header has that is read without its bad elements; 0 where the bytes are not UTF-8, and where
-/// memory was refused, which is counted.
+/// Reads a header, skips malformed elements, and returns the number of ranges. Returns 0 if the bytes are not UTF-8, or
+/// if an allocation fails. A failed allocation is counted in `refused`.
 #[unsafe(no_mangle)]
 pub extern "C" fn langtag_bench_lenient(alloc: Global, header: &[u8], refused: &mut usize) -> usize
     ensures { (IsUtf8 header.now → ⊥) → result ≡ 0 }
@@ -23,8 +23,9 @@ pub extern "C" fn langtag_bench_lenient(alloc: Global, header: &[u8], refused: &
     }
 }
 
-/// Returns the index of the tag for a header among tags that have commas between them, and their number where it is for
-/// none of them; 0 where the bytes are not UTF-8, and where memory was refused, which is counted.
+/// Returns the index of the tag that is chosen for a header, or the number of tags if none is chosen. Commas separate
+/// the tags. Returns 0 if the bytes are not UTF-8, or if an allocation fails. A failed allocation is counted in
+/// `refused`.
 #[unsafe(no_mangle)]
 pub extern "C" fn langtag_bench_chosen(
     alloc: Global,
@@ -43,7 +44,7 @@ pub extern "C" fn langtag_bench_chosen(
     }
 }
 
-/// The same index.
+/// Returns the index of the tag that is chosen for a header, or the number of tags if none is chosen.
 fn chosen_index(alloc: Global, header: &str, tags: &str) -> Result<usize, AllocError> {
     let tags = tags_of(alloc, tags)?;
     let tags = tags.as_slice();
@@ -55,7 +56,7 @@ fn chosen_index(alloc: Global, header: &str, tags: &str) -> Result<usize, AllocE
     Ok(index.unwrap_or(tags.len()))
 }
 
-/// The tags of a text, with commas between them.
+/// Returns the tags in a text, which commas separate.
 fn tags_of(alloc: Global, text: &str) -> Result<Vec<LangTag<'_>>, AllocError> {
     let mut tags = Vec::new(alloc);
     for item in text.split(',') {

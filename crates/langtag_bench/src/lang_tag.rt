@@ -1,4 +1,4 @@
-//! A tag over a text, with all its parts asked for.
+//! A tag over a text, and all its parts.
 ghost use Rattle.std.specs.Prelude.{◌≡◌, ◌↔◌, IsTrue};
 ghost use Rattle.std.specs.Str.{IsUtf8};
 ghost use Rattle.langtag_scan.specs.Record.{EachRecord};
@@ -8,7 +8,7 @@ ghost use Rattle.langtag_bench.specs.PartLengths.{part_lengths};
 
 use langtag::LangTag;
 
-/// The lengths of the parts of a normal tag, in bytes; 0 for a part that is absent.
+/// The lengths of the parts of a normal tag, in bytes. An absent part has the length 0.
 #[repr(C)]
 pub struct PartLengths {
     pub language: usize,
@@ -19,7 +19,7 @@ pub struct PartLengths {
     pub private_use: usize,
 }
 
-/// Returns whether the bytes are a tag. A tag leaves the lengths of its parts.
+/// Returns whether the bytes are a tag. If they are, it writes the lengths of the parts.
 #[unsafe(no_mangle)]
 pub extern "C" fn langtag_bench_lang_tag(bytes: &[u8], lengths: &mut PartLengths) -> bool
     ensures tag { IsTrue result ↔ IsTag bytes.now }
@@ -34,7 +34,7 @@ pub extern "C" fn langtag_bench_lang_tag(bytes: &[u8], lengths: &mut PartLengths
     }
 }
 
-/// Returns whether the bytes are UTF-8: what a caller spends who makes a text of them before `LangTag::new`.
+/// Returns whether the bytes are UTF-8. A caller has this cost if it makes a text of the bytes before `LangTag::new`.
 #[unsafe(no_mangle)]
 pub extern "C" fn langtag_bench_is_utf8(bytes: &[u8]) -> bool
     ensures { IsTrue result ↔ IsUtf8 bytes.now }
@@ -42,7 +42,7 @@ pub extern "C" fn langtag_bench_is_utf8(bytes: &[u8]) -> bool
     str::from_utf8(bytes).is_ok()
 }
 
-/// Keeps the lengths of the parts of a tag.
+/// Writes the lengths of the parts of a tag.
 fn keep(tag: &LangTag<'_>, lengths: &mut PartLengths)
     ensures { EachRecord (lang_tag_text tag.now) (λ r. lengths.new ≡ part_lengths r) }
 {

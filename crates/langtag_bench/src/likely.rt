@@ -1,4 +1,4 @@
-//! Calls of langtag_likely that take memory.
+//! Calls of langtag_likely that allocate.
 ghost use Rattle.std.specs.Prelude.{◌≡◌};
 ghost use Rattle.langtag_scan.specs.Tag.{IsTag};
 
@@ -7,8 +7,8 @@ use crate::written::{count, write_text};
 use langtag_likely::{PosixError, from_posix, maximized, minimized};
 use std::alloc::Global;
 
-/// Writes the maximal form of a tag into a buffer, where there is room, and returns its length; 0 for another text, and where
-/// memory was refused, which is counted.
+/// Writes the maximal form of a tag into a buffer, if there is room, and returns its length. Returns 0 if the text is
+/// not a tag, or if an allocation fails. A failed allocation is counted in `refused`.
 #[unsafe(no_mangle)]
 pub extern "C" fn langtag_bench_maximized(
     alloc: Global,
@@ -27,7 +27,7 @@ pub extern "C" fn langtag_bench_maximized(
     }
 }
 
-/// Does the same with the minimal form.
+/// Does the same as [`langtag_bench_maximized`], but with the minimal form.
 #[unsafe(no_mangle)]
 pub extern "C" fn langtag_bench_minimized(
     alloc: Global,
@@ -46,7 +46,8 @@ pub extern "C" fn langtag_bench_minimized(
     }
 }
 
-/// Does the same with the tag of a POSIX locale's name.
+/// Writes the tag of a POSIX locale's name into a buffer, if there is room, and returns its length. Returns 0 if the
+/// name has no tag, or if an allocation fails. A failed allocation is counted in `refused`.
 #[unsafe(no_mangle)]
 pub extern "C" fn langtag_bench_from_posix(
     alloc: Global,

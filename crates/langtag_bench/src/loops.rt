@@ -1,10 +1,10 @@
-//! Plain loops over the bytes of a tag, to which the recogniser is compared.
+//! Plain loops over the bytes of a tag. The recogniser is compared with them.
 ghost use Rattle.std.specs.Prelude.{◌≡◌, ◌≤◌, ◌+◌, ◌%◌, length, take, fold};
 ghost use Rattle.langtag_scan.specs.Case.{fold_byte};
 
 use langtag_scan::into_smallcase;
 
-/// Copies the bytes to the start of others.
+/// Copies the bytes to the start of a buffer.
 #[unsafe(no_mangle)]
 pub extern "C" fn langtag_bench_copy(bytes: &[u8], into: &mut [u8]) -> u8
     requires room { length bytes.now ≤ length into.old }
@@ -18,7 +18,7 @@ pub extern "C" fn langtag_bench_copy(bytes: &[u8], into: &mut [u8]) -> u8
     0
 }
 
-/// Returns the sum of the folded bytes, as far as eight bits hold it.
+/// Returns the sum of the folded bytes, modulo 256.
 #[unsafe(no_mangle)]
 pub extern "C" fn langtag_bench_fold_and_sum(bytes: &[u8]) -> u8
     ensures { result ≡ fold (λ sum byte. (sum + fold_byte byte) % 256) 0 bytes.now }

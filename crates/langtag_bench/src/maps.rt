@@ -7,8 +7,8 @@ use langtag::LangTag;
 use langtag_examples::{Catalogue, Counts};
 use std::alloc::{AllocError, Global};
 
-/// Puts tags that have commas between them into a map of counts and one of texts, and returns how many are found in both;
-/// 0 where the bytes are not UTF-8, and where memory was refused, which is counted.
+/// Puts tags, which commas separate, into a map of counts and a map of texts, and returns how many are found in both.
+/// Returns 0 if the bytes are not UTF-8, or if an allocation fails. A failed allocation is counted in `refused`.
 #[unsafe(no_mangle)]
 pub extern "C" fn langtag_bench_maps(alloc: Global, tags: &[u8], refused: &mut usize) -> usize
     ensures { (IsUtf8 tags.now → ⊥) → result ≡ 0 }
@@ -22,7 +22,7 @@ pub extern "C" fn langtag_bench_maps(alloc: Global, tags: &[u8], refused: &mut u
     }
 }
 
-/// The same number.
+/// Returns how many tags are found in both maps.
 fn found_in_both(alloc: Global, tags: &str) -> Result<usize, AllocError> {
     let counts = counts_of(alloc, tags)?;
     let catalogue = catalogue_of(alloc, tags)?;
@@ -38,7 +38,7 @@ fn found_in_both(alloc: Global, tags: &str) -> Result<usize, AllocError> {
     Ok(found)
 }
 
-/// A count of one for each tag.
+/// Returns a map with the count 1 for each tag.
 fn counts_of(alloc: Global, tags: &str) -> Result<Counts, AllocError> {
     let mut counts = Counts::new(alloc);
     for text in tags.split(',') {
@@ -49,7 +49,7 @@ fn counts_of(alloc: Global, tags: &str) -> Result<Counts, AllocError> {
     Ok(counts)
 }
 
-/// The text of each tag, under the tag.
+/// Returns a map with the text of each tag.
 fn catalogue_of(alloc: Global, tags: &str) -> Result<Catalogue, AllocError> {
     let mut catalogue = Catalogue::new(alloc);
     for text in tags.split(',') {

@@ -13,7 +13,7 @@ use langtag::LangTag;
 use langtag_match::{LanguageRange, tag_for_header};
 use std::alloc::Global;
 
-/// Returns whether the bytes are a range and a tag, which is all that is done before they are matched.
+/// Returns whether the bytes are a range and a tag. This is all the work that precedes the matching.
 #[unsafe(no_mangle)]
 pub extern "C" fn langtag_bench_pair(range: &[u8], tag: &[u8]) -> bool
     ensures { IsTrue result ↔ (IsTrue (is_language_range range.now) × IsTag tag.now) }
@@ -21,7 +21,7 @@ pub extern "C" fn langtag_bench_pair(range: &[u8], tag: &[u8]) -> bool
     range_of(range).is_some() && tag_of(tag).is_some()
 }
 
-/// Returns whether the bytes are a range and a tag that it matches by basic filtering.
+/// Returns whether the bytes are a range and a tag, and the range matches the tag by basic filtering.
 #[unsafe(no_mangle)]
 pub extern "C" fn langtag_bench_matches_basic(range: &[u8], tag: &[u8]) -> bool
     ensures { IsTrue result ↔ (IsTrue (is_language_range range.now) × IsTag tag.now × MatchesBasic range.now tag.now) }
@@ -32,7 +32,7 @@ pub extern "C" fn langtag_bench_matches_basic(range: &[u8], tag: &[u8]) -> bool
     }
 }
 
-/// Returns the same by extended filtering.
+/// Returns whether the bytes are a range and a tag, and the range matches the tag by extended filtering.
 #[unsafe(no_mangle)]
 pub extern "C" fn langtag_bench_matches_extended(range: &[u8], tag: &[u8]) -> bool
     ensures { IsTrue result ↔ (IsTrue (is_language_range range.now) × IsTag tag.now × MatchesExtended range.now tag.now) }
@@ -43,7 +43,7 @@ pub extern "C" fn langtag_bench_matches_extended(range: &[u8], tag: &[u8]) -> bo
     }
 }
 
-/// The range that the bytes are.
+/// Returns the bytes as a range, or `None` if they are not a range.
 #[tactic(auto, using(langtag_match::proofs::AsciiRanges::utf8_range))]
 pub(crate) fn range_of<'a>(bytes: &'a [u8]) -> Option<LanguageRange<'a>>
     ensures { MatchOption result (is_language_range bytes.now ≡ false)
@@ -53,7 +53,7 @@ pub(crate) fn range_of<'a>(bytes: &'a [u8]) -> Option<LanguageRange<'a>>
     LanguageRange::new(text).ok()
 }
 
-/// The tag that the bytes are.
+/// Returns the bytes as a tag, or `None` if they are not a tag.
 pub(crate) fn tag_of<'a>(bytes: &'a [u8]) -> Option<LangTag<'a>>
     ensures { MatchOption result (IsTag bytes.now → ⊥) (λ tag. (lang_tag_text tag ≡ bytes.now) × IsTag bytes.now) }
 {
@@ -66,7 +66,7 @@ const TAGS: [&str; 20] = [
     "sv", "pl", "ru", "ja", "ko", "zh-Hans", "zh-Hant", "ar",
 ];
 
-/// Reads the twenty tags, which is all that is done before a header is read, and counts those other than `en`.
+/// Reads the twenty tags and counts those other than `en`. Reading them is all the work that precedes a header.
 #[unsafe(no_mangle)]
 pub extern "C" fn langtag_bench_tags() -> usize
     ensures { result ≤ 20 }
@@ -79,15 +79,15 @@ pub extern "C" fn langtag_bench_tags() -> usize
     known(&tags)
 }
 
-/// How many tags are other than `en`.
+/// Returns the number of tags other than `en`.
 fn known(tags: &[LangTag<'_>]) -> usize
     ensures { result ≤ length tags.now }
 {
     tags.iter().filter(|tag| !tag.eq_str("en")).count()
 }
 
-/// Returns whether the bytes are a header that can be read, and memory could be had for it. The tag for it is looked up
-/// among twenty.
+/// Looks up a tag for a header among the twenty tags. Returns whether the header is well-formed and allocation
+/// succeeds.
 #[unsafe(no_mangle)]
 pub extern "C" fn langtag_bench_tag_for_header(alloc: Global, header: &[u8]) -> bool
     ensures { IsTrue result → (ordered : List WeightedRange) × AreAccepted header.now ordered }

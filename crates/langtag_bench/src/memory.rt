@@ -1,6 +1,7 @@
-//! Calls of langtag and langtag_match that take memory. `bench/growth.sh` refuses each of their allocations in turn.
+//! Calls of langtag and langtag_match that allocate. `bench/growth.sh` refuses each of their allocations in turn.
 //!
-//! Each counts the calls to which memory was refused. One allocation at most is refused: a setter is called again after it.
+//! Each function counts the calls whose allocation failed. At most one allocation is refused, so a setter is called
+//! again after it.
 ghost use Rattle.std.specs.Prelude.{IsTrue, IfSome};
 ghost use Rattle.std.specs.Str.{IsUtf8};
 ghost use Rattle.langtag_scan.specs.Tag.{IsNormal, IsTag};
@@ -16,8 +17,8 @@ use langtag_match::{AcceptLanguage, AcceptLanguageError, LanguageRangeBuf, tag_f
 use std::alloc::Global;
 use std::fmt;
 
-/// Whether a copy is read as an owned value that is equal to the part, and both are displayed as their texts; or memory was
-/// refused to it, which is counted.
+/// Whether a copy is equal to the part after it is read as an owned value, and both are displayed as their texts. A
+/// failed allocation is counted, and the result is then `true`.
 macro_rules! is_right {
     ($alloc:ident, $copy:expr, $part:expr, $owned:ident, $refused:ident) => {
         match $copy {
@@ -37,15 +38,15 @@ macro_rules! is_right {
     };
 }
 
-/// Whether a part is copied rightly.
+/// Whether a copy of a part is right.
 macro_rules! is_copied {
     ($alloc:ident, $part:expr, $owned:ident, $refused:ident) => {
         is_right!($alloc, $part.try_to_owned($alloc), $part, $owned, $refused)
     };
 }
 
-/// Copies and displays a tag, also in its recommended case, and each part of it, by all types. Returns whether the bytes
-/// are a tag and each copy is right.
+/// Copies and displays a tag and each part of it, by all types. The tag is also copied in its recommended case. Returns
+/// whether the bytes are a tag and each copy is right.
 #[unsafe(no_mangle)]
 pub extern "C" fn langtag_bench_copies(alloc: Global, bytes: &[u8], refused: &mut usize) -> bool
     ensures { IsTrue result → IsTag bytes.now }
@@ -153,7 +154,7 @@ fn is_private_use_copied(alloc: Global, part: PrivateUse<'_>, refused: &mut usiz
     is_copied
 }
 
-/// Whether a value is displayed as a text, or memory was refused to that, which is counted.
+/// Returns whether a value is displayed as a text. A failed allocation is counted, and the result is then `true`.
 fn is_shown<T: fmt::Display>(alloc: Global, value: &T, text: &str, refused: &mut usize) -> bool {
     match format!(in alloc; "{}", value) {
         Ok(shown) => shown.as_str() == text,
@@ -164,7 +165,7 @@ fn is_shown<T: fmt::Display>(alloc: Global, value: &T, text: &str, refused: &mut
     }
 }
 
-/// The normal tag that the bytes are.
+/// Returns the bytes as a normal tag, or `None` if they are not one.
 pub(crate) fn normal_of(bytes: &[u8]) -> Option<NormalLangTag<'_>>
     ensures { IfSome result (λ tag. IsNormal bytes.now) }
 {
@@ -172,7 +173,7 @@ pub(crate) fn normal_of(bytes: &[u8]) -> Option<NormalLangTag<'_>>
     NormalLangTag::new(text).ok()
 }
 
-/// The parts of a normal tag; the empty text is an absent part.
+/// Returns the parts of a normal tag. An absent part is empty.
 fn texts_of<'a>(tag: &NormalLangTag<'a>) -> [&'a str; 6] {
     [
         tag.language().as_str(),
@@ -186,10 +187,10 @@ fn texts_of<'a>(tag: &NormalLangTag<'a>) -> [&'a str; 6] {
 
 /// An owned tag whose parts are set by their index.
 trait PartByPart {
-    /// The tag, if it is a normal one.
+    /// Returns the tag if it is normal.
     fn normal(&self) -> Option<NormalLangTag<'_>>;
 
-    /// Puts a part of another tag in the place of its own. Returns whether that was Ok.
+    /// Replaces a part by that of another tag. Returns whether the call succeeded.
     fn set(&mut self, alloc: Global, other: NormalLangTag<'_>, index: usize) -> bool;
 }
 
@@ -227,7 +228,7 @@ impl PartByPart for LangTagBuf {
     }
 }
 
-/// Whether an owned tag has these parts.
+/// Returns whether an owned tag has these parts.
 fn has_parts<T: PartByPart>(owned: &T, parts: [&str; 6]) -> bool {
     match owned.normal() {
         Some(tag) => texts_of(&tag) == parts,
@@ -235,8 +236,8 @@ fn has_parts<T: PartByPart>(owned: &T, parts: [&str; 6]) -> bool {
     }
 }
 
-/// Puts each part of another tag into a copy of a tag, one after the other. Returns whether the copy has the other's
-/// parts at the end, and where memory was refused had those that it had before.
+/// Replaces the parts of a copy of a tag by those of another tag, one after the other. Returns whether the parts are
+/// right after each step. If an allocation fails, the parts must be unchanged.
 fn is_set<'a, T: PartByPart + Drop>(
     alloc: Global,
     copy: T,
@@ -261,8 +262,8 @@ fn is_set<'a, T: PartByPart + Drop>(
     true
 }
 
-/// Puts each part of another normal tag into a copy of a normal one. Returns whether both are normal tags, and the
-/// copy is as it should be after each part.
+/// Replaces the parts of a copy of a normal tag by those of another normal tag, one after the other. Returns whether
+/// both are normal tags, and the copy is right after each step.
 #[unsafe(no_mangle)]
 pub extern "C" fn langtag_bench_set_normal(
     alloc: Global,
@@ -284,7 +285,7 @@ pub extern "C" fn langtag_bench_set_normal(
     }
 }
 
-/// Does the same to a copy that could be a tag of any kind.
+/// Does the same as [`langtag_bench_set_normal`], but the type of the copy allows a tag of any kind.
 #[unsafe(no_mangle)]
 pub extern "C" fn langtag_bench_set_of_any(
     alloc: Global,
@@ -306,8 +307,8 @@ pub extern "C" fn langtag_bench_set_of_any(
     }
 }
 
-/// Makes a tag of the language, the script and the region of another. Returns whether the bytes are a normal tag, and
-/// the one that is made has these parts and no other.
+/// Makes a tag from the language, the script and the region of another tag. Returns whether the bytes are a normal tag,
+/// and the new tag has these parts and no other.
 #[unsafe(no_mangle)]
 pub extern "C" fn langtag_bench_from_parts(alloc: Global, bytes: &[u8], refused: &mut usize) -> bool
     ensures { IsTrue result → IsNormal bytes.now }
@@ -325,8 +326,8 @@ pub extern "C" fn langtag_bench_from_parts(alloc: Global, bytes: &[u8], refused:
     }
 }
 
-/// Reads a header in each of three ways. Returns whether the bytes are a header without a bad element, and all three
-/// find the same.
+/// Reads a header in each of three ways. Returns whether no element of the header is malformed, and all three ways find
+/// the same.
 #[unsafe(no_mangle)]
 pub extern "C" fn langtag_bench_header(alloc: Global, bytes: &[u8], refused: &mut usize) -> bool
     ensures { IsTrue result → IsUtf8 bytes.now }
@@ -348,7 +349,7 @@ pub extern "C" fn langtag_bench_header(alloc: Global, bytes: &[u8], refused: &mu
     }
 }
 
-/// Whether the ways to read a header find the same ranges, and the same of two tags.
+/// Returns whether the ways to read a header find the same ranges, and choose the same of two tags.
 fn is_read_in_one_way<'a>(
     alloc: Global,
     header: &'a str,

@@ -18,7 +18,7 @@ pub struct PartEnds {
     pub whole: usize,
 }
 
-/// Returns whether the bytes are a tag. Those of a normal one leave the ends of its parts.
+/// Returns whether the bytes are a tag. If the tag is normal, it writes the ends of its parts.
 #[tactic(auto, using(langtag_scan::proofs::FoundLaws::tag_found, crate::proofs::TagBytes::utf8_tag, crate::proofs::KeptEnds::ends_kept, crate::proofs::KeptEnds::no_ends))]
 #[unsafe(no_mangle)]
 pub extern "C" fn langtag_bench_recognise(bytes: &[u8], ends: &mut PartEnds) -> bool
@@ -34,7 +34,7 @@ pub extern "C" fn langtag_bench_recognise(bytes: &[u8], ends: &mut PartEnds) -> 
     }
 }
 
-/// Returns the same with the check that the bytes are UTF-8 before it.
+/// Does the same as [`langtag_bench_recognise`], but first checks that the bytes are UTF-8.
 #[tactic(auto, using(langtag_scan::proofs::FoundLaws::tag_found, crate::proofs::TagBytes::utf8_tag, crate::proofs::KeptEnds::ends_kept, crate::proofs::KeptEnds::no_ends))]
 #[unsafe(no_mangle)]
 pub extern "C" fn langtag_bench_recognise_text(bytes: &[u8], ends: &mut PartEnds) -> bool
@@ -53,7 +53,7 @@ pub extern "C" fn langtag_bench_recognise_text(bytes: &[u8], ends: &mut PartEnds
     }
 }
 
-/// Keeps the ends of a normal tag.
+/// Writes the ends of the parts of a normal tag.
 fn keep(found: &Found, ends: &mut PartEnds)
     ensures { MatchOption (normal_ends (finding found.now)) (ends.new ≡ ends.old) (λ found. ends_left ends.new ≡ found) }
 {

@@ -16,8 +16,8 @@ use langtag_registry::{
 };
 use std::alloc::Global;
 
-/// Writes the canonical form of a tag into a buffer, where there is room, and returns its length; 0 for another text, and
-/// where memory was refused, which is counted.
+/// Writes the canonical form of a tag into a buffer, if there is room, and returns its length. Returns 0 if the text is
+/// not a tag, or if an allocation fails. A failed allocation is counted in `refused`.
 #[unsafe(no_mangle)]
 pub extern "C" fn langtag_bench_canonical(
     alloc: Global,
@@ -36,7 +36,7 @@ pub extern "C" fn langtag_bench_canonical(
     }
 }
 
-/// Does the same with the extlang form.
+/// Does the same as [`langtag_bench_canonical`], but with the extlang form.
 #[unsafe(no_mangle)]
 pub extern "C" fn langtag_bench_extlang_form(
     alloc: Global,
@@ -66,7 +66,7 @@ pub extern "C" fn langtag_bench_is_valid(bytes: &[u8]) -> bool
     }
 }
 
-/// Returns the length of the first variant of a normal tag that stands after none of its prefixes; 0 where none does.
+/// Returns the length of the first variant of a normal tag that follows none of its prefixes, or 0 if there is none.
 #[unsafe(no_mangle)]
 pub extern "C" fn langtag_bench_misplaced_variant(bytes: &[u8]) -> usize
     ensures { (IsNormal bytes.now → ⊥) → result ≡ 0 }
@@ -77,8 +77,8 @@ pub extern "C" fn langtag_bench_misplaced_variant(bytes: &[u8]) -> usize
     misplaced_variant(tag).map_or(0, |variant| variant.as_str().len())
 }
 
-/// Returns the length of the extended language of a normal tag that stands after another language than its prefix; 0 where
-/// none does.
+/// Returns the length of the extended language of a normal tag if it follows another language than its prefix, or 0
+/// otherwise.
 #[unsafe(no_mangle)]
 pub extern "C" fn langtag_bench_misplaced_extlang(bytes: &[u8]) -> usize
     ensures { (IsNormal bytes.now → ⊥) → result ≡ 0 }
@@ -89,7 +89,7 @@ pub extern "C" fn langtag_bench_misplaced_extlang(bytes: &[u8]) -> usize
     misplaced_extlang(tag).map_or(0, |extlang| extlang.as_str().len())
 }
 
-/// Asks all that the registry has of the subtags of a normal tag. Returns whether it has something of one of them.
+/// Reads all fields of the registry for the subtags of a normal tag. Returns whether one of the fields is there.
 #[unsafe(no_mangle)]
 pub extern "C" fn langtag_bench_fields(bytes: &[u8]) -> bool
     ensures { IsTrue result → IsNormal bytes.now }
@@ -100,17 +100,17 @@ pub extern "C" fn langtag_bench_fields(bytes: &[u8]) -> bool
     }
 }
 
-/// Whether a tag is deprecated, or replaced, as a whole.
+/// Returns whether a whole tag is deprecated or replaced.
 fn is_replaced(tag: LangTag<'_>) -> bool {
     is_deprecated_tag(tag) | preferred_tag(tag).is_some()
 }
 
-/// Whether the registry has something of a subtag of a tag.
+/// Returns whether the registry has a field for a subtag of a tag.
 fn is_known(tag: NormalLangTag<'_>) -> bool {
     is_known_language(tag) | is_known_place(tag) | has_known_variant(tag)
 }
 
-/// Whether it has something of a language, or of one of its extended subtags.
+/// Returns whether the registry has a field for a language, or for one of its extended subtags.
 fn is_known_language(tag: NormalLangTag<'_>) -> bool {
     let language = tag.language();
     let mut is_known = is_known_primary(language.primary());
@@ -120,7 +120,7 @@ fn is_known_language(tag: NormalLangTag<'_>) -> bool {
     is_known
 }
 
-/// Whether it has something of a primary language.
+/// Returns whether the registry has a field for a primary language.
 fn is_known_primary(language: PrimaryLanguage<'_>) -> bool {
     is_registered_language(language)
         | is_deprecated_language(language)
@@ -129,29 +129,29 @@ fn is_known_primary(language: PrimaryLanguage<'_>) -> bool {
         | suppress_script(language).is_some()
 }
 
-/// Whether it has something of an extended language.
+/// Returns whether the registry has a field for an extended language.
 fn is_known_extlang(extlang: ExtendedLangTag<'_>) -> bool {
     is_registered_extlang(extlang)
         | is_deprecated_extlang(extlang)
         | extlang_prefix(extlang).is_some()
 }
 
-/// Whether it has something of the script or the region of a tag.
+/// Returns whether the registry has a field for the script or the region of a tag.
 fn is_known_place(tag: NormalLangTag<'_>) -> bool {
     tag.script().map_or(false, is_known_script) | tag.region().map_or(false, is_known_region)
 }
 
-/// Whether it has a script.
+/// Returns whether the registry has a script.
 fn is_known_script(script: Script<'_>) -> bool {
     is_registered_script(script)
 }
 
-/// Whether it has something of a region.
+/// Returns whether the registry has a field for a region.
 fn is_known_region(region: Region<'_>) -> bool {
     is_registered_region(region) | is_deprecated_region(region) | preferred_region(region).is_some()
 }
 
-/// Whether it has something of one of the variants of a tag, all of which are asked for.
+/// Returns whether the registry has a field for one of the variants of a tag. It reads the fields of all of them.
 fn has_known_variant(tag: NormalLangTag<'_>) -> bool {
     let mut is_known = false;
     for variant in tag.variants().iter() {
@@ -160,7 +160,7 @@ fn has_known_variant(tag: NormalLangTag<'_>) -> bool {
     is_known
 }
 
-/// Whether it has something of a variant.
+/// Returns whether the registry has a field for a variant.
 fn is_known_variant(variant: Variant<'_>) -> bool {
     is_registered_variant(variant)
         | is_deprecated_variant(variant)

@@ -8,8 +8,8 @@ ghost use Rattle.langtag.specs.Repeat.{repeat};
 
 use langtag::NormalLangTag;
 
-/// Returns whether the bytes are UTF-8 and a normal tag, which is all that is done before its repeated variant is asked
-/// for.
+/// Returns whether the bytes are UTF-8 and a normal tag. This is all the work that precedes the search for a repeated
+/// variant.
 #[unsafe(no_mangle)]
 pub extern "C" fn langtag_bench_normal_lang_tag(bytes: &[u8]) -> bool
     ensures { IsTrue result ↔ IsNormal bytes.now }
@@ -20,7 +20,7 @@ pub extern "C" fn langtag_bench_normal_lang_tag(bytes: &[u8]) -> bool
     NormalLangTag::new(text).is_ok()
 }
 
-/// Returns the length of the first variant of a normal tag that repeats an earlier one; 0 where none does.
+/// Returns the length of the first variant of a normal tag that repeats an earlier variant, or 0 if there is none.
 #[unsafe(no_mangle)]
 pub extern "C" fn langtag_bench_repeated_variant(bytes: &[u8]) -> usize
     ensures { EachRecord bytes.now (λ r. result ≡ option_map_or length (repeat are_alike r.variants) 0) }
@@ -37,7 +37,7 @@ pub extern "C" fn langtag_bench_repeated_variant(bytes: &[u8]) -> usize
     }
 }
 
-/// Returns the byte of the first singleton of a normal tag that repeats an earlier one; 0 where none does.
+/// Returns the byte of the first singleton of a normal tag that repeats an earlier singleton, or 0 if there is none.
 #[unsafe(no_mangle)]
 pub extern "C" fn langtag_bench_repeated_singleton(bytes: &[u8]) -> usize
     ensures { (IsNormal bytes.now → ⊥) → result ≡ 0 }

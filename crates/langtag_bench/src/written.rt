@@ -1,12 +1,12 @@
-//! Texts that calls of langtag return, written into the caller's buffer; `bench/growth.sh` compares them with its own.
+//! Texts that calls of langtag return, written into the caller's buffer. `bench/growth.sh` compares them with its own.
 ghost use Rattle.std.specs.Prelude.{◌≡◌, ◌≤◌, length};
 ghost use Rattle.langtag_scan.specs.Tag.{IsTag};
 
 use crate::matching::tag_of;
 use std::alloc::Global;
 
-/// Writes a tag in its recommended case into a buffer, where there is room, and returns its length; 0 for another text, and
-/// where memory was refused, which is counted.
+/// Writes a tag in its recommended case into a buffer, if there is room, and returns its length. Returns 0 if the text
+/// is not a tag, or if an allocation fails. A failed allocation is counted in `refused`.
 #[unsafe(no_mangle)]
 pub extern "C" fn langtag_bench_recommended(
     alloc: Global,
@@ -25,7 +25,7 @@ pub extern "C" fn langtag_bench_recommended(
     }
 }
 
-/// Does the same with what is displayed of a tag in its recommended case.
+/// Does the same as [`langtag_bench_recommended`], but displays the tag in its recommended case.
 #[unsafe(no_mangle)]
 pub extern "C" fn langtag_bench_displayed(
     alloc: Global,
@@ -44,7 +44,7 @@ pub extern "C" fn langtag_bench_displayed(
     }
 }
 
-/// Writes a text at the start of a buffer, where there is room, and returns its length.
+/// Writes a text at the start of a buffer, if there is room, and returns its length.
 pub(crate) fn write_text(text: &str, into: &mut [u8]) -> usize
     ensures len { result ≡ length text.now }
     ensures room { length into.new ≡ length into.old }
@@ -55,7 +55,7 @@ pub(crate) fn write_text(text: &str, into: &mut [u8]) -> usize
     text.len()
 }
 
-/// Counts one more call to which memory was refused, and returns the length of no text.
+/// Counts one more failed allocation, and returns 0, the length of the empty text.
 pub(crate) fn count(refused: &mut usize) -> usize
     ensures { result ≡ 0 }
 {

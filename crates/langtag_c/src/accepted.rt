@@ -52,7 +52,7 @@ pub extern "C" fn langtag_next_accepted(
     }
 }
 
-/// Takes the first item off a list that is not empty, and the comma after it.
+/// Removes the first item that is not empty from a list, together with the comma after it.
 fn next_item(header: &[u8], rest: &mut Span) -> Option<Span>
     ensures within { IfSome result (IsWithin header.now) }
     ensures taken { IfSome result (TakesItem header.now rest.old rest.new) }

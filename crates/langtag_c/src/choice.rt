@@ -11,7 +11,7 @@ use crate::spanned_tags::SpannedTags;
 use crate::tag::tag_of;
 use langtag_choice::{best_among, distance};
 
-/// The distance where one of two texts is not a tag.
+/// The distance if one of two texts is not a tag.
 const NO_DISTANCE: u32 = u32::MAX;
 
 /// Returns the distance from a desired tag to a supported tag (UTS #35, Language Matching): 0 from `zh-TW` to

@@ -28,8 +28,8 @@ pub extern "C" fn langtag_next_fallback(bytes: &[u8], rest: &mut Span) -> bool
     true
 }
 
-/// Returns how much is left of a range without its last subtag, and without each single character that would stand last
-/// then; `None` if nothing is.
+/// Returns the length of a range after its last subtag is removed, and each single character that would then be last.
+/// Returns `None` if nothing is left.
 fn shortened_len(range: &[u8]) -> Option<usize>
     ensures shorter { IfSome result (λ len. len < length range.now) }
     ensures same { fallbacks range.now ≡ range.now ∷ option_map_or (λ len. fallbacks (take len range.now)) result [] }
@@ -44,7 +44,7 @@ fn shortened_len(range: &[u8]) -> Option<usize>
     None
 }
 
-/// Returns how much stands before the last hyphen.
+/// Returns the number of bytes before the last hyphen.
 fn len_without_last(range: &[u8]) -> Option<usize>
     ensures shorter { IfSome result (λ len. len < length range.now) }
     ensures cut { before_hyphens range.now ≡ option_map_or (λ len. take len range.now ∷ before_hyphens (take len range.now)) result [] }

@@ -72,7 +72,8 @@ pub extern "C" fn langtag_tag_for_header_lenient(
     heaviest_found(header, &spanned).unwrap_or(tags.len())
 }
 
-/// Returns the index of the tag that the heaviest of those elements finds that find one, and the first of these.
+/// Returns the index of the tag for the heaviest element that finds a tag. If several are equally heavy, the first
+/// counts.
 fn heaviest_found(header: &[u8], tags: &SpannedTags<'_>) -> Option<usize>
     ensures { result ≡ heaviest (tags_at tags.now.text.now tags.now.spans.now) (elements (items header.now)) None 0 }
 {
@@ -93,7 +94,7 @@ fn heaviest_found(header: &[u8], tags: &SpannedTags<'_>) -> Option<usize>
     found
 }
 
-/// Returns the index of the tag that a range finds.
+/// Returns the index of the tag that look-up finds for a range.
 fn tag_for(range: LanguageRange<'_>, tags: &SpannedTags<'_>) -> Option<usize>
     ensures { result ≡ first_alike (tags_at tags.now.text.now tags.now.spans.now) (fallbacks (language_range_text range.entry)) }
 {
@@ -105,14 +106,14 @@ fn tag_for(range: LanguageRange<'_>, tags: &SpannedTags<'_>) -> Option<usize>
     None
 }
 
-/// Returns the index of the first tag that is a text, in any case.
+/// Returns the index of the first tag that equals a text, ignoring case.
 fn index_alike(text: &[u8], tags: &SpannedTags<'_>) -> Option<usize>
     ensures { result ≡ index_alike (tags_at tags.now.text.now tags.now.spans.now) text.now }
 {
     first_alike(tags.text, tags.spans, text)
 }
 
-/// Returns the index of the first of some spans of a text that is a tag, and another text in any case.
+/// Returns the index of the first span that is a tag and equals a text, ignoring case.
 fn first_alike(bytes: &[u8], spans: &[Span], text: &[u8]) -> Option<usize>
     ensures { result ≡ position (λ span. option_map_or (λ tag. are_alike tag text.now) (tag_at bytes.now span) false) spans.now }
 {
@@ -121,14 +122,14 @@ fn first_alike(bytes: &[u8], spans: &[Span], text: &[u8]) -> Option<usize>
         .position(|span| is_tag_alike(bytes, *span, text))
 }
 
-/// Returns whether what a span is, is a tag, and a text in any case.
+/// Returns whether a span is a tag and equals a text, ignoring case.
 fn is_tag_alike(bytes: &[u8], span: Span, text: &[u8]) -> bool
     ensures { result ≡ option_map_or (λ tag. are_alike tag text.now) (tag_at bytes.now span) false }
 {
     case_insensitive_eq(bytes_in(bytes, span), text) && tag_in(bytes, span).is_some()
 }
 
-/// Returns the first bad element of a header, and which part of it is bad.
+/// Returns the first malformed element of a header, and which part of it is malformed.
 fn first_bad(header: &[u8]) -> Option<(Span, ElementPart)>
     ensures { MatchOption result (IsTrue (are_good (items header.now))) (λ found. IsBadAt header.now found.0 found.1) }
 {
@@ -143,7 +144,7 @@ fn first_bad(header: &[u8]) -> Option<(Span, ElementPart)>
     None
 }
 
-/// Returns which part of an item is bad: `None` if it is empty, or an element.
+/// Returns which part of an item is malformed, or `None` if the item is empty or an element.
 fn bad_part(item: &[u8]) -> Option<ElementPart>
     ensures { MatchOption result (is_good item.now ≡ true) (λ part. (is_good item.now ≡ false) × (part ≡ bad_part item.now)) }
 {

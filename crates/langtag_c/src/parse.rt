@@ -24,7 +24,7 @@ pub struct Parts {
 }
 
 impl Parts {
-    /// The parts of a normal tag, by where they end.
+    /// Returns the parts of a normal tag, by their ends.
     fn at(ends: &Ends) -> Parts
         requires { AreInOrder ends.now }
         ensures spans { result ≡ spans_at ends.now }
@@ -43,14 +43,14 @@ impl Parts {
         }
     }
 
-    /// No part at all.
+    /// Returns parts that are all empty.
     pub(crate) fn none() -> Parts
         ensures { result ≡ no_parts }
     {
         Parts::private_alone(0)
     }
 
-    /// No part but one for private use, of this length.
+    /// Returns parts that are empty except for a private use part of this length.
     fn private_alone(len: usize) -> Parts
         ensures { result ≡ private_alone len }
     {
@@ -65,7 +65,7 @@ impl Parts {
     }
 }
 
-/// What the recogniser finds of the bytes; `None` if they are not a tag.
+/// Returns what the recogniser finds, or `None` if the bytes are not a tag.
 #[tactic(auto, using(langtag_scan::proofs::FoundLaws::found_ends))]
 #[inline(always)]
 fn found_of(bytes: &[u8]) -> Option<Found>

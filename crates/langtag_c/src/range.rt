@@ -47,7 +47,7 @@ pub extern "C" fn langtag_matches_extended(range: &[u8], tag: &[u8]) -> bool
     }
 }
 
-/// The range that the bytes are.
+/// Returns the bytes as a range, or `None` if they are not a range.
 #[tactic(auto, using(langtag_match::proofs::AsciiRanges::utf8_range))]
 fn range_of<'a>(bytes: &'a [u8]) -> Option<LanguageRange<'a>>
     ensures { MatchOption result (is_language_range bytes.now ≡ false)

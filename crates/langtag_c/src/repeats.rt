@@ -54,7 +54,7 @@ pub extern "C" fn langtag_repeats(bytes: &[u8], repeated: &mut Repeated) -> u32
     flags(variant.is_some(), singleton.is_some())
 }
 
-/// Where the first repeated variant stands in a tag.
+/// Returns where the first repeated variant is in a tag.
 fn repeated_variant(tag: &NormalLangTag<'_>) -> Option<Span>
     ensures { EachRecord (normal_lang_tag_text tag.now) (λ r. result ≡ member_span (variant_place r) r.variants (repeat_index are_alike r.variants)) }
 {
@@ -76,7 +76,7 @@ pub(crate) fn variant_at(tag: &NormalLangTag<'_>, wanted: usize) -> Option<Span>
         .nth(wanted)
 }
 
-/// Where the first repeated singleton stands in a tag.
+/// Returns where the first repeated singleton is in a tag.
 fn repeated_singleton(tag: &NormalLangTag<'_>) -> Option<Span>
     ensures { EachRecord (normal_lang_tag_text tag.now) (λ r.
         result ≡ member_span (singleton_place r) r.extensions (repeat_index are_alike_bytes (map (λ e. e.singleton) r.extensions))) }
@@ -98,7 +98,7 @@ pub(crate) fn singleton_at(tag: &NormalLangTag<'_>, wanted: usize) -> Option<Spa
         .nth(wanted)
 }
 
-/// 1 for a variant, and 2 more for a singleton.
+/// Returns 1 if a variant is repeated, plus 2 if a singleton is repeated.
 fn flags(variant: bool, singleton: bool) -> u32
     ensures { result ≡ repeat_flags variant singleton }
 {

@@ -38,7 +38,7 @@ pub extern "C" fn langtag_validity(bytes: &[u8], invalid: &mut Span) -> u32
     number(fault)
 }
 
-/// The number that tells what is wrong.
+/// Returns the number of a fault.
 fn number(fault: InvalidSubtag<'_>) -> u32
     ensures { result ≡ number_of (told fault.entry) }
 {
@@ -54,7 +54,7 @@ fn number(fault: InvalidSubtag<'_>) -> u32
     }
 }
 
-/// Where the subtag that is wrong, and that has this index among its like, stands in its tag.
+/// Returns where the invalid subtag is in its tag. The index counts among the variants or the extensions.
 #[tactic(auto, using(langtag_scan::proofs::PartOffsets::ends_in_order))]
 fn place(tag: &NormalLangTag<'_>, fault: InvalidSubtag<'_>, index: usize) -> Span
     ensures { EachRecord (normal_lang_tag_text tag.now) (λ r. fault_index r (told fault.entry) ≡ Some index
@@ -83,7 +83,7 @@ fn place(tag: &NormalLangTag<'_>, fault: InvalidSubtag<'_>, index: usize) -> Spa
     }
 }
 
-/// The number of bytes of the primary language of a tag.
+/// Returns the number of bytes of the primary language of a tag.
 #[tactic(auto, using(langtag_scan::proofs::SubtagFacts::of_primary))]
 fn primary_len(tag: &NormalLangTag<'_>) -> usize
     ensures len { EachRecord (normal_lang_tag_text tag.now) (λ r. result ≡ length r.primary) }

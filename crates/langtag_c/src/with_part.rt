@@ -31,7 +31,7 @@ pub extern "C" fn langtag_with_part(tag: &[u8], part: u32, text: &[u8], buffer: 
     write_replaced(tag.as_bytes(), put_part(tag, part), buffer)
 }
 
-/// Writes a text in which some bytes are replaced, where the buffer has room for it. Answers its length.
+/// Writes a text in which some bytes are replaced, if the buffer has room for it. Returns its length.
 fn write_replaced<'a>(text: &'a [u8], new: Replacement<'a>, buffer: &mut [u8]) -> usize
     requires order { new.start ≤ new.end }
     requires within { new.end ≤ length text.now }

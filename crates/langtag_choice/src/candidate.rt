@@ -92,7 +92,7 @@ impl Candidate<'_, '_> {
     ghost use Rattle.langtag_choice.specs.Found.{rank_of};
     ghost use Rattle.langtag_choice.specs.Nearness.{kept};
 
-    /// Returns whether this goes before another.
+    /// Returns whether this candidate goes before another.
     pub(crate) fn goes_before(&self, other: &Candidate<'_, '_>) -> bool
         ensures { result ≡ is_lt (slice_cmp nat_cmp (rank_of self.now) (rank_of other.now)) }
     {
@@ -103,7 +103,8 @@ impl Candidate<'_, '_> {
         }
     }
 
-    /// Returns whether this goes before another of the same rank: by what look-up loses, then by the likely region, then by the index.
+    /// Returns whether this candidate goes before another of the same rank. It compares what look-up loses, then the
+    /// likely region, and then the index.
     #[tactic(auto, unfolding(crate::specs::Nearness::unlikely))]
     fn breaks_tie(&self, other: &Candidate<'_, '_>) -> bool
         ensures { result ≡ is_lt (slice_cmp nat_cmp (drop 4 (rank_of self.now)) (drop 4 (rank_of other.now))) }
@@ -119,7 +120,8 @@ impl Candidate<'_, '_> {
         self.index < other.index
     }
 
-    /// Returns how many bytes look-up takes from the range to find the tag, and all where it does not.
+    /// Returns how many bytes look-up removes from the range to find the tag. If look-up does not find the tag, it is
+    /// the whole length.
     fn lost(&self) -> usize
         ensures { result ≡ length (basic_text self.now.range.now) - kept (basic_text self.now.range.now) self.now.tag.now }
     {

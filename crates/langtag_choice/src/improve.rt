@@ -21,7 +21,7 @@ pub(crate) fn limit(found: &Option<Candidate<'_, '_>>, weight: u32, place: usize
     }
 }
 
-/// Returns what a weight lacks to 1.
+/// Returns 1 minus a weight, in thousandths.
 fn lack(weight: u32) -> u32
     ensures { result ≡ 1000 - weight }
 {
@@ -43,7 +43,8 @@ pub(crate) fn improve<'a, 't>(
     }
 }
 
-/// Does the same by the distance. It stands apart, so that the first letters are tested in the loops over tags themselves.
+/// Does the same as [`improve`], by the distance. It is a separate function, so that the loops over tags test the first
+/// letters themselves.
 #[inline(never)]
 fn improve_near<'a, 't>(
     found: &mut Option<Candidate<'a, 't>>,

@@ -1,4 +1,4 @@
-//! Languages to which no other language is near, as the first letters of a tag show.
+//! Languages that have no other language near them, recognised by the first letters of a tag.
 ghost use Rattle.std.specs.Prelude.{◌≡◌, IsTrue, Some, false, length};
 ghost use Rattle.std.specs.List.{before_first};
 ghost use Rattle.std.specs.Option.{ForSome, option_map};
@@ -37,7 +37,7 @@ pub(crate) fn is_short(text: &[u8]) -> bool
     }
 }
 
-/// Returns whether the first subtag of a text counts, and is no extended language.
+/// Returns whether the first subtag of a text is neither empty nor `*`, and is not an extended language.
 fn has_no_extended(text: &[u8]) -> bool
     ensures { IsTrue result → spec.HasNoExtended text.now }
 {
@@ -54,7 +54,7 @@ fn begins_counted(text: &[u8]) -> bool
     }
 }
 
-/// Returns whether a text may begin with an extended language. A region of three digits is none.
+/// Returns whether a text may begin with an extended language. A region of three digits is not an extended language.
 fn may_be_extended(text: &[u8]) -> bool
     ensures { result ≡ false → is_extended (before_first is_mark text.now) ≡ false }
 {
@@ -91,7 +91,7 @@ pub(crate) fn lone_letters(range: &[u8], form: Option<TagFields<'_>>) -> Option<
     head(form.language)
 }
 
-/// Returns whether a rule desires a language of two letters, or it replaces one of two letters.
+/// Returns whether a language of two letters is the desired language of a rule, or replaces a language of two letters.
 fn is_related(language: &[u8]) -> bool
     requires two { length language.now ≡ 2 }
     requires in_class { IsTrue (is_language_field language.now) }

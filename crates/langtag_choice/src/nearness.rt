@@ -56,7 +56,8 @@ fn nearer_than<'t>(limit: u8, wish: &Wish<'_>, tag: &'t [u8]) -> Option<Nearness
     }
 }
 
-/// Returns how near fields are that are still to be completed. Where the language alone is too far they are not.
+/// Returns how near a tag is to a range, by their fields. It adds the tag's likely subtags only if the language is near
+/// enough.
 fn nearer_fields<'t>(
     limit: u8,
     desired: TagFields<'_>,
@@ -80,7 +81,7 @@ fn nearer_fields<'t>(
     })
 }
 
-/// Returns fields with the likely language where they have none.
+/// Returns the fields, completed with likely subtags if they have no language.
 #[tactic(auto, using(crate::proofs::NearForms::same_language))]
 fn with_language<'t>(fields: TagFields<'t>) -> TagFields<'t>
     ensures { (desired : Fields) → language_distance desired (field_texts result) ≡ language_distance desired (completed (field_texts fields.entry)) }
@@ -92,7 +93,7 @@ fn with_language<'t>(fields: TagFields<'t>) -> TagFields<'t>
     }
 }
 
-/// Returns how near a tag is to a range where one of them has no matching form.
+/// Returns how near a tag is to a range if one of them has no matching form.
 fn equal_text<'t>(limit: u8, range: &[u8], tag: &'t [u8]) -> Option<Nearness<'t>>
     ensures { MatchOption result (limit ≤ formless_distance (basic_text range.now) tag.now)
         (IsNearer limit (formless_distance (basic_text range.now) tag.now) (matching_form tag.now)) }
@@ -118,7 +119,8 @@ pub(crate) fn kept(range: &[u8], tag: &[u8]) -> usize
     }
 }
 
-/// Returns whether a tag is a range, or what stands before one of its hyphens and does not end in a single character.
+/// Returns whether a tag equals a range, or equals what precedes a hyphen of the range and does not end in a single
+/// character.
 fn is_fallback(range: &[u8], tag: &[u8]) -> bool
     ensures { result ≡ spec.is_fallback (basic_text range.now) tag.now }
 {
@@ -126,15 +128,15 @@ fn is_fallback(range: &[u8], tag: &[u8]) -> bool
     rest.is_empty() && may_go(left, tag)
 }
 
-/// Returns whether look-up takes away what stands behind a tag in a range: nothing, or subtags that leave no single character at
-/// the end.
+/// Returns whether look-up removes what follows a tag in a range. The rest must be empty, or be subtags after a tag
+/// that does not end in a single character.
 fn may_go(left: &[u8], tag: &[u8]) -> bool
     ensures { result ≡ (ends_subtag (hyphened left.now) && ((length left.now == 0) || not (ends_in_single tag.now))) }
 {
     goes_on(left) && (left.is_empty() || !ends_in_single(tag))
 }
 
-/// Returns whether nothing follows in a range, or a hyphen.
+/// Returns whether the rest of a range is empty or begins with a hyphen.
 fn goes_on(rest: &[u8]) -> bool
     ensures { result ≡ ends_subtag (hyphened rest.now) }
 {

@@ -31,7 +31,7 @@ pub(crate) fn begins(range: &[u8], tag: &[u8]) -> bool
     left.is_empty() && ends_subtag(rest)
 }
 
-/// Returns whether nothing follows, or a hyphen.
+/// Returns whether the rest is empty or begins with a hyphen.
 pub(crate) fn ends_subtag(rest: &[u8]) -> bool
     ensures { result ≡ ends_subtag rest.now }
 {

@@ -12,7 +12,7 @@ use crate::matching_tables as tables;
 use langtag_likely::{TagFields, index_of};
 use langtag_scan::case_insensitive_eq;
 
-/// Returns the distance of two regions, each that of a language.
+/// Returns the distance of two regions, each with its language.
 #[tactic(auto, unfolding(crate::specs::Distance::region_distance))]
 pub(crate) fn region_distance(desired: TagFields<'_>, supported: TagFields<'_>) -> u8
     ensures distance { result ≡ spec.region_distance (field_texts desired.entry) (field_texts supported.entry) }
@@ -54,7 +54,7 @@ fn by_language(desired: TagFields<'_>, supported: TagFields<'_>) -> u8
     4
 }
 
-/// Returns the distance of two regions by the side of a set on which they lie.
+/// Returns the distance of two regions by whether they lie on the same side of a set.
 fn by_side(set: SetName, a: TagFields<'_>, b: TagFields<'_>) -> u8
     ensures distance { result ≡ spec.by_side (set_of set) a.entry.region.now b.entry.region.now }
     ensures some { 1 ≤ result }
@@ -63,7 +63,7 @@ fn by_side(set: SetName, a: TagFields<'_>, b: TagFields<'_>) -> u8
     if on_one_side(set, a, b) { 4 } else { 5 }
 }
 
-/// Returns the distance of two regions of English: what is not as in the United States is nearer to the British.
+/// Returns the distance of two regions of English. `GB` is nearer to a region outside the set of the United States.
 fn english(a: TagFields<'_>, b: TagFields<'_>) -> u8
     ensures distance { result ≡ spec.english a.entry.region.now b.entry.region.now }
     ensures some { 1 ≤ result }
@@ -81,7 +81,7 @@ fn is_british(a: TagFields<'_>, b: TagFields<'_>) -> bool
     case_insensitive_eq(b"GB", a.region) && SetName::UnitedStates.is_outside(b)
 }
 
-/// Returns whether both regions lie in a set, or both in what it leaves.
+/// Returns whether both regions are inside a set, or both are outside it.
 fn on_one_side(set: SetName, a: TagFields<'_>, b: TagFields<'_>) -> bool
     ensures { result ≡ spec.on_one_side (set_of set) a.entry.region.now b.entry.region.now }
 {
@@ -98,7 +98,7 @@ pub(crate) enum SetName {
 }
 
 impl SetName {
-    /// Returns the regions of the set, and the groups of which all countries are in it.
+    /// Returns the regions of the set, and the groups whose countries are all in it.
     #[tactic(auto, using(crate::proofs::MatchingTables::maghreb_inside_numbers, crate::proofs::MatchingTables::en_us_inside_numbers, crate::proofs::MatchingTables::americas_inside_numbers, crate::proofs::MatchingTables::cnsar_inside_numbers))]
     fn inside(self) -> &'static [u32]
         ensures numbers { result.now ≡ map folded_number (set_of self).inside }
@@ -112,7 +112,7 @@ impl SetName {
         }
     }
 
-    /// Returns the groups of which some countries are in the set, but not all.
+    /// Returns the groups with some countries in the set, but not all.
     #[tactic(auto, using(crate::proofs::MatchingTables::maghreb_partly_numbers, crate::proofs::MatchingTables::en_us_partly_numbers, crate::proofs::MatchingTables::americas_partly_numbers, crate::proofs::MatchingTables::cnsar_partly_numbers))]
     fn partly(self) -> &'static [u32]
         ensures numbers { result.now ≡ map folded_number (set_of self).partly }

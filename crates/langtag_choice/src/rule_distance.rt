@@ -32,7 +32,7 @@ pub(crate) fn language_distance(desired: TagFields<'_>, supported: TagFields<'_>
     }
 }
 
-/// Returns the distance of two scripts, each that of a language.
+/// Returns the distance of two scripts, each with its language.
 #[tactic(auto, unfolding(crate::specs::Distance::script_distance))]
 pub(crate) fn script_distance(desired: TagFields<'_>, supported: TagFields<'_>) -> u8
     ensures distance { result ≡ spec.script_distance (field_texts desired.entry) (field_texts supported.entry) }

@@ -66,7 +66,7 @@ fn texts_distance(desired: &[u8], supported: &[u8]) -> u8
     }
 }
 
-/// Returns the distance from a range, as it is read, to a tag.
+/// Returns the distance from a range to a tag. In the range, `_` means `-`, and each `-*` is ignored.
 #[tactic(auto, unfolding(crate::specs::Distance::distance_of_texts), using(crate::proofs::ReadRanges::form_read))]
 pub(crate) fn range_distance(range: &[u8], tag: &[u8]) -> u8
     requires { IsTrue (is_language_range (hyphened range.now)) }
@@ -78,7 +78,7 @@ pub(crate) fn range_distance(range: &[u8], tag: &[u8]) -> u8
     }
 }
 
-/// Returns the distance from a range to a tag of which one has no matching form.
+/// Returns the distance from a range to a tag if one of them has no matching form.
 fn formless_range_distance(range: &[u8], tag: &[u8]) -> u8
     ensures { result ≡ spec.formless_distance (basic_text range.now) tag.now }
 {
@@ -89,7 +89,7 @@ fn formless_range_distance(range: &[u8], tag: &[u8]) -> u8
     }
 }
 
-/// Returns the distance of two texts of which one has no matching form.
+/// Returns the distance of two texts if one of them has no matching form.
 fn formless_distance(desired: &[u8], supported: &[u8]) -> u8
     ensures distance { result ≡ spec.formless_distance desired.now supported.now }
     ensures equal { (result == 0) ≡ are_alike desired.now supported.now }

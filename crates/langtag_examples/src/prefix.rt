@@ -18,7 +18,7 @@ pub fn longest_prefix<'a>(tags: &[LangTag<'a>], wanted: &LangTag<'_>) -> Option<
     longest
 }
 
-/// The longest one so far, or this tag where it is a longer prefix.
+/// Returns this tag if it is a longer prefix, and otherwise the longest prefix so far.
 fn longer<'a>(
     longest: Option<LangTag<'a>>,
     tag: LangTag<'a>,
@@ -37,7 +37,7 @@ fn longer<'a>(
     }
 }
 
-/// Whether a text begins with another, by whole subtags and in any case.
+/// Returns whether a text begins with another text, by whole subtags and ignoring case.
 fn is_prefix(part: &str, text: &str) -> bool
     ensures { IsTrue result ↔ IsPrefix part.now text.now }
 {

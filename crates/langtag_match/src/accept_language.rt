@@ -180,7 +180,7 @@ fn elements(alloc: Global, header: &str) -> Result<Vec<WeightedRange<'_>>, Accep
     Ok(elements)
 }
 
-/// Returns the elements of a header, in order, and passes over what is bad.
+/// Returns the elements of a header, in order, and skips malformed elements.
 fn good_elements(alloc: Global, header: &str) -> Result<Vec<WeightedRange<'_>>, AllocError>
     ensures { IfOk result (λ elements. map spec.reading elements.items ≡ spec.elements (spec.items header.now)) }
 {
@@ -193,7 +193,7 @@ fn good_elements(alloc: Global, header: &str) -> Result<Vec<WeightedRange<'_>>, 
     Ok(elements)
 }
 
-/// Returns how many bytes stand before the item at an index.
+/// Returns the number of bytes before the item at an index.
 fn offset_of(header: &str, index: usize) -> usize
     ensures { (item : List ℕ) → slice_get (spec.items header.now) index ≡ Some item
         → spec.StandsAt header.now item index result }

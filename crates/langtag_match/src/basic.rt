@@ -11,7 +11,7 @@ pub(crate) fn matches_basic(range: &str, tag: &str) -> bool
     range == "*" || begins_with(tag.as_bytes(), range.as_bytes())
 }
 
-/// Returns whether a tag is a range but for case, or begins so and goes on with a hyphen.
+/// Returns whether a tag equals a range, or begins with it and continues with a hyphen. Case is ignored.
 fn begins_with(tag: &[u8], range: &[u8]) -> bool
     ensures { IsTrue result ↔ spec.BeginsWith range.now tag.now }
 {

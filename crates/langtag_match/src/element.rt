@@ -77,7 +77,7 @@ pub fn is_empty_element(item: &[u8]) -> bool
     item.iter().all(|byte| is_space(*byte))
 }
 
-/// Returns the weight that stands after the first `;`, and 1000 where there is none.
+/// Returns the weight after the first `;`, or 1000 if there is no `;`.
 #[tactic(auto, using(langtag_scan::proofs::Places::any_at_first, langtag_scan::proofs::Places::none_at_length))]
 fn weight_after(item: &[u8], semicolon: usize) -> Option<u32>
     requires within { semicolon ≤ length item.now }
@@ -92,7 +92,7 @@ fn weight_after(item: &[u8], semicolon: usize) -> Option<u32>
     weight_of(&text[start..end])
 }
 
-/// Returns the basic language range that the bytes are, if they are one.
+/// Returns the bytes as a basic language range, or `None` if they are not one.
 #[tactic(auto, using(crate::proofs::BasicRanges::basic_ranges, crate::proofs::AsciiRanges::utf8_basic))]
 fn basic_range(bytes: &[u8]) -> Option<LanguageRange<'_>>
     ensures { MatchOption result (is_basic_range bytes.now ≡ false)
@@ -116,7 +116,7 @@ pub(crate) fn trimmed_place(text: &[u8]) -> (usize, usize)
     (start, start + len_without_spaces(&text[start..]))
 }
 
-/// Returns how many bytes of white space a text begins with.
+/// Returns the number of bytes of white space at the start of a text.
 #[tactic(auto, using(crate::proofs::Spaces::ows_more, crate::proofs::Spaces::from_first_more, crate::proofs::Spaces::from_first_stops, crate::proofs::Spaces::from_first_ends))]
 fn leading_spaces(text: &[u8]) -> usize
     ensures within { result ≤ length text.now }
@@ -130,7 +130,7 @@ fn leading_spaces(text: &[u8]) -> usize
     start
 }
 
-/// Returns the length without the white space at the end.
+/// Returns the length of a text without the white space at its end.
 #[tactic(auto, using(crate::proofs::Spaces::last_space, crate::proofs::Spaces::last_stops))]
 fn len_without_spaces(text: &[u8]) -> usize
     ensures within { result ≤ length text.now }

@@ -16,15 +16,15 @@ pub(crate) fn matches_extended(range: &str, tag: &str) -> bool
     matches_first(first, subtag) && stand_among(wanted, subtags)
 }
 
-/// Returns whether a subtag of a range is `*`, or that of a tag but for case.
+/// Returns whether a subtag of a range is `*`, or equals a subtag of a tag, ignoring case.
 fn matches_first(range: &str, subtag: &str) -> bool
     ensures { result ≡ spec.matches_subtag range.now subtag.now }
 {
     range == "*" || case_insensitive_eq(range.as_bytes(), subtag.as_bytes())
 }
 
-/// Returns whether the subtags of a range, but for each `*`, stand among those of a tag in their order, with no singleton
-/// left out between.
+/// Returns whether the subtags of a range are among those of a tag, in the same order. Each `*` is ignored. No
+/// singleton may be skipped.
 fn stand_among(wanted: Subtags<'_>, mut subtags: Subtags<'_>) -> bool
     ensures { IsTrue result ↔ spec.StandAmong (spec.without_stars wanted.entry) subtags.entry }
 {
@@ -36,8 +36,8 @@ fn stand_among(wanted: Subtags<'_>, mut subtags: Subtags<'_>) -> bool
     true
 }
 
-/// Goes on to what follows the next subtag that is the wanted one but for case. Returns false where none stands before
-/// the next singleton.
+/// Skips to what follows the next subtag that equals the wanted subtag, ignoring case. Returns `false` if there is none
+/// before the next singleton.
 fn pass(subtags: &mut Subtags<'_>, wanted: &str) -> bool
     ensures found { result ≡ true → (more : List (List ℕ)) → spec.StandAmong more subtags.new ↔ spec.StandAmong (wanted.now ∷ more) subtags.old }
     ensures missed { result ≡ false → (more : List (List ℕ)) → spec.StandAmong (wanted.now ∷ more) subtags.old → ⊥ }

@@ -1,4 +1,4 @@
-//! What is left of a language range when subtags are taken away from its end (RFC 4647 section 3.4).
+//! What is left of a language range when subtags are removed from its end (RFC 4647 section 3.4).
 ghost use Rattle.std.specs.Prelude.{◌≡◌, ◌<◌, ◌^◌, ◌∷◌, [], length, IfSome, IsTrue};
 ghost use Rattle.std.specs.Iterator.{YieldsFirstBy, item_count};
 ghost use Rattle.std.specs.Option.{option_map_or};
@@ -29,7 +29,7 @@ pub struct Fallbacks<'a> {
 }
 
 impl<'a> Fallbacks<'a> {
-    /// Starts at the range itself.
+    /// Returns an iterator that starts at the range itself.
     #[tactic(auto, using(crate::proofs::Hyphens::few_fallbacks))]
     pub(crate) fn new(range: LanguageRange<'a>) -> Self
         ensures list { fallbacks_left result ≡ spec.fallbacks (language_range_text range.entry) }
@@ -53,7 +53,7 @@ impl<'a> Iterator for Fallbacks<'a> {
     }
 }
 
-/// Returns what is left of a range without its last subtag, and without each single character that would stand last then.
+/// Returns a range without its last subtag, and without each single character that would then be last.
 fn shortened(range: LanguageRange<'_>) -> Option<LanguageRange<'_>>
     ensures { spec.fallbacks (language_range_text range.entry) ≡ language_range_text range.entry
         ∷ option_map_or (λ shorter. spec.fallbacks (language_range_text shorter)) result [] }
@@ -68,7 +68,7 @@ fn shortened(range: LanguageRange<'_>) -> Option<LanguageRange<'_>>
     None
 }
 
-/// Returns what stands before the last hyphen of a text.
+/// Returns the text before the last hyphen.
 fn without_last(text: &str) -> Option<&str>
     ensures cut { spec.before_hyphens text.now ≡ option_map_or (λ before. before.now ∷ spec.before_hyphens before.now) result [] }
     ensures shorter { IfSome result (λ before. length before.now < length text.now) }

@@ -10,9 +10,9 @@ use langtag::LangTag;
 /// The rule by which a range matches a tag.
 #[derive(Clone, Copy, Debug)]
 pub(crate) enum FilterRule {
-    /// That of basic filtering (section 3.3.1).
+    /// Basic filtering (section 3.3.1).
     Basic,
-    /// That of extended filtering (section 3.3.2).
+    /// Extended filtering (section 3.3.2).
     Extended,
 }
 

@@ -35,7 +35,7 @@ pub fn listed_range(text: &[u8]) -> Option<WantedRange<'_>>
     })
 }
 
-/// Returns whether a text is a language range where `_` is read as `-`.
+/// Returns whether a text is a language range if `_` is read as `-`.
 #[tactic(auto, using(crate::proofs::WantedTexts::extended_read))]
 fn is_listed_range(text: &[u8]) -> bool
     ensures { result ≡ is_language_range (hyphened text.now) }

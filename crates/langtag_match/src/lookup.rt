@@ -40,7 +40,7 @@ pub fn look_up<'a>(
     default
 }
 
-/// Returns the tag that a range finds.
+/// Returns the tag that look-up finds for a range.
 pub(crate) fn tag_for<'a>(range: LanguageRange<'_>, tags: &[LangTag<'a>]) -> Option<LangTag<'a>>
     ensures { result ≡ spec.first_alike tags.now (fallbacks (language_range_text range.entry)) }
 {
@@ -52,7 +52,7 @@ pub(crate) fn tag_for<'a>(range: LanguageRange<'_>, tags: &[LangTag<'a>]) -> Opt
     None
 }
 
-/// Returns the first tag that is a range, in any case.
+/// Returns the first tag that equals a range, ignoring case and each `-*`.
 fn tag_alike<'a>(range: LanguageRange<'_>, tags: &[LangTag<'a>]) -> Option<LangTag<'a>>
     ensures { result ≡ spec.tag_alike tags.now (language_range_text range.entry) }
 {
@@ -62,7 +62,7 @@ fn tag_alike<'a>(range: LanguageRange<'_>, tags: &[LangTag<'a>]) -> Option<LangT
         .find(|tag| is_range(tag.as_bytes(), range))
 }
 
-/// Returns whether a tag is a range without each `-*`, in any case.
+/// Returns whether a tag equals a range, ignoring case and each `-*`.
 fn is_range(tag: &[u8], range: &[u8]) -> bool
     ensures { result ≡ are_alike tag.now (spec.basic_form range.now) }
 {

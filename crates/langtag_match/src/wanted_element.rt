@@ -13,7 +13,7 @@ use crate::weight::{are_digits, digit_at};
 use langtag::is_private_subtag;
 use langtag_scan::{first_place, split_at_byte, split_at_either};
 
-/// Returns the range that an item of a header has, with its weight, if `behind` follows the comma after the item.
+/// Returns the range of an item of a header, with its weight. `behind` is what follows the comma after the item.
 #[tactic(auto, unfolding(crate::specs::Wanted::wanted))]
 pub(crate) fn wanted_at<'a>(item: &'a [u8], behind: &[u8]) -> Option<WantedRange<'a>>
     ensures wanted { option_map spec.wanted_element result ≡ spec.wanted item.now (spec.digits_behind (items behind.now)) }
@@ -28,7 +28,7 @@ pub(crate) fn wanted_at<'a>(item: &'a [u8], behind: &[u8]) -> Option<WantedRange
     Some(WantedRange { bytes, weight })
 }
 
-/// Returns whether a text is a basic language range where `_` is read as `-`.
+/// Returns whether a text is a basic language range if `_` is read as `-`.
 #[tactic(auto, using(crate::proofs::WantedTexts::basic_read))]
 fn is_wanted_range(text: &[u8]) -> bool
     ensures { result ≡ is_basic_range (spec.hyphened text.now) }
@@ -57,7 +57,7 @@ pub(crate) fn is_mark(byte: u8) -> bool
     byte == b'-' || byte == b'_'
 }
 
-/// Returns the weight that the first parameter named `q` says, and 1000 without one.
+/// Returns the weight of the first parameter named `q`, or 1000 if there is none.
 #[tactic(auto, using(crate::proofs::WantedTexts::weight_at, crate::proofs::WantedTexts::shorter))]
 fn wanted_weight(parameters: &[u8], behind: &[u8]) -> u32
     ensures { result ≡ spec.wanted_weight (slice_split is_semicolon parameters.now) (spec.digits_behind (items behind.now)) }
@@ -94,7 +94,7 @@ fn is_q_name(name: &[u8]) -> bool
     matches!(name, [b'q' | b'Q'])
 }
 
-/// Returns the weight that a value says. Without a point, digits alone behind the comma are its fraction.
+/// Returns the weight of a value. If the value has no point, the digits after the comma are its fraction.
 fn value_weight(value: &[u8], behind: &[u8]) -> u32
     ensures { result ≡ spec.value_weight value.now (spec.digits_behind (items behind.now)) }
 {
@@ -105,7 +105,7 @@ fn value_weight(value: &[u8], behind: &[u8]) -> u32
     number_weight(whole, digits_behind(behind))
 }
 
-/// Returns the digits that a text begins with, if a comma or the end follows them, and else nothing.
+/// Returns the digits at the start of a text if a comma or the end follows them, and otherwise an empty text.
 #[tactic(auto, using(crate::proofs::WantedTexts::digits_at))]
 fn digits_behind(text: &[u8]) -> &[u8]
     ensures { result.now ≡ spec.digits_behind (items text.now) }
@@ -114,7 +114,8 @@ fn digits_behind(text: &[u8]) -> &[u8]
     if are_digits(item, b'9') { item } else { b"" }
 }
 
-/// Returns the weight of what stands before and after a decimal mark: 1 where it is no number or a number above 1.
+/// Returns the weight of a number, by the texts before and after its decimal mark. It is 1 if this is not a number, or
+/// if the number is above 1.
 fn number_weight(whole: &[u8], fraction: &[u8]) -> u32
     ensures { result ≡ spec.number_weight whole.now fraction.now }
 {
@@ -124,7 +125,7 @@ fn number_weight(whole: &[u8], fraction: &[u8]) -> u32
     100 * digit_at(fraction, 0) + 10 * digit_at(fraction, 1) + digit_at(fraction, 2)
 }
 
-/// Returns whether what stands before and after a decimal mark are digits, and not both nothing.
+/// Returns whether the texts before and after a decimal mark are digits, and not both empty.
 fn is_number(whole: &[u8], fraction: &[u8]) -> bool
     ensures { result ≡ spec.are_number whole.now fraction.now }
 {

@@ -33,7 +33,7 @@ fn is_qvalue(text: &[u8]) -> bool
     }
 }
 
-/// Returns whether a text is empty, or a point and up to three digits, none above the greatest.
+/// Returns whether a text is empty, or a point and up to three digits that are at most the greatest digit.
 fn is_fraction(text: &[u8], greatest: u8) -> bool
     ensures { result ≡ spec.is_fraction greatest text.now }
 {
@@ -44,7 +44,7 @@ fn is_fraction(text: &[u8], greatest: u8) -> bool
     }
 }
 
-/// Returns whether the bytes are digits, none above the greatest.
+/// Returns whether the bytes are digits that are at most the greatest digit.
 pub(crate) fn are_digits(bytes: &[u8], greatest: u8) -> bool
     ensures { result ≡ list_all (is_in_range 48 greatest) bytes.now }
 {
@@ -62,7 +62,7 @@ fn thousandths(qvalue: &[u8]) -> u32
         + digit_at(qvalue, 4)
 }
 
-/// Returns the digit at an index, 0 past the end.
+/// Returns the digit at an index, or 0 past the end.
 pub(crate) fn digit_at(text: &[u8], index: usize) -> u32
     ensures value { result ≡ slice_index_or text.now index 48 - 48 }
     ensures small { result < 256 }

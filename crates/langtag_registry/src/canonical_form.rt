@@ -18,10 +18,10 @@ use langtag::{LangTag, LangTagBuf, NormalLangTag};
 use langtag_output::write_pieces;
 use std::alloc::{AllocError, Global};
 
-/// No text that is replaced as a whole has more bytes.
+/// An upper bound on the number of bytes of a text that is replaced as a whole.
 const LONGEST_REPLACED: usize = 16;
 
-/// No text that replaces a whole one has more bytes.
+/// An upper bound on the number of bytes of a text that replaces a whole text.
 const LONGEST_PREFERRED: usize = 14;
 
 /// Returns the canonical form of a tag (RFC 5646 section 4.5): `he` for `iw`, `yue` for `zh-yue`, `en-MM` for `en-BU`,
@@ -115,7 +115,7 @@ pub fn canonical_bound(tag_len: usize) -> usize
     tag_len.saturating_mul(2).saturating_add(LONGEST_PREFERRED)
 }
 
-/// Returns the canonical form of a tag. A copy of the tag, or of what is preferred to it, is not parsed again.
+/// Returns the canonical form of a tag. If it is a copy of the tag or of a preferred tag, it is not parsed again.
 fn form_as_tag(alloc: Global, tag: LangTag<'_>) -> Result<LangTagBuf, AllocError>
     ensures { IfOk result (λ form. IsCanonicalForm (lang_tag_text tag.entry) (lang_tag_buf_text form)) }
 {
@@ -126,7 +126,8 @@ fn form_as_tag(alloc: Global, tag: LangTag<'_>) -> Result<LangTagBuf, AllocError
     }
 }
 
-/// Returns the canonical form of a tag that is its parts in their canonical forms, or what is preferred to that as a whole.
+/// Returns the canonical form of a tag: its parts in their canonical forms, or the tag that is preferred to the whole
+/// of them.
 fn parts_as_tag(
     alloc: Global,
     tag: LangTag<'_>,
@@ -144,7 +145,7 @@ fn parts_as_tag(
     Ok(form)
 }
 
-/// Returns the bytes of this form.
+/// Returns the bytes of the canonical form, as [`parts_as_tag`] describes it.
 #[tactic(auto, using(crate::proofs::FormLengths::form_bounded))]
 fn parts_as_bytes(
     alloc: Global,
@@ -160,7 +161,7 @@ fn parts_as_bytes(
     Ok(bytes)
 }
 
-/// Writes a tag with its parts in their canonical forms, or what is preferred to that as a whole.
+/// Writes a tag with its parts in their canonical forms, or the tag that is preferred to the whole of them.
 #[tactic(auto, using(crate::proofs::FormLengths::form_length, crate::proofs::WholeTags::none_longer))]
 fn write_parts(tag: NormalLangTag<'_>, buffer: &mut [u8]) -> usize
     ensures { EachRecord (normal_lang_tag_text tag.entry) (λ r. Writes (λ form. form ≡ canonical_text r) buffer.old buffer.new result) }
@@ -176,7 +177,8 @@ fn write_parts(tag: NormalLangTag<'_>, buffer: &mut [u8]) -> usize
     len
 }
 
-/// Returns what is preferred to a text as a whole, or that text: `gsg` for `sgn-DE`, which `sgn-DD` becomes by its parts.
+/// Returns the tag that is preferred to a whole text, or the text itself if there is none: `gsg` for `sgn-DE`. The
+/// parts of `sgn-DD` give `sgn-DE`.
 fn preferred_to(parts: &[u8]) -> &[u8]
     ensures { result.now ≡ unwrap_or (field.preferred_tag parts.now) parts.now }
 {
@@ -186,7 +188,7 @@ fn preferred_to(parts: &[u8]) -> &[u8]
     }
 }
 
-/// Writes a text.
+/// Writes a text, if the buffer has room for it. Returns its length.
 fn write_text(text: &[u8], buffer: &mut [u8]) -> usize
     ensures { Writes (λ new. new ≡ text.now) buffer.old buffer.new result }
 {

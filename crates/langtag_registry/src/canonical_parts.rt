@@ -28,7 +28,8 @@ use langtag_place::{Region, Script, Variants};
 use langtag_private::PrivateUse;
 use langtag_scan::into_smallcase;
 
-/// Puts a tag with its parts in their canonical forms into a buffer, as far as it has room. Returns how long that tag is.
+/// Writes a tag with its parts in their canonical forms into a buffer, as far as there is room. Returns the length of
+/// that tag.
 pub(crate) fn put_canonical_parts(tag: NormalLangTag<'_>, buffer: &mut [u8]) -> usize
     ensures { model.EachRecord (normal_lang_tag_text tag.entry) (λ r. IsCounted (model.spell (canonical_record r)) buffer.old buffer.new result) }
 {
@@ -49,8 +50,8 @@ fn push_parts(out: &mut Output<'_>, tag: NormalLangTag<'_>)
     push_private_use(out, tag.private_use());
 }
 
-/// An extended subtag that is registered takes the place of the language before it, and may be replaced as a language in turn.
-/// Two stay, and so does what is before them.
+/// Adds the canonical form of a language. A registered extended subtag replaces the language before it, and may then be
+/// replaced as a language. If there are two or more extended subtags, nothing is replaced.
 fn push_language(out: &mut Output<'_>, language: Language<'_>)
     ensures same_buffer { out.new.buffer.ghost_name ≡ out.old.buffer.ghost_name }
     ensures pushed { EachLanguageSpelling (language_text language.entry) (λ primary extended.
@@ -71,7 +72,7 @@ fn push_language(out: &mut Output<'_>, language: Language<'_>)
     out.push_subtag(extlang.as_bytes());
 }
 
-/// Puts the language that an extended subtag becomes.
+/// Adds the language that replaces an extended subtag.
 fn push_extlang(out: &mut Output<'_>, extlang: ExtendedLangTag<'_>)
     ensures same_buffer { out.new.buffer.ghost_name ≡ out.old.buffer.ghost_name }
     ensures pushed { Pushes (canonical_language (fold_text (extended_lang_tag_text extlang.entry)) ∷ []) out.old out.new }
@@ -111,7 +112,7 @@ fn push_region(out: &mut Output<'_>, region: Option<Region<'_>>)
     }
 }
 
-/// Each is put after those before it, also where that makes a repeat.
+/// Adds the canonical form of each variant in turn, even if that repeats a variant.
 fn push_variants(out: &mut Output<'_>, variants: Variants<'_>)
     ensures same_buffer { out.new.buffer.ghost_name ≡ out.old.buffer.ghost_name }
     ensures pushed { Pushes (canonical_variants (subtags (variants_text variants.entry))) out.old out.new }
@@ -121,7 +122,8 @@ fn push_variants(out: &mut Output<'_>, variants: Variants<'_>)
     }
 }
 
-/// They are put in the order of their singletons. Those of one singleton, which no valid tag has, keep theirs.
+/// Adds extensions in the order of their singletons. Extensions with the same singleton, which no valid tag has, keep
+/// their order.
 fn push_extensions(out: &mut Output<'_>, extensions: Extensions<'_>)
     ensures same_buffer { out.new.buffer.ghost_name ≡ out.old.buffer.ghost_name }
     ensures pushed { (es : List model.Extension) → SpellsExtensions es (extensions_text extensions.entry)
@@ -142,7 +144,7 @@ fn push_extensions(out: &mut Output<'_>, extensions: Extensions<'_>)
     }
 }
 
-/// Those of one singleton are put, whatever its case.
+/// Adds the extensions with a singleton, ignoring its case.
 fn push_extensions_of(out: &mut Output<'_>, extensions: Extensions<'_>, singleton: u8)
     ensures same_buffer { out.new.buffer.ghost_name ≡ out.old.buffer.ghost_name }
     ensures pushed { (es : List model.Extension) → SpellsExtensions es (extensions_text extensions.entry)

@@ -1,4 +1,4 @@
-//! The order of extensions (RFC 5646 section 4.5): by their singletons, whatever their case.
+//! The order of extensions (RFC 5646 section 4.5): by their singletons, ignoring case.
 ghost use Rattle.std.specs.Prelude.{◌≡◌, ◌↔◌, List, map, true};
 ghost use Rattle.langtag_scan.specs.Record as model;
 ghost use Rattle.langtag_extension.specs.Spelling.{SpellsExtensions, extension_spelling};
@@ -12,7 +12,7 @@ use langtag_scan::into_smallcase;
 /// All singletons (RFC 5646 section 2.2.6) in order.
 pub(crate) const SINGLETONS: [u8; 35] = *b"0123456789abcdefghijklmnopqrstuvwyz";
 
-/// Returns whether extensions are in order: each singleton is at least the one before it.
+/// Returns whether extensions are in order, which means that no singleton is less than the singleton before it.
 pub(crate) fn are_in_order(extensions: Extensions<'_>) -> bool
     ensures { (es : List model.Extension) → SpellsExtensions es (extensions_text extensions.entry) → (result ≡ true) ↔ (in_order es ≡ es) }
 {

@@ -49,7 +49,7 @@ fn with_prefix(alloc: Global, mut form: NormalLangTagBuf) -> Result<NormalLangTa
     Ok(form)
 }
 
-/// Returns the text of a language after its prefix, where it is an extended one, too: `zh-hak` for `hak`.
+/// Returns a language with its prefix before it, if it is also an extended language: `zh-hak` for `hak`.
 fn prefixed_language(alloc: Global, language: Language<'_>) -> Result<Option<String>, AllocError>
     ensures in_class { IfOk result (λ text. IfSome text (λ new. IsLanguage (string_bytes new))) }
     ensures stays { IfOk result (λ text. IsNone text → EachLanguageSpelling (language_text language.entry)
@@ -69,7 +69,7 @@ fn prefixed_language(alloc: Global, language: Language<'_>) -> Result<Option<Str
     Ok(Some(text))
 }
 
-/// Returns whether a language has three extended subtags, so that there is no room for one more.
+/// Returns whether a language has three extended subtags, which leave no room for another.
 fn is_full(language: Language<'_>) -> bool
     ensures { EachLanguageSpelling (language_text language.entry) (λ primary extended. result ≡ form.is_full extended) }
 {

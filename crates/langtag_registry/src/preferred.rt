@@ -89,8 +89,8 @@ pub(crate) fn preferred_for(text: &[u8]) -> Option<LangTag<'static>>
     }
 }
 
-/// Returns the second text beside the first that is equal to these bytes but for case, if there is one. The pairs stand by
-/// the ends of the first, as numbers.
+/// Finds the pair whose first text equals the bytes, ignoring case, and returns its second text. `keys` has the ends of
+/// the first texts as numbers.
 fn value_beside(
     keys: &[u64],
     table: &'static [(&'static str, &'static str)],

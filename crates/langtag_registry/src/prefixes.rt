@@ -25,7 +25,7 @@ pub fn extlang_prefix(extlang: ExtendedLangTag<'_>) -> Option<PrimaryLanguage<'s
     prefix_of_language(PrimaryLanguage::from_checked(extlang.as_str()))
 }
 
-/// Returns the same for a language that is also an extended language: `zh` for the language `yue`, `None` for `fr`.
+/// Returns the prefix of a language that is also an extended language: `zh` for the language `yue`, `None` for `fr`.
 #[tactic(auto, using(langtag_scan::proofs::SubtagFacts::of_primary, crate::proofs::FieldTables::prefix_table, crate::proofs::FieldTables::prefix_good), unfolding(crate::specs::Fields::extlang_prefix))]
 pub(crate) fn prefix_of_language(language: PrimaryLanguage<'_>) -> Option<PrimaryLanguage<'static>>
     ensures { option_map primary_language_text result ≡ field.extlang_prefix (primary_language_text language.entry) }

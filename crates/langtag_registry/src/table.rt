@@ -1,4 +1,4 @@
-//! Tables of subtags, in which texts are looked up in any case.
+//! Tables of subtags, in which texts are found ignoring case.
 ghost use Rattle.std.specs.Prelude.{◌≡◌, ℕ, List, length, map};
 ghost use Rattle.std.specs.Option.{option_map};
 ghost use Rattle.langtag_scan.proofs.SubtagFacts.{IsSubtag};
@@ -8,7 +8,7 @@ ghost use Rattle.langtag_registry.specs.Tables.{AreKeysOf, IsTableOf};
 
 use langtag_scan::folded_number;
 
-/// Returns whether a text is one of those that have these numbers.
+/// Returns whether the number of a text is one of the keys.
 pub(crate) fn is_among(keys: &[u64], text: &[u8]) -> bool
     requires { IsSubtag text.now }
     ensures { (list : List (List ℕ)) → AreKeysOf keys.now list → result ≡ registered.is_among list text.now }
@@ -16,7 +16,7 @@ pub(crate) fn is_among(keys: &[u64], text: &[u8]) -> bool
     keys.binary_search(&folded_number(text)).is_ok()
 }
 
-/// Returns the value of a text that has one of these numbers: the one beside it.
+/// Returns the value beside the key that is the number of a text.
 pub(crate) fn value_of(
     keys: &[u64],
     values: &'static [&'static str],

@@ -81,7 +81,7 @@ pub fn fault_at<'a>(tag: LangTag<'a>) -> Option<(InvalidSubtag<'a>, usize)>
     Some(fault)
 }
 
-/// Returns the first fault of a normal tag, without a look at whether it is grandfathered.
+/// Returns the first fault of a normal tag. It does not check whether the tag is grandfathered.
 #[tactic(auto, using(crate::proofs::FaultLaws::first_fault, crate::proofs::FaultLaws::language_spelled, crate::proofs::FaultLaws::variants_listed, crate::proofs::FaultLaws::first_singleton))]
 fn find_fault_of_normal<'a>(tag: NormalLangTag<'a>) -> Option<(InvalidSubtag<'a>, usize)>
     ensures first { EachRecord (normal_lang_tag_text tag.entry) (λ r. option_map (λ fault. told fault.0) result ≡ slice_get (faults r) 0) }
@@ -123,7 +123,7 @@ fn find_language_fault<'a>(language: Language<'a>) -> Option<InvalidSubtag<'a>>
     Some(InvalidSubtag::SecondExtlang(second))
 }
 
-/// Returns the fault of a script, where there is one.
+/// Returns the fault of a script, if it has one.
 fn find_script_fault<'a>(script: Option<Script<'a>>) -> Option<InvalidSubtag<'a>>
     ensures first { option_map told result ≡ slice_get (script_faults (option_map script_text script.entry)) 0 }
     ensures index { IfSome result (λ fault. (r : Record) → fault_index r (told fault) ≡ Some 0) }
@@ -135,7 +135,7 @@ fn find_script_fault<'a>(script: Option<Script<'a>>) -> Option<InvalidSubtag<'a>
     Some(InvalidSubtag::Script(script))
 }
 
-/// Returns the fault of a region, where there is one.
+/// Returns the fault of a region, if it has one.
 fn find_region_fault<'a>(region: Option<Region<'a>>) -> Option<InvalidSubtag<'a>>
     ensures first { option_map told result ≡ slice_get (region_faults (option_map region_text region.entry)) 0 }
     ensures index { IfSome result (λ fault. (r : Record) → fault_index r (told fault) ≡ Some 0) }
@@ -147,8 +147,8 @@ fn find_region_fault<'a>(region: Option<Region<'a>>) -> Option<InvalidSubtag<'a>
     Some(InvalidSubtag::Region(region))
 }
 
-/// Returns the first fault of variants, and which of them it is.
-// Each is compared to those before it. These are registered and all different, so they are few.
+/// Returns the first fault among variants, and the index of that variant.
+// Each variant is compared with those before it. These are registered and all different, so they are few.
 fn find_variant_fault<'a>(variants: Variants<'a>) -> Option<(InvalidSubtag<'a>, usize)>
     ensures first { option_map (λ fault. told fault.0) result ≡ slice_get (variant_faults [] (subtags (variants_text variants.entry))) 0 }
     ensures index { IfSome result (λ fault. (r : Record) → r.variants ≡ subtags (variants_text variants.entry)

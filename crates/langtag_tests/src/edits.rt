@@ -6,7 +6,7 @@ use langtag::{
 };
 use std::alloc::{AllocError, Global};
 
-/// A part of a tag and its text, which is None to take it out.
+/// A part of a tag and its text, or `None` to remove the part.
 #[derive(Clone, Copy)]
 enum Part<'a> {
     Language(Language<'a>),
@@ -18,7 +18,7 @@ enum Part<'a> {
 }
 
 impl<'a> Part<'a> {
-    /// Returns the part with this text, or `None` if it is not one of that part.
+    /// Returns the part with this text, or `None` if the text is not such a part.
     fn of(name: &str, text: &'a str) -> Option<Part<'a>> {
         if text == "none" {
             return Part::absent(name);
@@ -45,7 +45,7 @@ impl<'a> Part<'a> {
         }
     }
 
-    /// Sets it of a tag of any kind.
+    /// Sets the part of a tag of any kind.
     fn set(self, alloc: Global, tag: &mut LangTagBuf) -> Result<(), EditError> {
         match self {
             Part::Language(part) => tag.set_language(alloc, part),
@@ -57,7 +57,7 @@ impl<'a> Part<'a> {
         }
     }
 
-    /// Sets it of a normal tag.
+    /// Sets the part of a normal tag.
     fn set_normal(self, alloc: Global, tag: &mut NormalLangTagBuf) -> Result<(), AllocError> {
         match self {
             Part::Language(part) => tag.set_language(alloc, part),
@@ -70,8 +70,8 @@ impl<'a> Part<'a> {
     }
 }
 
-/// The tag after a part was set: `TAG|PART|TEXT`. A normal tag answers the same, without room to spare if it grew. Where memory
-/// was refused, the tag is as it was.
+/// Returns the tag after a part is set. The question is `TAG|PART|TEXT`. A normal tag must give the same result, and
+/// has no spare capacity if it grew. If an allocation fails, the tag must be unchanged.
 fn edited(alloc: Global, question: &str) -> Result<String, AllocError> {
     let (text, part) = cut(question);
     let (name, given) = cut(part);
@@ -97,7 +97,7 @@ fn edited(alloc: Global, question: &str) -> Result<String, AllocError> {
     Ok(edited)
 }
 
-/// Says that memory was refused if a tag is as it was.
+/// Returns an error if a tag is unchanged, so that the question is asked again.
 fn unchanged(alloc: Global, text: &str, was: &str) -> Result<String, AllocError> {
     if text == was {
         return Err(AllocError);
@@ -105,7 +105,7 @@ fn unchanged(alloc: Global, text: &str, was: &str) -> Result<String, AllocError>
     String::from_str(alloc, "changed, though memory was refused")
 }
 
-/// Edits of each part that is given and that is taken out, and the tag afterwards.
+/// Edits that set or remove each part, and the tag afterwards.
 const EDITS: &[(&str, &str)] = &[
     ("fr-Latn-FR|language|zh-min-nan", "zh-min-nan-Latn-FR"),
     ("zh-min-nan-Hant|language|de", "de-Hant"),

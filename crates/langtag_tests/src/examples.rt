@@ -1,4 +1,4 @@
-//! The worked examples as their callers use them: what no clause says of them.
+//! The worked examples as their callers use them. The tests show what no clause says.
 use crate::support::{are_answered, cut};
 use langtag::{GrandfatheredLangTag, LangTag, LangTagBuf, NormalLangTag, Script, ScriptBuf};
 use langtag_examples::{
@@ -6,12 +6,12 @@ use langtag_examples::{
 };
 use std::alloc::{AllocError, Global};
 
-/// An owned tag; `i-default` for a text that is none.
+/// Returns a text as an owned tag, or `i-default` if it is not a tag.
 fn owned(alloc: Global, text: &str) -> Result<LangTagBuf, AllocError> {
     tag(text).try_to_owned(alloc)
 }
 
-/// A tag; `i-default` for a text that is none.
+/// Returns a text as a tag, or `i-default` if it is not a tag.
 fn tag(text: &str) -> LangTag<'_> {
     match LangTag::new(text) {
         Ok(tag) => tag,
@@ -26,7 +26,7 @@ fn broken(alloc: Global, text: &str) -> Result<String, AllocError> {
     }
 }
 
-/// Where texts break, and how a break is told.
+/// Texts, and what is displayed: the tag, or where the text stops being a tag.
 const BREAKS: &[(&str, &str)] = &[
     ("zh-Hant", "zh-Hant"),
     (
@@ -55,7 +55,8 @@ const BREAKS: &[(&str, &str)] = &[
     ),
 ];
 
-/// Whether the text for `iw` was moved from a tag to another, and what is then there for both.
+/// Moves a text in a catalogue from one tag to another. Only `iw` has a text at first. Returns whether a text was
+/// moved, and then the texts of both tags.
 fn moved(alloc: Global, question: &str) -> Result<String, AllocError> {
     let (from, to) = cut(question);
     let mut catalogue = Catalogue::new(alloc);
@@ -75,7 +76,8 @@ const MOVES: &[(&str, &str)] = &[
     ("iw|x_0", "true none none"),
 ];
 
-/// The first of 150 tags, each two bytes longer than the one before, whose count is not there.
+/// Counts 150 tags, each two bytes longer than the tag before it. Returns the first tag whose count is not found, or
+/// `all`.
 fn counted(alloc: Global, start: &str) -> Result<String, AllocError> {
     let mut counts = Counts::new(alloc);
     let mut text = String::from_str(alloc, start)?;
@@ -94,8 +96,9 @@ fn counted(alloc: Global, start: &str) -> Result<String, AllocError> {
 
 const COUNTS: &[(&str, &str)] = &[("x", "all"), ("x-aa", "all")];
 
-/// A tag in Latin, and what it is with its old script again; what a catalogue has for it, where it has a text for the form in
-/// Latin; and the tag afterwards. The piece after `+` stands 100 times.
+/// Sets the script of a tag to Latin, puts a text for that tag into a catalogue, and sets the old script back. Returns
+/// the start of the tag in Latin, and whether the old script gives the old tag. Then it returns the text that the
+/// catalogue finds, and whether the tag is unchanged. The piece after `+` is repeated 100 times.
 fn in_latin(alloc: Global, question: &str) -> Result<String, AllocError> {
     let (start, piece) = question.split_once('+').unwrap_or((question, ""));
     let mut text = String::from_str(alloc, start)?;
@@ -130,7 +133,7 @@ const IN_LATIN: &[(&str, &str)] = &[
     ("sre-x+-a", "sre-Latn-x true Zdravo true"),
 ];
 
-/// The tag for a request, of `en` and `de-CH`; without a header where the text is `none`.
+/// Returns the tag for a request, from `en` and `de-CH`. The request has no header if the text is `none`.
 fn request(alloc: Global, header: &str) -> Result<String, AllocError> {
     let (english, german) = (tag("en"), tag("de-CH"));
     let header = if header == "none" { None } else { Some(header) };

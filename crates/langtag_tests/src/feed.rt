@@ -1,9 +1,9 @@
-//! A reader of the tests, which takes no memory.
+//! A reader for the tests, which does not allocate.
 use std::cell::Cell;
 use std::io;
 use std::io::{ErrorKind, Read};
 
-/// A text, then another one as often as is stated, and then a last one.
+/// A text, then a second text that is repeated, and then a last text.
 #[derive(Clone, Copy)]
 pub(crate) struct Text<'a> {
     rest: &'a [u8],
@@ -22,7 +22,7 @@ impl<'a> Text<'a> {
         }
     }
 
-    /// The next bytes, at most so many: none at the end alone.
+    /// Returns the next bytes, at most this many. They are empty only at the end.
     pub(crate) fn next_bytes(&mut self, most: usize) -> &'a [u8] {
         if self.rest.is_empty() {
             if self.rounds > 0 {
@@ -40,8 +40,8 @@ impl<'a> Text<'a> {
     }
 }
 
-/// Gives a text, at most `step` bytes a read, and fails at one read where that is stated. It notes how many lines were given and
-/// not answered: none may be at a read.
+/// Gives a text, at most `step` bytes a read, and may fail at one read. It also records whether a line was unanswered
+/// at a read, which must not happen.
 #[derive(Clone, Copy)]
 pub(crate) struct Feed<'a> {
     text: Text<'a>,
@@ -49,7 +49,7 @@ pub(crate) struct Feed<'a> {
     fails_at: Option<(u64, ErrorKind)>,
     owed: &'a Cell<u64>,
     pub(crate) reads: u64,
-    /// How many reads answered 0.
+    /// The number of reads that returned 0.
     pub(crate) ends: u64,
     /// Whether an answer was owed at a read.
     pub(crate) is_late: bool,

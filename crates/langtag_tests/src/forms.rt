@@ -1,4 +1,4 @@
-//! Calls that return a new tag or read a header: each has memory when there is some.
+//! Calls that return a new tag or read a header. Each succeeds if there is memory.
 use crate::support::{are_answered, cut};
 use langtag::{GrandfatheredLangTag, LangTag, NormalLangTagBuf};
 use langtag_likely::{PosixError, from_posix, maximized, minimized};
@@ -6,7 +6,7 @@ use langtag_match::{AcceptLanguage, AcceptLanguageError, tag_for_header};
 use langtag_registry::{canonical, extlang_form};
 use std::alloc::{AllocError, Global};
 
-/// The answer of a call: `CALL|TEXT`.
+/// Returns the answer of a call: `CALL|TEXT`.
 fn told(alloc: Global, question: &str) -> Result<String, AllocError> {
     let (call, text) = cut(question);
     match call {
@@ -16,7 +16,7 @@ fn told(alloc: Global, question: &str) -> Result<String, AllocError> {
     }
 }
 
-/// A form of a tag.
+/// Returns a form of a tag.
 fn form(alloc: Global, call: &str, text: &str) -> Result<String, AllocError> {
     let Ok(tag) = LangTag::new(text) else {
         return String::from_str(alloc, "not a tag");
@@ -32,7 +32,7 @@ fn form(alloc: Global, call: &str, text: &str) -> Result<String, AllocError> {
     Ok(form.into_string())
 }
 
-/// A form of a normal tag: its recommended case, or a tag of its parts to the region.
+/// Returns a form of a normal tag: its recommended case, or a tag of its parts up to the region.
 fn of_normal(alloc: Global, call: &str, tag: LangTag<'_>) -> Result<String, AllocError> {
     let Some(tag) = tag.as_normal() else {
         return String::from_str(alloc, "not a normal tag");
@@ -45,7 +45,7 @@ fn of_normal(alloc: Global, call: &str, tag: LangTag<'_>) -> Result<String, Allo
     Ok(form.into_string())
 }
 
-/// The tag of a POSIX locale's name.
+/// Returns the tag of a POSIX locale's name.
 fn posix(alloc: Global, name: &str) -> Result<String, AllocError> {
     match from_posix(alloc, name) {
         Ok(tag) => Ok(tag.into_string()),
@@ -54,7 +54,7 @@ fn posix(alloc: Global, name: &str) -> Result<String, AllocError> {
     }
 }
 
-/// The tag that a header asks for, of two.
+/// Returns which of two tags a header asks for.
 fn header(alloc: Global, call: &str, header: &str) -> Result<String, AllocError> {
     let default = GrandfatheredLangTag::IDefault.as_lang_tag();
     let (Ok(english), Ok(german)) = (LangTag::new("en"), LangTag::new("de-CH")) else {

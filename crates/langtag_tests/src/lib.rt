@@ -1,7 +1,9 @@
-//! Tests of what no clause says of the code that Rattle's compilers build: that a call has memory when there is some, what
-//! values are shown as, and how a run of the program ends. Everything else that tests show, `rust/tests` shows of the Rust crate.
+//! Tests of what no clause says about the code that Rattle's compilers build. They show that a call succeeds if there
+//! is memory, how values are displayed, and how a run of the program ends. `rust/tests` tests everything else, on the
+//! Rust crate.
 //!
-//! `.ci/refused` runs them with each of their allocations refused in turn. A call that says so is made again.
+//! `.ci/refused` runs the tests and refuses each of their allocations in turn. A call whose allocation fails is made
+//! again.
 #![tactic(auto)]
 
 #[cfg(test)]

@@ -1,4 +1,5 @@
-//! `run` of the program `langtag_show`, in memory, and over readers, writers and memory that fail; and what the program ends with.
+//! Tests of `run` of the program `langtag_show`, in memory and over readers, writers and memory that fail. They also
+//! test how the program ends.
 use crate::feed::{Feed, Text};
 use crate::sheet::{Fault, Sheet};
 use crate::support::expect_true;
@@ -9,8 +10,8 @@ use std::cell::Cell;
 use std::io::ErrorKind;
 use std::process::{Abort, ExitCode};
 
-/// What a run is given: a text, the most bytes of a read, and the read that fails; and what it has to write, and the write that
-/// fails.
+/// The input and the expected output of a run. The input is a text, the most bytes of a read, and the read that fails.
+/// The output is the answers and the fault of the writer.
 #[derive(Clone, Copy)]
 struct Given<'a> {
     text: Text<'a>,
@@ -40,7 +41,7 @@ fn all<'a>(text: &'a [u8]) -> Text<'a> {
     Text::new(text, b"", 0, b"")
 }
 
-/// How a run ended, with the numbers of reads, of reads that met the end, of writes and of flushes.
+/// How a run ended, and how many reads, reads at the end, writes and flushes it made.
 #[derive(Clone, Copy)]
 struct Ended {
     outcome: Result<(), ShowError>,
@@ -48,18 +49,19 @@ struct Ended {
     ends: u64,
     writes: u64,
     flushes: u64,
-    /// Whether all that is wanted was written.
+    /// Whether the whole expected output was written.
     has_all: bool,
 }
 
 impl Ended {
-    /// Whether the run ended so, and all that is wanted was written.
+    /// Returns whether the run ended with this outcome, and the whole expected output was written.
     fn is(&self, outcome: Result<(), ShowError>) -> bool {
         self.outcome == outcome && self.has_all
     }
 }
 
-/// Makes a run, and again where memory was refused: then it has left whole answers. None may be owed at a read.
+/// Makes a run. If allocation fails, the output must consist of whole answers, and the run is made again. No answer may
+/// be owed at a read.
 fn ran(rt: &impl Abort, alloc: Global, given: Given<'_>) -> Ended {
     let (mut ended, mut are_whole) = run_once(rt, alloc, given);
     if ended.outcome == Err(ShowError::Memory) {
@@ -96,8 +98,8 @@ const THREE: &[u8] =
 
 const NO_READ: Option<(u64, ErrorKind)> = None;
 
-/// The text, the most bytes of a read, the read that fails, what fails of the output; and the answers that are written, how the run
-/// ends, and how many reads, writes and flushes it makes, where these are told.
+/// The text, the most bytes of a read, the read that fails, and the fault of the writer. Then come the answers, the
+/// outcome, and the numbers of reads, writes and flushes. A number that is `None` is not checked.
 type Run = (
     &'static [u8],
     &'static [usize],
@@ -110,8 +112,9 @@ type Run = (
     u64,
 );
 
-/// Reports on each kind of line; reads that fail; writes and a flush that fail; and how many writes there are: one for the lines of a
-/// read, and one more for a last line without LF. A read asks for 16,384 bytes, so that 40,000 take three, and one more meets the end.
+/// Runs on each kind of line, reads that fail, and writes and a flush that fail. They also show the number of writes:
+/// one for the lines of a read, and one more for a last line without LF. A read asks for 16,384 bytes. So 40,000 bytes
+/// take three reads, and one more read meets the end.
 const RUNS: &[Run] = &[
     (
         b"",
@@ -554,7 +557,7 @@ fn each_run_ends_as_it_has_to(rt: HostRuntime) {
     }
 }
 
-/// The answer to a tag for private use of so many bytes, three or more.
+/// Returns the answer to a tag for private use of this many bytes, at least three.
 fn private_answer(alloc: Global, len: usize) -> Result<Vec<u8>, AllocError> {
     let mut answer = Vec::new(alloc);
     answer.extend_from_slice(b"private x")?;
@@ -565,8 +568,8 @@ fn private_answer(alloc: Global, len: usize) -> Result<Vec<u8>, AllocError> {
     Ok(answer)
 }
 
-/// Lengths of a tag for private use whose answer fills a page to its last byte, and passes it by the LF, by the text, and by a text
-/// that is longer than a page, and the number of writes.
+/// The length of a tag for private use, and the number of writes. The answers fill a page to its last byte, or pass its
+/// end: by the LF, by the text, or by a text that is longer than a page.
 const PAGES: [(usize, u64); 4] = [(16_375, 1), (16_376, 2), (16_377, 2), (20_000, 3)];
 
 #[test]
@@ -602,7 +605,7 @@ const ANSWERS: &[u8] =
 
 const LONG_LINE: &[u8] = b"--------------------------------------------------\n";
 
-/// Lines and how often they stand, the bytes of a read, and answers and how often they stand.
+/// Lines and how often they are repeated, the most bytes of a read, and answers and how often they are repeated.
 const MANY_LINES: &[(&[u8], u64, usize, &[u8], u64)] = &[
     (LINES, 1, 100, ANSWERS, 1),
     (LINES, 10, 2, ANSWERS, 10),
@@ -611,7 +614,7 @@ const MANY_LINES: &[(&[u8], u64, usize, &[u8], u64)] = &[
     (&[b'\n'; 2_000], 1, 2_000, b"refused\n", 2_000),
 ];
 
-// Before each read stand the answers of all lines that were read until then. One row makes two thousand reads of one byte each.
+// Before each read, the answers to all earlier lines are written. One row makes two thousand reads of one byte each.
 #[test]
 fn answers_stand_before_the_next_read(rt: HostRuntime) {
     for (lines, rounds, step, answer, answers) in MANY_LINES {
@@ -622,7 +625,7 @@ fn answers_stand_before_the_next_read(rt: HostRuntime) {
     }
 }
 
-// 21,000 bytes of short lines. .ci/refused refuses them each block of more than 4,096 bytes.
+// The input is 21,000 bytes of short lines. .ci/refused refuses each block of more than 4,096 bytes.
 #[test]
 fn short_lines_are_gathered_one_by_one(rt: HostRuntime) {
     let text = Text::new(b"", LINES, 1_500, b"");
@@ -631,7 +634,7 @@ fn short_lines_are_gathered_one_by_one(rt: HostRuntime) {
     expect_true(&rt, ended.is(Ok(())), 1_500);
 }
 
-// .ci/refused refuses these lines all memory: a line that one read holds whole takes none.
+// A line that is wholly in one read needs no memory. .ci/refused refuses all memory for these lines.
 #[test]
 fn lines_within_a_read_without_memory(rt: HostRuntime) {
     for text in [b"fr\nx-a\n".as_slice(), b"fr\nx-a\n\n"] {
@@ -646,7 +649,7 @@ fn lines_within_a_read_without_memory(rt: HostRuntime) {
 
 const A: &[u8] = b"-a-a-a-a-a-a-a-a-a-a-a-a-a-a-a-a-a-a-a-a";
 
-/// How an input begins and what follows how often, and how its report begins, goes on and ends.
+/// The start of an input, and what follows it how often; then the start of the report, its repeated part and its end.
 type Long<'a> = (&'a [u8], &'a [u8], u64, &'a [u8], &'a [u8], u64, &'a [u8]);
 
 const LONG_LINES: &[Long<'static>] = &[
@@ -664,8 +667,8 @@ const LONG_LINES: &[Long<'static>] = &[
     (b"", &[255; 10_000], 3, b"refused", b"", 0, b"\n"),
 ];
 
-// Lines of 60,000 and of 20,000 bytes, and one that is not UTF-8. Where a growth is refused, the answers before the line stand, and
-// nothing else: they take no memory.
+// Lines of 60,000 and of 20,000 bytes, and one that is not UTF-8. If the buffer cannot grow, exactly the answers before
+// the line are written, because they do not allocate.
 #[test]
 fn the_answers_before_a_long_line_stand(rt: HostRuntime) {
     for (first, again, rounds, start, part, parts, end) in LONG_LINES {
@@ -686,7 +689,7 @@ fn the_answers_before_a_long_line_stand(rt: HostRuntime) {
     }
 }
 
-/// What ends a run, the words for it, the status that the program ends with, and how it is shown.
+/// The outcome of a run, the message for it, the exit status of the program, and the debug text.
 const OUTCOMES: [(Result<(), ShowError>, &[u8], u8, &str); 4] = [
     (Ok(()), b"", 0, "Ok(())"),
     (Err(ShowError::Memory), b"out of memory\n", 3, "Err(Memory)"),

@@ -1,11 +1,12 @@
-//! What works on bytes: what a hasher is fed (RFC 5646 section 2.1.1), and where subtags begin and end (section 2.1).
+//! Functions on bytes: what a hasher is fed (RFC 5646 section 2.1.1), and where subtags begin and end (section 2.1).
 ghost use Rattle.std.specs.Prelude.{◌≡◌, ◌+◌, ◌*◌, ◌%◌, ◌^◌, length, fold};
 
 use crate::support::expect_true;
 use langtag_scan::{case_insensitive_hash, segment_end, segment_start};
 use std::hash::Hasher;
 
-/// Tells each call that fed it: its length, one hexadecimal digit, and then its bytes, two for each of them.
+/// Records each call that feeds the hasher: first the length as one hexadecimal digit, and then each byte as two
+/// digits.
 #[derive(Drop)]
 struct Calls(u128);
 

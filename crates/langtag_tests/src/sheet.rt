@@ -1,21 +1,20 @@
-//! A writer of the tests, which takes no memory.
+//! A writer for the tests, which does not allocate.
 use crate::feed::{Text, line_feeds};
 use std::cell::Cell;
 use std::io;
 use std::io::{ErrorKind, Write};
 
-/// What a writer does once.
+/// The fault of a writer, which happens once.
 #[derive(Clone, Copy)]
 pub(crate) enum Fault {
     None,
-    /// It fails at a write.
+    /// A write fails.
     Write(u64, ErrorKind),
-    /// It fails at the flush.
+    /// The flush fails.
     Flush,
 }
 
-/// Takes the answers that are wanted, and nothing else: any other byte is a failed write, and one past the end a write that takes
-/// nothing.
+/// Takes exactly the expected answers. A write of any other byte fails, and a write past the end takes nothing.
 #[derive(Clone, Copy)]
 pub(crate) struct Sheet<'a> {
     wanted: Text<'a>,
@@ -38,12 +37,12 @@ impl<'a> Sheet<'a> {
         }
     }
 
-    /// Whether it has taken all that is wanted.
+    /// Returns whether all expected answers were written.
     pub(crate) fn has_all(mut self) -> bool {
         self.wanted.next_bytes(1).is_empty()
     }
 
-    /// Whether it has taken whole answers, and was not flushed.
+    /// Returns whether the output consists of whole answers and was not flushed.
     pub(crate) fn has_whole_answers(&self) -> bool {
         self.last == b'\n' && self.flushes == 0
     }

@@ -1,15 +1,16 @@
-//! How a test asks, and how it ends.
+//! How a test asks questions, and how it fails.
 use std::alloc::{AllocError, Global};
 use std::process::Abort;
 
-/// Fails the test where a condition does not hold of a case, which is named by a number: the length of its text, say.
+/// Fails the test if a condition does not hold for a case. A number names the case, such as the length of its text.
 ///
-/// It stands in place of `assert!`: a failure that is written out at each place is proved safe anew at ten times the cost of a call.
+/// It replaces `assert!`. A failure that is written out at each place has to be proved safe again, which costs ten times as much
+/// as a call.
 pub(crate) fn expect_true(rt: &impl Abort, holds: bool, case: usize) {
     assert!(rt; holds, "of {case}");
 }
 
-/// Asks each question, and again where memory was refused, and fails the test where the answer is another one than is wanted.
+/// Asks each question, and asks again if allocation failed. Fails the test if the answer is not the expected one.
 pub(crate) fn are_answered(
     rt: &impl Abort,
     alloc: Global,

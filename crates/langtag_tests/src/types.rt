@@ -1,5 +1,5 @@
-//! The text types: what each says of the shortest texts, the longest ones, long ones and texts of digits, and that it displays and
-//! copies them.
+//! The text types: what each type says of the shortest, the longest and other long texts, and of texts of digits. The
+//! tests also show that each type displays and copies them.
 use crate::support::{are_answered, cut};
 use langtag::{
     ExtendedLangTag, Extension, ExtensionSubtag, Extensions, LangTag, Language, LanguageExtension,
@@ -10,7 +10,7 @@ use langtag_match::LanguageRange;
 use std::alloc::{AllocError, Global};
 use std::fmt::Display;
 
-/// What a type says of a text: the body of a function for each type. The owned form is the copy.
+/// The body of a function for each type, which says whether the type accepts a text. The owned form is a copy.
 macro_rules! told {
     ($type:ident, $text:ident, $alloc:ident) => {
         match $type::new($text) {
@@ -20,7 +20,7 @@ macro_rules! told {
     };
 }
 
-/// Whether both forms of a value display its text, or what they display.
+/// Returns `accepted` if both forms of a value display its text, and otherwise what they display.
 fn shown<T: Display, U: Display>(
     alloc: Global,
     text: &str,
@@ -99,7 +99,7 @@ fn range(text: &str, alloc: Global) -> Result<String, AllocError> {
     told!(LanguageRange, text, alloc)
 }
 
-/// What a type says of a text, of which the piece after `+` stands 300 times.
+/// Returns what a type says of a text. The piece after `+` is repeated 300 times.
 fn told(alloc: Global, question: &str) -> Result<String, AllocError> {
     let (name, text) = cut(question);
     let (start, piece) = text.split_once('+').unwrap_or((text, ""));
@@ -129,7 +129,7 @@ fn told(alloc: Global, question: &str) -> Result<String, AllocError> {
     }
 }
 
-/// Texts of each type: the shortest, the longest or a long one, one of digits where there is one, and one that is none.
+/// Texts of each type: the shortest, the longest or a long text, a text of digits if there is one, and an invalid text.
 const TEXTS: &[(&str, &str)] = &[
     ("PrimaryLanguage|fr", "accepted"),
     ("PrimaryLanguage|abcdefgh", "accepted"),

@@ -27,7 +27,7 @@ pub(crate) fn first_by_ranges<'a, 't, R: RangeList<'a>, T: TagList>(
     (first, has_zero)
 }
 
-/// Puts the first candidate for a range in place of what was found, if it goes before.
+/// Replaces what was found by the first candidate for a range, if it goes before.
 fn improve_for_range<'a, 't, T: TagList>(
     found: &mut Option<Candidate<'a, 't>>,
     wanted: WantedRange<'a>,

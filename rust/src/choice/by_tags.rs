@@ -23,7 +23,8 @@ pub(crate) fn first_by_tags<'a, 't, R: RangeList<'a>, T: TagList>(
     first
 }
 
-/// Puts the first candidate that the tag at an index is in place of what was found, if it is not refused and goes before.
+/// Replaces what was found by the first candidate with the tag at an index, if the tag is not refused and the candidate
+/// goes before.
 #[inline]
 fn improve_at<'a, 't, R: RangeList<'a>, T: TagList>(
     found: &mut Option<Candidate<'a, 't>>,
@@ -36,7 +37,7 @@ fn improve_at<'a, 't, R: RangeList<'a>, T: TagList>(
     }
 }
 
-/// Returns whether a tag stands at an index, which is not refused.
+/// Returns whether the entry at an index is a tag that is not refused.
 #[inline]
 fn is_open<'a, R: RangeList<'a>, T: TagList>(ranges: R, tags: &T, index: usize) -> bool {
     match tags.tag_at(index) {
@@ -45,7 +46,7 @@ fn is_open<'a, R: RangeList<'a>, T: TagList>(ranges: R, tags: &T, index: usize) 
     }
 }
 
-/// Puts the first candidate that a tag is in place of what was found, if it goes before.
+/// Replaces what was found by the first candidate with a tag, if it goes before.
 fn improve_for_tag<'a, 't, R: RangeList<'a>>(
     found: &mut Option<Candidate<'a, 't>>,
     ranges: R,
@@ -61,7 +62,7 @@ fn improve_for_tag<'a, 't, R: RangeList<'a>>(
     }
 }
 
-/// Puts the candidate that a tag is for a range in place of what was found, if it goes before.
+/// Replaces what was found by the candidate with a tag and a range, if it goes before.
 fn improve_for_pair<'a, 't>(
     found: &mut Option<Candidate<'a, 't>>,
     wanted: WantedRange<'a>,

@@ -70,7 +70,7 @@ pub(crate) struct Candidate<'a, 't> {
 }
 
 impl Candidate<'_, '_> {
-    /// Returns whether this goes before another.
+    /// Returns whether this candidate goes before another.
     pub(crate) fn goes_before(&self, other: &Candidate<'_, '_>) -> bool {
         match self.rank.cmp(&other.rank) {
             Ordering::Less => true,
@@ -79,7 +79,8 @@ impl Candidate<'_, '_> {
         }
     }
 
-    /// Returns whether this goes before another of the same rank: by what look-up loses, then by the likely region, then by the index.
+    /// Returns whether this candidate goes before another of the same rank. It compares what look-up loses, then the
+    /// likely region, and then the index.
     fn breaks_tie(&self, other: &Candidate<'_, '_>) -> bool {
         let (lost, others_lost) = (self.lost(), other.lost());
         if lost != others_lost {
@@ -92,7 +93,8 @@ impl Candidate<'_, '_> {
         self.index < other.index
     }
 
-    /// Returns how many bytes look-up takes from the range to find the tag, and all where it does not.
+    /// Returns how many bytes look-up removes from the range to find the tag. If look-up does not find the tag, it is
+    /// the whole length.
     #[inline]
     fn lost(&self) -> usize {
         basic_len(self.range).saturating_sub(kept(self.range, self.tag))

@@ -1,6 +1,6 @@
 // Made by rust/erase from crates/langtag_choice/src/lone.rt. Change that file, not this one.
 
-//! Languages to which no other language is near, as the first letters of a tag show.
+//! Languages that have no other language near them, recognised by the first letters of a tag.
 
 use crate::choice::matching_tables as tables;
 use crate::choice::read_range::starts;
@@ -25,7 +25,7 @@ pub(crate) fn is_short(text: &[u8]) -> bool {
     }
 }
 
-/// Returns whether the first subtag of a text counts, and is no extended language.
+/// Returns whether the first subtag of a text is neither empty nor `*`, and is not an extended language.
 #[inline]
 fn has_no_extended(text: &[u8]) -> bool {
     begins_counted(text) && !may_be_extended(text)
@@ -40,7 +40,7 @@ fn begins_counted(text: &[u8]) -> bool {
     }
 }
 
-/// Returns whether a text may begin with an extended language. A region of three digits is none.
+/// Returns whether a text may begin with an extended language. A region of three digits is not an extended language.
 fn may_be_extended(text: &[u8]) -> bool {
     match text {
         [first, _, _] => is_letter(*first),
@@ -69,7 +69,7 @@ pub(crate) fn lone_letters(range: &[u8], form: Option<TagFields<'_>>) -> Option<
     head(form.language)
 }
 
-/// Returns whether a rule desires a language of two letters, or it replaces one of two letters.
+/// Returns whether a language of two letters is the desired language of a rule, or replaces a language of two letters.
 #[inline]
 fn is_related(language: &[u8]) -> bool {
     let number = language_number(language) as u16;

@@ -24,7 +24,7 @@ pub(crate) fn begins(range: &[u8], tag: &[u8]) -> bool {
     left.is_empty() && ends_subtag(rest)
 }
 
-/// Returns whether nothing follows, or a hyphen.
+/// Returns whether the rest is empty or begins with a hyphen.
 #[inline]
 pub(crate) fn ends_subtag(rest: &[u8]) -> bool {
     matches!(rest, [] | [b'-', ..])

@@ -6,7 +6,7 @@ use crate::choice::matching_tables as tables;
 use crate::likely::{index_of, TagFields};
 use crate::scan::case_insensitive_eq;
 
-/// Returns the distance of two regions, each that of a language.
+/// Returns the distance of two regions, each with its language.
 #[inline]
 pub(crate) fn region_distance(desired: TagFields<'_>, supported: TagFields<'_>) -> u8 {
     if case_insensitive_eq(desired.region, supported.region) {
@@ -39,7 +39,7 @@ fn by_language(desired: TagFields<'_>, supported: TagFields<'_>) -> u8 {
     4
 }
 
-/// Returns the distance of two regions by the side of a set on which they lie.
+/// Returns the distance of two regions by whether they lie on the same side of a set.
 #[inline]
 fn by_side(set: SetName, a: TagFields<'_>, b: TagFields<'_>) -> u8 {
     if on_one_side(set, a, b) {
@@ -49,7 +49,7 @@ fn by_side(set: SetName, a: TagFields<'_>, b: TagFields<'_>) -> u8 {
     }
 }
 
-/// Returns the distance of two regions of English: what is not as in the United States is nearer to the British.
+/// Returns the distance of two regions of English. `GB` is nearer to a region outside the set of the United States.
 #[inline]
 fn english(a: TagFields<'_>, b: TagFields<'_>) -> u8 {
     if is_british(a, b) || is_british(b, a) {
@@ -63,7 +63,7 @@ fn is_british(a: TagFields<'_>, b: TagFields<'_>) -> bool {
     case_insensitive_eq(b"GB", a.region) && SetName::UnitedStates.is_outside(b)
 }
 
-/// Returns whether both regions lie in a set, or both in what it leaves.
+/// Returns whether both regions are inside a set, or both are outside it.
 #[inline]
 fn on_one_side(set: SetName, a: TagFields<'_>, b: TagFields<'_>) -> bool {
     (set.is_inside(a) && set.is_inside(b)) || (set.is_outside(a) && set.is_outside(b))
@@ -79,7 +79,7 @@ pub(crate) enum SetName {
 }
 
 impl SetName {
-    /// Returns the regions of the set, and the groups of which all countries are in it.
+    /// Returns the regions of the set, and the groups whose countries are all in it.
     fn inside(self) -> &'static [u32] {
         match self {
             SetName::Maghreb => &tables::MAGHREB_INSIDE,
@@ -89,7 +89,7 @@ impl SetName {
         }
     }
 
-    /// Returns the groups of which some countries are in the set, but not all.
+    /// Returns the groups with some countries in the set, but not all.
     fn partly(self) -> &'static [u32] {
         match self {
             SetName::Maghreb => &tables::MAGHREB_PARTLY,

@@ -20,7 +20,7 @@ pub(crate) fn language_distance(desired: TagFields<'_>, supported: TagFields<'_>
     }
 }
 
-/// Returns the distance of two scripts, each that of a language.
+/// Returns the distance of two scripts, each with its language.
 pub(crate) fn script_distance(desired: TagFields<'_>, supported: TagFields<'_>) -> u8 {
     if case_insensitive_eq(desired.script, supported.script) {
         return 0;

@@ -56,7 +56,7 @@ fn texts_distance(desired: &[u8], supported: &[u8]) -> u8 {
     }
 }
 
-/// Returns the distance from a range, as it is read, to a tag.
+/// Returns the distance from a range to a tag. In the range, `_` means `-`, and each `-*` is ignored.
 pub(crate) fn range_distance(range: &[u8], tag: &[u8]) -> u8 {
     match (matching_form(range), matching_form(tag)) {
         (Some(wanted), Some(found)) => fields_distance(wanted, found),
@@ -64,7 +64,7 @@ pub(crate) fn range_distance(range: &[u8], tag: &[u8]) -> u8 {
     }
 }
 
-/// Returns the distance from a range to a tag of which one has no matching form.
+/// Returns the distance from a range to a tag if one of them has no matching form.
 #[inline]
 fn formless_range_distance(range: &[u8], tag: &[u8]) -> u8 {
     if are_alike(range, tag) {
@@ -74,7 +74,7 @@ fn formless_range_distance(range: &[u8], tag: &[u8]) -> u8 {
     }
 }
 
-/// Returns the distance of two texts of which one has no matching form.
+/// Returns the distance of two texts if one of them has no matching form.
 #[inline]
 fn formless_distance(desired: &[u8], supported: &[u8]) -> u8 {
     if case_insensitive_eq(desired, supported) {

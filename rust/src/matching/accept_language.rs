@@ -182,7 +182,7 @@ fn elements(header: &str) -> Result<Vec<WeightedRange<'_>>, AcceptLanguageError<
     Ok(elements)
 }
 
-/// Returns the elements of a header, in order, and passes over what is bad.
+/// Returns the elements of a header, in order, and skips malformed elements.
 #[cfg(feature = "alloc")]
 fn good_elements(header: &str) -> Result<Vec<WeightedRange<'_>>, AllocError> {
     let mut elements = Vec::new();
@@ -196,7 +196,7 @@ fn good_elements(header: &str) -> Result<Vec<WeightedRange<'_>>, AllocError> {
     Ok(elements)
 }
 
-/// Returns how many bytes stand before the item at an index.
+/// Returns the number of bytes before the item at an index.
 #[inline]
 fn offset_of(header: &str, index: usize) -> usize {
     header

@@ -71,7 +71,7 @@ pub fn is_empty_element(item: &[u8]) -> bool {
     item.iter().all(|byte| is_space(*byte))
 }
 
-/// Returns the weight that stands after the first `;`, and 1000 where there is none.
+/// Returns the weight after the first `;`, or 1000 if there is no `;`.
 fn weight_after(item: &[u8], semicolon: usize) -> Option<u32> {
     if semicolon == item.len() {
         return Some(1000);
@@ -81,7 +81,7 @@ fn weight_after(item: &[u8], semicolon: usize) -> Option<u32> {
     weight_of(&text[start..end])
 }
 
-/// Returns the basic language range that the bytes are, if they are one.
+/// Returns the bytes as a basic language range, or `None` if they are not one.
 fn basic_range(bytes: &[u8]) -> Option<LanguageRange<'_>> {
     let text = core::str::from_utf8(bytes).ok()?;
     if !is_basic_range(text) {
@@ -97,7 +97,7 @@ pub(crate) fn trimmed_place(text: &[u8]) -> (usize, usize) {
     (start, start + len_without_spaces(&text[start..]))
 }
 
-/// Returns how many bytes of white space a text begins with.
+/// Returns the number of bytes of white space at the start of a text.
 #[inline]
 fn leading_spaces(text: &[u8]) -> usize {
     let mut start = 0;
@@ -107,7 +107,7 @@ fn leading_spaces(text: &[u8]) -> usize {
     start
 }
 
-/// Returns the length without the white space at the end.
+/// Returns the length of a text without the white space at its end.
 #[inline]
 fn len_without_spaces(text: &[u8]) -> usize {
     let mut len = text.len();

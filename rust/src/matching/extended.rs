@@ -14,14 +14,14 @@ pub(crate) fn matches_extended(range: &str, tag: &str) -> bool {
     matches_first(first, subtag) && stand_among(wanted, subtags)
 }
 
-/// Returns whether a subtag of a range is `*`, or that of a tag but for case.
+/// Returns whether a subtag of a range is `*`, or equals a subtag of a tag, ignoring case.
 #[inline]
 fn matches_first(range: &str, subtag: &str) -> bool {
     range == "*" || case_insensitive_eq(range.as_bytes(), subtag.as_bytes())
 }
 
-/// Returns whether the subtags of a range, but for each `*`, stand among those of a tag in their order, with no singleton
-/// left out between.
+/// Returns whether the subtags of a range are among those of a tag, in the same order. Each `*` is ignored. No
+/// singleton may be skipped.
 #[inline]
 fn stand_among(wanted: Subtags<'_>, mut subtags: Subtags<'_>) -> bool {
     for subtag in wanted {
@@ -32,8 +32,8 @@ fn stand_among(wanted: Subtags<'_>, mut subtags: Subtags<'_>) -> bool {
     true
 }
 
-/// Goes on to what follows the next subtag that is the wanted one but for case. Returns false where none stands before
-/// the next singleton.
+/// Skips to what follows the next subtag that equals the wanted subtag, ignoring case. Returns `false` if there is none
+/// before the next singleton.
 fn pass(subtags: &mut Subtags<'_>, wanted: &str) -> bool {
     while let Some(subtag) = subtags.next() {
         if case_insensitive_eq(wanted.as_bytes(), subtag.as_bytes()) {

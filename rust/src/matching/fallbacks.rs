@@ -1,6 +1,6 @@
 // Made by rust/erase from crates/langtag_match/src/fallbacks.rt. Change that file, not this one.
 
-//! What is left of a language range when subtags are taken away from its end (RFC 4647 section 3.4).
+//! What is left of a language range when subtags are removed from its end (RFC 4647 section 3.4).
 
 use crate::matching::language_range::LanguageRange;
 use crate::tag::segment_start;
@@ -30,7 +30,7 @@ pub struct Fallbacks<'a> {
 }
 
 impl<'a> Fallbacks<'a> {
-    /// Starts at the range itself.
+    /// Returns an iterator that starts at the range itself.
     #[inline]
     pub(crate) fn new(range: LanguageRange<'a>) -> Self {
         Fallbacks { rest: Some(range) }
@@ -48,7 +48,7 @@ impl<'a> Iterator for Fallbacks<'a> {
     }
 }
 
-/// Returns what is left of a range without its last subtag, and without each single character that would stand last then.
+/// Returns a range without its last subtag, and without each single character that would then be last.
 fn shortened(range: LanguageRange<'_>) -> Option<LanguageRange<'_>> {
     let mut text = range.as_str();
     while let Some(before) = without_last(text) {
@@ -60,7 +60,7 @@ fn shortened(range: LanguageRange<'_>) -> Option<LanguageRange<'_>> {
     None
 }
 
-/// Returns what stands before the last hyphen of a text.
+/// Returns the text before the last hyphen.
 fn without_last(text: &str) -> Option<&str> {
     let start = segment_start(text.as_bytes(), text.len());
     if start == 0 {

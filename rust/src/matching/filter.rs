@@ -82,7 +82,7 @@ pub struct Filtered<'a, 't> {
 }
 
 impl<'a, 't> Filtered<'a, 't> {
-    /// Starts at the first tag that the ranges find.
+    /// Returns an iterator that starts at the first tag that the ranges find.
     #[inline]
     fn new(
         rule: FilterRule,
@@ -119,7 +119,7 @@ impl<'a, 't> Iterator for Filtered<'a, 't> {
     }
 }
 
-/// Returns the indices of the next range that finds a tag and of that tag, from a range on and a tag of it on.
+/// Returns the indices of the next range that finds a tag, and of that tag. The search starts at a range and a tag.
 fn next_place(
     rule: FilterRule,
     ranges: &[LanguageRange<'_>],
@@ -137,7 +137,7 @@ fn next_place(
     None
 }
 
-/// Returns the index of the first tag, from an index on, that a range matches and none of the ranges before it.
+/// Returns the index of the first tag that a range matches and no earlier range matches. The search starts at an index.
 #[inline]
 fn next_found(
     rule: FilterRule,
@@ -154,7 +154,7 @@ fn next_found(
     None
 }
 
-/// Returns whether a range matches a tag, and none of the ranges before it does.
+/// Returns whether a range matches a tag that no earlier range matches.
 #[inline]
 fn is_newly_found(
     rule: FilterRule,
@@ -165,7 +165,7 @@ fn is_newly_found(
     rule.matches(range, tag) && !is_found(rule, before, tag)
 }
 
-/// Returns whether one of some ranges matches a tag.
+/// Returns whether one of several ranges matches a tag.
 #[inline]
 fn is_found(rule: FilterRule, ranges: &[LanguageRange<'_>], tag: LangTag<'_>) -> bool {
     ranges.iter().any(|range| rule.matches(*range, tag))

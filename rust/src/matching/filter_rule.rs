@@ -8,9 +8,9 @@ use crate::tag::LangTag;
 /// The rule by which a range matches a tag.
 #[derive(Clone, Copy, Debug)]
 pub(crate) enum FilterRule {
-    /// That of basic filtering (section 3.3.1).
+    /// Basic filtering (section 3.3.1).
     Basic,
-    /// That of extended filtering (section 3.3.2).
+    /// Extended filtering (section 3.3.2).
     Extended,
 }
 

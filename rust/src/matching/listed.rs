@@ -27,7 +27,7 @@ pub fn listed_range(text: &[u8]) -> Option<WantedRange<'_>> {
     })
 }
 
-/// Returns whether a text is a language range where `_` is read as `-`.
+/// Returns whether a text is a language range if `_` is read as `-`.
 #[inline]
 fn is_listed_range(text: &[u8]) -> bool {
     let (first, _) = split_at_either(text, b'-', b'_');

@@ -41,7 +41,7 @@ pub fn look_up<'a>(
     default
 }
 
-/// Returns the tag that a range finds.
+/// Returns the tag that look-up finds for a range.
 #[inline]
 pub(crate) fn tag_for<'a>(range: LanguageRange<'_>, tags: &[LangTag<'a>]) -> Option<LangTag<'a>> {
     for fallback in range.fallbacks() {
@@ -52,7 +52,7 @@ pub(crate) fn tag_for<'a>(range: LanguageRange<'_>, tags: &[LangTag<'a>]) -> Opt
     None
 }
 
-/// Returns the first tag that is a range, in any case.
+/// Returns the first tag that equals a range, ignoring case and each `-*`.
 #[inline]
 fn tag_alike<'a>(range: LanguageRange<'_>, tags: &[LangTag<'a>]) -> Option<LangTag<'a>> {
     let range = range.as_str().as_bytes();
@@ -61,7 +61,7 @@ fn tag_alike<'a>(range: LanguageRange<'_>, tags: &[LangTag<'a>]) -> Option<LangT
         .find(|tag| is_range(tag.as_bytes(), range))
 }
 
-/// Returns whether a tag is a range without each `-*`, in any case.
+/// Returns whether a tag equals a range, ignoring case and each `-*`.
 fn is_range(tag: &[u8], range: &[u8]) -> bool {
     let mut tag = tag;
     let mut range = range;

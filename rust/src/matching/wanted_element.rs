@@ -9,7 +9,7 @@ use crate::matching::weight::{are_digits, digit_at};
 use crate::scan::{first_place, split_at_byte, split_at_either};
 use crate::tag::is_private_subtag;
 
-/// Returns the range that an item of a header has, with its weight, if `behind` follows the comma after the item.
+/// Returns the range of an item of a header, with its weight. `behind` is what follows the comma after the item.
 pub(crate) fn wanted_at<'a>(item: &'a [u8], behind: &[u8]) -> Option<WantedRange<'a>> {
     let (before, parameters) = split_at_byte(item, b';');
     let (bytes, _codeset) = split_at_either(trimmed(before), b'.', b'@');
@@ -20,7 +20,7 @@ pub(crate) fn wanted_at<'a>(item: &'a [u8], behind: &[u8]) -> Option<WantedRange
     Some(WantedRange { bytes, weight })
 }
 
-/// Returns whether a text is a basic language range where `_` is read as `-`.
+/// Returns whether a text is a basic language range if `_` is read as `-`.
 #[inline]
 fn is_wanted_range(text: &[u8]) -> bool {
     let (first, _) = split_at_either(text, b'-', b'_');
@@ -44,7 +44,7 @@ pub(crate) fn is_mark(byte: u8) -> bool {
     byte == b'-' || byte == b'_'
 }
 
-/// Returns the weight that the first parameter named `q` says, and 1000 without one.
+/// Returns the weight of the first parameter named `q`, or 1000 if there is none.
 fn wanted_weight(parameters: &[u8], behind: &[u8]) -> u32 {
     let mut left = parameters;
     while !left.is_empty() {
@@ -73,7 +73,7 @@ fn is_q_name(name: &[u8]) -> bool {
     matches!(name, [b'q' | b'Q'])
 }
 
-/// Returns the weight that a value says. Without a point, digits alone behind the comma are its fraction.
+/// Returns the weight of a value. If the value has no point, the digits after the comma are its fraction.
 fn value_weight(value: &[u8], behind: &[u8]) -> u32 {
     let (whole, fraction) = split_at_byte(value, b'.');
     if whole.len() < value.len() {
@@ -82,7 +82,7 @@ fn value_weight(value: &[u8], behind: &[u8]) -> u32 {
     number_weight(whole, digits_behind(behind))
 }
 
-/// Returns the digits that a text begins with, if a comma or the end follows them, and else nothing.
+/// Returns the digits at the start of a text if a comma or the end follows them, and otherwise an empty text.
 #[inline]
 fn digits_behind(text: &[u8]) -> &[u8] {
     let (item, _rest) = split_at_byte(text, b',');
@@ -93,7 +93,8 @@ fn digits_behind(text: &[u8]) -> &[u8] {
     }
 }
 
-/// Returns the weight of what stands before and after a decimal mark: 1 where it is no number or a number above 1.
+/// Returns the weight of a number, by the texts before and after its decimal mark. It is 1 if this is not a number, or
+/// if the number is above 1.
 fn number_weight(whole: &[u8], fraction: &[u8]) -> u32 {
     if !is_number(whole, fraction) || !are_zeros(whole) {
         return 1000;
@@ -101,7 +102,7 @@ fn number_weight(whole: &[u8], fraction: &[u8]) -> u32 {
     100 * digit_at(fraction, 0) + 10 * digit_at(fraction, 1) + digit_at(fraction, 2)
 }
 
-/// Returns whether what stands before and after a decimal mark are digits, and not both nothing.
+/// Returns whether the texts before and after a decimal mark are digits, and not both empty.
 #[inline]
 fn is_number(whole: &[u8], fraction: &[u8]) -> bool {
     are_digits(whole, b'9') && are_digits(fraction, b'9') && whole.len() + fraction.len() > 0

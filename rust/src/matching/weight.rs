@@ -28,7 +28,7 @@ fn is_qvalue(text: &[u8]) -> bool {
     }
 }
 
-/// Returns whether a text is empty, or a point and up to three digits, none above the greatest.
+/// Returns whether a text is empty, or a point and up to three digits that are at most the greatest digit.
 fn is_fraction(text: &[u8], greatest: u8) -> bool {
     match text {
         [] => true,
@@ -37,7 +37,7 @@ fn is_fraction(text: &[u8], greatest: u8) -> bool {
     }
 }
 
-/// Returns whether the bytes are digits, none above the greatest.
+/// Returns whether the bytes are digits that are at most the greatest digit.
 #[inline]
 pub(crate) fn are_digits(bytes: &[u8], greatest: u8) -> bool {
     bytes.iter().all(|digit| (b'0'..=greatest).contains(digit))
@@ -52,7 +52,7 @@ fn thousandths(qvalue: &[u8]) -> u32 {
         + digit_at(qvalue, 4)
 }
 
-/// Returns the digit at an index, 0 past the end.
+/// Returns the digit at an index, or 0 past the end.
 #[inline]
 pub(crate) fn digit_at(text: &[u8], index: usize) -> u32 {
     let digit = text.get(index).copied().unwrap_or(b'0');

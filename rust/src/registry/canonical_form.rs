@@ -16,10 +16,10 @@ use alloc::string::String;
 #[cfg(feature = "alloc")]
 use alloc::vec::Vec;
 
-/// No text that is replaced as a whole has more bytes.
+/// An upper bound on the number of bytes of a text that is replaced as a whole.
 const LONGEST_REPLACED: usize = 16;
 
-/// No text that replaces a whole one has more bytes.
+/// An upper bound on the number of bytes of a text that replaces a whole text.
 const LONGEST_PREFERRED: usize = 14;
 
 /// Returns the canonical form of a tag ([RFC 5646 section 4.5]): `he` for `iw`, `yue` for `zh-yue`, `en-MM` for `en-BU`,
@@ -112,7 +112,7 @@ pub fn canonical_bound(tag_len: usize) -> usize {
     tag_len.saturating_mul(2).saturating_add(LONGEST_PREFERRED)
 }
 
-/// Returns the canonical form of a tag. A copy of the tag, or of what is preferred to it, is not parsed again.
+/// Returns the canonical form of a tag. If it is a copy of the tag or of a preferred tag, it is not parsed again.
 #[cfg(feature = "alloc")]
 fn form_as_tag(tag: LangTag<'_>) -> Result<LangTagBuf, AllocError> {
     match form_of(tag) {
@@ -122,7 +122,8 @@ fn form_as_tag(tag: LangTag<'_>) -> Result<LangTagBuf, AllocError> {
     }
 }
 
-/// Returns the canonical form of a tag that is its parts in their canonical forms, or what is preferred to that as a whole.
+/// Returns the canonical form of a tag: its parts in their canonical forms, or the tag that is preferred to the whole
+/// of them.
 #[cfg(feature = "alloc")]
 fn parts_as_tag(tag: LangTag<'_>, normal: NormalLangTag<'_>) -> Result<LangTagBuf, AllocError> {
     let Ok(text) = String::from_utf8(parts_as_bytes(tag, normal)?) else {
@@ -134,7 +135,7 @@ fn parts_as_tag(tag: LangTag<'_>, normal: NormalLangTag<'_>) -> Result<LangTagBu
     Ok(form)
 }
 
-/// Returns the bytes of this form.
+/// Returns the bytes of the canonical form, as [`parts_as_tag`] describes it.
 #[cfg(feature = "alloc")]
 fn parts_as_bytes(tag: LangTag<'_>, normal: NormalLangTag<'_>) -> Result<Vec<u8>, AllocError> {
     let mut bytes = try_vec(0, canonical_bound(tag.as_bytes().len()))?;
@@ -143,7 +144,7 @@ fn parts_as_bytes(tag: LangTag<'_>, normal: NormalLangTag<'_>) -> Result<Vec<u8>
     Ok(bytes)
 }
 
-/// Writes a tag with its parts in their canonical forms, or what is preferred to that as a whole.
+/// Writes a tag with its parts in their canonical forms, or the tag that is preferred to the whole of them.
 fn write_parts(tag: NormalLangTag<'_>, buffer: &mut [u8]) -> usize {
     let mut start = [0; LONGEST_REPLACED];
     let len = put_canonical_parts(tag, &mut start);
@@ -156,7 +157,8 @@ fn write_parts(tag: NormalLangTag<'_>, buffer: &mut [u8]) -> usize {
     len
 }
 
-/// Returns what is preferred to a text as a whole, or that text: `gsg` for `sgn-DE`, which `sgn-DD` becomes by its parts.
+/// Returns the tag that is preferred to a whole text, or the text itself if there is none: `gsg` for `sgn-DE`. The
+/// parts of `sgn-DD` give `sgn-DE`.
 #[inline]
 fn preferred_to(parts: &[u8]) -> &[u8] {
     match preferred_for(parts) {
@@ -165,7 +167,7 @@ fn preferred_to(parts: &[u8]) -> &[u8] {
     }
 }
 
-/// Writes a text.
+/// Writes a text, if the buffer has room for it. Returns its length.
 #[inline]
 fn write_text(text: &[u8], buffer: &mut [u8]) -> usize {
     write_pieces(&[text], buffer)

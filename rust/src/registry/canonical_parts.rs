@@ -14,7 +14,8 @@ use crate::registry::subtags::is_registered_extlang;
 use crate::scan::into_smallcase;
 use crate::tag::NormalLangTag;
 
-/// Puts a tag with its parts in their canonical forms into a buffer, as far as it has room. Returns how long that tag is.
+/// Writes a tag with its parts in their canonical forms into a buffer, as far as there is room. Returns the length of
+/// that tag.
 #[inline]
 pub(crate) fn put_canonical_parts(tag: NormalLangTag<'_>, buffer: &mut [u8]) -> usize {
     let mut out = Output::new(buffer);
@@ -31,8 +32,8 @@ fn push_parts(out: &mut Output<'_>, tag: NormalLangTag<'_>) {
     push_private_use(out, tag.private_use());
 }
 
-/// An extended subtag that is registered takes the place of the language before it, and may be replaced as a language in turn.
-/// Two stay, and so does what is before them.
+/// Adds the canonical form of a language. A registered extended subtag replaces the language before it, and may then be
+/// replaced as a language. If there are two or more extended subtags, nothing is replaced.
 fn push_language(out: &mut Output<'_>, language: Language<'_>) {
     let primary = language.primary();
     let mut extlangs = language.extension_subtags();
@@ -49,7 +50,7 @@ fn push_language(out: &mut Output<'_>, language: Language<'_>) {
     out.push_subtag(extlang.as_bytes());
 }
 
-/// Puts the language that an extended subtag becomes.
+/// Adds the language that replaces an extended subtag.
 fn push_extlang(out: &mut Output<'_>, extlang: ExtendedLangTag<'_>) {
     match preferred_language(PrimaryLanguage::from_checked(extlang.as_str())) {
         Some(preferred) => out.push_subtag(preferred.as_bytes()),
@@ -79,7 +80,7 @@ fn push_region(out: &mut Output<'_>, region: Option<Region<'_>>) {
     }
 }
 
-/// Each is put after those before it, also where that makes a repeat.
+/// Adds the canonical form of each variant in turn, even if that repeats a variant.
 #[inline]
 fn push_variants(out: &mut Output<'_>, variants: Variants<'_>) {
     for variant in variants.iter() {
@@ -87,7 +88,8 @@ fn push_variants(out: &mut Output<'_>, variants: Variants<'_>) {
     }
 }
 
-/// They are put in the order of their singletons. Those of one singleton, which no valid tag has, keep theirs.
+/// Adds extensions in the order of their singletons. Extensions with the same singleton, which no valid tag has, keep
+/// their order.
 fn push_extensions(out: &mut Output<'_>, extensions: Extensions<'_>) {
     if extensions.as_str().is_empty() {
         return;
@@ -104,7 +106,7 @@ fn push_extensions(out: &mut Output<'_>, extensions: Extensions<'_>) {
     }
 }
 
-/// Those of one singleton are put, whatever its case.
+/// Adds the extensions with a singleton, ignoring its case.
 #[inline]
 fn push_extensions_of(out: &mut Output<'_>, extensions: Extensions<'_>, singleton: u8) {
     for extension in extensions.iter() {

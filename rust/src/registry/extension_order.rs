@@ -1,6 +1,6 @@
 // Made by rust/erase from crates/langtag_registry/src/extension_order.rt. Change that file, not this one.
 
-//! The order of extensions (RFC 5646 section 4.5): by their singletons, whatever their case.
+//! The order of extensions (RFC 5646 section 4.5): by their singletons, ignoring case.
 
 use crate::extension::{Extension, Extensions};
 use crate::scan::into_smallcase;
@@ -10,7 +10,7 @@ use crate::scan::into_smallcase;
 /// [RFC 5646 section 2.2.6]: https://www.rfc-editor.org/rfc/rfc5646#section-2.2.6
 pub(crate) const SINGLETONS: [u8; 35] = *b"0123456789abcdefghijklmnopqrstuvwyz";
 
-/// Returns whether extensions are in order: each singleton is at least the one before it.
+/// Returns whether extensions are in order, which means that no singleton is less than the singleton before it.
 #[inline]
 pub(crate) fn are_in_order(extensions: Extensions<'_>) -> bool {
     let mut last = 0;

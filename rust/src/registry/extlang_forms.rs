@@ -51,7 +51,7 @@ fn with_prefix(mut form: NormalLangTagBuf) -> Result<NormalLangTagBuf, AllocErro
     Ok(form)
 }
 
-/// Returns the text of a language after its prefix, where it is an extended one, too: `zh-hak` for `hak`.
+/// Returns a language with its prefix before it, if it is also an extended language: `zh-hak` for `hak`.
 #[cfg(feature = "alloc")]
 fn prefixed_language(language: Language<'_>) -> Result<Option<String>, AllocError> {
     if is_full(language) {
@@ -66,7 +66,7 @@ fn prefixed_language(language: Language<'_>) -> Result<Option<String>, AllocErro
     Ok(Some(text))
 }
 
-/// Returns whether a language has three extended subtags, so that there is no room for one more.
+/// Returns whether a language has three extended subtags, which leave no room for another.
 #[inline]
 fn is_full(language: Language<'_>) -> bool {
     language.extension_subtags().count() == 3

@@ -15,7 +15,7 @@ pub(crate) enum Form<'a> {
     Same,
     /// Another tag, which is preferred to the whole tag.
     Whole(LangTag<'static>),
-    /// This tag with its parts in their canonical forms, or the tag that is preferred to all of that.
+    /// This tag with its parts in their canonical forms, or the tag that is preferred to the whole of them.
     Parts(NormalLangTag<'a>),
 }
 

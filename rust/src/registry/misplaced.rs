@@ -70,7 +70,7 @@ pub fn misplaced_extlang<'a>(tag: NormalLangTag<'a>) -> Option<ExtendedLangTag<'
     Some(extlang)
 }
 
-/// Returns whether some prefix of a variant matches the tag before it, or it has no prefix.
+/// Returns whether a prefix of a variant matches the tag before the variant, or the variant has no prefix.
 fn fits_after(before: &str, variant: Variant<'_>) -> bool {
     let number = folded_number(variant.as_bytes());
     let mut has_none = true;

@@ -26,7 +26,7 @@ pub fn extlang_prefix(extlang: ExtendedLangTag<'_>) -> Option<PrimaryLanguage<'s
     prefix_of_language(PrimaryLanguage::from_checked(extlang.as_str()))
 }
 
-/// Returns the same for a language that is also an extended language: `zh` for the language `yue`, `None` for `fr`.
+/// Returns the prefix of a language that is also an extended language: `zh` for the language `yue`, `None` for `fr`.
 pub(crate) fn prefix_of_language(
     language: PrimaryLanguage<'_>,
 ) -> Option<PrimaryLanguage<'static>> {

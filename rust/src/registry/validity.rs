@@ -67,7 +67,7 @@ pub fn fault_at<'a>(tag: LangTag<'a>) -> Option<(InvalidSubtag<'a>, usize)> {
     Some(fault)
 }
 
-/// Returns the first fault of a normal tag, without a look at whether it is grandfathered.
+/// Returns the first fault of a normal tag. It does not check whether the tag is grandfathered.
 fn find_fault_of_normal<'a>(tag: NormalLangTag<'a>) -> Option<(InvalidSubtag<'a>, usize)> {
     if let Some(fault) = find_language_fault(tag.language()) {
         return Some((fault, 0));
@@ -101,7 +101,7 @@ fn find_language_fault<'a>(language: Language<'a>) -> Option<InvalidSubtag<'a>> 
     Some(InvalidSubtag::SecondExtlang(second))
 }
 
-/// Returns the fault of a script, where there is one.
+/// Returns the fault of a script, if it has one.
 #[inline]
 fn find_script_fault<'a>(script: Option<Script<'a>>) -> Option<InvalidSubtag<'a>> {
     let script = script?;
@@ -111,7 +111,7 @@ fn find_script_fault<'a>(script: Option<Script<'a>>) -> Option<InvalidSubtag<'a>
     Some(InvalidSubtag::Script(script))
 }
 
-/// Returns the fault of a region, where there is one.
+/// Returns the fault of a region, if it has one.
 #[inline]
 fn find_region_fault<'a>(region: Option<Region<'a>>) -> Option<InvalidSubtag<'a>> {
     let region = region?;
@@ -121,8 +121,8 @@ fn find_region_fault<'a>(region: Option<Region<'a>>) -> Option<InvalidSubtag<'a>
     Some(InvalidSubtag::Region(region))
 }
 
-/// Returns the first fault of variants, and which of them it is.
-// Each is compared to those before it. These are registered and all different, so they are few.
+/// Returns the first fault among variants, and the index of that variant.
+// Each variant is compared with those before it. These are registered and all different, so they are few.
 fn find_variant_fault<'a>(variants: Variants<'a>) -> Option<(InvalidSubtag<'a>, usize)> {
     for (index, variant) in variants.iter().enumerate() {
         if !is_registered_variant(variant) {

@@ -36,7 +36,7 @@ pub fn langtag_next_accepted(
     }
 }
 
-/// Takes the first item off a list that is not empty, and the comma after it.
+/// Removes the first item that is not empty from a list, together with the comma after it.
 fn next_item(header: &[u8], rest: &mut Span) -> Option<Span> {
     let mut left = *rest;
     while let Some(list) = left.of(header) {

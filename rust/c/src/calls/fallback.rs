@@ -21,8 +21,8 @@ pub fn langtag_next_fallback(bytes: &[u8], rest: &mut Span) -> bool {
     true
 }
 
-/// Returns how much is left of a range without its last subtag, and without each single character that would stand last
-/// then; `None` if nothing is.
+/// Returns the length of a range after its last subtag is removed, and each single character that would then be last.
+/// Returns `None` if nothing is left.
 fn shortened_len(range: &[u8]) -> Option<usize> {
     let mut left = range;
     while let Some(len) = len_without_last(left) {
@@ -34,7 +34,7 @@ fn shortened_len(range: &[u8]) -> Option<usize> {
     None
 }
 
-/// Returns how much stands before the last hyphen.
+/// Returns the number of bytes before the last hyphen.
 #[inline]
 fn len_without_last(range: &[u8]) -> Option<usize> {
     let start = segment_start(range, range.len());

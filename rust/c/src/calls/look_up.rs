@@ -45,7 +45,8 @@ pub fn langtag_tag_for_header_lenient(header: &[u8], bytes: &[u8], tags: &[Span]
     heaviest_found(header, &spanned).unwrap_or(tags.len())
 }
 
-/// Returns the index of the tag that the heaviest of those elements finds that find one, and the first of these.
+/// Returns the index of the tag for the heaviest element that finds a tag. If several are equally heavy, the first
+/// counts.
 fn heaviest_found(header: &[u8], tags: &SpannedTags<'_>) -> Option<usize> {
     let mut found = None;
     let mut weight = 0;
@@ -64,7 +65,7 @@ fn heaviest_found(header: &[u8], tags: &SpannedTags<'_>) -> Option<usize> {
     found
 }
 
-/// Returns the index of the tag that a range finds.
+/// Returns the index of the tag that look-up finds for a range.
 fn tag_for(range: LanguageRange<'_>, tags: &SpannedTags<'_>) -> Option<usize> {
     for fallback in range.fallbacks() {
         if let Some(index) = index_alike(fallback.as_str().as_bytes(), tags) {
@@ -74,13 +75,13 @@ fn tag_for(range: LanguageRange<'_>, tags: &SpannedTags<'_>) -> Option<usize> {
     None
 }
 
-/// Returns the index of the first tag that is a text, in any case.
+/// Returns the index of the first tag that equals a text, ignoring case.
 #[inline]
 fn index_alike(text: &[u8], tags: &SpannedTags<'_>) -> Option<usize> {
     first_alike(tags.text, tags.spans, text)
 }
 
-/// Returns the index of the first of some spans of a text that is a tag, and another text in any case.
+/// Returns the index of the first span that is a tag and equals a text, ignoring case.
 #[inline]
 fn first_alike(bytes: &[u8], spans: &[Span], text: &[u8]) -> Option<usize> {
     spans
@@ -88,13 +89,13 @@ fn first_alike(bytes: &[u8], spans: &[Span], text: &[u8]) -> Option<usize> {
         .position(|span| is_tag_alike(bytes, *span, text))
 }
 
-/// Returns whether what a span is, is a tag, and a text in any case.
+/// Returns whether a span is a tag and equals a text, ignoring case.
 #[inline]
 fn is_tag_alike(bytes: &[u8], span: Span, text: &[u8]) -> bool {
     case_insensitive_eq(bytes_in(bytes, span), text) && tag_in(bytes, span).is_some()
 }
 
-/// Returns the first bad element of a header, and which part of it is bad.
+/// Returns the first malformed element of a header, and which part of it is malformed.
 fn first_bad(header: &[u8]) -> Option<(Span, ElementPart)> {
     let mut start = 0;
     for item in header.split(|byte| is_comma(*byte)) {
@@ -107,7 +108,7 @@ fn first_bad(header: &[u8]) -> Option<(Span, ElementPart)> {
     None
 }
 
-/// Returns which part of an item is bad: `None` if it is empty, or an element.
+/// Returns which part of an item is malformed, or `None` if the item is empty or an element.
 #[inline]
 fn bad_part(item: &[u8]) -> Option<ElementPart> {
     match element_at(item) {

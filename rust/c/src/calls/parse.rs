@@ -18,7 +18,7 @@ pub struct Parts {
 }
 
 impl Parts {
-    /// The parts of a normal tag, by where they end.
+    /// Returns the parts of a normal tag, by their ends.
     fn at(ends: &Ends) -> Parts {
         Parts {
             language: Span {
@@ -33,13 +33,13 @@ impl Parts {
         }
     }
 
-    /// No part at all.
+    /// Returns parts that are all empty.
     #[inline]
     pub(crate) fn none() -> Parts {
         Parts::private_alone(0)
     }
 
-    /// No part but one for private use, of this length.
+    /// Returns parts that are empty except for a private use part of this length.
     fn private_alone(len: usize) -> Parts {
         Parts {
             language: Span { start: 0, len: 0 },
@@ -52,7 +52,7 @@ impl Parts {
     }
 }
 
-/// What the recogniser finds of the bytes; `None` if they are not a tag.
+/// Returns what the recogniser finds, or `None` if the bytes are not a tag.
 #[inline(always)]
 fn found_of(bytes: &[u8]) -> Option<Found> {
     recognise(&mut Metered::of_bytes(bytes))

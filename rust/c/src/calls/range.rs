@@ -40,7 +40,7 @@ pub fn langtag_matches_extended(range: &[u8], tag: &[u8]) -> bool {
     }
 }
 
-/// The range that the bytes are.
+/// Returns the bytes as a range, or `None` if they are not a range.
 #[inline]
 fn range_of<'a>(bytes: &'a [u8]) -> Option<LanguageRange<'a>> {
     let text = core::str::from_utf8(bytes).ok()?;

@@ -10,7 +10,7 @@ pub fn langtag_registry_date() -> u32 {
     number_of(FILE_DATE.as_bytes())
 }
 
-/// The digits of a date or a version, read as one number.
+/// Returns the digits of a date or a version, read as one number.
 #[inline]
 pub(crate) fn number_of(date: &[u8]) -> u32 {
     let mut number = 0;

@@ -36,7 +36,7 @@ pub fn langtag_repeats(bytes: &[u8], repeated: &mut Repeated) -> u32 {
     flags(variant.is_some(), singleton.is_some())
 }
 
-/// Where the first repeated variant stands in a tag.
+/// Returns where the first repeated variant is in a tag.
 #[inline]
 fn repeated_variant(tag: &NormalLangTag<'_>) -> Option<Span> {
     variant_at(tag, tag.repeated_variant_index()?)
@@ -55,7 +55,7 @@ pub(crate) fn variant_at(tag: &NormalLangTag<'_>, wanted: usize) -> Option<Span>
         .nth(wanted)
 }
 
-/// Where the first repeated singleton stands in a tag.
+/// Returns where the first repeated singleton is in a tag.
 #[inline]
 fn repeated_singleton(tag: &NormalLangTag<'_>) -> Option<Span> {
     singleton_at(tag, tag.repeated_singleton_index()?)
@@ -73,7 +73,7 @@ pub(crate) fn singleton_at(tag: &NormalLangTag<'_>, wanted: usize) -> Option<Spa
         .nth(wanted)
 }
 
-/// 1 for a variant, and 2 more for a singleton.
+/// Returns 1 if a variant is repeated, plus 2 if a singleton is repeated.
 fn flags(variant: bool, singleton: bool) -> u32 {
     match (variant, singleton) {
         (false, false) => 0,

@@ -4,13 +4,13 @@
 
 use crate::tag::{LangTag, NormalLangTag};
 
-/// The tag that the bytes are.
+/// Returns the bytes as a tag, or `None` if they are not a tag.
 #[inline]
 pub(crate) fn tag_of<'a>(bytes: &'a [u8]) -> Option<LangTag<'a>> {
     LangTag::from_bytes(bytes).ok()
 }
 
-/// The normal tag that the bytes are.
+/// Returns the bytes as a normal tag, or `None` if they are not a normal tag.
 #[inline]
 pub(crate) fn normal_tag_of<'a>(bytes: &'a [u8]) -> Option<NormalLangTag<'a>> {
     tag_of(bytes)?.as_normal()

@@ -24,7 +24,7 @@ pub fn langtag_validity(bytes: &[u8], invalid: &mut Span) -> u32 {
     number(fault)
 }
 
-/// The number that tells what is wrong.
+/// Returns the number of a fault.
 fn number(fault: InvalidSubtag<'_>) -> u32 {
     match fault {
         InvalidSubtag::Language(_) => 2,
@@ -38,7 +38,7 @@ fn number(fault: InvalidSubtag<'_>) -> u32 {
     }
 }
 
-/// Where the subtag that is wrong, and that has this index among its like, stands in its tag.
+/// Returns where the invalid subtag is in its tag. The index counts among the variants or the extensions.
 fn place(tag: &NormalLangTag<'_>, fault: InvalidSubtag<'_>, index: usize) -> Span {
     let ends = tag.ends();
     let none = Span { start: 0, len: 0 };
@@ -63,7 +63,7 @@ fn place(tag: &NormalLangTag<'_>, fault: InvalidSubtag<'_>, index: usize) -> Spa
     }
 }
 
-/// The number of bytes of the primary language of a tag.
+/// Returns the number of bytes of the primary language of a tag.
 #[inline]
 fn primary_len(tag: &NormalLangTag<'_>) -> usize {
     tag.language().primary().as_str().len()

@@ -23,7 +23,7 @@ pub fn langtag_with_part(tag: &[u8], part: u32, text: &[u8], buffer: &mut [u8]) 
     write_replaced(tag.as_bytes(), put_part(tag, part), buffer)
 }
 
-/// Writes a text in which some bytes are replaced, where the buffer has room for it. Answers its length.
+/// Writes a text in which some bytes are replaced, if the buffer has room for it. Returns its length.
 fn write_replaced<'a>(text: &'a [u8], new: Replacement<'a>, buffer: &mut [u8]) -> usize {
     let hyphen: &'a [u8] = new.hyphen.as_bytes();
     let part = new.part.as_bytes();
