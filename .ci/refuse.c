@@ -1,6 +1,7 @@
 /*
- * Refuses allocations of the program PROGRAM: the one with the number REFUSED, counted from 1, after which it makes the file MET; or
- * each block of more than LARGEST bytes. The runner of the tests, which is given this library too, has all of its memory.
+ * Refuses allocations of the program PROGRAM: the allocation with the number REFUSED, counted from 1, and then makes the file MET;
+ * or each allocation of more than LARGEST bytes. The runner of the tests also loads this library, but none of its allocations is
+ * refused.
  */
 #define _GNU_SOURCE
 #include <errno.h>
@@ -12,7 +13,7 @@
 extern void *__libc_malloc(size_t size);
 extern void *__libc_realloc(void *block, size_t size);
 
-/* A number of the environment, or the greatest one. */
+/* Returns the number in a variable of the environment, or the greatest number if it is not set. */
 static unsigned long number(const char *name) {
     const char *word = getenv(name);
     return word ? strtoul(word, NULL, 10) : -1ul;

@@ -7,7 +7,7 @@ target=$here/target
 mkdir -p "$target"
 
 (cd "$here/../crates/langtag_bench" && rt lib >&2)
-# The heap of the library is the toolchain's, over malloc.
+# The library uses the toolchain's heap, which calls malloc.
 rustc --edition 2024 -C opt-level=3 "$here/src/matching.rs" -o "$target/matching" \
     -L "native=$here/../crates/langtag_bench/out" -l static=langtag_bench \
     -L "native=$(dirname "$(rt doc)")/c" -l static=libc_c
@@ -15,7 +15,7 @@ rustc --edition 2024 -C opt-level=3 "$here/src/matching.rs" -o "$target/matching
 "$target/matching" times
 command -v valgrind >/dev/null || exit 0
 
-# Prints the calls of an entry, and the instructions of all of them.
+# Prints the number of calls of an entry, and the instructions of all these calls.
 instructions() {
     local log=$target/matching.log calls
     calls=$(valgrind --tool=callgrind --toggle-collect="langtag_bench_$1" \

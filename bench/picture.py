@@ -1,8 +1,8 @@
 #!/usr/bin/env python3
-"""Draws what was measured: picture.py TIMES >times.svg. A line of TIMES is a list of tags, a parser, and the nanoseconds that it
-takes for a tag, or the words that stand there for them; a line that begins with # stands below the picture.
+"""Draws the measured times: picture.py TIMES >times.svg. A line of TIMES has a list of tags, a parser, and the nanoseconds for a
+tag, or words in place of a number. The text of a line that begins with # is shown below the picture.
 
-`bindings/bench/run` measures, and calls this.
+`bindings/bench/run` measures the times, and calls this program.
 """
 from __future__ import annotations
 
@@ -10,7 +10,7 @@ import pathlib
 import sys
 from html import escape
 
-# The lists, and the parsers with their labels: those of this library are drawn in its colour.
+# The lists, and the parsers with their labels. The bars of this library have their own colour.
 LISTS = {"plain": "fr, en-US", "middle": "es-419, zh-Hant-TW", "shapes": "sl-rozaj-1994-x-aa"}
 PARSERS = {
     "langtag_parse": ("langtag", "C"), "langtag_verified": ("langtag", "Rust"), "oxilangtag": ("oxilangtag", "Rust"),
@@ -32,14 +32,14 @@ def text(x: float, y: float, words: str, kind: str, anchor: str = "start") -> st
 
 
 def bar(x: float, y: float, width: float, kind: str) -> str:
-    """A bar whose end is round."""
+    """Returns a bar with a round end."""
     round_end = min(3.0, width / 2)
     return (f'<path class="{kind}" d="M{x} {y}h{width - round_end:.1f}a{round_end:.1f} {round_end:.1f} 0 0 1 {round_end:.1f} {round_end:.1f}'
             f'v{BAR - 2 * round_end:.1f}a{round_end:.1f} {round_end:.1f} 0 0 1 -{round_end:.1f} {round_end:.1f}h-{width - round_end:.1f}z"/>')
 
 
 def column(x: float, name: str, found: dict[str, str], scale: float) -> list[str]:
-    """One list: its head, and a bar for each parser, or the words for it."""
+    """Returns the drawing of one list: its title, and for each parser a bar or words."""
     parts = [text(x, TOP - 26, name, "ink"), text(x, TOP - 10, LISTS[name], "quiet small")]
     for row, parser in enumerate(PARSERS):
         y, said = TOP + row * ROW, found.get(parser, "not measured")
@@ -56,7 +56,7 @@ def column(x: float, name: str, found: dict[str, str], scale: float) -> list[str
 
 
 def picture(times: dict[str, dict[str, str]], note: str) -> str:
-    """One scale for all lists."""
+    """Returns the picture. All lists have the same scale."""
     numbers = [float(it) for found in times.values() for it in found.values() if it.replace(".", "", 1).isdigit()]
     scale = (COLUMN - VALUE) / max(numbers)
     parts = [text(16, 30, "Nanoseconds to parse a tag and read its parts", "ink head")]
@@ -74,7 +74,7 @@ def picture(times: dict[str, dict[str, str]], note: str) -> str:
 
 
 def summary(times: dict[str, dict[str, str]]) -> str:
-    """The picture in words."""
+    """Returns the description of the picture in words."""
     said = (f"{name}: " + ", ".join(f"{label} ({language}) {found.get(parser)}" for parser, (label, language) in PARSERS.items())
             for name, found in times.items())
     return escape(f"Nanoseconds to parse a tag and read its parts. {'; '.join(said)}")

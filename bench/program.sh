@@ -1,6 +1,6 @@
 #!/usr/bin/env bash
-# Counts what the program takes: instructions a line with valgrind, and its reads and writes with strace. With no file it is
-# fed 100,000 lines, of ten kinds in turn. It needs rt, valgrind and strace.
+# Counts the instructions of the program for a line, with valgrind, and its reads and writes, with strace. Without a file, the input
+# is 100,000 lines of ten kinds in turn. It needs rt, valgrind and strace.
 set -euo pipefail
 here=$(cd "$(dirname "$0")" && pwd)
 target=$here/target
@@ -15,12 +15,12 @@ if [ $# = 0 ]; then
     awk -v kinds="$kinds" 'BEGIN { count = split(kinds, kind, " "); for (i = 0; i < 100000; i++) print kind[i % count + 1] }' >"$lines"
 fi
 
-# How many instructions the program takes on its input.
+# Prints the number of instructions of the program for its input.
 instructions() {
     valgrind --tool=callgrind --callgrind-out-file=/dev/null "$program" 2>&1 >/dev/null | awk '/Collected/ { print $4 }'
 }
 
-# How often the program makes a system call on standard input (0) or output (1).
+# Prints how often the program makes a system call on standard input (0) or output (1).
 calls() {
     strace -e trace="$1" -o "$target/calls.txt" "$program" >/dev/null
     grep -c "^$1($2," "$target/calls.txt"

@@ -1,9 +1,8 @@
 #!/usr/bin/env bash
-# Times recognise on a file of tags, one a line, beside plain loops. With no file it takes five lists of 100,000 lines: shapes of
-# 18 bytes, tags of seven bytes, plain tags, tags of nine bytes, and unusual texts (irregular or refused). Then it times
-# repeated_variant by number of variants. With valgrind it also counts instructions. The Rust crate is timed beside the archive.
-# It needs rt, rustc and a linker. OXILANGTAG may name the folder of that crate's source, and LTO=1 asks for link-time
-# optimisation.
+# Times recognise and plain loops on a file with one tag a line. Without a file it uses five lists of 100,000 lines: shapes of 18
+# bytes, tags of seven bytes, plain tags, tags of nine bytes, and unusual texts (irregular or refused). Then it times
+# repeated_variant by number of variants. With valgrind it also counts instructions. It times the Rust crate and the archive. It
+# needs rt, rustc and a linker. OXILANGTAG may name the folder of that crate's source, and LTO=1 asks for link-time optimisation.
 set -euo pipefail
 here=$(cd "$(dirname "$0")" && pwd)
 target=$here/target
@@ -25,7 +24,7 @@ fi
 rustc --edition 2024 -C opt-level=3 ${LTO:+-C lto=fat} --check-cfg 'cfg(oxilangtag)' "${others[@]}" \
     "$here/src/main.rs" -o "$target/bench" -L "native=$here/../crates/langtag_bench/out" -l static=langtag_bench
 
-# Prints how many instructions an entry takes on a file of tags, with how many tags and bytes it has before them.
+# Prints the number of tags in a file, their bytes, and the instructions that an entry takes on the file.
 instructions() {
     local entry=$1 tags=$2 log=$target/$1.log sizes
     sizes=$(valgrind --tool=callgrind --toggle-collect="langtag_bench_$entry" \
@@ -46,7 +45,7 @@ measure() {
     done
 }
 
-# Times repeated_variant, without the parse before it, on tags of so many variants, and counts its instructions.
+# Times repeated_variant, without parsing, on tags with a given number of variants, and counts its instructions.
 grow() {
     local count tag before with
     echo "== repeated_variant"

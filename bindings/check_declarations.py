@@ -1,10 +1,10 @@
 #!/usr/bin/env python3
-"""Whether all who declare the C interface declare the same: crates/langtag_c, which defines it, the header, and the
-Python binding. It compares names, types and order of parameters, and the members of the structs; and it asks that
-the header says LANGTAG_PURE of each function that writes nothing and answers something, and of no other. What the
-numbers mean is not compared: the tests of each language hold its constants against the library.
+"""Checks that all declarations of the C interface agree: in crates/langtag_c, which defines it, in the header, and in the Python
+binding. It compares names, types and order of parameters, and the members of the structs. The header must say LANGTAG_PURE for each
+function that writes nothing and returns something, and for no other. The meaning of the numbers is not compared, since the tests of
+each language check its constants with the library.
 
-    check_declarations.py [ROOT]    the root of the repository; else that in which this file stands
+    check_declarations.py [ROOT] the root of the repository; by default, the repository that contains this file
 """
 from __future__ import annotations
 
@@ -14,7 +14,7 @@ import re
 import sys
 from typing import NamedTuple
 
-# A parameter or member is its type, as the header spells it, and its name; None where the language names no parameters.
+# A parameter or member is its type, as the header spells it, and its name, or None if the language has no parameter names.
 Member = tuple[str, "str | None"]
 
 
@@ -23,7 +23,7 @@ class Function(NamedTuple):
     parameters: list[Member]
 
     def is_pure(self) -> bool:
-        """Whether the answer is all that a call does: no pointer is one to write by."""
+        """Returns whether a call has no effect except its result: it gets no pointer through which it may write."""
         return self.result != "void" and not any(re.fullmatch(r"(?!const ).*\*", kind) for kind, _ in self.parameters)
 
 
@@ -42,12 +42,13 @@ def without_comments(text: str) -> str:
 
 
 def pairs(text: str) -> list[tuple[str, str]]:
-    """`name: type` of a list of parameters or fields in Rattle and Rust."""
+    """Yields the name and the type of each `name: type` in a list of parameters or fields in Rattle or Rust."""
     return [(name, kind.strip()) for name, kind in re.findall(r"(?:pub )?(\w+)\s*:\s*([^,]+)", text)]
 
 
 def of_crate(root: pathlib.Path) -> Interface:
-    """A slice crosses as a pointer and a length, of which the length takes the slice's name but for `bytes`."""
+    """Reads the crate's functions. A slice is passed as a pointer and a length, and the length is named after the slice, except for
+    `bytes`."""
     files = sorted((root / "crates/langtag_c/src").rglob("*.rt"))
     source = without_comments("\n".join(path.read_text() for path in files))
     functions = {}
@@ -91,7 +92,7 @@ def of_header(root: pathlib.Path) -> Interface:
 
 
 def of_exports(root: pathlib.Path) -> Interface:
-    """Reads what the C library by cargo exports, and the structs of the erased crate behind it."""
+    """Reads what the C library built by cargo exports, and the structs of the Rust crate from which it is built."""
     source = without_comments((root / "rust/c/src/exports.rs").read_text())
     types = INTEGERS | {"*const u8": "const char *", "*mut u8": "char *", "*const Span": "const langtag_span *"}
     types |= {f"*mut {name}": f"{in_c} *" for name, in_c in (STRUCTS | {"u32": "uint32_t", "usize": "size_t"}).items()}
@@ -103,7 +104,7 @@ def of_exports(root: pathlib.Path) -> Interface:
 
 
 def of_python(root: pathlib.Path) -> Interface:
-    """Reads the table FUNCTIONS, of the functions for each result with its parameters, and the classes of structs."""
+    """Reads the table FUNCTIONS, which groups the functions by the types of result and parameters, and the classes of structs."""
     types = {f"c_{name.removesuffix('_t')}": [name] for name in ("size_t", "uint64_t", "uint32_t", "int32_t", "bool")}
     types |= {"c_size_t": ["size_t"], "None": ["void"], "*_TEXT": ["const char *", "size_t"], "*_BUFFER": ["char *", "size_t"]}
     types |= {"*_SPANS": ["const langtag_span *", "size_t"]}  # that are only read
@@ -124,7 +125,7 @@ def of_python(root: pathlib.Path) -> Interface:
 
 
 def like(ours: list[Member], theirs: list[Member]) -> bool:
-    """Equal members in equal order; a name that one of them lacks is equal to any."""
+    """Returns whether members are equal and in the same order; a missing name equals any name."""
     return len(ours) == len(theirs) and all(
         a[0] == b[0] and (a[1] == b[1] or a[1] is None or b[1] is None) for a, b in zip(ours, theirs))
 
@@ -146,13 +147,13 @@ def differences(where: str, crate: Interface, other: Interface) -> list[str]:
 
 
 def wrongly_pure(functions: dict[str, Function], source: str) -> list[str]:
-    """Where the header's word LANGTAG_PURE is lacking, and where it promises too much."""
+    """Returns the functions for which LANGTAG_PURE is missing in the header, and those for which it promises too much."""
     said = set(re.findall(r"^LANGTAG_PURE \w+ (\w+)\(", source, flags=re.M))
     return [f"{name}: the header {'says' if name in said else 'does not say'} LANGTAG_PURE"
             for name, function in sorted(functions.items()) if function.is_pure() != (name in said)]
 
 
-# Where the version and the number of the ABI stand: a file, and what stands around them.
+# Where the version and the ABI number are: a file, and the text around the number.
 VERSIONS = [
     ("rust/Cargo.toml", r'^version = "([0-9.]+)"'),
     ("rust/c/Cargo.toml", r'^version = "([0-9.]+)"'),
@@ -164,7 +165,7 @@ NUMBERS = [
     (PYTHON, r"\.so\.([0-9]+)"), ("bindings/python/setup.py", r"\.so\.([0-9]+)"),
 ]
 
-# Where the registry's date stands, and the files that take it from the library and have no copy of it.
+# The file with the registry's date, and the files that get the date from the library and so must not have a copy of it.
 DATED = "crates/langtag_registry/src/tables.rt"
 UNDATED = ["crates/langtag_c/src", "rows", "bindings/include", "bindings/python/langtag", "bindings/python/native"]
 
@@ -175,7 +176,7 @@ def registry_date(root: pathlib.Path) -> str:
 
 
 def copied_dates(root: pathlib.Path) -> list[str]:
-    """Where the registry's date is written by hand, which langtag_registry_date tells."""
+    """Returns the files in which the registry's date is written by hand, although langtag_registry_date returns it."""
     date = registry_date(root)
     if not date:
         return [f"the registry's date does not stand in {DATED}"]
@@ -185,7 +186,7 @@ def copied_dates(root: pathlib.Path) -> list[str]:
 
 
 def wrong_numbers(root: pathlib.Path) -> list[str]:
-    """Where a number of the header differs from the table, or one of another file from the header."""
+    """Returns where a number of the header differs from the table, or a number of another file from the header."""
     source = (root / "bindings/include/langtag.h").read_text()
     comment = re.search(r"order of RFC 5646 section 2\.1, or(.*?)\*/", source, flags=re.S)
     said = sorted((int(number), tag) for number, tag in re.findall(r" (\d+) ([a-z]+-[\w-]+)", comment[1] if comment else ""))

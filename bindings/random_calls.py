@@ -1,5 +1,5 @@
 #!/usr/bin/env python3
-"""Writes calls in the form of rows, without answers: random_calls.py SEED. Texts of up to 100 kB are among them."""
+"""Writes random calls in the form of rows, without answers, with texts of up to 100 kB: random_calls.py SEED"""
 import random
 import sys
 
@@ -9,7 +9,7 @@ MOST = 100_000
 
 
 def text(numbers):
-    """Subtags in a row, or a tag by its parts, of which one may be long; at times with a byte changed."""
+    """Returns random subtags, or a tag of random parts, one of which may be long; sometimes a byte is changed."""
     if numbers.random() < 0.4:
         made = "-".join(numbers.choices(PIECES, k=numbers.randrange(1, 8)))
     else:
@@ -40,7 +40,7 @@ def main(seed):
         if numbers.random() < 0.3:
             other = one.swapcase().replace("\\X", "\\x")
         beside = one[: numbers.randrange(len(one))] if numbers.random() < 0.4 and "\\" not in one else text(numbers)
-        print(f"tag | {one}\nviable | {one}\ngrandfathered | {one}\nvalidity | {one}\ncanonical | {one}\nrange | {other}")
+        print(f"tag | {one}\nviable | {one}\ngrandfathered | {one}\nvalidity | {one}\nsuggestion | {one}\ncanonical | {one}\nrange | {other}")
         print(f"order | {one} | {other}\nmatch | {beside or '*'} | {one}")
         print(f"refused | {one}\nmaximized | {one}\nminimized | {one}\nright-to-left | {one}\nposix | {one}\ndistance | {one} | {other}")
 

@@ -1,5 +1,5 @@
-"""The README of each package: the page of its language in docs/, in which links to files of the repository name them, and below it the
-licences. Run by itself it prints one: python3 readmes.py c"""
+"""Makes the README of each package: the page of its language in docs/, with the licences below it. Links to files of the repository
+become the names of these files. As a program, it prints one README: python3 readmes.py c"""
 from __future__ import annotations
 
 import pathlib
@@ -19,13 +19,13 @@ Apache License 2.0 or MIT license, at your option. The CLDR data is under Unicod
 
 
 def description() -> str:
-    """The sentence that all packages have in common, as their manifests say it."""
+    """Returns the sentence that describes all packages, as it is in their manifests."""
     found = re.search(r'^description = "(.*)"', (HERE / "python/pyproject.toml").read_text(), re.M)
     return found[1] if found else ""
 
 
 def named(link: re.Match[str]) -> str:
-    """What stands in a package for a link to a file that it does not have."""
+    """Returns the text that replaces a link to a file that the package does not have."""
     path = link[2].partition("#")[0]
     return link[0] if path.startswith("http") else f"{link[1]} (`{(DOCS / path).resolve().relative_to(DOCS.parent)}` in the repository)"
 

@@ -1,8 +1,8 @@
 #!/usr/bin/env python3
-"""The targets of langtag_c: the one list of them, and the archive of each.
+"""The list of the targets of langtag_c, and the archive of each target.
 
-    bindings/targets.py                   says which there are, and whose archive is there
-    bindings/targets.py archive TARGET    prints the path of its archive, which `rt lib` builds where it is not there or older
+    bindings/targets.py                   lists the targets, and says which archives exist
+    bindings/targets.py archive TARGET    prints the path of its archive, which `rt lib` builds if it is missing or older
                                           than a source
 """
 import fcntl
@@ -14,11 +14,11 @@ from typing import NamedTuple
 
 ROOT = pathlib.Path(__file__).resolve().parent.parent
 CRATE = ROOT / "crates/langtag_c"
-BUILT = CRATE / "out/liblangtag_c.a"  # what `rt lib` writes, of whichever target
+BUILT = CRATE / "out/liblangtag_c.a"  # what `rt lib` writes, for any target
 
 
 class Target(NamedTuple):
-    """A target by the name that the toolchain and Rust have for it; what the packages call its processor; a wheel's platform."""
+    """A target: its name in the toolchain and in Rust, the name of its processor in the packages, and the platform of a wheel."""
 
     name: str
     processor: str
@@ -41,7 +41,7 @@ def is_old(archive: pathlib.Path) -> bool:
 
 
 def build(target: Target) -> None:
-    """Proves langtag_c for a target, and keeps its archive; the one for this machine stays where it was."""
+    """Proves langtag_c for a target, and keeps its archive. The archive for this machine stays at its path."""
     (CRATE / "out").mkdir(exist_ok=True)
     with open(CRATE / "out/.targets", "w") as lock:
         fcntl.flock(lock, fcntl.LOCK_EX)

@@ -1,7 +1,7 @@
 #!/usr/bin/env python3
-"""That check_declarations.py sees a difference: each of some is planted in a copy of the declarations.
+"""Tests that check_declarations.py finds differences, which are planted one by one in a copy of the declarations.
 
-    test_declarations.py [ROOT]    the root of the repository; else that in which this file stands
+    test_declarations.py [ROOT] the root of the repository; by default, the repository that contains this file
 """
 import contextlib
 import io
@@ -22,7 +22,7 @@ NUMBERED = check_declarations.VERSIONS + check_declarations.NUMBERS
 DATE = check_declarations.registry_date(ROOT)
 FILES = {HEADER, EXPORTS, PYTHON, MODULE, check_declarations.DATED, "rows/table.txt", *(name for name, _ in NUMBERED)}
 
-# A file, a text that stands in it, what is put in its place, and what the message has to name.
+# A file, a text in it, the text that replaces it, and what the message has to name.
 PLANTED = [
     (HEADER, "size_t langtag_viable(", "uint32_t langtag_viable(", "langtag_viable"),
     (HEADER, "_basic(const char *range, size_t range_len,", "_basic(size_t range_len, const char *range,", "langtag_matches_basic"),

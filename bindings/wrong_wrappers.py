@@ -1,60 +1,67 @@
 #!/usr/bin/env python3
-"""Whether wrong wrappers are refused: plants one fault after the other into the C header, langtag.hpp, what the Rust crate
-has by hand, the Python module, the JavaScript package and the extension of SQLite, builds what comes of it, and lets the tests of that language ask the rows.
+"""Checks that the tests find wrong wrappers. It plants faults in the C header, langtag.hpp, the files of the Rust crate that are
+written by hand, the Python module, the JavaScript package and the extension of SQLite. It builds the result, and runs the rows or a
+test of that language.
 
     wrong_wrappers.py LIBRARIES [LANGUAGE..]    LIBRARIES has liblangtag_verified.a and liblangtag_verified.so.1
 
-A fault is refused where the tests fail and say the words that belong to it, as of a row that differs. What does not build is
-not refused. Each language is first asked without a fault, and has to pass.
+A language is built once with the faults in bodies of functions, each behind a switch (switched.py), and once more for each other
+fault. A fault is found if the tests fail with the words that belong to it, for example the row that differs. A fault that does not
+build is not found. The tests of each language run without a fault first, and have to pass.
 """
 from __future__ import annotations
 
 import concurrent.futures
+import functools
 import os
 import pathlib
-import queue
 import re
 import shutil
 import subprocess
 import sys
 import tempfile
-from typing import NamedTuple
+from typing import Callable, NamedTuple
 
-HERE = pathlib.Path(__file__).resolve().parent
-ROWS = HERE.parent / "rows"
-RUST = HERE.parent / "rust"
-H, HPP, SQL, PY = "include/langtag.h", "include/langtag.hpp", "examples/sqlite_langtag.c", "python/langtag/__init__.py"
-CT, TEXTS, NATIVE = "python/langtag/_ctypes.py", "python/langtag/_texts.py", "python/native/"
-JS, CALLS = "js/index.js", "js/calls.js"
+from switched import C, RUST, Change, switched
+
+ROOT = pathlib.Path(__file__).resolve().parent.parent
+H, HPP, SQL = "bindings/include/langtag.h", "bindings/include/langtag.hpp", "bindings/examples/sqlite_langtag.c"
+PY, CT, TEXTS = (f"bindings/python/langtag/{name}.py" for name in ("__init__", "_ctypes", "_texts"))
+NATIVE, JS, CALLS = "bindings/python/native/", "bindings/js/index.js", "bindings/js/calls.js"
 
 
 class Fault(NamedTuple):
-    """What is planted: in which file which text becomes which; what the refusal says, and which tests refuse it, where there
-    are several."""
+    """A planted fault: a file, the old text, the new text, the file of rows or the test that finds it (all rows if it is empty), and
+    the words of the failure."""
 
     file: str
     old: str
     new: str
+    by: str = ""
     says: str = "wanted"
-    test: str | None = None
 
 
-def swapped(file: str, one: str, other: str, test: str | None = None) -> Fault:
-    """The first of one text, and the first of the other behind it, each in the other's place."""
-    text = (HERE / file).read_text()
+def swapped(file: str, one: str, other: str, by: str = "") -> Fault:
+    """Returns a fault that exchanges two texts: the first occurrence of one, and the first occurrence of the other after it."""
+    text = (ROOT / file).read_text()
     begin = text.index(one)
     between = text[begin + len(one) : text.index(other, begin)]
-    return Fault(file, one + between + other, other + between + one, test=test)
+    return Fault(file, one + between + other, other + between + one, by)
 
 
-def rust(file: str, old: str, new: str, test: str = "owned") -> Fault:
-    """One in a file that is written by hand: rust/checker compares the others with their sources."""
-    return Fault(f"../rust/src/{file}.rs", old, new, "FAILED", test)
+def rust(file: str, old: str, new: str, by: str = "owned") -> Fault:
+    """A fault in a file that is written by hand; rust/checker compares the other files with their sources."""
+    return Fault(f"rust/src/{file}.rs", old, new, by, "FAILED")
 
 
-def js(file: str, old: str, new: str, says: str) -> Fault:
-    """One that no row shows, and the name of a test of what only JavaScript has."""
-    return Fault(file, old, new, f"not ok - {says}", "langtag")
+def tested(file: str, old: str, new: str, by: str) -> Fault:
+    """A fault that no row shows, and the Python test that finds it."""
+    return Fault(file, old, new, by, by.rpartition(".")[2])
+
+
+def js(file: str, old: str, new: str, by: str) -> Fault:
+    """A fault that no row shows, and the name of a test that only JavaScript has."""
+    return Fault(file, old, new, by, f"not ok - {by}")
 
 
 FAULTS = {
@@ -133,261 +140,283 @@ FAULTS = {
         rust("bin/langtag/input", "if input.buffer().is_empty() {", "if false {", "program"),
     ],
     "Python": [
-        Fault(PY, '"second-extlang", "script", "region"', '"second-extlang", "region", "script"'),
-        Fault(PY, '_PARTS = ("language", "script", "region"', '_PARTS = ("language", "region", "script"'),
-        swapped(CT, "self._cut(self._parts.script)", "self._cut(self._parts.region)"),
-        swapped(CT, "self._matched(_c.langtag_matches_basic", "self._matched(_c.langtag_matches_extended"),
-        Fault(CT, "    return buffer.raw\n", "    return buffer.raw[:514]\n"),
-        Fault(TEXTS, "return text if type(text) is bytes", 'return text.split(b"\\0")[0] if type(text) is bytes'),
-        Fault(CT, "self._validity()[0] == 1", "True"),
-        Fault(PY, '"repeated": "is repeated"', '"repeated": "is not registered"'),
-        Fault(PY, "{self.subtag!r} {how}", "{how}"),
-        Fault(PY, "(self.header, self.index, self.offset, self.part)", "(self.header, self.index, 0, self.part)"),
-        Fault(PY, 'data.count(b",", 0, start), start', 'start, data.count(b",", 0, start)'),
-        Fault(PY, '{2: "language range", 3: "weight"}', '{3: "language range", 2: "weight"}'),
-        Fault(PY, "self.part, self.text = part, text", "self.part, self.text = part, None"),
-        Fault(CT, "hash(self._data.lower())", "hash(self._data)"),
-        Fault(PY, "{key.lower(): value for", "{key: value for"),
-        Fault(CT, "(_c.langtag_attributes, _c.langtag_transform)[which]", "(_c.langtag_transform, _c.langtag_attributes)[which]"),
-        swapped(CT, "(_form, _c.langtag_maximize)", "(_form, _c.langtag_minimize)"),
-        Fault(PY, "if answer == 1 and weight > 0", "if answer == 1"),
-        Fault(PY, "key=lambda weighted: -weighted.weight", "key=lambda weighted: weighted.weight"),
-        Fault(CT, "_c.langtag_tag_for_header_lenient", "_c.langtag_best_for_header"),
-        Fault(PY, '._data.replace(b"-*", b"") for', "._data for"),
-        Fault(PY, "return type(self).lenient, (self._header,)", 'return type(self).lenient, (b"",)', "test_copies", "test_langtag.Values"),
-        Fault(PY, "if len(text) > 80 else repr(text)", "if len(text) > 80_000 else repr(text)", "test_that_a_long_text_is_cut", "test_langtag.Refusals"),
-        Fault(PY, "raise InvalidLocale(name)", "raise ValueError(name)", "test_one_family", "test_langtag.Refusals"),
-        Fault(PY, 'default, Tag)\n    return found', 'default, Tag)\n    return found and Tag(found)', "test_texts", "test_langtag.Negotiation"),
-        Fault(PY, 'else bytes_of(it) for it', 'else bytes_of(it).replace(b"-*", b"") for it', "test_extended_ranges", "test_langtag.Negotiation"),
-        Fault(CT, "_joined(ranges), *more", "_joined(ranges[:1]), *more"),
-        Fault(PY, "best_for_header(self._header, tags, default)", "best_for_ranges([it.range for it in self.ranges], tags, default)", "best(texts"),
-        Fault(CT, "match.range.start + match.range.len]", "match.range.start + 64]"),
-        Fault(PY, "BestMatch(*found[:3],", "BestMatch(0, *found[1:3],"),
-        Fault(CT, "        if not kind:\n", "        TagBase._kept = (*getattr(TagBase, '_kept', ()), given)\n        if not kind:\n",
-              "test_that_nothing_is_kept", "test_langtag.Memory"),
+        Fault(PY, '"second-extlang", "script", "region"', '"second-extlang", "region", "script"', "table.txt"),
+        Fault(PY, '_PARTS = ("language", "script", "region"', '_PARTS = ("language", "region", "script"', "edits.txt"),
+        swapped(CT, "self._cut(self._parts.script)", "self._cut(self._parts.region)", "table.txt"),
+        swapped(CT, "self._matched(_c.langtag_matches_basic", "self._matched(_c.langtag_matches_extended", "table.txt"),
+        Fault(CT, "    return buffer.raw\n", "    return buffer.raw[:514]\n", "table.txt"),
+        Fault(TEXTS, "return text if type(text) is bytes", 'return text.split(b"\\0")[0] if type(text) is bytes', "table.txt"),
+        Fault(CT, "self._validity()[0] == 1", "True", "table.txt"),
+        Fault(PY, '"repeated": "is repeated"', '"repeated": "is not registered"', "table.txt"),
+        Fault(PY, "{self.subtag!r} {how}", "{how}", "table.txt"),
+        Fault(PY, "_FAULTS.index(self.fault) + 2, self.subtag", "2, self.subtag", "table.txt"),
+        Fault(PY, "(self.header, self.index, self.offset, self.part)", "(self.header, self.index, 0, self.part)", "negotiation.txt"),
+        Fault(PY, 'data.count(b",", 0, start), start', 'start, data.count(b",", 0, start)', "negotiation.txt"),
+        Fault(PY, '{2: "language range", 3: "weight"}', '{3: "language range", 2: "weight"}', "negotiation.txt"),
+        Fault(PY, "self.part, self.text = part, text", "self.part, self.text = part, None", "edits.txt"),
+        Fault(CT, "hash(self._data.lower())", "hash(self._data)", "table.txt"),
+        Fault(PY, "{key.lower(): value for", "{key: value for", "unicode.txt"),
+        Fault(CT, "(_c.langtag_attributes, _c.langtag_transform)[which]", "(_c.langtag_transform, _c.langtag_attributes)[which]", "unicode.txt"),
+        swapped(CT, "(_form, _c.langtag_maximize)", "(_form, _c.langtag_minimize)", "likely.txt"),
+        Fault(PY, "if answer == 1 and weight > 0", "if answer == 1", "negotiation.txt"),
+        Fault(PY, "key=lambda weighted: -weighted.weight", "key=lambda weighted: weighted.weight", "negotiation.txt"),
+        Fault(CT, "_c.langtag_tag_for_header_lenient", "_c.langtag_best_for_header", "negotiation.txt"),
+        Fault(PY, '._data.replace(b"-*", b"") for', "._data for", "negotiation.txt"),
+        tested(PY, "return type(self).lenient, (self._header,)", 'return type(self).lenient, (b"",)', "test_langtag.Values.test_copies"),
+        tested(PY, "if len(text) > 80 else repr(text)", "if len(text) > 80_000 else repr(text)", "test_langtag.Refusals.test_that_a_long_text_is_cut"),
+        tested(PY, "raise InvalidLocale(name)", "raise ValueError(name)", "test_langtag.Refusals.test_one_family"),
+        tested(PY, 'default, Tag)\n    return found', 'default, Tag)\n    return found and Tag(found)', "test_langtag.Negotiation.test_texts"),
+        tested(PY, 'else bytes_of(it) for it', 'else bytes_of(it).replace(b"-*", b"") for it', "test_langtag.Negotiation.test_extended_ranges"),
+        Fault(CT, "_joined(ranges), *more", "_joined(ranges[:1]), *more", "choices.txt"),
+        Fault(PY, "best_for_header(self._header, tags, default)", "best_for_ranges([it.range for it in self.ranges], tags, default)", "choices.txt", "best(texts"),
+        Fault(CT, "match.range.start + match.range.len]", "match.range.start + 64]", "choices.txt"),
+        Fault(PY, "BestMatch(*found[:3],", "BestMatch(0, *found[1:3],", "choices.txt"),
+        tested(CT, "        if not kind:\n", "        TagBase._kept = (*getattr(TagBase, '_kept', ()), given)\n        if not kind:\n",
+              "test_langtag.Memory.test_that_nothing_is_kept"),
     ],
     "Python's C": [
-        swapped(NATIVE + "parts.c", "(void *)1}", "(void *)2}"),
-        swapped(NATIVE + "range.c", "langtag_matches_basic)", "langtag_matches_extended)"),
-        Fault(NATIVE + "parts.c", "answer == LANGTAG_VALID)", "answer != LANGTAG_VALIDITY_NONE)"),
-        Fault(NATIVE + "parts.c", "langtag_fold(&singleton, 1);", ""),
-        Fault(NATIVE + "parts.c", "subtags_from(self, found, 1)", "subtags_from(self, found, 0)"),
-        Fault(NATIVE + "parts.c", "which ? found.singleton : found.variant", "which ? found.variant : found.singleton"),
-        Fault(NATIVE + "parts.c", "if (!there) there =", "there ="),
+        swapped(NATIVE + "parts.c", "(void *)1}", "(void *)2}", "table.txt"),
+        swapped(NATIVE + "range.c", "langtag_matches_basic)", "langtag_matches_extended)", "table.txt"),
+        Fault(NATIVE + "parts.c", "answer == LANGTAG_VALID)", "answer != LANGTAG_VALIDITY_NONE)", "table.txt"),
+        Fault(NATIVE + "parts.c", "langtag_fold(&singleton, 1);", "", "table.txt"),
+        Fault(NATIVE + "parts.c", "subtags_from(self, found, 1)", "subtags_from(self, found, 0)", "table.txt"),
+        Fault(NATIVE + "parts.c", "which ? found.singleton : found.variant", "which ? found.variant : found.singleton", "table.txt"),
+        Fault(NATIVE + "parts.c", "if (!there) there =", "there =", "table.txt"),
         Fault(NATIVE + "value.c", "lt_changed(self, langtag_fold);\n    if (!folded) return -1;",
-              "lt_changed(self, langtag_recommend);\n    if (!folded) return -1;"),
-        Fault(NATIVE + "value.c", "case Py_LE: return order <= 0", "case Py_LE: return order < 0"),
-        Fault(NATIVE + "value.c", "== (operator == Py_EQ)", "== true"),
-        Fault(NATIVE + "forms.c", "if (wanted <= sizeof room) return", "if (wanted <= 514) return",
-              "test_lengths", "test_langtag.Values"),
-        Fault(NATIVE + "forms.c", "made->parts = like->parts;", ""),
-        swapped(NATIVE + "forms.c", "tag_by(self, langtag_maximize)", "tag_by(self, langtag_minimize)"),
-        Fault(NATIVE + "calls.c", "reach(text, langtag_stop)", "reach(text, langtag_viable)"),
-        Fault(NATIVE + "choice.c", "langtag_tag_for_header_lenient", "langtag_best_for_header"),
-        Fault(NATIVE + "choice.c", "(unsigned)match->distance,", "(unsigned)match->distance % 100,"),
-        Fault(NATIVE + "unicode.c", "which ? langtag_next_field : langtag_next_keyword", "which ? langtag_next_keyword : langtag_next_field"),
-        Fault(NATIVE + "calls.c", "(Py_ssize_t)range.len,", "(Py_ssize_t)range.len - 1,"),
-        Fault(NATIVE + "choice.c", "    offered->len += len;\n", "", ""),
-        Fault(NATIVE + "choice.c", "ranges->spans, ranges->count,", "ranges->spans, ranges->count > 0,"),
-        Fault(NATIVE + "choice.c", "count <= sizeof offered->few / sizeof *offered->few", "count <= sizeof offered->few", "", "test_langtag.Negotiation"),
-        Fault(NATIVE + "choice.c", "memcpy(more, offered->text, offered->len);", "", "test_best", "test_langtag.Negotiation"),
-        Fault(NATIVE + "choice.c", "|| !tag->text.owner) {", ") {", "", "test_langtag.Values"),
-        Fault(NATIVE + "choice.c", "length(wanted) < LONG_TEXT ? PySequence_Fast", "length(wanted) < 1 << 30 ? PySequence_Fast", "", "test_langtag.Threads"),
-        Fault(NATIVE + "choice.c", "        LET_GO((Py_ssize_t)length(wanted));\n", "        LET_GO(0);\n", "test_that_others_run_during_a_choice", "test_langtag.Threads"),
-        Fault(NATIVE + "choice.c", "        TAKE_BACK();\n", "", "", "test_langtag.Threads"),
-        Fault(NATIVE + "value.c", "        Py_INCREF(Py_NotImplemented);\n        return Py_NotImplemented;", "        return PyBool_FromLong(operator == Py_NE);",
-              "test_other_objects", "test_langtag.Values"),
-        Fault(NATIVE + "value.c", "    self->kind = other->kind;\n", "", "test_a_copy_is_the_tag", "test_langtag.Values"),
-        Fault(NATIVE + "value.c", '{"text", NULL}', '{"value", NULL}', "test_arguments", "test_langtag.Values"),
-        Fault(NATIVE + "text.c", "PyBytes_FromStringAndSize(data, len);", "PyBytes_FromString(data);",
-              "test_subclasses_of_texts", "test_langtag.Kinds"),
-        Fault(NATIVE + "value.c", "    Py_XDECREF(it->text.owner);\n", "", "test_that_nothing_is_kept", "test_langtag.Memory"),
-        Fault(NATIVE + "forms.c", "    PyObject *made = with_part(self, part, given);\n    Py_DECREF(given.owner);\n",
-              "    PyObject *made = with_part(self, part, given);\n", "test_that_nothing_is_kept", "test_langtag.Memory"),
+              "lt_changed(self, langtag_recommend);\n    if (!folded) return -1;", "table.txt"),
+        Fault(NATIVE + "value.c", "case Py_LE: return order <= 0", "case Py_LE: return order < 0", "table.txt"),
+        Fault(NATIVE + "value.c", "== (operator == Py_EQ)", "== true", "table.txt"),
+        tested(NATIVE + "forms.c", "if (wanted <= sizeof room) return", "if (wanted <= 514) return",
+              "test_langtag.Values.test_lengths"),
+        Fault(NATIVE + "forms.c", "made->parts = like->parts;", "", "table.txt"),
+        swapped(NATIVE + "forms.c", "tag_by(self, langtag_maximize)", "tag_by(self, langtag_minimize)", "likely.txt"),
+        Fault(NATIVE + "calls.c", "reach(text, langtag_stop)", "reach(text, langtag_viable)", "table.txt"),
+        Fault(NATIVE + "choice.c", "langtag_tag_for_header_lenient", "langtag_best_for_header", "negotiation.txt"),
+        Fault(NATIVE + "choice.c", "(unsigned)match->distance,", "(unsigned)match->distance % 100,", "choices.txt"),
+        Fault(NATIVE + "unicode.c", "which ? langtag_next_field : langtag_next_keyword", "which ? langtag_next_keyword : langtag_next_field", "unicode.txt"),
+        Fault(NATIVE + "calls.c", "(Py_ssize_t)range.len,", "(Py_ssize_t)range.len - 1,", "negotiation.txt"),
+        Fault(NATIVE + "choice.c", "    offered->len += len;\n", "", "negotiation.txt", ""),
+        Fault(NATIVE + "choice.c", "ranges->spans, ranges->count,", "ranges->spans, ranges->count > 0,", "choices.txt"),
+        Fault(NATIVE + "choice.c", "count <= sizeof offered->few / sizeof *offered->few", "count <= sizeof offered->few", "test_langtag.Negotiation", ""),
+        tested(NATIVE + "choice.c", "memcpy(more, offered->text, offered->len);", "", "test_langtag.Negotiation.test_best"),
+        Fault(NATIVE + "choice.c", "|| !tag->text.owner) {", ") {", "test_langtag.Values", ""),
+        Fault(NATIVE + "choice.c", "length(wanted) < LONG_TEXT ? PySequence_Fast", "length(wanted) < 1 << 30 ? PySequence_Fast", "test_langtag.Threads", ""),
+        tested(NATIVE + "choice.c", "        LET_GO((Py_ssize_t)length(wanted));\n", "        LET_GO(0);\n", "test_langtag.Threads.test_that_others_run_during_a_choice"),
+        Fault(NATIVE + "choice.c", "        TAKE_BACK();\n", "", "test_langtag.Threads", ""),
+        tested(NATIVE + "value.c", "        Py_INCREF(Py_NotImplemented);\n        return Py_NotImplemented;", "        return PyBool_FromLong(operator == Py_NE);",
+              "test_langtag.Values.test_other_objects"),
+        tested(NATIVE + "value.c", "    self->kind = other->kind;\n", "", "test_langtag.Values.test_a_copy_is_the_tag"),
+        tested(NATIVE + "value.c", '{"text", NULL}', '{"value", NULL}', "test_langtag.Values.test_arguments"),
+        tested(NATIVE + "text.c", "PyBytes_FromStringAndSize(data, len);", "PyBytes_FromString(data);",
+              "test_langtag.Kinds.test_subclasses_of_texts"),
+        tested(NATIVE + "value.c", "    Py_XDECREF(it->text.owner);\n", "", "test_langtag.Memory.test_that_nothing_is_kept"),
+        tested(NATIVE + "forms.c", "    PyObject *made = with_part(self, part, given);\n    Py_DECREF(given.owner);\n",
+              "    PyObject *made = with_part(self, part, given);\n", "test_langtag.Memory.test_that_nothing_is_kept"),
     ],
     "JavaScript": [
-        swapped(JS, "this.#part(1)", "this.#part(2)"),
-        Fault(JS, '"second-extlang", "script", "region"', '"second-extlang", "region", "script"'),
-        Fault(JS, 'PARTS = ["language", "script", "region"', 'PARTS = ["language", "region", "script"'),
-        swapped(CALLS, '"langtag_matches_basic"', '"langtag_matches_extended"'),
+        swapped(JS, "this.#part(1)", "this.#part(2)", "table.txt"),
+        Fault(JS, '"second-extlang", "script", "region"', '"second-extlang", "region", "script"', "table.txt"),
+        Fault(JS, 'PARTS = ["language", "script", "region"', 'PARTS = ["language", "region", "script"', "edits.txt"),
+        swapped(CALLS, '"langtag_matches_basic"', '"langtag_matches_extended"', "table.txt"),
         js(CALLS, "return askText(name, text, length);", "return read(at, length);", "a range, a tag or a text of a megabyte"),
-        Fault(CALLS, "Math.min(length, begin + 8192)", "Math.min(length, 8192)"),
-        Fault(JS, "if (!found.has(subtag.toLowerCase())) found", "found"),
-        Fault(JS, 'if (key !== "" && !found.has(key)) found', 'if (key !== "") found'),
-        Fault(JS, "(weight > 0)", "(answer === 1)"),
-        Fault(JS, "other.weight - one.weight", "one.weight - other.weight"),
-        Fault(JS, '.replaceAll("-*", "")', ""),
-        Fault(JS, "AcceptLanguageError(text, index, offset,", "AcceptLanguageError(text, offset, index,"),
-        Fault(JS, 'text === "" && value !== null && !isList', 'text === "" && value !== null'),
+        Fault(CALLS, "Math.min(length, begin + 8192)", "Math.min(length, 8192)", "table.txt"),
+        Fault(JS, "if (!found.has(subtag.toLowerCase())) found", "found", "table.txt"),
+        Fault(JS, 'if (key !== "" && !found.has(key)) found', 'if (key !== "") found', "unicode.txt"),
+        Fault(JS, "(weight > 0)", "(answer === 1)", "negotiation.txt"),
+        Fault(JS, "other.weight - one.weight", "one.weight - other.weight", "negotiation.txt"),
+        Fault(JS, '.replaceAll("-*", "")', "", "negotiation.txt"),
+        Fault(JS, "AcceptLanguageError(text, index, offset,", "AcceptLanguageError(text, offset, index,", "negotiation.txt"),
+        Fault(JS, 'text === "" && value !== null && !isList', 'text === "" && value !== null', "edits.txt"),
         js(CALLS, "unit < 0x80 ? unit : 0xff", "unit & 0xff", "texts that are refused, of any units"),
         js(CALLS, "    if (isOpen) start();", "    if (calls === undefined) start();", "calls that are cut off"),
         js(CALLS, "    if (bytes.length > most) start();\n", "", "the memory of a long text is given back"),
         js(JS, "Object.freeze(this);", "", "a tag does not change"),
         js(JS, '"ranges")].map(textOf)', '"ranges")].slice(0, 1).map(textOf)', "likely subtags, distances and the best tag"),
-        Fault(JS, "chosen(calls.bestForRanges, ", 'chosen((all, offered) => calls.bestForHeader(all.join(" "), offered), ', "the tag of ranges"),
-        Fault(JS, "text.slice(start, start + length) }", "text.slice(start) }"),
-        Fault(CALLS, "[index, written(0), written(1), written(2)]", "[index, written(0), written(2), written(1)]"),
-        Fault(JS, "return bestForHeader(this.#header,", 'return bestForHeader(this.#header.split(",")[0],', "the tag of a header that was read"),
+        Fault(JS, "chosen(calls.bestForRanges, ", 'chosen((all, offered) => calls.bestForHeader(all.join(" "), offered), ', "choices.txt", "the tag of ranges"),
+        Fault(JS, "text.slice(start, start + length) }", "text.slice(start) }", "choices.txt"),
+        Fault(CALLS, "[index, written(0), written(1), written(2)]", "[index, written(0), written(2), written(1)]", "choices.txt"),
+        Fault(JS, "return bestForHeader(this.#header,", 'return bestForHeader(this.#header.split(",")[0],', "choices.txt", "the tag of a header that was read"),
     ],
     "SQLite": [
-        swapped(SQL, "&parts->script", "&parts->region"),
-        Fault(SQL, "(int)best - 1, tag", "(int)best, tag"),
-        Fault(SQL, '{"private_use", &parts->private_use}', '{"private_use", &parts->extensions}'),
-        Fault(SQL, "langtag_parse(tag, (size_t)sqlite3_value_bytes(values[0]), &", "langtag_parse(tag, strlen(tag), &"),
-        Fault(SQL, "size_t len = (size_t)sqlite3_value_bytes(values[0]);", "size_t len = tag ? strlen(tag) : 0;"),
-        Fault(SQL, "(int)span->len, SQLITE_TRANSIENT", "(int)(span->len < 255 ? span->len : 255), SQLITE_TRANSIENT"),
-        Fault(SQL, "form, form_len, sqlite3_free", "form, form_len < 512 ? form_len : 512, sqlite3_free"),
-        Fault(SQL, "form, form_len, sqlite3_free", "form, form_len, SQLITE_TRANSIENT", "test_memory"),
-        Fault(SQL, "    write(tag, len, form, form_len);\n", "    write(tag, len, form, form_len);\n    langtag_recommend(form, form_len);\n"),
-        Fault(SQL, "kind != LANGTAG_NONE && span->len > 0", "kind != LANGTAG_NONE"),
-        Fault(SQL, "kind != LANGTAG_NONE && span->len > 0", "kind == LANGTAG_NORMAL && span->len > 0"),
-        Fault(SQL, "answer == LANGTAG_VALID)", "answer != LANGTAG_VALIDITY_NONE)"),
-        swapped(SQL, "values, langtag_matches_basic)", "values, langtag_matches_extended)"),
-        Fault(SQL, "values, langtag_matches_extended)", "values, langtag_matches_basic)"),
+        swapped(SQL, "&parts->script", "&parts->region", "table.txt"),
+        Fault(SQL, "(int)best - 1, tag", "(int)best, tag", "choices.txt"),
+        Fault(SQL, '{"private_use", &parts->private_use}', '{"private_use", &parts->extensions}', "table.txt"),
+        Fault(SQL, "langtag_parse(tag, (size_t)sqlite3_value_bytes(values[0]), &", "langtag_parse(tag, strlen(tag), &", "table.txt"),
+        Fault(SQL, "size_t len = (size_t)sqlite3_value_bytes(values[0]);", "size_t len = tag ? strlen(tag) : 0;", "table.txt"),
+        Fault(SQL, "(int)span->len, SQLITE_TRANSIENT", "(int)(span->len < 255 ? span->len : 255), SQLITE_TRANSIENT", "table.txt"),
+        Fault(SQL, "form, form_len, sqlite3_free", "form, form_len < 512 ? form_len : 512, sqlite3_free", "table.txt"),
+        tested(SQL, "form, form_len, sqlite3_free", "form, form_len, SQLITE_TRANSIENT", "test_memory"),
+        Fault(SQL, "    write(tag, len, form, form_len);\n", "    write(tag, len, form, form_len);\n    langtag_recommend(form, form_len);\n", "table.txt"),
+        Fault(SQL, "kind != LANGTAG_NONE && span->len > 0", "kind != LANGTAG_NONE", "table.txt"),
+        Fault(SQL, "kind != LANGTAG_NONE && span->len > 0", "kind == LANGTAG_NORMAL && span->len > 0", "table.txt"),
+        Fault(SQL, "answer == LANGTAG_VALID)", "answer != LANGTAG_VALIDITY_NONE)", "table.txt"),
+        swapped(SQL, "values, langtag_matches_basic)", "values, langtag_matches_extended)", "table.txt"),
+        Fault(SQL, "values, langtag_matches_extended)", "values, langtag_matches_basic)", "table.txt"),
         Fault(SQL, "langtag_bytes(a), (size_t)a_len, langtag_bytes(b), (size_t)b_len",
-              "langtag_bytes(b), (size_t)b_len, langtag_bytes(a), (size_t)a_len"),
+              "langtag_bytes(b), (size_t)b_len, langtag_bytes(a), (size_t)a_len", "table.txt"),
         Fault(SQL, "return langtag_cmp(langtag_bytes(a), (size_t)a_len, langtag_bytes(b), (size_t)b_len);",
-              "return memcmp(a, b, (size_t)(a_len < b_len ? a_len : b_len));"),
+              "return memcmp(a, b, (size_t)(a_len < b_len ? a_len : b_len));", "table.txt"),
     ],
 }
 
-# How the tests of a language are built and run, in a copy of bindings/.
-ASKED = '$(make -s -C c ROWS="$ROWS" asked)'
+# How the tests of each language are built, in a copy of what they need.
+CARGO = "cd rust && CARGO_TARGET_DIR=../target RUSTFLAGS='-Awarnings -Cdebuginfo=0' cargo test -q --offline --features oxilangtag"
 BUILD = {
-    "C": "cc -w -std=c11 -Iinclude c/test/*.c $LIBRARIES/liblangtag_verified.a -o test",
-    "C++": "c++ -w -std=c++17 -Iinclude c/test/rows.cc $LIBRARIES/liblangtag_verified.a -o test",
-    "Python": "true",
-    "Python's C": "python/native/compile $LIBRARIES/liblangtag_verified.a python/langtag/_native.abi3.so $PYTHON",
-    "JavaScript": "true",
-    "SQLite": "cc -w -fPIC -shared -Iinclude examples/sqlite_langtag.c $LIBRARIES/liblangtag_verified.a"
+    "C": "cc -w -std=c11 -Ibindings/include bindings/c/test/*.c $LIBRARIES/liblangtag_verified.a -o test",
+    "C++": "c++ -w -std=c++17 -Ibindings/include bindings/c/test/rows.cc $LIBRARIES/liblangtag_verified.a -o test",
+    "Rust": f"{CARGO} --no-run $TESTS",
+    "Python's C": "bindings/python/native/compile $LIBRARIES/liblangtag_verified.a bindings/python/langtag/_native.abi3.so $PYTHON",
+    "SQLite": "cc -w -fPIC -shared -Ibindings/include bindings/examples/sqlite_langtag.c $LIBRARIES/liblangtag_verified.a"
               " -o sqlite_langtag.so",
 }
-RUN = {
-    "C": f"./test {ASKED}",
-    "C++": f"./test {ASKED}",
-    "Python": "cd python && python3 -m unittest $TEST",
-    "Python's C": "cd python && env -u LANGTAG_LIBRARY python3 -m unittest $TEST",
-    "JavaScript": "node --test js/test/$TEST.test.js",
-    "SQLite": "PYTHONPATH=python python3 examples/test_sqlite.py ./sqlite_langtag.so",
-}
-TESTS = {"Python": ["test_rows", "test_langtag.Memory", "test_langtag.Negotiation"], "JavaScript": ["rows", "langtag"],
-         "Python's C": ["test_rows", "test_langtag.Memory", "test_langtag.Negotiation"]}
+NEEDED = {"Rust": ["rust"]}  # of the other languages, bindings/
+LEFT_OUT = shutil.ignore_patterns("target", "dist", "__pycache__", "build", "erase", "checker", "peers")
+
+
+def command(language: str, by: str) -> str:
+    """Returns the command that runs a file of rows, or a test, or all rows if none is named."""
+    is_rows = by == "" or by.endswith(".txt")
+    if language in ("C", "C++"):
+        return f"./test rows/calls.txt rows/{by} 1" if by else "./test $(make -s -C bindings/c ROWS=$PWD/rows asked)"
+    if language == "Rust":
+        return f"{CARGO} --test {by}"
+    if language == "JavaScript":
+        alone = f"--test-name-pattern='{by}'" if by else ""
+        return f"node --test-reporter=tap {alone} bindings/js/test/{'rows' if is_rows else 'langtag'}.test.js"
+    rows = f"LANGTAG_ROWS={by if is_rows else ''}"
+    if language == "SQLite":
+        return f"{rows} PYTHONPATH=bindings/python python3 bindings/examples/test_sqlite.py ./sqlite_langtag.so Sqlite.{'test_rows' if is_rows else by}"
+    unset = "env -u LANGTAG_LIBRARY" if language == "Python's C" else ""
+    return f"cd bindings/python && {rows} {unset} python3 -m unittest {'test_rows' if is_rows else by}"
+
+
+def tests(language: str) -> list[str]:
+    """Returns the tests that have to pass without a fault: those that find one, and all rows."""
+    named = sorted({fault.by for fault in FAULTS[language] if not fault.by.endswith(".txt")} - {""})
+    return named if language == "Rust" else ["", *named]
 
 
 def linked(one: str, other: str) -> None:
-    """Gives a file a second name, or copies it to another disk. What is built or planted is a new file in each copy."""
+    """Links a file, or copies it to another disk. Files that are built or changed are new files in each copy."""
     try:
         os.link(one, other)
     except OSError:
         shutil.copy2(one, other)
 
 
-def asked(libraries: pathlib.Path, language: str, fault: Fault | None, test: str) -> str | None:
-    """What goes against the expectation, if anything does."""
-    with tempfile.TemporaryDirectory() as name:
-        folder = pathlib.Path(name)
-        copy = folder / "bindings"
-        shutil.copytree(HERE, copy, ignore=shutil.ignore_patterns("target", "dist", "__pycache__", "build"), copy_function=linked)
-        (folder / "rows").symlink_to(ROWS)
-        if fault:
-            text = (copy / fault.file).read_text()
-            if fault.old not in text:
-                return "the text is not there"
-            (copy / fault.file).unlink()
-            (copy / fault.file).write_text(text.replace(fault.old, fault.new, 1))
-        environment = {**os.environ, "LIBRARIES": str(libraries), "PYTHON": os.environ.get("PYTHON", ""), "ROWS": str(ROWS), "TEST": test,
-                       "PYTHONDONTWRITEBYTECODE": "1",
-                       "LANGTAG_LIBRARY": str(libraries / "liblangtag_verified.so.1")}
-        environment.pop("LANGTAG_ANSWERS", None)
+class Copy:
+    """A copy of the files that a language needs, in which faults are planted and the language's tests are built and run."""
 
-        def shell(command: str) -> subprocess.CompletedProcess[str]:
-            return subprocess.run(["sh", "-c", command], cwd=copy, env=environment, text=True, errors="replace",
-                                  stdout=subprocess.PIPE, stderr=subprocess.STDOUT)
+    def __init__(self, language: str, libraries: pathlib.Path):
+        self.language, self.libraries, self.folder = language, libraries, pathlib.Path(tempfile.mkdtemp())
+        for name in NEEDED.get(language, ["bindings"]):
+            shutil.copytree(ROOT / name, self.folder / name, ignore=LEFT_OUT, copy_function=linked)
+        (self.folder / "rows").symlink_to(ROOT / "rows")
+        self.environment = {**os.environ, "CFLAGS": "-w -O0", "LIBRARIES": str(libraries), "PYTHON": os.environ.get("PYTHON", ""),
+                            "TESTS": " ".join(f"--test {test}" for test in tests(language)), "PYTHONDONTWRITEBYTECODE": "1",
+                            "LANGTAG_LIBRARY": str(libraries / "liblangtag_verified.so.1")}
+        self.environment.pop("LANGTAG_ANSWERS", None)
 
-        built = shell(BUILD[language])
-        if built.returncode != 0:
-            return f"does not build: {built.stdout[-2000:]}"
-        run = shell(RUN[language])
-        if not fault:
-            return None if run.returncode == 0 else f"is refused without a fault: {run.stdout[-2000:]}"
-        if run.returncode == 0:
-            return "PASSES"
-        said = re.sub(r"\bnot ok \d+ - ", "not ok - ", run.stdout)  # node numbers the tests
-        return None if fault.says in said else f"is refused, and not by {fault.says!r}: {run.stdout[-2000:]}"
+    def write(self, file: str, text: str) -> None:
+        (self.folder / file).unlink()
+        (self.folder / file).write_text(text)
 
+    def plant(self, fault: Fault) -> None:
+        self.write(fault.file, (self.folder / fault.file).read_text().replace(fault.old, fault.new, 1))
 
-class RustCopies:
-    """Copies of the Rust crate, each with what it was built to: a fault has cargo build little anew."""
+    def plant_switches(self) -> set[int]:
+        """Plants each fault that can be behind a switch, and returns their numbers."""
+        done: set[int] = set()
+        faults = FAULTS[self.language]
+        for file in sorted({fault.file for fault in faults}):
+            text = (self.folder / file).read_text()
+            changes = [Change(number, text.index(fault.old), text.index(fault.old) + len(fault.old), fault.new)
+                       for number, fault in enumerate(faults, 1) if fault.file == file]
+            text, here = switched(text, pathlib.Path(file).suffix, changes)
+            if here:
+                self.write(file, text if self.language == "Rust" else C + text)
+            done |= here
+        if self.language == "Rust":
+            for file, more in ("rust/src/lib.rs", RUST), ("rust/src/bin/langtag/main.rs", "\nuse langtag::planted;\n"):
+                self.write(file, (self.folder / file).read_text() + more)
+        return done
 
-    def __init__(self, count: int):
-        self.free: queue.Queue[pathlib.Path] = queue.Queue()
-        for _ in range(count):
-            folder = pathlib.Path(tempfile.mkdtemp())
-            shutil.copytree(RUST, folder / "rust", ignore=shutil.ignore_patterns("target", "erase", "checker", "peers"))
-            (folder / "rows").symlink_to(ROWS)
-            self.free.put(folder)
+    def shell(self, words: str, switch: str = "") -> subprocess.CompletedProcess[str]:
+        return subprocess.run(["sh", "-c", words], cwd=self.folder, env={**self.environment, "PLANTED": switch}, text=True,
+                              errors="replace", stdout=subprocess.PIPE, stderr=subprocess.STDOUT)
 
-    def cargo(self, folder: pathlib.Path, test: str, *more: str) -> subprocess.CompletedProcess[str]:
-        environment = {**os.environ, "CARGO_TARGET_DIR": str(folder / "target"), "RUSTFLAGS": "-Awarnings -Cdebuginfo=0"}
-        environment.pop("LANGTAG_ANSWERS", None)
-        return subprocess.run(["cargo", "test", "-q", "--offline", "--features", "oxilangtag", "--test", test, *more], text=True,
-                              cwd=folder / "rust", env=environment, stdout=subprocess.PIPE, stderr=subprocess.STDOUT)
+    def build(self) -> str | None:
+        """Builds the tests. Returns why they do not build, or None."""
+        built = self.shell(BUILD.get(self.language, "true"))
+        return f"does not build: {built.stdout[-2000:]}" if built.returncode != 0 else None
 
-    def asked(self, fault: Fault | None, test: str) -> str | None:
-        """What goes against the expectation, if anything does."""
-        folder = self.free.get()
-        path = folder / "rust" / fault.file.removeprefix("../rust/") if fault else folder
-        text = path.read_text() if fault else ""
-        try:
-            if fault and fault.old not in text:
-                return "the text is not there"
-            if fault:
-                path.write_text(text.replace(fault.old, fault.new, 1))
-            built = self.cargo(folder, test, "--no-run")
-            if built.returncode != 0:
-                return f"does not build: {built.stdout[-2000:]}"
-            run = self.cargo(folder, test)
-            if not fault:
-                return None if run.returncode == 0 else f"is refused without a fault: {run.stdout[-2000:]}"
-            return "PASSES" if run.returncode == 0 else None if fault.says in run.stdout else f"is refused otherwise: {run.stdout[-2000:]}"
-        finally:
-            if fault:
-                path.write_text(text)
-            self.free.put(folder)
+    def passes(self, by: str) -> str | None:
+        """Runs a test without a fault. Returns why it does not pass, or None."""
+        ran = self.shell(command(self.language, by))
+        return f"is refused without a fault: {by}: {ran.stdout[-2000:]}" if ran.returncode != 0 else None
+
+    def refuses(self, fault: Fault, switch: str = "") -> str | None:
+        """Runs the test that has to find a fault. Returns what differs from the expectation, or None."""
+        ran = self.shell(command(self.language, fault.by), switch)
+        if ran.returncode == 0:
+            return f"PASSES: {fault.by}"
+        said = re.sub(r"\bnot ok \d+ - ", "not ok - ", ran.stdout)  # node prints a number before each test
+        return None if fault.says in said else f"is refused, and not by {fault.says!r}: {ran.stdout[-2000:]}"
 
     def remove(self) -> None:
-        while not self.free.empty():
-            shutil.rmtree(self.free.get())
+        shutil.rmtree(self.folder)
 
 
-def rust_asked() -> list[tuple[Fault | None, str | None]]:
-    """Each fault of the Rust crate, with what goes against the expectation."""
-    copies = RustCopies(min(3, os.cpu_count() or 1))
+def refuses_alone(language: str, libraries: pathlib.Path, fault: Fault) -> str | None:
+    """Builds a language with one fault, and runs the test that has to find it. Returns what differs from the expectation, or None."""
+    copy = Copy(language, libraries)
     try:
-        faults = FAULTS["Rust"]
-        wanted = [(None, test) for test in sorted({fault.test or "" for fault in faults})] + [(fault, fault.test or "") for fault in faults]
-        with concurrent.futures.ThreadPoolExecutor(copies.free.qsize()) as pool:
-            return list(zip([fault for fault, _ in wanted], pool.map(lambda it: copies.asked(*it), wanted)))
+        copy.plant(fault)
+        return copy.build() or copy.refuses(fault)
     finally:
-        copies.remove()
+        copy.remove()
+
+
+class Asked(NamedTuple):
+    """A test of a language, with a fault or without one. `ask` returns what differs from the expectation, or None."""
+
+    language: str
+    fault: Fault | None
+    ask: Callable[[], "str | None"]
+
+
+def to_be_asked(copy: Copy) -> list[Asked]:
+    """Builds a language once with all faults that can be behind a switch. Returns the tests to run."""
+    language = copy.language
+    switches = copy.plant_switches() if language in BUILD else set()
+    why = copy.build()
+    if why:
+        return [Asked(language, None, lambda: why)]
+    asked = [Asked(language, None, functools.partial(copy.passes, by)) for by in tests(language)]
+    for number, fault in enumerate(FAULTS[language], 1):
+        ask = functools.partial(copy.refuses, fault, str(number)) if number in switches else functools.partial(
+            refuses_alone, language, copy.libraries, fault)
+        asked.append(Asked(language, fault, ask))
+    return asked
 
 
 def main(libraries: pathlib.Path, languages: list[str]) -> int:
-    wanted: list[tuple[str, Fault | None, str]] = []
-    for language in languages or FAULTS:
-        if language == "Rust":
-            continue
-        tests = TESTS.get(language, [""])
-        wanted += [(language, None, test) for test in tests]
-        wanted += [(language, fault, fault.test or tests[0]) for fault in FAULTS[language]]
-    with concurrent.futures.ThreadPoolExecutor(os.cpu_count()) as pool:
-        found = list(pool.map(lambda it: asked(libraries, *it), wanted))
-    bad = [(it, what) for it, what in zip(wanted, found) if what]
-    if "Rust" in (languages or FAULTS):
-        bad += [(("Rust", fault, ""), what) for fault, what in rust_asked() if what]
-    for (language, fault, _), what in bad:
-        print(f"{language}: {fault.file if fault else 'no fault'}: {fault.new if fault else ''!r}\n  {what}")
-    counts = ", ".join(f"{language} {len(FAULTS[language])}" for language in languages or FAULTS)
+    languages = languages or list(FAULTS)
+    lost = [fault for language in languages for fault in FAULTS[language] if fault.old not in (ROOT / fault.file).read_text()]
+    if lost:
+        sys.exit("\n".join(f"{fault.file}: the text is not there: {fault.old!r}" for fault in lost))
+    copies = [Copy(language, libraries) for language in languages]
+    try:
+        with concurrent.futures.ThreadPoolExecutor(os.cpu_count()) as pool:
+            asked = [it for more in pool.map(to_be_asked, copies) for it in more]
+            found = list(pool.map(lambda it: it.ask(), asked))
+    finally:
+        for copy in copies:
+            copy.remove()
+    bad = [(it, what) for it, what in zip(asked, found) if what]
+    for it, what in bad:
+        print(f"{it.language}: {it.fault.file if it.fault else 'no fault'}: {it.fault.new if it.fault else ''!r}\n  {what}")
+    counts = ", ".join(f"{language} {len(FAULTS[language])}" for language in languages)
     print(f"faults: {counts}; {len(bad)} of what was asked were amiss")
     return len(bad) > 0
 

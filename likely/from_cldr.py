@@ -1,13 +1,13 @@
 #!/usr/bin/env python3
-"""Writes the files of data/ from a release of Unicode's CLDR, as Unicode or Debian's package unicode-cldr-core hands it out.
+"""Writes the files of data/ from Unicode's CLDR, in the form of Unicode's release or of Debian's package unicode-cldr-core.
 
 usage: from_cldr.py COMMON VERSION SOURCE   COMMON is CLDR's folder `common`, which has supplemental/ and properties/; VERSION is
                                             like 48.2; SOURCE says for the head of each file where it came from
        from_cldr.py --test QUESTIONS        asks oracle.py CLDR's own questions: QUESTIONS is the file
                                             common/testData/localeIdentifiers/likelySubtags.txt
 
-A row of a form that is not known here is refused, and nothing is written. Left out are aliases of whole tags and of regions of three
-letters, deprecated groups of regions, and the likely subtags of languages that are aliases.
+If the form of a row is unknown, it is refused, and nothing is written. The following are left out: aliases of whole tags and of
+regions of three letters, deprecated groups of regions, and the likely subtags of languages that are aliases.
 """
 from __future__ import annotations
 
@@ -27,16 +27,17 @@ HEAD = """# {title}
 LOCALE = re.compile(r"([a-z]{2,3})(?:_([A-Z][a-z]{3}))?(?:_([A-Z]{2}|[0-9]{3}))?")
 EMPTY = "-"
 
-# The distances of all pairs that no rule names: of languages, of languages with scripts, and with regions. They stand in specs/.
+# The distances of all pairs that no rule names: of languages, of languages with scripts, and with regions. specs/ states the same
+# numbers.
 OTHERWISE = [(1, "80"), (2, "50"), (3, "4")]
 
 
 class Refused(Exception):
-    """What the XML has that is not known here."""
+    """Raised if the XML has something that this program does not know."""
 
 
 def fields(locale: str) -> tuple[str, str, str]:
-    """Language, script and region of `zh_Hant_TW`; a hyphen for what is not there, and for `und`."""
+    """Returns language, script and region of `zh_Hant_TW`, with a hyphen for an absent subtag and for `und`."""
     found = LOCALE.fullmatch(locale)
     if not found:
         raise Refused(f"not a locale of language, script and region: {locale}")
@@ -45,7 +46,8 @@ def fields(locale: str) -> tuple[str, str, str]:
 
 
 class Cldr:
-    """What the library needs of a release: likely subtags, aliases, the rules of language matching, groups of regions, directions."""
+    """The data of a release that the library needs: likely subtags, aliases, the rules of language matching, groups of regions,
+    directions."""
 
     def __init__(self, common: pathlib.Path):
         def root(name):
@@ -64,7 +66,7 @@ class Cldr:
     def read_aliases(self, aliases: XML.Element) -> None:
         self.languages = {row.get("type"): fields(row.get("replacement")) for row in aliases.iter("languageAlias")
                           if re.fullmatch("[a-z]{2,3}", row.get("type")) and LOCALE.fullmatch(row.get("replacement"))}
-        self.regions = {row.get("type"): row.get("replacement").split()[0] for row in aliases.iter("territoryAlias")
+        self.regions = {row.get("type"): row.get("replacement").split() for row in aliases.iter("territoryAlias")
                         if len(row.get("type")) == 2 or row.get("type").isdigit()}
 
     def read_groups(self, containment: XML.Element) -> None:
@@ -91,7 +93,7 @@ class Cldr:
             raise Refused(f"the distances of all other pairs are {otherwise}, and not {OTHERWISE}")
 
     def files(self) -> Iterator[tuple[str, str, list[str], list[str]]]:
-        """Of each file its name, the title of its head, the files of CLDR that it is made of, and its lines."""
+        """Returns for each file its name, the title of its head, the files of CLDR from which it is made, and its lines."""
         info, metadata, data = "languageInfo.xml", "supplementalMetadata.xml", "supplementalData.xml"
         of_scripts = [rule for rule in self.rules if len(rule[0]) == 2 and rule[0][0] != "*"]
         yield ("likely.txt", "Likely subtags: language script region -> language script region", ["likelySubtags.xml"],
@@ -109,7 +111,7 @@ class Cldr:
         yield "paradigms.txt", "paradigm tags", [info], self.paradigms
         yield ("language-alias.txt", "a language subtag and its replacement: language script region", [metadata],
                sorted(line(old, new) for old, new in self.languages.items()))
-        yield ("region-alias.txt", "a region subtag and its replacement (the first of several)", [metadata],
+        yield ("region-alias.txt", "a region subtag and its replacements", [metadata],
                sorted(line(old, new) for old, new in self.regions.items()))
         yield "right-to-left.txt", "The scripts that are written from right to left", ["scriptMetadata.txt"], sorted(self.right_to_left)
 
@@ -119,7 +121,7 @@ def line(*words) -> str:
 
 
 def write(common: pathlib.Path, version: str, source: str, folder: pathlib.Path = DATA) -> None:
-    """Writes all files, or none."""
+    """Writes all files, or nothing if one of them cannot be made."""
     cldr = Cldr(common)
     texts = {}
     for name, title, files, lines in cldr.files():
@@ -132,7 +134,8 @@ def write(common: pathlib.Path, version: str, source: str, folder: pathlib.Path 
 
 
 def questions(text: str) -> Iterator[tuple[str, str]]:
-    """CLDR's own questions: a tag, and its maximal and minimal form in the words of oracle.py. FAIL is a tag that stays."""
+    """Returns CLDR's own questions: a tag, and its maximal and minimal form as oracle.py prints them. FAIL means that the tag
+    stays."""
     for row in text.splitlines():
         tag, most, by_script, by_region = ([word.strip() for word in row.partition("#")[0].split(";")] + ["", "", ""])[:4]
         if tag:
@@ -140,7 +143,7 @@ def questions(text: str) -> Iterator[tuple[str, str]]:
 
 
 def test(path: pathlib.Path) -> bool:
-    """Whether oracle.py answers a question otherwise than CLDR."""
+    """Returns whether oracle.py has another answer to a question than CLDR."""
     import oracle
     asked = list(questions(path.read_text(encoding="utf-8")))
     wrong = [(tag, oracle.forms(tag), answer) for tag, answer in asked if oracle.forms(tag) != answer]

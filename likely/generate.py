@@ -1,14 +1,15 @@
 #!/usr/bin/env python3
-"""Writes the tables and the lists of the crates langtag_likely and langtag_choice from Unicode's CLDR, whose likely subtags and whose data of language
-matching are in data/ (from_cldr.py writes them).
+"""Writes the tables and the lists of the crates langtag_likely and langtag_choice from Unicode's CLDR. Its likely subtags and its
+data for language matching are in data/ (from_cldr.py writes them).
 
-usage: generate.py                        writes them from the data whose checksums stand in data.sha256
+usage: generate.py                        writes them from the data whose checksums are in data.sha256
        generate.py --accept [LANGUAGE..]  writes them from newer data, and their checksums; these languages may lose their rows
-       generate.py --check                writes nothing, and names what is not as it should be: data by their checksums, a file
-                                          that would be written otherwise, a list that oracle.py's reading has otherwise
+       generate.py --check                writes nothing, and names each fault: data with other checksums, a file
+                                          that would be written differently, a list that differs from oracle.py's reading
 
-Data that break what the crate rests on are refused: the row that does is named, nothing is written, and the status is 1. So are
-newer data in which a language has lost its row, unless it is one of LANGUAGE or is replaced by another (language-alias.txt).
+Data that break a premise of the crates are refused: the row that breaks it is named, nothing is written, and the status is 1. Newer
+data in which a language has lost its row are refused, too, unless the language is one of LANGUAGE or is replaced by another
+(language-alias.txt).
 """
 from __future__ import annotations
 
@@ -30,23 +31,23 @@ MODULE = HERE.parent / "bindings" / "postgresql" / "cldr_version.mk"
 # The variants of Arab and Syrc that have codes of their own (ISO 15924). The data do not name them.
 SCRIPT_VARIANTS = ["Aran", "Syre", "Syrj", "Syrn"]
 
-# A column of a table names 256 things by a byte. A key of other_rows has a byte for the script, too, in which 0 says that there is
-# none, and the place after the last script that the script is not among them.
+# A column of a table has one byte, so at most 256 values. A key of other_rows also has a byte for the script. There 0 means that
+# there is no script, and the number after the last script means a script that is not in the list.
 MOST_NAMES, MOST_SCRIPTS = 256, 254
 
-# The number of `aa`, at the first bit, and how many words the bits up to that of `zzz` fill.
+# The number of `aa`, which has the first bit, and the number of words for the bits from `aa` to `zzz`.
 FIRST_LANGUAGE, WORDS = 27, 286
 
 EMPTY = "-"
 
 
 def read(name):
-    """The rows of the data, in words."""
+    """Returns the rows of a data file, each as a list of words."""
     return [line.split() for line in (DATA / name).read_text(encoding="utf-8").splitlines() if not line.startswith("#")]
 
 
 def version():
-    """The version of CLDR that the head of each file of the data names."""
+    """Returns the version of CLDR, which the head of each data file names."""
     found = {path.name: re.search(r"^# From Unicode CLDR ([0-9.]+) ", path.read_text(encoding="utf-8"), re.M) for path in DATA.glob("*.txt")}
     versions = {name: said[1] if said else "none" for name, said in found.items()}
     if len(set(versions.values())) != 1 or "none" in versions.values():
@@ -55,7 +56,7 @@ def version():
 
 
 def checksums():
-    """The lines of sha256sum, by which `sha256sum -c` in data/ tests the files, too."""
+    """Returns the lines of sha256sum, with which `sha256sum -c` in data/ can check the files, too."""
     return "".join(f"{hashlib.sha256(path.read_bytes()).hexdigest()}  {path.name}\n" for path in sorted(DATA.glob("*.txt")))
 
 
@@ -64,7 +65,7 @@ def given(text):
 
 
 class Likely:
-    """The likely subtags: those of a language alone, and the others, each in the order of its key."""
+    """The likely subtags: the rows with only a language on the left, and the other rows, both in the order of their keys."""
 
     def __init__(self, rows, scripts):
         rows = [tuple(map(given, row)) for row in rows]
@@ -77,7 +78,8 @@ class Likely:
         self.test(rows)
 
     def key(self, row):
-        """Language, script and region of the left side as one number above 0; the places count from 1, and 0 is that of an empty field."""
+        """Returns the language, script and region of the left side as one number above 0. Indices are counted from 1, and an empty
+        field has the index 0."""
         script = self.scripts.index(row[1]) + 1 if row[1] else 0
         region = self.regions.index(row[2]) + 1 if row[2] else 0
         return letter_number(row[0]) * 131072 + script * 512 + region + 1
@@ -135,7 +137,7 @@ def names(name, doc, texts):
 
 
 def bits(numbers):
-    """A bit for each number from FIRST_LANGUAGE on, in words, from the lowest bit of the first word on."""
+    """Returns words with one bit for each number from FIRST_LANGUAGE on. The first number has the lowest bit of the first word."""
     words = [0] * WORDS
     for number in numbers:
         words[(number - FIRST_LANGUAGE) // 64] |= 1 << (number - FIRST_LANGUAGE) % 64
@@ -152,53 +154,56 @@ def tables(likely):
     region = lambda row: likely.regions.index(row[5])
     return "\n".join([
         f"//! Unicode's CLDR {version()} in tables (the notice: likely/LICENSE-UNICODE). Written by likely/generate.py. Do not edit.\n",
-        f"/// The major version of Unicode's CLDR in this crate, which is {version()}.\n" f'pub const CLDR_VERSION: &str = "{major_version()}";\n',
-        numbers("SCRIPT_KEYS", "The scripts: their lowercase bytes as the digits of a number, in rising order.", 32, map(folded_number, likely.scripts)),
-        names("SCRIPT_NAMES", "The same scripts.", likely.scripts),
-        numbers("REGION_KEYS", "The regions: their lowercase bytes as the digits of a number, in rising order.", 32, map(folded_number, likely.regions)),
-        names("REGION_NAMES", "The same regions.", likely.regions),
-        names("LANGUAGE_NAMES", "No language, and then those that are likely where none is known.", likely.languages),
-        numbers("LANGUAGE_BITS", "The languages with likely subtags: a bit for each text of two letters and then of three, in the order of the alphabet,\n"
-                "/// from the lowest bit of the first word on.", 64, language_bits),
-        numbers("LANGUAGE_ENDS", "How many bits are set up to the end of each word.", 16,
+        f"/// The major version of Unicode's CLDR in this crate. The full version is {version()}.\n" f'pub const CLDR_VERSION: &str = "{major_version()}";\n',
+        numbers("SCRIPT_KEYS", "The keys of the scripts, in rising order: each key is the number whose base-256 digits are the lowercase bytes.", 32, map(folded_number, likely.scripts)),
+        names("SCRIPT_NAMES", "The same scripts as text, in the same order.", likely.scripts),
+        numbers("REGION_KEYS", "The keys of the regions, in rising order: each key is the number whose base-256 digits are the lowercase bytes.", 32, map(folded_number, likely.regions)),
+        names("REGION_NAMES", "The same regions as text, in the same order.", likely.regions),
+        names("LANGUAGE_NAMES", "An empty entry for no language, and then the languages on the right sides of the rows of `OTHER_KEYS`.", likely.languages),
+        numbers("LANGUAGE_BITS", "A bit for each text of two letters, and then of three, in alphabetical order: it is set if the language has likely\n"
+                "/// subtags. The first text has the lowest bit of the first word.", 64, language_bits),
+        numbers("LANGUAGE_ENDS", "The number of bits that are set in each word and all words before it.", 16,
                 itertools.accumulate(word.bit_count() for word in language_bits)),
-        numbers("LANGUAGE_SCRIPTS", "Where the script of each of these languages stands.", 8, map(script, likely.of_languages)),
-        numbers("LANGUAGE_REGIONS", "Where the region of each of them stands.", 8, map(region, likely.of_languages)),
-        numbers("OTHER_KEYS", "The other left sides, in rising order: language, script and region as one number.", 32, map(likely.key, likely.others)),
-        numbers("OTHER_LANGUAGES", "Where the language of the right side of each of them stands.", 8, [likely.languages.index(row[3]) for row in likely.others]),
-        numbers("OTHER_SCRIPTS", "Where the script of each of them stands.", 8, map(script, likely.others)),
-        numbers("OTHER_REGIONS", "Where the region of each of them stands.", 8, map(region, likely.others)),
-        names("RIGHT_TO_LEFT_SCRIPTS", "The scripts that are written from right to left, and the variants of two of them (ISO 15924).", right_to_left_scripts()),
+        numbers("LANGUAGE_SCRIPTS", "The index of the likely script of each language of `LANGUAGE_BITS`, among the scripts.", 8, map(script, likely.of_languages)),
+        numbers("LANGUAGE_REGIONS", "The index of the likely region of each language of `LANGUAGE_BITS`, among the regions.", 8, map(region, likely.of_languages)),
+        numbers("OTHER_KEYS", "The left sides that are not only a language, in rising order: language, script and region as one number.", 32, map(likely.key, likely.others)),
+        numbers("OTHER_LANGUAGES", "The index of the language on the right side of each row of `OTHER_KEYS`.", 8, [likely.languages.index(row[3]) for row in likely.others]),
+        numbers("OTHER_SCRIPTS", "The index of the script on the right side of each row of `OTHER_KEYS`.", 8, map(script, likely.others)),
+        numbers("OTHER_REGIONS", "The index of the region on the right side of each row of `OTHER_KEYS`.", 8, map(region, likely.others)),
+        names("RIGHT_TO_LEFT_SCRIPTS", "The scripts that are written from right to left, with variants of scripts that have codes of their own (ISO 15924).", right_to_left_scripts()),
     ])
 
 
 def alias_tables(matching):
     scripts, regions = (sorted({""} | {row[i] for row in matching.aliases}, key=folded_number) for i in (2, 3))
     return "\n".join([
-        f"//! What is deprecated by Unicode's CLDR {version()}, in tables (the notice: likely/LICENSE-UNICODE). Written by likely/generate.py. Do not edit.\n",
-        numbers("ALIAS_KEYS", "The languages that are replaced: their letters as the digits of a number, in rising order.", 16, [letter_number(row[0]) for row in matching.aliases]),
-        names("ALIAS_LANGUAGES", "What each of them becomes.", [row[1] for row in matching.aliases]),
-        names("ALIAS_SCRIPT_NAMES", "No script, and those that this brings.", scripts),
-        numbers("ALIAS_SCRIPTS", "Where the script that it brings stands.", 8, [scripts.index(row[2]) for row in matching.aliases]),
-        names("ALIAS_REGION_NAMES", "No region, and those that this brings.", regions),
-        numbers("ALIAS_REGIONS", "Where the region that it brings stands.", 8, [regions.index(row[3]) for row in matching.aliases]),
-        numbers("REGION_ALIAS_KEYS", "The regions that are replaced: their lowercase bytes as the digits of a number, in rising order.", 32,
+        f"//! The deprecated languages and regions of Unicode's CLDR {version()}, in tables (the notice: likely/LICENSE-UNICODE). Written by likely/generate.py. Do not edit.\n",
+        numbers("ALIAS_KEYS", "The keys of the languages that are replaced, in rising order: each key is the number whose base-26 digits are the letters.", 16, [letter_number(row[0]) for row in matching.aliases]),
+        names("ALIAS_LANGUAGES", "The language that replaces each language of `ALIAS_KEYS`.", [row[1] for row in matching.aliases]),
+        names("ALIAS_SCRIPT_NAMES", "An empty entry for no script, and then the scripts that come with a replacement.", scripts),
+        numbers("ALIAS_SCRIPTS", "The index of the script that comes with each replacement.", 8, [scripts.index(row[2]) for row in matching.aliases]),
+        names("ALIAS_REGION_NAMES", "An empty entry for no region, and then the regions that come with a replacement.", regions),
+        numbers("ALIAS_REGIONS", "The index of the region that comes with each replacement.", 8, [regions.index(row[3]) for row in matching.aliases]),
+        numbers("REGION_ALIAS_KEYS", "The keys of the regions that are replaced, in rising order: each key is the number whose base-256 digits are the lowercase bytes.", 32,
                 [folded_number(row[0]) for row in matching.region_aliases]),
-        names("REGION_ALIAS_NAMES", "What each of them becomes.", [row[1] for row in matching.region_aliases]),
+        names("REGION_ALIAS_NAMES", "The region that replaces each region of `REGION_ALIAS_KEYS`.", [row[1] for row in matching.region_aliases]),
+        numbers("REPLACEMENT_KEYS", "The keys, in rising order, of the regions that another region replaces, including codes of three digits.", 32,
+                [folded_number(row[0]) for row in matching.replacements]),
+        names("REPLACEMENT_NAMES", "The region that replaces each region of `REPLACEMENT_KEYS`.", [row[1] for row in matching.replacements]),
     ])
 
 
 def matching_tables(matching):
     return "\n".join([
-        f"//! What Unicode's CLDR {version()} says of language matching, in tables (the notice: likely/LICENSE-UNICODE). Written by likely/generate.py. Do not edit.\n",
-        numbers("LANGUAGE_RULE_KEYS", "A desired and a supported language as one number, in rising order.", 32, map(matching.language_key, matching.languages)),
-        numbers("LANGUAGE_RULE_DISTANCES", "The distance of each such pair.", 8, [row[2] for row in matching.languages]),
-        numbers("RELATED_KEYS", "The languages of two letters that a rule desires, or that replace one of two letters: their letters as the digits of a number, in rising order.", 16,
+        f"//! The rules of language matching of Unicode's CLDR {version()}, in tables (the notice: likely/LICENSE-UNICODE). Written by likely/generate.py. Do not edit.\n",
+        numbers("LANGUAGE_RULE_KEYS", "The desired and the supported language of each rule, as one number, in rising order.", 32, map(matching.language_key, matching.languages)),
+        numbers("LANGUAGE_RULE_DISTANCES", "The distance that each rule of `LANGUAGE_RULE_KEYS` gives.", 8, [row[2] for row in matching.languages]),
+        numbers("RELATED_KEYS", "The keys, in rising order, of the two-letter languages that are the desired language of a rule, or replace a two-letter language.", 16,
                 sorted(letter_number(text) for text in matching.related)),
-        numbers("SCRIPT_RULE_KEYS", "A desired and a supported language, each with its script, as one number, in rising order.", 64, map(matching.script_key, matching.scripts)),
-        numbers("SCRIPT_RULE_DISTANCES", "The distance of each such pair.", 8, [row[2] for row in matching.scripts]),
+        numbers("SCRIPT_RULE_KEYS", "The desired and the supported language of each rule, both with their scripts, as one number, in rising order.", 64, map(matching.script_key, matching.scripts)),
+        numbers("SCRIPT_RULE_DISTANCES", "The distance that each rule of `SCRIPT_RULE_KEYS` gives.", 8, [row[2] for row in matching.scripts]),
     ] + [
-        numbers(f"{const}_{part.upper()}", f"The regions that lie {part} {name}: their lowercase bytes as the digits of a number, in rising order.", 32, map(folded_number, texts))
+        numbers(f"{const}_{part.upper()}", f"The keys, in rising order, of the regions that are {'wholly' if part == 'inside' else 'partly'} in {name}.", 32, map(folded_number, texts))
         for name, const in SETS for part, texts in zip(("inside", "partly"), matching.sets[name])
     ])
 
@@ -207,7 +212,7 @@ SETS = [("maghreb", "MAGHREB"), ("enUS", "EN_US"), ("americas", "AMERICAS"), ("c
 
 
 def word_list(name, doc, kind, reader, rows):
-    """A list of words, some rows a text."""
+    """Returns a list of words, with several rows in each literal."""
     rows = [" ".join(row) for row in rows]
     texts = "\n    ∷ ".join(f"codes \"{' '.join(rows[i:i + 24])}\"" for i in range(0, len(rows), 24))
     text = f"flat_map (λ text. {reader} (words text))" if reader else "flat_map words"
@@ -218,29 +223,31 @@ def alias_lists(matching):
     def fields(*texts):
         return " ".join(text or EMPTY for text in texts)
     return "\n".join([
-        f"-- What is deprecated by Unicode's CLDR {version()} (the notice: likely/LICENSE-UNICODE). Written by likely/generate.py. Do not edit.\n"
+        f"-- The deprecated languages and regions of Unicode's CLDR {version()} (the notice: likely/LICENSE-UNICODE). Written by likely/generate.py. Do not edit.\n"
         "use Rattle.std.specs.Prelude.{[], ◌∷◌, List, codes}\nuse Rattle.std.specs.List.{flat_map}\n"
         "use Rattle.langtag_tables.specs.Words.{words}\n"
         "use Rattle.langtag_likely.specs.Likely.{Likely, likely_of_fields}\n",
-        word_list("language_aliases", "languages that are replaced, and what replaces them: language, script and region", "Likely", "likely_of_fields",
+        word_list("language_aliases", "the languages that are replaced, each with its replacement: language, script and region", "Likely", "likely_of_fields",
                   [[fields(row[0], "", "", *row[1:])] for row in matching.aliases]),
-        word_list("region_aliases", "regions that are replaced, and what replaces them", "Likely", "likely_of_fields",
+        word_list("region_aliases", "the regions that are replaced, each with its replacement", "Likely", "likely_of_fields",
                   [[fields("", "", row[0], "", "", row[1])] for row in matching.region_aliases]),
+        word_list("region_replacements", "the regions that another region replaces, including codes of three digits, each with its replacement", "Likely", "likely_of_fields",
+                  [[fields("", "", row[0], "", "", row[1])] for row in matching.replacements]),
     ])
 
 
 def matching_lists(matching):
     return "\n".join([
-        f"-- What Unicode's CLDR {version()} says of language matching (the notice: likely/LICENSE-UNICODE). Written by likely/generate.py. Do not edit.\n"
+        f"-- The rules of language matching of Unicode's CLDR {version()} (the notice: likely/LICENSE-UNICODE). Written by likely/generate.py. Do not edit.\n"
         "use Rattle.std.specs.Prelude.{ℕ, [], ◌∷◌, List, codes}\nuse Rattle.std.specs.List.{flat_map}\n"
         "use Rattle.langtag_tables.specs.Words.{words}\n"
         "use Rattle.langtag_choice.specs.Rules.{Rule, rules_of_languages, rules_of_scripts}\n",
-        word_list("language_rules", "a desired and a supported language, and their distance: the rules, in each direction in which they hold", "Rule", "rules_of_languages",
+        word_list("language_rules", "the rules for languages: a desired language, a supported language, and their distance. A rule that holds in both directions is listed twice", "Rule", "rules_of_languages",
                   [[row[0], row[1], in_ones(row[2])] for row in matching.languages]),
-        word_list("script_rules", "a desired language with its script and a supported one, and the distance of the scripts: the rules, in each direction in which they hold", "Rule",
+        word_list("script_rules", "the rules for scripts: a desired language with its script, a supported language with its script, and the distance of the scripts. A rule that holds in both directions is listed twice", "Rule",
                   "rules_of_scripts", [[*row[0], *row[1], in_ones(row[2])] for row in matching.scripts]),
     ] + [
-        word_list(f"{const.lower()}_{part}", f"the regions of ${name}, and groups of which all countries are" if part == "inside" else f"groups of which some countries are in ${name}, but not all",
+        word_list(f"{const.lower()}_{part}", f"the regions of ${name}: countries, and groups of countries that are all in it" if part == "inside" else f"groups of countries of which some are in ${name}, but not all",
                   "(List ℕ)", "", [[text] for text in texts])
         for name, const in SETS for part, texts in zip(("inside", "partly"), matching.sets[name])
     ])
@@ -251,7 +258,8 @@ def in_ones(number):
 
 
 def likely_list(name, doc, reader, rows):
-    """A list of rows, in a text for each first letter, as one literal of it all passes the step limit."""
+    """Returns a list of rows, with one literal for each first letter, since a single literal would exceed the prover's step
+    limit."""
     groups = {}
     for row in rows:
         groups.setdefault((len(row[0]), row[0][:1]), []).append(" ".join(text or EMPTY for text in row))
@@ -265,10 +273,10 @@ def likely_lists(likely):
         "use Rattle.std.specs.Prelude.{[], ◌∷◌, ◌++◌, List, codes}\nuse Rattle.std.specs.List.{flat_map}\n"
         "use Rattle.langtag_tables.specs.Words.{words}\n"
         "use Rattle.langtag_likely.specs.Likely.{Likely, likely_of_languages, likely_of_fields}\n",
-        likely_list("language_rows", "the rows whose left side is a language alone: this, and the script and the region that it becomes", "likely_of_languages",
+        likely_list("language_rows", "the rows whose left side is only a language: this language, and its likely script and region", "likely_of_languages",
                     [(row[0], row[4], row[5]) for row in likely.of_languages]),
-        likely_list("other_rows", "the other rows: language, script and region of the left side, and those of the right side", "likely_of_fields", likely.others),
-        "-- all rows\nunfoldable pub likely_subtags : List Likely\nlikely_subtags = language_rows ++ other_rows\n",
+        likely_list("other_rows", "the rows whose left side is not only a language: language, script and region of the left side, and then of the right side", "likely_of_fields", likely.others),
+        "-- all rows of likely subtags\nunfoldable pub likely_subtags : List Likely\nlikely_subtags = language_rows ++ other_rows\n",
     ])
 
 
@@ -276,7 +284,7 @@ def script_list():
     return "\n".join([
         f"-- The scripts of Unicode's CLDR {version()} that are written from right to left (the notice: likely/LICENSE-UNICODE). Written by likely/generate.py. Do not edit.\n"
         "use Rattle.std.specs.Prelude.{ℕ, List, codes}\nuse Rattle.langtag_tables.specs.Words.{words}\n",
-        "-- scriptMetadata, 'RTL?'; and variants of two of them that have codes of their own (ISO 15924: Aran of Arab, Syre, Syrj and Syrn of Syrc)\n"
+        "-- the scripts whose field 'RTL?' in scriptMetadata is YES, and the variants of Arab (Aran) and Syrc (Syre, Syrj and Syrn), which have codes of their own in ISO 15924\n"
         f"unfoldable pub right_to_left_scripts : List (List ℕ)\nright_to_left_scripts = words (codes \"{' '.join(right_to_left_scripts())}\")\n",
     ])
 
@@ -284,7 +292,7 @@ def script_list():
 def code_list(likely):
     return (f"-- The codes of the scripts in the likely subtags of Unicode's CLDR {version()} (the notice: likely/LICENSE-UNICODE). Written by likely/generate.py. Do not edit.\n"
             "use Rattle.std.specs.Prelude.{ℕ, List, codes}\nuse Rattle.langtag_tables.specs.Words.{words}\n\n"
-            f"-- of either side of a row, in alphabetical order\nunfoldable pub script_codes : List (List ℕ)\nscript_codes = words (codes \"{' '.join(likely.scripts)}\")\n")
+            f"-- the codes of the scripts on both sides of the rows, in alphabetical order\nunfoldable pub script_codes : List (List ℕ)\nscript_codes = words (codes \"{' '.join(likely.scripts)}\")\n")
 
 
 def major_version():
@@ -292,12 +300,12 @@ def major_version():
 
 
 def module_version():
-    """The version in the name of PostgreSQL's module, for its Makefile."""
+    """Returns the Makefile's line with the version that is in the name of PostgreSQL's module."""
     return f"# The version of CLDR in the library. Written by likely/generate.py. Do not edit.\nCLDR_VERSION = {major_version()}\n"
 
 
 def written(crates, likely, matching):
-    """The files that are made of the data: of each its path and its text."""
+    """Returns the files that are made from the data: the path and the text of each."""
     subtags, choice = crates / "langtag_likely", crates / "langtag_choice"
     return {subtags / "src/tables.rt": tables(likely), subtags / "src/alias_tables.rt": alias_tables(matching),
             subtags / "specs/LikelySubtags.antt": likely_lists(likely), subtags / "specs/Aliases.antt": alias_lists(matching),
@@ -306,7 +314,7 @@ def written(crates, likely, matching):
 
 
 def lost(crates, likely, matching, named):
-    """The languages that had a row and have none now, or that had a rule and have neither: their tags get other answers, or none."""
+    """Returns the languages that lost their row, or lost their rule and have no row. The results for their tags change."""
     standing = second_reading.standing(crates)
     rows = {row[0] for row in likely.of_languages}
     rules = {text for row in matching.languages for text in row[:2]}
@@ -317,7 +325,7 @@ def lost(crates, likely, matching, named):
 
 
 def refuse_unaccepted(crates, likely, matching, accept, named):
-    """Refuses other data than those that stand, but for newer ones that are to be accepted."""
+    """Refuses data other than the current data, unless they are newer and are to be accepted."""
     if checksums() == (CHECKSUMS.read_text(encoding="utf-8") if CHECKSUMS.is_file() else ""):
         return
     if not accept:

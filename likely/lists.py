@@ -1,4 +1,4 @@
-"""Holds the lists of specs/, of which generate.py writes the long ones, against oracle.py's reading of the data."""
+"""Compares the lists of specs/, of which generate.py writes the long ones, with oracle.py's reading of the data."""
 from __future__ import annotations
 
 import re
@@ -10,15 +10,15 @@ import oracle
 PAGES = ["langtag_likely/specs/LikelySubtags", "langtag_likely/specs/Aliases", "langtag_likely/specs/RightToLeft", "langtag_likely/specs/Scripts", "langtag_choice/specs/MatchingData",
          "langtag_choice/specs/Nearness"]
 
-# How many words a row of a list has; one, where it is not named.
-WIDTH = {"language_rows": 3, "other_rows": 6, "language_aliases": 6, "region_aliases": 6, "language_rules": 3, "script_rules": 5, "is_paradigm": 2}
+# The number of words in a row of a list. It is one for a list that is not named here.
+WIDTH = {"language_rows": 3, "other_rows": 6, "language_aliases": 6, "region_aliases": 6, "region_replacements": 6, "language_rules": 3, "script_rules": 5, "is_paradigm": 2}
 
-# The lists of regions by the names that the data have for their sets.
+# The lists of regions, by the names of their sets in the data.
 SETS = {"maghreb": "$maghreb", "en_us": "$enUS", "americas": "$americas", "cnsar": "$cnsar"}
 
 
 def written(page: str) -> dict[str, list[tuple]]:
-    """The rows of each list of a page, in small letters."""
+    """Returns the rows of each list of a page, in lowercase."""
     lists = {}
     for name, body in re.findall(r"(?ms)^(\w+)(?: form)? =(.*?)(?:\n\n|\Z)", page):
         if name in WIDTH or "words" in body:
@@ -29,7 +29,7 @@ def written(page: str) -> dict[str, list[tuple]]:
 
 
 def standing(crates: Path) -> dict[str, list[tuple]]:
-    """The rows of each list of the pages that are there."""
+    """Returns the rows of each list of the current pages."""
     lists = {}
     for page in (crates / f"{page}.antt" for page in PAGES):
         lists.update(written(page.read_text(encoding="utf-8")) if page.is_file() else {})
@@ -37,7 +37,7 @@ def standing(crates: Path) -> dict[str, list[tuple]]:
 
 
 def both_ways(rules: list, row) -> list[tuple]:
-    """The rows of rules, each in the directions in which it holds."""
+    """Returns the rows of the rules, once for each direction in which a rule holds."""
     pairs = [(pair, far) for pair, far, _ in rules] + [(pair[::-1], far) for pair, far, one_way in rules if not one_way]
     return [(*row(desired), *row(supported), str(far)) for (desired, supported), far in pairs]
 
@@ -47,7 +47,7 @@ def alone(row: tuple) -> bool:
 
 
 def regions_of_sets() -> Iterator[tuple[str, list[tuple]]]:
-    """Of each set the regions that lie inside, a group where all its countries do, and the groups that lie partly inside."""
+    """Returns, for each set, the regions and whole groups inside it, and the groups that are only partly inside."""
     for name, of in SETS.items():
         groups = {group: countries & oracle.SETS[of] for group, countries in oracle.GROUPS.items()}
         countries = oracle.SETS[of] - oracle.GROUPS.keys()
@@ -56,13 +56,14 @@ def regions_of_sets() -> Iterator[tuple[str, list[tuple]]]:
 
 
 def wanted() -> dict[str, list[tuple]]:
-    """What each list should have."""
+    """Returns what each list should have."""
     paradigms = [oracle.Tag(row[0]).fields for row in oracle.rows("paradigms.txt")]
     return {
         "language_rows": [(left[0], *right[1:]) for left, right in oracle.LIKELY.items() if alone(left)],
         "other_rows": [(*left, *right) for left, right in oracle.LIKELY.items() if not alone(left)],
         "language_aliases": [(name, "", "", *to) for name, to in oracle.ALIASES.items()],
         "region_aliases": [("", "", name, "", "", to) for name, to in oracle.REGION_ALIASES.items()],
+        "region_replacements": [("", "", name, "", "", to) for name, to in oracle.REPLACEMENTS.items()],
         "language_rules": both_ways(oracle.LANGUAGE_RULES, lambda language: [language]),
         "script_rules": both_ways(oracle.SCRIPT_RULES, lambda text: text.split("-")),
         "script_codes": [(name,) for name in oracle.SCRIPT_CODES],
@@ -73,7 +74,7 @@ def wanted() -> dict[str, list[tuple]]:
 
 
 def differences(crates: Path) -> Iterator[str]:
-    """A line for each list that the pages have otherwise, lack or add."""
+    """Returns a line for each list that differs on the pages, is missing, or is extra."""
     ours, theirs = standing(crates), wanted()
     for name in sorted(ours.keys() ^ theirs.keys()):
         yield f"{name}: {'not read a second time' if name in ours else 'not on its page'}"

@@ -1,12 +1,12 @@
-"""The data of language matching: aliases, the distances of languages and scripts, and the sets of regions."""
+"""The data for language matching: aliases, the distances of languages and scripts, and the sets of regions."""
 import sys
 
-# the rules of region-distance.txt, as specs/Distance.antt has them: language, script, the set, and what stands between its two sides
+# the rules of region-distance.txt, as specs/Distance.antt states them: language, script, and the set that divides the regions
 SIDES = [("ar", "*", "maghreb"), ("en", "*", "enUS"), ("es", "*", "americas"), ("pt", "*", "americas"), ("zh", "Hant", "cnsar")]
 
 
 def letter_number(text):
-    """The letters of a text as the digits of a number in base 26, the first letter being 1."""
+    """Returns a text as a number in base 26, whose digits are its letters; `a` is 1."""
     number = 0
     for letter in text.lower():
         number = number * 26 + ord(letter) - 96
@@ -39,6 +39,7 @@ class Matching:
         self.likely = likely
         self.aliases = sorted(([row[0]] + [text.strip("-") for text in row[1:]] for row in read("language-alias.txt")), key=lambda row: letter_number(row[0]))
         self.region_aliases = sorted((row for row in read("region-alias.txt") if len(row[0]) == 2), key=lambda row: folded_number(row[0]))
+        self.replacements = sorted((row for row in read("region-alias.txt") if len(row) == 2), key=lambda row: folded_number(row[0]))
         self.languages = self.both_ways(((d, s), int(n), one_way) for d, s, n, one_way in read("language-distance.txt"))
         self.languages.sort(key=self.language_key)
         self.related = {text for text in [row[0] for row in self.languages] + [row[1] for row in self.aliases if len(row[0]) == 2] if len(text) == 2}
@@ -49,7 +50,7 @@ class Matching:
 
     @staticmethod
     def both_ways(rules):
-        """Each rule in the directions in which it holds."""
+        """Returns the rules, once for each direction in which a rule holds."""
         rows = []
         for (desired, supported), distance, one_way in rules:
             rows.append((desired, supported, distance))
@@ -59,7 +60,7 @@ class Matching:
 
     @staticmethod
     def region_sets(rows, groups):
-        """Of each set the regions that lie inside, and the groups that lie partly inside."""
+        """Returns for each set the regions inside it, and the groups that are partly inside it."""
         sets = {}
         for name, *regions in rows:
             countries = {region for region in regions if region not in groups}
@@ -73,14 +74,14 @@ class Matching:
         return letter_number(row[0]) * 32768 + letter_number(row[1])
 
     def half_key(self, language, script):
-        """As the key of a left side of likely subtags without a region."""
+        """Returns the key that the left side of a row of likely subtags has without its region."""
         return letter_number(language) * 131072 + (self.likely.scripts.index(script) + 1) * 512 + 1
 
     def script_key(self, row):
         return self.half_key(*row[0]) * 4294967296 + self.half_key(*row[1])
 
     def distances(self):
-        """Each distance that two tags can have."""
+        """Returns each distance that two tags can have."""
         languages = {row[:2]: row[2] for row in self.languages}
         scripts = {}
         for (desired, _), (supported, _), distance in self.scripts:
@@ -99,9 +100,11 @@ class Matching:
              lambda row: row[2] in ["", *self.likely.scripts] and row[3] in ["", *self.likely.regions], self.aliases)
         each("likely.txt", "no row is of a language that is replaced", lambda row: row[0] not in replaced and row[3] not in replaced, self.likely.of_languages + self.likely.others)
         once("language-alias.txt", [row[0] for row in self.aliases])
-        each("region-alias.txt", "no target is an alias", lambda row: row[1] not in [other[0] for other in self.region_aliases], self.region_aliases)
-        each("region-alias.txt", "regions of two letters", lambda row: all(len(text) == 2 and text.isalpha() for text in row), self.region_aliases)
-        once("region-alias.txt", [row[0] for row in self.region_aliases])
+        regions = self.region_aliases + self.replacements
+        each("region-alias.txt", "no target is an alias", lambda row: row[1] not in [other[0] for other in regions], regions)
+        each("region-alias.txt", "regions of two letters, but for the codes of three digits that are replaced",
+             lambda row: all(len(text) == 2 and text.isalpha() for text in row[len(row[0]) == 3 and row[0].isdigit():]), regions)
+        once("region-alias.txt", [row[0] for row in read("region-alias.txt")])
         once("language-distance.txt", [row[:2] for row in self.languages])
         each("language-distance.txt", "a language of two or three letters", lambda row: is_language(row[0]) and is_language(row[1]), self.languages)
         each("language-distance.txt", "a distance from 1 to 80", lambda row: 1 <= row[2] <= 80, self.languages)

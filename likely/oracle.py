@@ -1,18 +1,19 @@
 #!/usr/bin/env python3
-"""A plain reading of UTS #35 part 1, sections 'Likely Subtags' and 'Language Matching', over data/*.txt, and of the choice for a
-request and the names of POSIX locales.
+"""A plain implementation of UTS #35, part 1, sections 'Likely Subtags' and 'Language Matching', over data/*.txt, of the choice for
+a request, and of the names of POSIX locales.
 
 usage: oracle.py forms < TAGS                          prints for each tag its maximal and its minimal form, tab separated
        oracle.py distance < PAIRS                      prints for each desired and supported tag, space separated, their distance
        oracle.py rows < ROWS                           prints each row with its answer, in the form of those in rows/: of
                                                        maximized, minimized, right-to-left, distance, best, best-match,
-                                                       posix
+                                                       posix, suggestion
        oracle.py COLUMN --compare ANSWERS < LINES      counts the lines whose answer differs from that of a program
 
 questions.py has lines to ask.
 """
 import decimal
 import functools
+import importlib.util
 import itertools
 import pathlib
 import re
@@ -25,7 +26,7 @@ LONG = re.compile(TAG.pattern.replace("[a-z]{2,3})", "[a-z]{4,8})", 1).replace("
 PRIVATE = re.compile(r"x(-[a-z0-9]{1,8})+", re.I | re.A)
 IRREGULAR = set("""en-gb-oed i-ami i-bnn i-default i-enochian i-hak i-klingon i-lux i-mingo i-navajo i-pwn i-tao i-tay i-tsu sgn-be-fr
     sgn-be-nl sgn-ch-de""".split())
-# a range of a header need not be a tag: as far as it begins like one
+# a range of a header need not be a tag, so FRONT only matches its beginning
 RANGE = re.compile(r"\*|[a-z]{1,8}(-[a-z0-9]{1,8})*", re.I | re.A)
 FRONT = re.compile(r"(?P<language>[a-z]{2,8})(?P<extended>(-[a-z]{3})*)(?=-|$)(-(?P<script>[a-z]{4})(?=-|$))?(-(?P<region>[a-z]{2}|[0-9]{3})(?=-|$))?(-.*)?",
                    re.I | re.A)
@@ -45,19 +46,20 @@ def lower(texts):
 LIKELY = {lower(row[:3]): row[3:] for row in rows("likely.txt")}
 ALIASES = {row[0]: row[1:] for row in rows("language-alias.txt")}
 REGION_ALIASES = {row[0].lower(): row[1] for row in rows("region-alias.txt") if len(row[0]) == 2}
+REPLACEMENTS = {row[0].lower(): row[1] for row in rows("region-alias.txt") if row[2:] == []}
 GROUPS = {row[0]: set(row[1:]) for row in rows("region-groups.txt")}
 SETS = {row[0]: set(row[1:]) for row in rows("region-sets.txt")}
 LANGUAGE_RULES = [((d, s), int(far), one_way == "1") for d, s, far, one_way in rows("language-distance.txt")]
 SCRIPT_RULES = [((d + "-" + a, s + "-" + b), int(far), one_way == "1") for d, a, s, b, far, one_way in rows("script-distance.txt")]
 REGION_RULES = list(rows("region-distance.txt"))
-# the scripts of both sides, in small letters
+# the scripts of both sides, in lowercase
 SCRIPT_CODES = {row[1].lower() for both in LIKELY.items() for row in both if row[1]} | {text.split("-")[1].lower() for pair, _, _ in SCRIPT_RULES for text in pair}
 # and the variants of two of them that have codes of their own (ISO 15924)
 RIGHT_TO_LEFT = {row[0] for row in rows("right-to-left.txt")} | {"Aran", "Syre", "Syrj", "Syrn"}
 
 
 class Tag:
-    """The parts of a normal tag; None of any other text."""
+    """The parts of a normal tag."""
 
     def __new__(cls, text):
         return super().__new__(cls) if TAG.fullmatch(text) or LONG.fullmatch(text) else None
@@ -74,7 +76,8 @@ class Tag:
 
 
 def fields_of(found):
-    """Language, script and region: the last extended language counts, and what says nothing is empty."""
+    """Returns language, script and region. The last extended language counts as the language, and a subtag that means "unknown" is
+    empty."""
     empty = lambda text, unknown: "" if text is None or text.lower() == unknown else text
     language = found["language"] + found["extended"]
     return empty(language, "und").split("-")[-1], empty(found["script"], "zzzz"), empty(found["region"], "zz")
@@ -118,7 +121,7 @@ def forms(text):
 
 @functools.lru_cache(None)
 def matching_form(text):
-    """That of a tag or a range, as far as it begins like a tag."""
+    """Returns the matching form of a tag, or of a range that begins like a tag, or None."""
     front = FRONT.fullmatch(text)
     return form_of(fields_of(front)) if front and text.lower() != "und" else None
 
@@ -189,11 +192,17 @@ def is_right_to_left(text):
 # ---- the choice for a request
 
 
+def place_of(name):
+    """Returns the language and the territory of a locale name, without codeset and modifier, and without a script after "_#"."""
+    place, hash, _ = re.split("[.@]", name)[0].partition("#")
+    return re.sub("_{1,2}$", "", place) if hash else place
+
+
 def element(text, behind=""):
-    """The range of an element of a header and its weight in thousandths, of which a person would make something; None of another.
-    Digits behind its comma are the fraction of a weight without a point: fr;q=0,8."""
+    """Returns the range of an element of a header and its weight in thousandths, read leniently, or None. Digits after the next
+    comma are the fraction of a weight without a point: fr;q=0,8."""
     name, *parameters = text.split(";")
-    wish = re.split("[.@]", name.strip(" \t"))[0].replace("_", "-")
+    wish = place_of(name.strip(" \t")).replace("_", "-")
     pairs = [parameter.partition("=") for parameter in parameters]
     values = [value.strip(" \t") for name, equals, value in pairs if equals and name.strip(" \t") in ("q", "Q")]
     value = "".join(values[:1]) + ("." + behind if values and "." not in values[0] and re.fullmatch("[0-9]+", behind, re.A) else "")
@@ -202,7 +211,7 @@ def element(text, behind=""):
 
 
 def begins(wish, tag):
-    """Basic filtering, of a range other than "*"."""
+    """Returns whether a range other than "*" matches a tag by basic filtering."""
     return wish != "*" and (tag.lower() + "-").startswith(wish.lower() + "-")
 
 
@@ -212,7 +221,7 @@ def is_refused(tag, elements):
 
 
 def look_up(wish, tags):
-    """The place of the tag that RFC 4647's look-up finds (section 3.4), the first of equal ones."""
+    """Returns the index of the tag that RFC 4647's look-up finds (section 3.4), which is the first of equal tags."""
     rest = wish.lower().split("-")
     while rest:
         for place, tag in enumerate(tags):
@@ -225,7 +234,8 @@ def look_up(wish, tags):
 
 
 def unlikely(tag):
-    """Of tags that are as near: the likely region of its language and script, then one of the paradigms, then any other."""
+    """Returns the order of tags at the same distance: first a tag with the likely region of its language and script, then a
+    paradigm locale, then any other."""
     form = matching_form(tag)
     if form is None:
         return 2
@@ -234,13 +244,13 @@ def unlikely(tag):
 
 
 def nearest(wish, near, tags):
-    """Of the indices of tags that are as near: what look-up finds among them, or else the likeliest."""
+    """Returns the best of several indices of tags at the same distance: the tag that look-up finds, or else the most likely tag."""
     found = look_up(wish, [tags[index] for index in near])
     return min(near, key=lambda index: unlikely(tags[index])) if found is None else near[found]
 
 
 def best_match(header, tags):
-    """The index of the tag that the reader wants, and the place of the range for which it is chosen; or None."""
+    """Returns the index of the best tag, and the index of the range for which it is chosen; or None."""
     items = header.split(",")
     elements = [found for found in map(element, items, items[1:] + [""]) if found]
     order = sorted(range(len(elements)), key=lambda place: -elements[place][1])
@@ -257,18 +267,18 @@ def best_match(header, tags):
 
 
 def best(header, tags):
-    """The index of the tag that the reader wants, or None."""
+    """Returns the index of the best tag, or None."""
     found = best_match(header, tags)
     return found and found[0]
 
 
 def told_match(header, tags):
-    """The index of that tag, its distance from the range, and the range as the header has it."""
+    """Returns the index of the best tag, its distance from the range, and the range as it is written in the header."""
     found = best_match(header, tags)
     if found is None:
         return "-"
     index, place = found
-    written = [re.split("[.@]", item.split(";")[0].strip(" \t"))[0] for item in header.split(",") if element(item)]
+    written = [place_of(item.split(";")[0].strip(" \t")) for item in header.split(",") if element(item)]
     return f"{index} {between(written[place].replace('_', '-'), tags[index])} {written[place]}"
 
 
@@ -284,17 +294,14 @@ SAYS_NOTHING = "euro preeuro abegede phonebook pinyin radical stroke cjknarrow q
 
 
 def modifier_says(modifier):
-    """The script and the variant of a modifier."""
+    """Returns the script and the variant that a modifier names."""
     script = MODIFIER_SCRIPTS.get(modifier.lower()) or (modifier if modifier.lower() in SCRIPT_CODES else None)
     return script, MODIFIER_VARIANTS.get(modifier.lower())
 
 
 def posix(name):
-    front, _, modifier = name.partition("@")
-    place, hash, behind = front.partition(".")[0].partition("#")
-    if hash:
-        place = re.sub("_{1,2}$", "", place)
-    place = place.replace("_", "-")
+    modifier, behind = name.partition("@")[2], re.split("[.@]", name)[0].partition("#")[2]
+    place = place_of(name).replace("_", "-")
     if not is_tag(place) or place.lower() == "posix" or len(place) > 255:
         return "-"
     tag = Tag(place)
@@ -313,11 +320,31 @@ def unknown_modifier(name):
     return "-" if known else modifier
 
 
+# ---- the code that is meant by one that is not registered
+
+
+@functools.lru_cache(None)
+def registry():
+    """Returns the module registry/oracle.py, which shows whether a subtag is registered."""
+    folder = DATA.parent.parent / "registry"
+    spec = importlib.util.spec_from_file_location("registry_oracle", folder / "oracle.py")
+    module = importlib.util.module_from_spec(spec)
+    spec.loader.exec_module(module)
+    return module.Registry(folder / "language-subtag-registry")
+
+
+def suggestion(text):
+    """Returns the registered code that replaces the first invalid subtag of a tag, if it is a single language or region."""
+    kind, _, code = registry().answer(text, ["validity"]).removeprefix("invalid ").partition("=")
+    found = {"language": ALIASES.get(code.lower(), [""]), "region": [REPLACEMENTS.get(code.lower(), "")]}.get(kind, [""])
+    return found[0] if not any(found[1:]) and registry().has(kind, found[0]) else "-"
+
+
 # ---- rows
 
 
 def plain(word):
-    """What a word of a row stands for."""
+    """Returns the text for a word of a row, without its escapes."""
     return "" if word == "''" else re.sub(r"\\x(..)", lambda found: chr(int(found[1], 16)), word)
 
 
@@ -345,7 +372,7 @@ def written(find):
     return lambda text: form(text, find) if is_tag(text) else "-"
 
 
-CALLS = {"maximized": written(add_likely), "minimized": written(remove_likely), "right-to-left": is_right_to_left, "posix": posix, "unknown-modifier": unknown_modifier}
+CALLS = {"maximized": written(add_likely), "minimized": written(remove_likely), "right-to-left": is_right_to_left, "posix": posix, "unknown-modifier": unknown_modifier, "suggestion": suggestion}
 
 
 COLUMNS = {"forms": forms, "distance": distance, "rows": answer}

@@ -1,15 +1,15 @@
 #!/usr/bin/env python3
-"""Lines to ask of oracle.py and of a program.
+"""Prints lines with which oracle.py and a program can be compared.
 
 usage: questions.py tags|pairs|rows COUNT SEED    prints that many tags, pairs of tags, or rows as in rows/
-       questions.py each                          prints rows for what the data speak of: each side of a row, and each rule
+       questions.py each prints rows for everything in the data: each side of a row, and each rule
 """
 import functools
 import random
 import sys
 
 from oracle import (ALIASES, GROUPS, LANGUAGE_RULES, LIKELY, REGION_ALIASES, RIGHT_TO_LEFT, SCRIPT_RULES, Tag, add_likely, element,
-                    escaped, lower)
+                    escaped, lower, rows)
 
 
 # ---- tags
@@ -43,7 +43,7 @@ NEAR_REGIONS = (sorted(GROUPS) + sorted(REGION_ALIASES) + ["GB", "US", "HK", "MO
 
 
 def near_tag(rng):
-    """A tag, often one that a rule speaks of."""
+    """Returns a tag, often a tag that a rule names."""
     if rng.random() < 0.3:
         return random_tag(rng)
     text = rng.choice(NEAR)
@@ -55,7 +55,7 @@ def near_tag(rng):
 
 
 def random_pair(rng):
-    """Two tags, often of languages, scripts and regions that rules name."""
+    """Returns two tags, often of languages, scripts and regions that rules name."""
     which = rng.random()
     if which < 0.2:
         pair = rng.choice(rng.choice((LANGUAGE_RULES, SCRIPT_RULES)))[0]
@@ -78,7 +78,7 @@ ODD_WEIGHTS = [";q=", ";q=x", ";q=1.5", ";Q=.%d", ";level=1;q=0.%d", ";q=0.5;q=0
 
 
 def random_element(rng):
-    """An element of a header, now and then a broken one."""
+    """Returns an element of a header, which is sometimes malformed."""
     wish = near_tag(rng) if rng.random() < 0.9 else rng.choice(ODD_WISHES)
     if rng.random() < 0.1:
         wish = wish.replace("-", "_") + rng.choice(["", ".UTF-8", "@euro", "@", ".", " .b"])
@@ -87,7 +87,7 @@ def random_element(rng):
 
 
 def tags_for(wish, rng):
-    """Tags that a range may get: the same one, one that it begins with, or some of its language."""
+    """Returns tags that a range may find: the same tag, a tag with which the range begins, or tags of its language."""
     language = wish.split("-")[0]
     if rng.random() < 0.5:
         return [rng.choice([wish, wish.swapcase(), wish.rpartition("-")[0] or wish, language, language + "-1996", language + "-x-a"])]
@@ -108,7 +108,7 @@ def random_choice(rng):
 
 
 def escaped_header(text):
-    """Spaces stand as they are: a row is taken apart at its bars."""
+    """Returns a header with escapes. Spaces are not escaped, since a row is split only at its bars."""
     return " ".join(escaped(word) if word else "" for word in text.split(" ")) or escaped("")
 
 
@@ -142,7 +142,7 @@ def random_row(rng):
 
 
 def each():
-    """Rows for what the data speak of."""
+    """Yields rows for everything in the data."""
     triples = sorted(set(LIKELY) | {lower(row) for row in LIKELY.values()} | {lower(add_likely(key)) for key in LIKELY})
     tags = ["-".join(filter(None, (fields[0] or "und", *fields[1:]))) for fields in triples]
     beside_und = sorted({row[1] for row in LIKELY.values()} | RIGHT_TO_LEFT) + sorted(REGION_ALIASES)
@@ -150,6 +150,9 @@ def each():
         print(f"maximized | {tag}\nminimized | {tag}\nright-to-left | {tag}")
     for name, to in ALIASES.items():
         print(f"distance | {name} | {'-'.join(filter(None, to))}\ndistance | en-{to[0]} | en-{name}\nbest | {name} | {to[0]} en {name}")
+        print(f"suggestion | {name}\nsuggestion | {name.upper()}-{name}")
+    for region in [row[0] for row in rows("region-alias.txt")]:
+        print(f"suggestion | en-{region}\nsuggestion | de-Latn-{region}-1996")
     for pair, _, _ in LANGUAGE_RULES + SCRIPT_RULES:
         print(f"distance | {pair[0]} | {pair[1]}\ndistance | {pair[1]} | {pair[0]}")
     regions = sorted(set(GROUPS) | set().union(*GROUPS.values()) | set(REGION_ALIASES))

@@ -1,6 +1,6 @@
 #!/usr/bin/env python3
-"""Tests of generate.py and from_cldr.py: other data are refused, newer ones taken, and --check sees what a file, a list or the
-generator itself loses."""
+"""Tests generate.py and from_cldr.py. Changed data are refused, newer data are accepted, and --check finds what is missing in a
+file, in a list or in the output of the generator itself."""
 import contextlib
 import io
 import pathlib
@@ -36,7 +36,7 @@ class Generating(unittest.TestCase):
             shutil.copy(generate.CRATES / name, self.crates / name)
 
     def run_with(self, *words):
-        """The status, and the lines that are printed."""
+        """Returns the status, and the lines that are printed."""
         out = io.StringIO()
         with contextlib.redirect_stdout(out):
             status = generate.main(list(words), self.crates)
@@ -61,7 +61,7 @@ class Generating(unittest.TestCase):
         self.assert_told()
 
     def edit(self, name, old, new):
-        """Data in which something stands otherwise."""
+        """Changes a text in the data."""
         path = generate.DATA / name
         text = path.read_text(encoding="utf-8")
         self.assertIn(old, text)
@@ -94,7 +94,7 @@ class Generating(unittest.TestCase):
         self.assertIn("CLDR 99.1", (self.crates / "langtag_likely/specs/LikelySubtags.antt").read_text(encoding="utf-8"))
         self.assertIn("CLDR_VERSION = 99\n", generate.MODULE.read_text(encoding="utf-8"))
         self.assertEqual(self.run_with(), (False, []))
-        # lists.py reads the data that stand, and these alone are other
+        # lists.py reads the current data, and only these data are different
         self.assert_told("language_rows: differs", "right_to_left_scripts: differs")
 
     def test_heads_of_two_versions(self):
@@ -107,7 +107,7 @@ class Generating(unittest.TestCase):
         self.assert_refused("^aaa: it had a row", "--accept", "aab")
 
     def test_a_language_is_replaced(self):
-        """As gom was, of which data of old had a rule, and newer ones an alias alone."""
+        """A language that had a rule in older data, and only has an alias in newer data, as `gom` did."""
         self.edit("likely.txt", "\naaa - - aaa Latn NG\n", "\n")
         self.edit("language-alias.txt", "\naam aas", "\naaa aab - -\naam aas")
         self.assertEqual(self.run_with("--accept"), (False, []))
@@ -161,7 +161,7 @@ class Generating(unittest.TestCase):
                 shutil.copy(generate.CRATES / name, self.crates / name)
 
     def test_what_the_generator_loses(self):
-        """The files are written by a generator that loses something, and --check runs over them by the same generator."""
+        """A generator that leaves something out writes the files, and its own --check has to find the difference."""
         both_ways, region_sets = matching.Matching.both_ways, matching.Matching.region_sets
 
         def one_way(rules):
@@ -216,7 +216,7 @@ FROM_COMMON = {
     "likely.txt": ["- - TW zh Hant TW", "he - - he Hebr IL"], "language-distance.txt": ["gsw de 4 1", "no nb 1 0"],
     "script-distance.txt": ["zh Hani zh Hans 20 1"], "region-distance.txt": ["es * $americas $americas 4", "* * * * 4"],
     "region-sets.txt": ["$americas 019 MX US"], "region-groups.txt": ["001 FR MX US", "019 MX US", "150 FR"], "paradigms.txt": ["en", "en-GB"],
-    "language-alias.txt": ["iw he - -", "sh sr Latn -"], "region-alias.txt": ["172 RU", "SU RU"], "right-to-left.txt": ["Hebr"],
+    "language-alias.txt": ["iw he - -", "sh sr Latn -"], "region-alias.txt": ["172 RU", "SU RU AM"], "right-to-left.txt": ["Hebr"],
 }
 
 

@@ -1,14 +1,14 @@
 #!/usr/bin/env python3
-"""Writes the tables and the lists of the crate langtag_registry from IANA's language subtag registry, which stands beside this
-file in its own form (RFC 5646 section 3.1.1), and the pages of proofs that compare them; and names for Python and JavaScript.
+"""Writes files from IANA's language subtag registry, which is beside this file in its original format (RFC 5646 section 3.1.1): the
+tables and lists of the crate langtag_registry, the pages of proofs that compare them, and names for Python and JavaScript.
 
-usage: generate.py            writes them from the registry whose checksum stands beside it
+usage: generate.py            writes them from the registry whose checksum is beside it
        generate.py --accept   writes them from a newer registry, and its checksum
-       generate.py --check    writes nothing, and names what is not as it should be: the registry by its checksum, a file that
-                              would be written otherwise, a list that oracle.py's reading has otherwise
+       generate.py --check    writes nothing, and names each fault: a registry with another checksum, a file that
+                              would be written differently, a list that differs from oracle.py's reading
 
-A registry that breaks what the crate rests on (premises.py) is refused: each record that does is named, nothing is written,
-and the status is 1.
+A registry that breaks a premise of the crate (premises.py) is refused: the records that break it are named, nothing is written, and
+the status is 1.
 """
 from __future__ import annotations
 
@@ -63,7 +63,7 @@ def end_number(text):
 
 
 def subtags(registry, kind, field=None):
-    """The subtags of a Type, or those with a field, in the order of their numbers."""
+    """Returns the subtags of a Type, or only those with a given field, in the order of their numbers."""
     return sorted((record.text for record in registry.all(kind, having=field)), key=folded_number)
 
 
@@ -99,11 +99,12 @@ def keys(texts):
 
 
 def key_table(name, what, texts):
-    return table(name, f"The {what}: their lowercase bytes as the digits of a number, in rising order.", "u64", keys(texts))
+    return table(name, f"The keys of the {what}, in rising order: each key is the number whose base-256 digits are the lowercase bytes.", "u64", keys(texts))
 
 
 def whole_tags(registry):
-    """The grandfathered and redundant tags with a Preferred-Value, and that value, by the numbers of their ends."""
+    """Returns the grandfathered and redundant tags with a Preferred-Value, with that value, in the order of the numbers of their
+    ends."""
     return sorted((pair for kind in TAG_TYPES for pair in values(registry, kind, "Preferred-Value")), key=lambda pair: end_number(pair[0]))
 
 
@@ -115,8 +116,8 @@ def tables(registry):
     out = [f"//! The registry in tables. Written by registry/generate.py from the registry of {registry.date}. Do not edit.\n",
            "/// The File-Date of the registry in this crate (RFC 5646 section 3.1.1).\n"
            f'pub const FILE_DATE: &str = "{registry.date}";\n',
-           table("LANGUAGE_BITS", "The languages: a bit for each text of two letters and then of three, in the order of the alphabet, from the lowest\n"
-                 "/// bit of the first word on.", "u64", [f"0x{word:016X}" for word in bits])]
+           table("LANGUAGE_BITS", "A bit for each text of two letters, and then of three, in alphabetical order: it is set if the text is a language.\n"
+                 "/// The first text has the lowest bit of the first word.", "u64", [f"0x{word:016X}" for word in bits])]
     for kind in SUBTAGS[1:]:
         out.append(key_table(f"{kind.upper()}_KEYS", f"{kind}s", subtags(registry, kind)))
     for kind in DEPRECATED:
@@ -124,20 +125,21 @@ def tables(registry):
     for kind, field, _, name in FIELDS:
         texts, beside = zip(*values(registry, kind, field))
         out.append(key_table(f"{name}_KEYS", f"{kind}s with a {field}", texts))
-        out.append(table(f"{name}_VALUES", "The value of each of them.", "&str", quoted(beside)))
-    out.append(table("PREFERRED_TAG_KEYS", "The whole tags with a Preferred-Value: the lowercase ones of their last eight bytes as the digits of a number, in rising order.",
+        out.append(table(f"{name}_VALUES", f"The {field} of each {kind} of `{name}_KEYS`.", "&str", quoted(beside)))
+    out.append(table("PREFERRED_TAG_KEYS", "The keys of the whole tags with a Preferred-Value, in rising order: each key is the number whose base-256 digits are the last eight bytes of a tag, in lowercase.",
                      "u64", [f"0x{end_number(text):X}" for text, _ in whole_tags(registry)]))
-    out.append(table("PREFERRED_TAGS", "Each of them before its Preferred-Value.", "(&str, &str)",
+    out.append(table("PREFERRED_TAGS", "Each tag of `PREFERRED_TAG_KEYS`, and its Preferred-Value.", "(&str, &str)",
                      [f'("{text}", "{value}")' for text, value in whole_tags(registry)]))
     out.append(table("DEPRECATED_TAGS", "The deprecated grandfathered and redundant tags.", "&str", quoted(deprecated_tags(registry))))
     prefixes = values(registry, "variant", "Prefix")
-    out.append(table("VARIANT_PREFIXES", "The variants with a Prefix: their lowercase bytes as the digits of a number, each before one of its prefixes.", "(u64, &str)",
+    out.append(table("VARIANT_PREFIXES", "The key of a variant, and one of its prefixes. The key is the number whose base-256 digits are the lowercase bytes of the variant.", "(u64, &str)",
                      [f'(0x{folded_number(text):016X}, "{prefix}")' for text, prefix in prefixes]))
     return "\n".join(out)
 
 
 def text_list(name, doc, subtags):
-    """A list of texts; a long one in a text for each first letter, as one literal of it all passes the step limit."""
+    """Returns a list of texts. A long list has one literal for each first letter, since a single literal would exceed the prover's
+    step limit."""
     head = f"-- {doc}\nunfoldable pub {name} : List (List ℕ)\n{name} ="
     if len(subtags) < 1000:
         return f"{head} words (codes \"{' '.join(subtags)}\")\n"
@@ -158,17 +160,17 @@ def lists(registry):
     for kind in SUBTAGS:
         out.append(text_list(f"{kind}_subtags", f"the Subtag fields of the records of Type {kind}, ranges written out", subtags(registry, kind)))
     for kind in DEPRECATED:
-        out.append(text_list(f"deprecated_{kind}s", f"those of the records of Type {kind} with a Deprecated field", subtags(registry, kind, "Deprecated")))
+        out.append(text_list(f"deprecated_{kind}s", f"the Subtag fields of the records of Type {kind} with a Deprecated field", subtags(registry, kind, "Deprecated")))
     out.append(text_list("deprecated_tags", "the Tag fields of the records of Type grandfathered and redundant with a Deprecated field", deprecated_tags(registry)))
     for kind, field, name, _ in FIELDS:
-        out.append(entry_list(name, f"the records of Type {kind} with a {field} field: each Subtag before that value", values(registry, kind, field)))
-    out.append(entry_list("tag_preferred", "the records of Type grandfathered and redundant with a Preferred-Value field: each Tag before that value", whole_tags(registry)))
-    out.append(entry_list("variant_prefixes", "the records of Type variant with Prefix fields: each Subtag before each of its values", values(registry, "variant", "Prefix")))
+        out.append(entry_list(name, f"the records of Type {kind} with a {field} field: each Subtag, and then the value of that field", values(registry, kind, field)))
+    out.append(entry_list("tag_preferred", "the records of Type grandfathered and redundant with a Preferred-Value field: each Tag, and then the value of that field", whole_tags(registry)))
+    out.append(entry_list("variant_prefixes", "the records of Type variant with Prefix fields: for each such field the Subtag, and then the value of the field", values(registry, "variant", "Prefix")))
     return "\n".join(out)
 
 
 def module_date(registry):
-    """The date in the name of PostgreSQL's module, for its Makefile."""
+    """Returns the Makefile's line with the date that is in the name of PostgreSQL's module."""
     return f"# The date of the registry in the library. Written by registry/generate.py. Do not edit.\nREGISTRY_DATE = {registry.date}\n"
 
 
@@ -177,7 +179,7 @@ ALL_LANGUAGES = "2009-07-29"
 
 
 def is_named(record):
-    """Whether a record has a name for people. Private use and rarer languages have none, and no collection with three letters."""
+    """Returns whether a record gets a name for display. Private use, rare languages and collections with three letters get none."""
     if "Private use" in record.values("Description"):
         return False
     is_common = record.value("Added") < ALL_LANGUAGES and record.value("Scope") != "collection"
@@ -185,7 +187,8 @@ def is_named(record):
 
 
 def names(registry):
-    """Lines of a subtag or a grandfathered tag, and the first of its descriptions. Letters' case tells the kinds of subtags apart."""
+    """Returns lines with a subtag or a grandfathered tag, and its first description. The case of the letters distinguishes the
+    kinds of subtags."""
     extended = [record for record in registry.all("extlang") if any(len(prefix) == 2 for prefix in record.values("Prefix"))]
     named = [record for kind in ("language", "script", "region", "variant", "grandfathered") for record in registry.all(kind) if is_named(record)]
     found = {record.text: re.sub(r" \((macrolanguage|individual language)\)$", "", record.value("Description")) for record in extended + named}
@@ -198,13 +201,13 @@ def names_for_javascript(registry):
 
 
 def written(registry):
-    """The files that are made of a registry: of each its path and its text."""
+    """Returns the files that are made from a registry: the path and the text of each."""
     for_people = {NAMES_FOR_PYTHON: names(registry), NAMES_FOR_JAVASCRIPT: names_for_javascript(registry)}
     return {TABLES: tables(registry), LISTS: lists(registry), MODULE: module_date(registry)} | for_people | {f"{PROOFS}/{name}.antt": page() for name, page in PAGES.items()}
 
 
 def checksum(source):
-    """The line of sha256sum, by which `sha256sum -c` tests the file, too."""
+    """Returns the line of sha256sum, with which `sha256sum -c` can check the file, too."""
     return f"{hashlib.sha256(source).hexdigest()}  {pathlib.Path(REGISTRY).name}\n"
 
 
@@ -216,12 +219,12 @@ def read(source):
 
 
 def text_of(root, path):
-    """The text of a file, or an empty one where there is none."""
+    """Returns the text of a file, or the empty text if there is no such file."""
     return (root / path).read_text(encoding="utf-8") if (root / path).is_file() else ""
 
 
 def lost(root, registry):
-    """The subtags and tags of the lists that stand, and are not in a newer registry: none is ever taken out (section 3.4)."""
+    """Returns the subtags and tags of the current lists that a newer registry lacks. No record is ever removed (section 3.4)."""
     standing = second_reading.words(text_of(root, LISTS))
     for kind in SUBTAGS:
         for text in standing.get(f"{kind}_subtags", []):
@@ -233,7 +236,7 @@ def lost(root, registry):
 
 
 def refuse_unaccepted(root, registry, source, accept):
-    """Refuses another registry than the one that stands, but for a newer one that is to be accepted."""
+    """Refuses a registry other than the current one, unless it is newer and is to be accepted."""
     standing = re.search(r'FILE_DATE: &str = "([0-9-]+)"', text_of(root, TABLES))
     if checksum(source) == text_of(root, CHECKSUM):
         return
@@ -257,7 +260,7 @@ def write(root, accept):
 
 
 def differences(root):
-    """What --check names."""
+    """Returns what --check names."""
     source = (root / REGISTRY).read_bytes()
     if checksum(source) != text_of(root, CHECKSUM):
         yield f"{REGISTRY}: not the registry of {CHECKSUM}"

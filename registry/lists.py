@@ -1,4 +1,4 @@
-"""Holds the lists of specs/Subtags.antt, which generate.py writes, against oracle.py's reading of the registry."""
+"""Compares the lists of specs/Subtags.antt, which generate.py writes, with oracle.py's reading of the registry."""
 from __future__ import annotations
 
 import re
@@ -8,7 +8,7 @@ from pathlib import Path
 
 from oracle import Registry
 
-# Of each list with values: the Types of its records, and the field.
+# For each list with values: the Types of its records, and the field.
 FIELDS = {
     "language_preferred": (["language"], "Preferred-Value"),
     "language_suppress_script": (["language"], "Suppress-Script"),
@@ -20,26 +20,26 @@ FIELDS = {
 
 
 def words(page: str) -> dict[str, list[str]]:
-    """The words of each list of a page."""
+    """Returns the words of each list of a page."""
     lists = re.findall(r"(?ms)^(\w+) =(.*?)(?:\n\n|\Z)", page)
     return {name: " ".join(re.findall(r'codes "([^"]*)"', body)).split() for name, body in lists if 'codes "' in body}
 
 
 def between(first: str, last: str) -> list[str]:
-    """The texts of small letters from one to another of as many, in the order of the alphabet."""
+    """Yields the lowercase texts from one text to another of the same length, in alphabetical order."""
     low, high = (reduce(lambda number, letter: number * 26 + ord(letter) - 97, text, 0) for text in (first, last))
     return ["".join(chr(97 + number // 26**place % 26) for place in reversed(range(len(first)))) for number in range(low, high + 1)]
 
 
 def texts_of(registry: Registry, kind: str, field: str | None = None) -> list[str]:
-    """The texts of a Type, or those with a field; of a range each of its texts."""
+    """Returns the texts of a Type, or only those with a given field, with each text of a range."""
     found = {text for of, text in registry.fields if of == kind and ".." not in text}
     found.update(text for of, first, last in registry.ranges if of == kind for text in between(first, last))
     return sorted(text for text in found if field is None or registry.field(kind, field, text))
 
 
 def wanted(registry: Registry) -> dict[str, list]:
-    """What each list should have: texts in small letters, or pairs of them with a value."""
+    """Returns what each list should have: lowercase texts, or pairs of such a text and a value."""
     lists: dict[str, list] = {f"{kind}_subtags": texts_of(registry, kind) for kind in ("language", "extlang", "script", "region", "variant")}
     for kind in ("language", "extlang", "region", "variant"):
         lists[f"deprecated_{kind}s"] = texts_of(registry, kind, "Deprecated")
@@ -53,7 +53,7 @@ def wanted(registry: Registry) -> dict[str, list]:
 
 
 def differences(registry_path: Path, page: str) -> Iterator[str]:
-    """A line for each list that the page has otherwise, lacks or adds."""
+    """Returns a line for each list that differs on the page, is missing, or is extra."""
     ours, theirs = words(page), wanted(Registry(registry_path))
     for name in sorted(ours.keys() ^ theirs.keys()):
         yield f"{name}: {'not read a second time' if name in ours else 'not on the page'}"

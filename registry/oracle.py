@@ -1,5 +1,5 @@
 #!/usr/bin/env python3
-"""A plain reading of RFC 5646 sections 2.1, 2.2.9, 3.1 and 4.5 over the registry's record-jar, by regular expressions.
+"""A plain implementation of RFC 5646 sections 2.1, 2.2.9, 3.1 and 4.5 over the registry's record-jar file, by regular expressions.
 
 usage: oracle.py REGISTRY [COLUMN..] < LINES   prints for each line the columns: validity, whole, parts, canonical,
                                                is-canonical, extlang-form, misplaced, misplaced-extlang, deprecated
@@ -43,7 +43,7 @@ class Registry:
             self.fields[kind, name.lower()] = fields
 
     def record(self, kind, text):
-        """The fields of the record for a text, or of that of the range in which it lies; none where there is no such record."""
+        """Returns the fields of the record for a text, or for the range that contains it, or None if there is no such record."""
         text = text.lower()
         for of, low, high in self.ranges:
             if of == kind and len(text) == len(low) and low <= text <= high:
@@ -88,7 +88,8 @@ class Registry:
         return " ".join(out)
 
     def canonical(self, text):
-        """Section 4.5: a whole tag (step 2), or else the parts (1 and 3) and step 2 once more."""
+        """Returns the canonical form (section 4.5): by a whole tag (step 2), or else by the parts (steps 1 and 3) and step 2 once
+        more."""
         if self.whole(text):
             return self.whole(text)
         found = GRAMMAR.fullmatch(text)
@@ -110,7 +111,7 @@ class Registry:
         return "-".join(subtags) + "".join(extensions) + found["private"]
 
     def extlang_form(self, text):
-        """Section 4.5's other form: the Prefix stands before a language that is an extended one, too."""
+        """Returns the other form of section 4.5, in which a language that is also an extended language has its Prefix before it."""
         text = self.canonical(text)
         found = GRAMMAR.fullmatch(text)
         if not found or text.lower() in self.kinds["grandfathered"] or found["ext"] and found["ext"].count("-") == 3:
@@ -119,8 +120,8 @@ class Registry:
         return prefix[0] + "-" + text if prefix else text
 
     def misplaced(self, found):
-        """The first variant before which none of its prefixes stands (section 3.1.8), by extended filtering (RFC 4647
-        section 3.3.2). There is no singleton before a variant, so that any subtags may be left out."""
+        """Returns the first variant that follows none of its prefixes (section 3.1.8), by extended filtering (RFC 4647 section
+        3.3.2). No singleton comes before a variant, so any subtags may be skipped."""
         before = found.string[:found.start("variants")]
         for variant in found["variants"].split("-")[1:]:
             prefixes = self.prefixes.get(("variant", variant.lower()), [])
@@ -131,7 +132,7 @@ class Registry:
         return "-"
 
     def misplaced_extlang(self, found):
-        """The extended language before which another language stands than its Prefix (section 3.1.8)."""
+        """Returns the extended language that follows a language other than its Prefix (section 3.1.8)."""
         primary, extended = (found["language"].split("-") + ["-"])[:2]
         return extended if primary.lower() not in self.prefixes.get(("extlang", extended.lower()), [primary.lower()]) else "-"
 
@@ -161,7 +162,7 @@ class Registry:
         return None
 
     def parts(self, found):
-        """What the registry says of each subtag: registered or not, its fields, deprecated or not."""
+        """Returns what the registry says about each subtag: whether it is registered, its fields, and whether it is deprecated."""
         primary, *extended = found["language"].split("-")
         rows = [("language", primary, ["Preferred-Value", "Suppress-Script", "Macrolanguage"])]
         rows += [("extlang", text, []) for text in extended]

@@ -1,8 +1,8 @@
 #!/usr/bin/env python3
-"""Compares the oracle, which the crate agrees with, and the registry with what others made. Nothing of theirs is kept.
+"""Compares the oracle, with which the crate agrees, and the registry with the work of others. Nothing of that work is kept here.
 
 usage: peers.py tags PROGRAM < LINES      the crate language-tags: a PROGRAM that prints for each line `refused`, or `valid canonical=TAG`,
-                                          or `invalid ERROR canonical=TAG` (`canonical=!ERROR` where it has no form)
+                                          or `invalid ERROR canonical=TAG` (`canonical=!ERROR` if there is no form)
        peers.py codes ISO VALIDITY        the codes of Debian's iso-codes (a folder of json) and unicode-cldr-core (common/validity)
 """
 import collections
@@ -22,13 +22,13 @@ def asked(program, lines):
 
 
 def replaced_otherwise(program):
-    """The languages and extended languages that the program's registry replaces otherwise."""
+    """Returns the languages and extended languages for which the program's registry has another replacement."""
     texts = REGISTRY.names["language"] + ["zh-" + text for text in REGISTRY.names["extlang"]]
     return {text[-3:].strip("-") for text, theirs in zip(texts, asked(program, texts)) if not theirs.endswith("=" + REGISTRY.canonical(text))}
 
 
 def form_difference(text, ours, theirs, otherwise):
-    """Why two canonical forms differ, but for case."""
+    """Returns why two canonical forms differ in more than case."""
     found = GRAMMAR.fullmatch(text)
     if theirs.startswith("!"):
         return "theirs has no form: " + theirs[1:]
@@ -74,7 +74,7 @@ def tags(program):
 
 
 def written_out(items):
-    """CLDR's ranges: `AA~C` is AA, AB and AC."""
+    """Returns the codes of a range in CLDR's notation: `AA~C` is AA, AB and AC."""
     for item in items.split():
         first, _, last = item.partition("~")
         stem = first[:len(first) - len(last)] if last else ""

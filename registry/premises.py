@@ -1,4 +1,5 @@
-"""What the crate langtag_registry takes of the registry: its definitions by their words, its tables by their form, and its proofs by computation.
+"""The premises about the registry on which the crate langtag_registry relies: in its definitions, in the form of its tables, and in
+proofs by computation.
 
 Each function yields a line for each record that breaks what its docstring says.
 """
@@ -9,18 +10,18 @@ from collections.abc import Iterator
 
 from records import SUBTAG_TYPES, TAG_TYPES, Record, Registry
 
-# What a subtag of each Type looks like (RFC 5646 section 2.1). The tables hold languages of two and three letters alone.
+# The form of the subtags of each Type (RFC 5646 section 2.1). The tables only have languages of two and three letters.
 SHAPES = {kind: re.compile(shape, re.I | re.A) for kind, shape in {
     "language": "[a-z]{2,3}", "extlang": "[a-z]{3}", "script": "[a-z]{4}", "region": "[a-z]{2}|[0-9]{3}",
     "variant": "[a-z0-9]{5,8}|[0-9][a-z0-9]{3}",
 }.items()}
-# The grandfathered tags of the grammar (section 2.1), to which no more can come (section 2.2.8).
+# The grandfathered tags of the grammar (section 2.1). No more can be added (section 2.2.8).
 GRANDFATHERED = set("""
     en-gb-oed i-ami i-bnn i-default i-enochian i-hak i-klingon i-lux i-mingo i-navajo i-pwn i-tao i-tay i-tsu sgn-be-fr sgn-be-nl sgn-ch-de
     art-lojban cel-gaulish no-bok no-nyn zh-guoyu zh-hakka zh-min zh-min-nan zh-xiang
 """.split())
-# The longest whole tag that is replaced, and the longest value, in bytes: the code looks no longer text up, and the bound of a
-# form's length has room for no longer value.
+# The lengths, in bytes, of the longest whole tag that is replaced, and of the longest value. The code does not look up longer
+# texts, and the bound on the length of a form allows no longer value.
 LONGEST_REPLACED, LONGEST_PREFERRED = 16, 14
 
 
@@ -29,7 +30,8 @@ def is_of(kind: str, text: str) -> bool:
 
 
 def parts_of(value: str) -> list[tuple[str, str]]:
-    """The Type and the text of each subtag of `language`, `language-Script` or `language-REGION-variant`; of another text none."""
+    """Returns the Type and the text of each subtag of `language`, `language-Script` or `language-REGION-variant`, and [] for any
+    other text."""
     subtags = value.split("-")
     for kinds in (["language"], ["language", "script"], ["language", "region", "variant"]):
         if len(kinds) == len(subtags) and all(map(is_of, kinds, subtags)):
@@ -38,14 +40,15 @@ def parts_of(value: str) -> list[tuple[str, str]]:
 
 
 def each_subtag_is_of_its_class(registry: Registry) -> Iterator[str]:
-    """The tables have a place for each subtag: a bit for a language, a number of so many bytes for another."""
+    """The tables can contain each subtag: a language as a bit, and another subtag as a number of a few bytes."""
     for record in registry.all(*SUBTAG_TYPES):
         if not is_of(record.kind, record.text):
             yield f"{record}: not of the class of its Type, or one that no table holds"
 
 
 def extlangs_are_themselves(registry: Registry) -> Iterator[str]:
-    """Section 2.2.2: an extended language has its own subtag as Preferred-Value, in small letters, and that is a language, too."""
+    """Section 2.2.2: the Preferred-Value of an extended language is the same subtag, in lowercase, which is also registered as a
+    language."""
     for record in registry.all("extlang"):
         if record.value("Preferred-Value") != record.text or record.text != record.text.lower():
             yield f"{record}: its Preferred-Value is not itself in small letters, but {record.value('Preferred-Value')}"
@@ -61,14 +64,14 @@ def extlangs_have_one_prefix(registry: Registry) -> Iterator[str]:
 
 
 def preferred_subtags_are_registered(registry: Registry) -> Iterator[str]:
-    """The Preferred-Value of a language, region or variant is a registered one of its Type."""
+    """The Preferred-Value of a language, region or variant is a registered subtag of the same Type."""
     for record in registry.all("language", "region", "variant", having="Preferred-Value"):
         if not registry.get(record.kind, record.value("Preferred-Value")):
             yield f"{record}: its Preferred-Value {record.value('Preferred-Value')} is not registered as a {record.kind}"
 
 
 def preferred_subtags_stay(registry: Registry) -> Iterator[str]:
-    """The Preferred-Value of a language, region or variant has none itself, so that replacing once is enough."""
+    """The Preferred-Value of a language, region or variant has no Preferred-Value itself, so replacing once is enough."""
     for record in registry.all("language", "region", "variant", having="Preferred-Value"):
         value = record.value("Preferred-Value")
         if again := registry.preferred(record.kind, value):
@@ -76,7 +79,8 @@ def preferred_subtags_stay(registry: Registry) -> Iterator[str]:
 
 
 def whole_tags_become_simple_ones(registry: Registry) -> Iterator[str]:
-    """The Preferred-Value of a whole tag is a language, with a script, or with a region and a variant: all of them registered."""
+    """The Preferred-Value of a whole tag is a language, perhaps with a script, or with a region and a variant. All of these are
+    registered."""
     for record in registry.all(*TAG_TYPES, having="Preferred-Value"):
         value = record.value("Preferred-Value")
         if not parts_of(value):
@@ -87,7 +91,7 @@ def whole_tags_become_simple_ones(registry: Registry) -> Iterator[str]:
 
 
 def preferred_tags_stay(registry: Registry) -> Iterator[str]:
-    """The Preferred-Value of a whole tag has none itself, as a whole, and nor has a subtag of it."""
+    """The Preferred-Value of a whole tag has no Preferred-Value itself, neither as a whole nor for one of its subtags."""
     for record in registry.all(*TAG_TYPES, having="Preferred-Value"):
         value = record.value("Preferred-Value")
         for kind, text in [(kind, value) for kind in TAG_TYPES] + parts_of(value):
@@ -96,7 +100,7 @@ def preferred_tags_stay(registry: Registry) -> Iterator[str]:
 
 
 def replaced_tags_are_short(registry: Registry) -> Iterator[str]:
-    """A whole tag that is replaced has few bytes, and so has its Preferred-Value."""
+    """A whole tag that is replaced is not longer than the code allows, and neither is its Preferred-Value."""
     for record in registry.all(*TAG_TYPES, having="Preferred-Value"):
         if len(record.text) > LONGEST_REPLACED:
             yield f"{record}: longer than {LONGEST_REPLACED} bytes, with a Preferred-Value"
@@ -115,21 +119,22 @@ def replaced_tags_end_apart(registry: Registry) -> Iterator[str]:
 
 
 def whole_tags_are_of_subtags(registry: Registry) -> Iterator[str]:
-    """A whole tag is subtags of letters and digits."""
+    """A whole tag consists of subtags of letters and digits."""
     for record in registry.all(*TAG_TYPES):
         if not re.fullmatch("[a-z0-9]{1,8}(-[a-z0-9]{1,8})*", record.text, re.I | re.A):
             yield f"{record}: not subtags of one to eight letters and digits"
 
 
 def whole_tags_have_one_variant(registry: Registry) -> Iterator[str]:
-    """A whole tag that is grandfathered or replaced has one subtag of the class of variants at most."""
+    """A whole tag that is grandfathered or replaced has at most one subtag of the class of variants."""
     for record in registry.all("grandfathered") + registry.all("redundant", having="Preferred-Value"):
         if sum(is_of("variant", subtag) for subtag in record.text.split("-")) > 1:
             yield f"{record}: two subtags of the class of variants"
 
 
 def grandfathered_tags_are_those_of_the_grammar(registry: Registry) -> Iterator[str]:
-    """The grandfathered tags are those by which a text is well-formed, and of those with an extended language only `zh-min` stays."""
+    """The registry has the grandfathered tags of the grammar. Of the tags with an extended language, only `zh-min` is not
+    replaced."""
     for text in sorted(GRANDFATHERED ^ set(registry.kinds["grandfathered"])):
         yield f"grandfathered {text}: in {'the grammar' if text in GRANDFATHERED else 'the registry'} alone"
     for record in registry.all("grandfathered"):
@@ -147,7 +152,7 @@ def fields_of_languages_are_of_their_class(registry: Registry) -> Iterator[str]:
 
 
 def prefixes_of_variants_are_ranges(registry: Registry) -> Iterator[str]:
-    """The Prefix of a variant is subtags of a tag, by which extended filtering (RFC 4647 section 3.3.2) goes."""
+    """The Prefix of a variant consists of subtags of a tag, so it can be a range of extended filtering (RFC 4647 section 3.3.2)."""
     for record in registry.all("variant"):
         for prefix in record.values("Prefix"):
             if not re.fullmatch("[a-z]{1,8}(-[a-z0-9]{1,8})*", prefix, re.I | re.A):
@@ -155,7 +160,7 @@ def prefixes_of_variants_are_ranges(registry: Registry) -> Iterator[str]:
 
 
 def scripts_stay(registry: Registry) -> Iterator[str]:
-    """No script is deprecated or replaced: the crate has no place for it."""
+    """No script is deprecated or replaced, since the crate has no table for that."""
     for record in registry.all("script"):
         for field in ("Deprecated", "Preferred-Value"):
             if record.values(field):
@@ -171,5 +176,5 @@ PREMISES = [
 
 
 def broken(registry: Registry) -> list[str]:
-    """A line for each record that breaks a premise."""
+    """Returns a line for each record that breaks a premise."""
     return [line for premise in PREMISES for line in premise(registry)]

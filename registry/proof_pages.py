@@ -1,12 +1,13 @@
-"""The pages of langtag_registry's proofs that hold by computation alone: that a table has what the list of the same name has."""
+"""Writes the pages of langtag_registry that are proved only by computation: each table has the content of the list with the same
+name."""
 from __future__ import annotations
 
 NOTE = "Written by registry/generate.py. Do not edit."
 
-# The tables of numbers, and the lists whose numbers they are.
+# The tables of numbers, and the lists from which the numbers are computed.
 KEYS = [(f"{kind}_keys", f"{kind.upper()}_KEYS", f"{kind}_subtags") for kind in ("extlang", "script", "region", "variant")]
 KEYS += [(f"deprecated_{kind}_keys", f"DEPRECATED_{kind.upper()}_KEYS", f"deprecated_{kind}s") for kind in ("language", "extlang", "region", "variant")]
-# The tables of fields: how the lemmas begin, the field, the list, the tables, and the class of the values.
+# The tables of fields: the beginning of the lemmas' names, the field, the list, the tables, and the class of the values.
 FIELDS = [
     ("preferred", "preferred_language", "language_preferred", "PREFERRED_LANGUAGE", "is_primary"),
     ("suppress", "suppress_script", "language_suppress_script", "SUPPRESS_SCRIPT", "is_script"),
@@ -15,13 +16,13 @@ FIELDS = [
     ("regions", "preferred_region", "region_preferred", "PREFERRED_REGION", "is_region"),
     ("variants", "preferred_variant", "variant_preferred", "PREFERRED_VARIANT", "is_variant"),
 ]
-# What a class rests on, beside itself.
+# The definitions on which a class rests, besides the class itself.
 CLASS = {"is_primary": "is_primary is_letter", "is_script": "is_script is_letter", "is_region": "is_region is_letter is_digit", "is_variant": "is_variant is_letter is_digit"}
 PLAIN = "folded_number fold_byte is_letter is_digit"
 
 
 def lemma(name: str, statement: str, unfolding: str = "", proof: str = "refl", given: str = "") -> str:
-    """A lemma that is computed; a long statement stands on a line of its own."""
+    """Returns a lemma that is proved by computation. A long statement is on a separate line."""
     line = f"pub {name} : {statement}"
     if len(line) > 160:
         line = f"pub {name} :\n    {statement}"
@@ -69,12 +70,11 @@ def field_tables() -> str:
     return "\n\n".join([*blocks, lemma("tag_entries", entries, "list.tag_preferred"), ends]) + "\n"
 
 
-PREFIX_HEAD = """-- The table of the variants' prefixes has what the list says, and each prefix is a language range: by computation. {note}
+PREFIX_HEAD = """-- The table of the variants' prefixes has what the list says: by computation. {note}
 use Rattle.std.proofs.Common.{{◌≡◌, true, map, refl}}
 use Rattle.std.specs.List.{{list_all}}
 use Rattle.langtag_scan.specs.Case.{{fold_byte, folded_number}}
-use Rattle.langtag_scan.specs.Class.{{is_letter, is_digit, are_alphanumeric, is_private_subtag}}
-use Rattle.langtag_match.specs.Range.{{is_language_range}}
+use Rattle.langtag_scan.specs.Class.{{is_letter, is_digit, are_alphanumeric}}
 use Rattle.langtag_registry.specs.declared.tables.TheConstants.{{VARIANT_PREFIXES}}
 use Rattle.langtag_registry.specs.Subtags.{{variant_prefixes}}"""
 
@@ -86,7 +86,6 @@ def prefix_tables() -> str:
         lemma("prefix_numbers", f"map (λ pair. pair.0) VARIANT_PREFIXES ≡ map (λ e. folded_number e.subtag) {items}", f"{items} folded_number fold_byte"),
         lemma("prefix_texts", f"map (λ pair. pair.1.now) VARIANT_PREFIXES ≡ map (λ e. e.value) {items}", items),
         lemma("prefixed_alphanumeric", f"list_all (λ e. are_alphanumeric e.subtag) {items} ≡ true", f"{items} is_letter is_digit"),
-        lemma("prefixes_are_ranges", f"list_all (λ e. is_language_range e.value) {items} ≡ true", f"{items} is_private_subtag is_letter is_digit"),
     ]) + "\n"
 
 

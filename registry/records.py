@@ -1,11 +1,11 @@
-"""Reads the record-jar of IANA's language subtag registry (RFC 5646 section 3.1.1), and refuses what is not one."""
+"""Reads the record-jar file of IANA's language subtag registry (RFC 5646 section 3.1.1), and refuses any other file."""
 from __future__ import annotations
 
 import datetime
 import re
 from typing import NamedTuple
 
-# The Types of records (section 3.1.2): those of a subtag, and those of a whole tag.
+# The Types of records (section 3.1.2): the Types of subtags, and the Types of whole tags.
 SUBTAG_TYPES = ["language", "extlang", "script", "region", "variant"]
 TAG_TYPES = ["grandfathered", "redundant"]
 REQUIRED = ["Type", "Description", "Added"]
@@ -13,7 +13,7 @@ AT_MOST_ONCE = ["Type", "Subtag", "Tag", "Added", "Deprecated", "Preferred-Value
 
 
 class Refused(Exception):
-    """Why a registry can't be taken: a line for each record that is at fault."""
+    """Raised if a registry cannot be used. It has a line for each faulty record."""
 
 
 class Record(NamedTuple):
@@ -32,7 +32,8 @@ class Record(NamedTuple):
 
 
 class Registry:
-    """The date, and the records of each Type by their texts in small letters, a range written out as records."""
+    """A registry: its date, and the records of each Type by their lowercase texts. A range is expanded to one record for each
+    subtag."""
 
     def __init__(self, source: str):
         if not source.endswith("\n"):
@@ -51,7 +52,7 @@ class Registry:
             raise Refused(f"no record of Type {', '.join(lacking)}")
 
     def all(self, *kinds: str, having: str | None = None) -> list[Record]:
-        """The records of some Types, or those of them with a field."""
+        """Returns the records of some Types, or only the records that have a field."""
         found = [record for kind in kinds for record in self.kinds[kind].values()]
         return [record for record in found if having is None or record.values(having)]
 
@@ -64,7 +65,7 @@ class Registry:
 
 
 def fields_of(block: str) -> dict[str, list[str]]:
-    """The fields of a record, each with its values; a line that begins with a space goes on with the one before."""
+    """Returns the fields of a record, each with its values. A line that begins with a space continues the line before it."""
     fields: dict[str, list[str]] = {}
     for line in filter(str.strip, re.sub(r"\n[ \t]+", " ", block).split("\n")):
         found = re.fullmatch(r"([A-Za-z][A-Za-z0-9-]*)[ \t]*:[ \t]*(.*?)[ \t]*", line)
@@ -90,7 +91,7 @@ def file_date(head: dict[str, list[str]]) -> str:
 
 
 def records_of(body: str) -> list[Record]:
-    """The record, or those of a range."""
+    """Returns the record, or the records of a range."""
     fields = fields_of(body)
     name = " ".join(body.splitlines()[:2]) or "an empty record"
     for field in REQUIRED:
@@ -109,7 +110,7 @@ def records_of(body: str) -> list[Record]:
 
 
 def written_out(field: str, name: str) -> list[str]:
-    """The subtags of a Subtag field, which may be a range: `qaa..qtz` (section 3.1.2)."""
+    """Returns the subtags of a Subtag field, which may be a range: `qaa..qtz` (section 3.1.2)."""
     first, dots, last = field.partition("..")
     if not dots:
         return [field]
@@ -122,7 +123,7 @@ def written_out(field: str, name: str) -> list[str]:
 
 
 def next_text(text: str) -> str:
-    """The next text of as many letters, in the order of the alphabet."""
+    """Returns the next text of the same length in alphabetical order."""
     kept = text.rstrip("zZ")
     turned = "".join("A" if letter == "Z" else "a" for letter in text[len(kept):])
     return kept[:-1] + chr(ord(kept[-1]) + 1) + turned

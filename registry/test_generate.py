@@ -1,6 +1,6 @@
 #!/usr/bin/env python3
-"""Tests of generate.py over the registry that stands beside it: broken registries are refused, each with its record named and nothing written,
-a newer one is accepted, and --check sees what a generator loses."""
+"""Tests generate.py with the registry beside it. Broken registries are refused: the record is named, and nothing is written. A
+newer registry is accepted, and --check finds everything that a faulty generator leaves out."""
 import contextlib
 import functools
 import io
@@ -27,7 +27,7 @@ def record(kind, text, *fields):
 
 
 def edited(kind, text, old, new):
-    """A newer registry in whose record for a text something else stands."""
+    """Returns a newer registry in which the record for a text is changed."""
     start = NEWER.index(head_of(kind, text))
     end = NEWER.index("%%\n", start)
     body = NEWER[start:end]
@@ -40,11 +40,11 @@ def head_of(kind, text):
 
 
 def with_field(kind, text, field):
-    """A newer registry in which a record has a field more."""
+    """Returns a newer registry in which a record has one more field."""
     return edited(kind, text, head_of(kind, text), head_of(kind, text) + field + "\n")
 
 
-# Of each premise, registries that break it: the record that is named, and the text.
+# For each premise, registries that break it: the record that is named, and the text of the registry.
 BROKEN = {
     premises.each_subtag_is_of_its_class: [
         ("language abcd", NEWER + record("language", "abcd")),
@@ -130,7 +130,7 @@ BROKEN = {
     ],
 }
 
-# Texts that are not a registry, and what is named.
+# Texts that are not a registry, and what the message names.
 UNREADABLE = {
     "the file ends inside a line": NEWER[:len(NEWER) // 2].rstrip("\n"),
     "it is empty": "",
@@ -165,7 +165,7 @@ records_of = mock.patch.object(records, "records_of", functools.cache(records.re
 
 
 def setUpModule():
-    """Nearly all records of all registries are the same: each is read once."""
+    """Reads each record only once, since nearly all records of these registries are the same."""
     unittest.addModuleCleanup(records_of.stop)
     records_of.start()
 
@@ -183,7 +183,7 @@ class Generating(unittest.TestCase):
         (self.root / generate.REGISTRY).write_bytes(text.encode("utf-8"))
 
     def run_with(self, *words):
-        """The status, and what is printed."""
+        """Returns the status, and what is printed."""
         out = io.StringIO()
         with contextlib.redirect_stdout(out):
             status = generate.main(list(words), self.root)
@@ -208,7 +208,7 @@ class Generating(unittest.TestCase):
                     self.assert_refused(named, "--accept")
 
     def test_lengths(self):
-        """The premises have the lengths that the code has."""
+        """The premises have the same lengths as the code."""
         code = (generate.ROOT / "crates/langtag_registry/src/canonical_form.rt").read_text(encoding="utf-8")
         for name in ("LONGEST_REPLACED", "LONGEST_PREFERRED"):
             self.assertIn(f"const {name}: usize = {getattr(premises, name)};", code)
@@ -274,7 +274,7 @@ class Generating(unittest.TestCase):
                 (self.root / path).write_text(standing, encoding="utf-8")
 
     def test_what_a_generator_loses(self):
-        """The lists are written by a generator that loses something, and --check runs over them by the same generator."""
+        """A generator that leaves something out writes the lists, and its own --check has to find the difference."""
         values, subtags = generate.values, generate.subtags
 
         def without_deprecated(registry, kind, field):

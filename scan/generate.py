@@ -1,12 +1,12 @@
 #!/usr/bin/env python3
-"""Writes the states of the recogniser (RFC 5646 section 2.1): the tables of the crate langtag_scan, and the page of its
-specification that says which state stands for which position.
+"""Writes the states of the recogniser (RFC 5646 section 2.1): the tables of the crate langtag_scan, and the page of definitions
+that says which state represents which position.
 
 usage: generate.py           writes them
-       generate.py --check   writes nothing, and names a file that would be written otherwise
+       generate.py --check   writes nothing, and names a file that would be written differently
 
-The grammar is said here by subtags (`stage_after`) and by the irregular texts. A position is what they make of the bytes
-that were read. The states are the fewest that tell apart what may follow and which part ends where.
+The grammar is given by subtags (`stage_after`) and by the irregular tags. A position is what is known about the bytes that were
+read. There are as few states as possible: positions with the same continuations and the same ends of parts share a state.
 """
 from __future__ import annotations
 
@@ -16,11 +16,12 @@ from typing import NamedTuple
 
 CRATE = pathlib.Path(__file__).resolve().parent.parent / "crates" / "langtag_scan"
 
-# Section 2.2.8, in the order of section 2.1, with small letters.
+# Section 2.2.8, in the order of section 2.1, in lowercase.
 IRREGULAR = ("en-gb-oed i-ami i-bnn i-default i-enochian i-hak i-klingon i-lux i-mingo i-navajo i-pwn i-tao i-tay i-tsu "
              "sgn-be-fr sgn-be-nl sgn-ch-de").split()
 
-# A byte of each class: a small letter for both its cases, 0 for all digits, the hyphen, and NUL for any byte that no tag has.
+# One byte of each class: a lowercase letter for both of its cases, 0 for all digits, the hyphen, and NUL for every byte that no tag
+# contains.
 CLASSES = [*"abcdefghijklmnopqrstuvwxyz", "0", "-", "\0"]
 
 STAGES = ["Start", "Language 0", "Language 3", "Extended 1", "Extended 2", "Extended 3", "AfterScript", "AfterRegion", "AfterVariant",
@@ -28,26 +29,29 @@ STAGES = ["Start", "Language 0", "Language 3", "Extended 1", "Extended 2", "Exte
 KINDS = ["Empty", "Mark", "Letters", "Digits", "LetterFirst", "DigitFirst"]
 LONGEST = 8
 
-# The place of the part that ends with a stage, among the ends of the parts. In the last place nothing is kept: private use ends with the text.
+# The index of the part that ends with a stage, among the ends of the parts. The last index keeps no end, since private use ends
+# with the text.
 PARTS = {"Start": 5, "Language": 0, "Extended": 0, "AfterScript": 1, "AfterRegion": 2, "AfterVariant": 3, "AfterSingleton": 4, "InExtension": 4,
          "AfterMark": 5, "InPrivate": 5, "AfterFirstMark": 5, "InPrivateTag": 5}
 NO_PART = 5
 
-# What a text is that ends in a state: a normal tag, by the place of its last part, or one of these. An irregular text has its index after them.
+# The kind of a text that ends in a state: a normal tag, by the index of its last part, or one of these. An irregular tag has its
+# index after these.
 NO_TAG, PRIVATE_USE, FIRST_IRREGULAR = 6, 7, 8
 
 WIDTH = 120
 
 
 class Begun(NamedTuple):
-    """A subtag that has begun: the stage before it, what bytes it has, and how many."""
+    """The subtag that is being read: the stage before it, the kind of its bytes, and their number."""
     stage: str
     kind: str
     size: int
 
 
 class Position(NamedTuple):
-    """The subtag that has begun, where a normal tag or a private use one is possible, and the bytes of a possible irregular text."""
+    """The subtag that is being read, if a normal tag or a private use tag is possible, and the bytes of a possible irregular
+    tag."""
     begun: Begun | None
     irregular: str | None
 
@@ -56,7 +60,7 @@ NOWHERE, START = Position(None, None), Position(Begun("Start", "Empty", 0), "")
 
 
 def stage_after(begun):
-    """The stage after a subtag, or None where no such subtag may stand there: the rules `langtag` and `privateuse`."""
+    """Returns the stage after a subtag, or None if no such subtag is allowed here: the rules `langtag` and `privateuse`."""
     stage, kind, size = begun
     name, _, taken = stage.partition(" ")
     letters, mark = kind in ("Mark", "Letters"), kind == "Mark"
@@ -80,7 +84,7 @@ def stage_after(begun):
 
 
 def kind_after(kind, byte):
-    """What bytes a subtag has with one letter or digit more."""
+    """Returns the kind of a subtag after one more letter or digit."""
     if byte == "0":
         return {"Empty": "Digits", "Mark": "LetterFirst", "Letters": "LetterFirst"}.get(kind, kind)
     return {"Empty": "Mark" if byte == "x" else "Letters", "Mark": "Letters", "Digits": "DigitFirst"}.get(kind, kind)
@@ -102,13 +106,13 @@ def position_after(position, byte):
 
 
 def part_before(position):
-    """The place of the part that has ended before the hyphen that was read last, or NO_PART."""
+    """Returns the index of the part that ended before the hyphen that was read last, or NO_PART."""
     begun = position.begun
     return PARTS[begun.stage.split()[0]] if begun and begun.size == 0 else NO_PART
 
 
 def ending(position):
-    """What a text is that ends at a position."""
+    """Returns what a text is if it ends at a position."""
     stage = position.begun and stage_after(position.begun)
     if stage and stage not in ("AfterSingleton", "AfterMark", "AfterFirstMark"):
         return PRIVATE_USE if stage == "InPrivateTag" else PARTS[stage.split()[0]]
@@ -116,7 +120,7 @@ def ending(position):
 
 
 def reached():
-    """The positions that some bytes lead to, and where each class of bytes leads from them."""
+    """Returns the positions that can be reached, and where each class of bytes leads from them."""
     found, steps = [NOWHERE, START], {}
     for position in found:
         for byte in CLASSES:
@@ -127,7 +131,7 @@ def reached():
 
 
 class States:
-    """The positions in as few groups as tell apart what may follow: two are in one where no bytes after them tell them apart."""
+    """The positions in as few groups as possible: two positions are in the same group if no further bytes distinguish them."""
 
     def __init__(self):
         positions, steps = reached()
@@ -141,7 +145,7 @@ class States:
         first = {}
         for position in positions:
             first.setdefault(group[position], position)
-        # Where no tag begins so there is no state: that is the number after the last.
+        # A text with which no tag begins has no state. Its number is the number after the last state.
         self.firsts = [position for position in first.values() if position != NOWHERE]
         self.none = len(self.firsts)
         number = {group[position]: k for k, position in enumerate([*self.firsts, NOWHERE])}
@@ -149,18 +153,19 @@ class States:
         self.steps = steps
 
     def after(self, byte):
-        """Where a byte of this class leads from each state."""
+        """Returns where a byte of this class leads from each state."""
         return [self.numbers[self.steps[position, byte]] for position in self.firsts]
 
     def of_begun(self, stage, kind):
-        """The states of subtags of a kind, by their size, where no irregular text is possible. A size that none has is no state."""
+        """Returns the states for subtags of a kind, by their size, if no irregular tag is possible. A size that cannot occur has no
+        state."""
         sizes = [self.numbers.get(Position(Begun(stage, kind, size), None), self.none) for size in range(LONGEST + 1)]
         while sizes and sizes[-1] == self.none:
             sizes.pop()
         return sizes
 
     def along(self, text):
-        """The states along an irregular text, before its first byte and after each."""
+        """Returns the states along an irregular tag: before its first byte, and after each byte."""
         states, position = [self.numbers[START]], START
         for byte in text:
             position = self.steps[position, byte]
@@ -193,14 +198,14 @@ def tables(states):
     return "\n".join([
         "//! The states of the recogniser, in tables (RFC 5646 section 2.1). Written by scan/generate.py. Do not edit.\n",
         f"/// The state before the first byte.\npub(crate) const START: usize = {states.numbers[START]};\n",
-        f"/// The number of no state: no tag begins so. The numbers of states are smaller.\npub(crate) const NONE: usize = {count};\n",
-        table(f"The class of each byte: a letter has its place in the alphabet, a digit {class_of(48)}, the hyphen {class_of(45)}, and a byte that no tag has {classes - 1}.",
+        f"/// The number that means that no tag begins with the bytes. All states have smaller numbers.\npub(crate) const NONE: usize = {count};\n",
+        table(f"The class of each byte: 0 to 25 for the letters, {class_of(48)} for a digit, {class_of(45)} for the hyphen, and {classes - 1} for a byte that no tag contains.",
               "CLASSES", "[u8; 256]", wrapped(map(class_of, range(256)), "    ")),
-        table(f"The state after one byte more, by its class and the state before it, or {count} if no tag begins so.", "NEXT", f"[[u8; {count}]; {classes}]", following),
-        table(f"The place of the part that has ended before the hyphen that led to a state, in the order of the ends, or {NO_PART} if none has.", "PARTS",
+        table(f"The state after one more byte, indexed by the class of the byte and then by the state before it, or {count} if no tag begins with the bytes.", "NEXT", f"[[u8; {count}]; {classes}]", following),
+        table(f"The index, in the order of `Ends`, of the part that ended before the hyphen that led to a state, or {NO_PART} if no part ended there.", "PARTS",
               f"[u8; {count}]", wrapped(map(part_before, states.firsts), "    ")),
-        table(f"What a text is that ends in a state: a normal tag, by the place of its last part, {NO_TAG} no tag, {PRIVATE_USE} a tag for private use, "
-              f"and from {FIRST_IRREGULAR} on an irregular one.", "KINDS", f"[u8; {count}]", wrapped(map(ending, states.firsts), "    ")),
+        table(f"What a text is if it ends in a state. The numbers 0 to {NO_TAG - 1} mean a normal tag, and are the index of its last part in the order of `Ends`. "
+              f"{NO_TAG} means no tag, {PRIVATE_USE} means a private use tag, and {FIRST_IRREGULAR} or more an irregular tag.", "KINDS", f"[u8; {count}]", wrapped(map(ending, states.firsts), "    ")),
     ])
 
 
@@ -209,7 +214,7 @@ def numbers_list(numbers):
 
 
 def begun_rows(states):
-    """A clause for each stage and kind. Where the stage counts extended subtags, the rows are in a list by that count."""
+    """Yields an equation for each stage and kind. If the stage counts extended subtags, its rows are in a list, by that count."""
     for name in dict.fromkeys(stage.split()[0] for stage in STAGES):
         counts = [int(stage.split()[1]) for stage in STAGES if stage.startswith(name + " ")]
         for kind in KINDS:
@@ -225,16 +230,16 @@ def page(states):
     stages = dict.fromkeys(stage.split()[0] for stage in STAGES)
     along = "\n    ∷ ".join(f"({numbers_list(states.along(text))})" for text in IRREGULAR)
     return "\n".join([
-        "-- The numbers of the states, by the positions that they stand for. Written by scan/generate.py. Do not edit.",
+        "-- The number of the state for each position of the recogniser. Written by scan/generate.py. Do not edit.",
         "-- Only contracts of private functions cite this page.",
         "use Rattle.std.specs.Prelude.{ℕ, List, [], ◌∷◌, slice_index_or}",
         f"use Rattle.langtag_scan.specs.Stage.{{Stage, {', '.join(stages)}}}",
         f"use Rattle.langtag_scan.specs.Kind.{{Kind, {', '.join(KINDS)}}}\n",
-        "-- while a subtag of a kind is read after a stage, by how many bytes it has; no irregular text is possible",
+        "-- the states while a subtag of this kind is read after this stage, one state for each number of bytes, if no irregular tag is possible",
         "unfoldable pub states_of : Stage → Kind → List ℕ",
         *begun_rows(states),
         "",
-        "-- along each irregular text, in the order of the table: before its first byte, and after each",
+        "-- the states along each irregular tag, in the order of the table: one before its first byte, and one after each byte",
         "unfoldable pub states_along : List (List ℕ)",
         f"states_along =\n    {along}\n    ∷ []",
         "",

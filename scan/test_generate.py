@@ -1,5 +1,6 @@
 #!/usr/bin/env python3
-"""Tests of generate.py: the states follow texts as the grammar does, they are the fewest, and --check sees a file that differs."""
+"""Tests generate.py: the states accept what the grammar accepts, there are as few as possible, and --check finds a file that
+differs."""
 import contextlib
 import io
 import pathlib
@@ -23,7 +24,7 @@ TEXTS = {
 
 
 def walk(text):
-    """The state after the bytes of a text, None if there is none, and the ends of its parts by their places."""
+    """Returns the state after the bytes of a text, or None if there is no such state, and the ends of its parts by their index."""
     state, ends = STATES.numbers[generate.START], {}
     for index, char in enumerate(text):
         state = STATES.after(generate.CLASSES[generate.class_of(ord(char))])[state]

@@ -1,10 +1,10 @@
 #!/usr/bin/env python3
-"""Writes the files of data/ from a release of Unicode's CLDR, as Unicode or Debian's package unicode-cldr-core hands it out.
+"""Writes the files of data/ from Unicode's CLDR, in the form of Unicode's release or of Debian's package unicode-cldr-core.
 
 usage: from_cldr.py COMMON VERSION SOURCE   COMMON is CLDR's folder `common`, which has bcp47/ and supplemental/; VERSION is like 48.2;
                                             SOURCE says for the head of each file where it came from
 
-Left out are aliases of types that no tag can hold.
+Aliases of types that no tag can contain are left out.
 """
 from __future__ import annotations
 
@@ -25,7 +25,7 @@ TYPE = re.compile(r"[a-z0-9]{3,8}(-[a-z0-9]{3,8})*")
 
 
 def type_aliases(common: pathlib.Path) -> Iterator[str]:
-    """The aliases of each type: a type with a preferred one is an alias of it, and has none of its own."""
+    """Returns the aliases of each type. A type with a preferred type is an alias of that type, and has no aliases of its own."""
     for path in sorted((common / "bcp47").glob("*.xml")):
         for key in XML.parse(path).getroot().iter("key"):
             for it in key.iter("type"):
@@ -36,7 +36,7 @@ def type_aliases(common: pathlib.Path) -> Iterator[str]:
 
 
 def subdivision_aliases(common: pathlib.Path) -> Iterator[str]:
-    """The aliases of subdivisions, each with its reason and its replacements."""
+    """Returns the aliases of subdivisions, each with its reason and its replacements."""
     for alias in XML.parse(common / "supplemental/supplementalMetadata.xml").getroot().iter("subdivisionAlias"):
         yield f"{alias.get('type')} {alias.get('reason')} {alias.get('replacement')}"
 

@@ -2,12 +2,12 @@
 """Writes the tables and the lists of the crate langtag_unicode from Unicode's CLDR, whose aliases of types and of subdivisions are in
 data/.
 
-usage: generate.py            writes them from the data whose checksums stand in data.sha256
+usage: generate.py            writes them from the data whose checksums are in data.sha256
        generate.py --accept   writes them from newer data, and their checksums
-       generate.py --check    writes nothing, and names what is not as it should be: the data by their checksums, or a file that
-                              would be written otherwise
+       generate.py --check    writes nothing, and names each fault: data with other checksums, or a file that
+                              would be written differently
 
-Data that break what the crate rests on are refused: the row that does is named, nothing is written, and the status is 1.
+Data that break a premise of the crate are refused: the row that breaks it is named, nothing is written, and the status is 1.
 """
 from __future__ import annotations
 
@@ -27,12 +27,12 @@ SUBDIVISION = re.compile(r"[a-z]{2}[a-z0-9]{1,4}|[0-9]{3}[a-z0-9]{1,4}")
 
 
 def read(name: str) -> list[list[str]]:
-    """The rows of the data, in words."""
+    """Returns the rows of a data file, each as a list of words."""
     return [line.split() for line in (DATA / name).read_text(encoding="utf-8").splitlines() if not line.startswith("#")]
 
 
 def version() -> str:
-    """The version of CLDR that the head of each file of the data names."""
+    """Returns the version of CLDR, which the head of each data file names."""
     found = {path.name: re.search(r"^# .*Unicode CLDR ([0-9.]+) ", path.read_text(encoding="utf-8"), re.M) for path in DATA.glob("*.txt")}
     versions = {name: said[1] if said else "none" for name, said in found.items()}
     if len(set(versions.values())) != 1 or "none" in versions.values():
@@ -41,17 +41,17 @@ def version() -> str:
 
 
 def checksums() -> str:
-    """The lines of sha256sum, by which `sha256sum -c` in data/ tests the files, too."""
+    """Returns the lines of sha256sum, with which `sha256sum -c` in data/ can check the files, too."""
     return "".join(f"{hashlib.sha256(path.read_bytes()).hexdigest()}  {path.name}\n" for path in sorted(DATA.glob("*.txt")))
 
 
 def whole_subdivision(code: str) -> str:
-    """A subdivision, or that of a whole region of two letters (UTS #35, part 1, Annex C)."""
+    """Returns a subdivision, or the subdivision that means a whole two-letter region (UTS #35, part 1, Annex C)."""
     return code.lower() + ("zzzz" if len(code) == 2 else "")
 
 
 class Aliases:
-    """The aliases of types by their extension, each with its key, and the aliases of subdivisions."""
+    """The aliases of types by extension, each with its key, and the aliases of subdivisions."""
 
     def __init__(self) -> None:
         rows = read("type-alias.txt")
@@ -105,14 +105,14 @@ def table(name, doc, kind, rows):
 def tables(aliases: Aliases) -> str:
     return "\n".join([
         f"//! The aliases of Unicode's CLDR {version()}, in tables (the notice: unicode/LICENSE-UNICODE). Written by unicode/generate.py. Do not edit.\n",
-        table("UNICODE_TYPE_ALIASES", "The types of the extension `u` that are replaced, each after its key, and what each of them becomes.", "(&str, &str, &str)", aliases.types["u"]),
-        table("TRANSFORM_TYPE_ALIASES", "Those of the extension `t`.", "(&str, &str, &str)", aliases.types["t"]),
-        table("SUBDIVISION_ALIASES", "The subdivisions that are replaced, and what each of them becomes.", "(&str, &str)", aliases.subdivisions),
+        table("UNICODE_TYPE_ALIASES", "The types of the extension `u` that are replaced: a key, the old type and the new type.", "(&str, &str, &str)", aliases.types["u"]),
+        table("TRANSFORM_TYPE_ALIASES", "The types of the extension `t` that are replaced: a key, the old type and the new type.", "(&str, &str, &str)", aliases.types["t"]),
+        table("SUBDIVISION_ALIASES", "The subdivisions that are replaced: the old code and the new code.", "(&str, &str)", aliases.subdivisions),
     ])
 
 
 def word_list(name, doc, kind, reader, rows):
-    """A list of words, some rows a text."""
+    """Returns a list of words, with several rows in each literal."""
     rows = [" ".join(row) for row in rows]
     texts = "\n    ∷ ".join(f"codes \"{' '.join(rows[i:i + 16])}\"" for i in range(0, len(rows), 16))
     return f"-- {doc}\nunfoldable pub {name} : List {kind}\n{name} =\n    flat_map (λ text. {reader} (words text))\n    ({texts}\n    ∷ [])\n"
@@ -124,14 +124,14 @@ def lists(aliases: Aliases) -> str:
         "use Rattle.std.specs.Prelude.{[], ◌∷◌, List, codes}\nuse Rattle.std.specs.List.{flat_map}\n"
         "use Rattle.langtag_tables.specs.Words.{words}\n"
         "use Rattle.langtag_unicode.specs.Alias.{Alias, TypeAlias, aliases_of, type_aliases_of}\n",
-        word_list("unicode_type_aliases", "types of the extension u that are replaced: a key, a type, and what replaces it", "TypeAlias", "type_aliases_of", aliases.types["u"]),
-        word_list("transform_type_aliases", "those of the extension t", "TypeAlias", "type_aliases_of", aliases.types["t"]),
-        word_list("subdivision_aliases", "subdivisions that are replaced, and what replaces them: the first replacement, and `zzzz` after a region", "Alias", "aliases_of", aliases.subdivisions),
+        word_list("unicode_type_aliases", "the types of the extension u that are replaced: a key, the old type and the new type", "TypeAlias", "type_aliases_of", aliases.types["u"]),
+        word_list("transform_type_aliases", "the types of the extension t that are replaced: a key, the old type and the new type", "TypeAlias", "type_aliases_of", aliases.types["t"]),
+        word_list("subdivision_aliases", "the subdivisions that are replaced: the old code, and the first code that replaces it, with `zzzz` after a code that is a region", "Alias", "aliases_of", aliases.subdivisions),
     ])
 
 
 def written(crates: pathlib.Path, aliases: Aliases) -> dict[pathlib.Path, str]:
-    """The files that are made of the data: of each its path and its text."""
+    """Returns the files that are made from the data: the path and the text of each."""
     crate = crates / "langtag_unicode"
     return {crate / "src/alias_tables.rt": tables(aliases), crate / "specs/Aliases.antt": lists(aliases)}
 

@@ -1,5 +1,6 @@
 #!/usr/bin/env python3
-"""Tests of generate.py and from_cldr.py: data that break a premise are refused, newer ones are taken, and --check sees what a file or the data lose."""
+"""Tests generate.py and from_cldr.py. Data that break a premise are refused, newer data are accepted, and --check finds what is
+missing in a file or in the data."""
 import contextlib
 import io
 import pathlib
@@ -31,14 +32,14 @@ class Generating(unittest.TestCase):
             patch.start()
 
     def run_with(self, *words):
-        """The status, and the lines that are printed."""
+        """Returns the status, and the lines that are printed."""
         out = io.StringIO()
         with contextlib.redirect_stdout(out):
             status = generate.main(list(words), self.crates)
         return status, out.getvalue().splitlines()
 
     def edit(self, name, old, new):
-        """Data in which something stands otherwise."""
+        """Changes a text in the data."""
         path = generate.DATA / name
         text = path.read_text(encoding="utf-8")
         self.assertIn(old, text)

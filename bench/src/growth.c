@@ -1,7 +1,7 @@
 /*
- * How the work of calls of langtag, langtag_match and langtag_registry grows with their text: the entries of langtag_bench.
- * Filters and look-ups are asked about twenty tags: past that their documentation says how they grow. It ends with 1 where
- * memory was refused to a call.
+ * Measures how the instructions of calls of langtag, langtag_match and langtag_registry grow with their text, by the entries of
+ * langtag_bench. Filters and look-ups get twenty tags; their documentation says how they grow with the number of tags. The status
+ * is 1 if a call reported that allocation failed.
  */
 #include "../../bindings/c/growth/growth.h"
 #include "memory.h"
@@ -11,14 +11,13 @@ struct parts {
     size_t parts[6];
 };
 
-/* A slice crosses as a pointer and a length. */
+/* A slice is passed as a pointer and a length. */
 bool langtag_bench_recognise(const char *bytes, size_t len, struct parts *ends);
 bool langtag_bench_recognise_text(const char *bytes, size_t len, struct parts *ends);
 bool langtag_bench_lang_tag(const char *bytes, size_t len, struct parts *lengths);
 bool langtag_bench_is_utf8(const char *bytes, size_t len);
 bool langtag_bench_normal_lang_tag(const char *bytes, size_t len);
 size_t langtag_bench_repeated_variant(const char *bytes, size_t len);
-size_t langtag_bench_repeated_singleton(const char *bytes, size_t len);
 uint8_t langtag_bench_copy(const char *bytes, size_t len, char *into, size_t into_len);
 uint8_t langtag_bench_fold_and_sum(const char *bytes, size_t len);
 uint64_t langtag_bench_hash(const char *bytes, size_t len);
@@ -34,7 +33,6 @@ bool langtag_bench_filter_extended(const char *ranges, size_t len);
 bool langtag_bench_look_up(const char *ranges, size_t len);
 size_t langtag_bench_tags(void);
 bool langtag_bench_tag_for_header(const char *header, size_t len);
-bool langtag_bench_is_valid(const char *bytes, size_t len);
 size_t langtag_bench_misplaced_variant(const char *bytes, size_t len);
 size_t langtag_bench_misplaced_extlang(const char *bytes, size_t len);
 bool langtag_bench_fields(const char *bytes, size_t len);
@@ -49,7 +47,6 @@ FUNCTION(lang_tag, result = langtag_bench_lang_tag(text, len, &parts))
 FUNCTION(is_utf8, result = langtag_bench_is_utf8(text, len))
 FUNCTION(normal_lang_tag, result = langtag_bench_normal_lang_tag(text, len))
 FUNCTION(repeated_variant, result = langtag_bench_repeated_variant(text, len))
-FUNCTION(repeated_singleton, result = langtag_bench_repeated_singleton(text, len))
 FUNCTION(copy, result = langtag_bench_copy(text, len, other, len))
 FUNCTION(fold_and_sum, result = langtag_bench_fold_and_sum(text, len))
 FUNCTION(hash, result = langtag_bench_hash(text, len))
@@ -57,7 +54,7 @@ FUNCTION(subtags, result = langtag_bench_subtags(text, len))
 FUNCTION(walk, result = langtag_bench_walk(text, len))
 FUNCTION(recommended, result = langtag_bench_recommended(text, len, into, sizeof into, &refused))
 FUNCTION(displayed, result = langtag_bench_displayed(text, len, into, sizeof into, &refused))
-/* What stands after the first hyphen is a part, where there is one. */
+/* If there is a hyphen, the text after the first hyphen is used as a part. */
 FUNCTION(part, char *rest = memchr(text, '-', len);
          if (rest) result = langtag_bench_part(rest + 1, text + len - rest - 1))
 FUNCTION(pair, result = langtag_bench_pair(text, len, other, len))
@@ -75,16 +72,14 @@ FUNCTION(set_normal, result = langtag_bench_set_normal(text, len, other, len, &r
 FUNCTION(set_of_any, result = langtag_bench_set_of_any(text, len, other, len, &refused))
 FUNCTION(from_parts, result = langtag_bench_from_parts(text, len, &refused))
 FUNCTION(header, result = langtag_bench_header(text, len, &refused))
-/* The tag for a header that is the text, and for another among tags that are. */
+/* The tag for a header that is the text, and for another header among tags from the text. */
 FUNCTION(chosen, result = langtag_bench_chosen(text, len, "en,de", 5, &refused) +
                           langtag_bench_chosen("fr, de;q=0.5", 12, text, len, &refused))
-FUNCTION(maps, result = langtag_bench_maps(text, len, &refused))
 FUNCTION(canonical, result = langtag_bench_canonical(text, len, into, sizeof into, &refused))
 FUNCTION(extlang_form, result = langtag_bench_extlang_form(text, len, into, sizeof into, &refused))
 FUNCTION(maximized, result = langtag_bench_maximized(text, len, into, sizeof into, &refused))
 FUNCTION(minimized, result = langtag_bench_minimized(text, len, into, sizeof into, &refused))
 FUNCTION(from_posix, result = langtag_bench_from_posix(text, len, into, sizeof into, &refused))
-FUNCTION(is_valid, result = langtag_bench_is_valid(text, len))
 FUNCTION(misplaced_variant, result = langtag_bench_misplaced_variant(text, len))
 FUNCTION(misplaced_extlang, result = langtag_bench_misplaced_extlang(text, len))
 FUNCTION(fields, result = langtag_bench_fields(text, len))
@@ -98,7 +93,6 @@ static const struct function functions[] = {
     ENTRY(is_utf8),
     ENTRY(normal_lang_tag),
     ENTRY(repeated_variant),
-    ENTRY(repeated_singleton),
     ENTRY(copy),
     ENTRY(fold_and_sum),
     ENTRY(hash),
@@ -123,13 +117,11 @@ static const struct function functions[] = {
     ENTRY(from_parts),
     ENTRY(header),
     ENTRY(chosen),
-    ENTRY(maps),
     ENTRY(canonical),
     ENTRY(extlang_form),
     ENTRY(maximized),
     ENTRY(minimized),
     ENTRY(from_posix),
-    ENTRY(is_valid),
     ENTRY(misplaced_variant),
     ENTRY(misplaced_extlang),
     ENTRY(fields),

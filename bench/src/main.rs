@@ -1,14 +1,14 @@
-//! Times `recognise` on a file of tags beside plain loops over the same bytes, in one run.
+//! Times `recognise` on a file of tags, and plain loops over the same bytes, in one run.
 //!
 //! `bench FILE` times. `bench LIST COUNT` writes a list of tags: `shapes`, `middle`, `plain`, `nine` or `unusual`. `bench once ENTRY FILE`
-//! calls one entry once for each tag, for a tool that counts instructions. `bench variants COUNT ORDER` writes one tag of so many
-//! variants, and `bench growth FILE` times `repeated_variant` on the one tag of a file.
+//! calls one entry once for each tag, for a tool that counts instructions. `bench variants COUNT ORDER` writes one tag
+//! with COUNT variants, and `bench growth FILE` times `repeated_variant` on the only tag of a file.
 
 use std::hint::black_box;
 use std::io::Write;
 use std::time::Instant;
 
-/// The ends that `langtag_bench_recognise` leaves of a normal tag.
+/// The ends of the parts of a normal tag, which `langtag_bench_recognise` writes.
 #[repr(C)]
 #[derive(Default)]
 struct PartEnds {
@@ -20,7 +20,7 @@ struct PartEnds {
     whole: usize,
 }
 
-/// The lengths that `langtag_bench_lang_tag` leaves of the parts of a tag.
+/// The lengths of the parts of a tag, which `langtag_bench_lang_tag` writes.
 #[repr(C)]
 #[derive(Default)]
 struct PartLengths {
@@ -32,7 +32,7 @@ struct PartLengths {
     private_use: usize,
 }
 
-// A slice crosses as a pointer and a length.
+// A slice is passed as a pointer and a length.
 unsafe extern "C" {
     fn langtag_bench_recognise(bytes: *const u8, len: usize, ends: *mut PartEnds) -> bool;
     fn langtag_bench_recognise_text(bytes: *const u8, len: usize, ends: *mut PartEnds) -> bool;
@@ -44,7 +44,7 @@ unsafe extern "C" {
     fn langtag_bench_fold_and_sum(bytes: *const u8, len: usize) -> u8;
 }
 
-/// What `langtag_bench_lang_tag` does after the check that the bytes are UTF-8, by the Rust crate.
+/// Does with the Rust crate what `langtag_bench_lang_tag` does after its check for UTF-8.
 ///
 /// # Safety
 /// The pointer and the length are those of a live `str`.
@@ -65,7 +65,7 @@ unsafe extern "C" fn langtag_bench_rust(text: *const u8, len: usize, lengths: &m
     true
 }
 
-/// The same by the Rust crate oxilangtag.
+/// Does the same with the crate oxilangtag.
 ///
 /// # Safety
 /// The pointer and the length are those of a live `str`.
@@ -87,7 +87,7 @@ unsafe extern "C" fn langtag_bench_oxilangtag(text: *const u8, len: usize, lengt
     true
 }
 
-/// What is timed.
+/// The functions that are timed.
 #[derive(Clone, Copy, PartialEq)]
 enum Entry {
     Recognise,
@@ -103,7 +103,7 @@ enum Entry {
     RepeatedVariant,
 }
 
-/// What is timed on lists of tags.
+/// The functions that are timed on lists of tags.
 const ENTRIES: &[Entry] = &[
     Entry::Recognise,
     Entry::RecogniseText,
@@ -117,7 +117,7 @@ const ENTRIES: &[Entry] = &[
 ];
 
 impl Entry {
-    /// The name of the function, without its common prefix.
+    /// Returns the name of the function, without the common prefix.
     fn name(self) -> &'static str {
         match self {
             Entry::Recognise => "recognise",
@@ -137,7 +137,7 @@ impl Entry {
     /// Calls the function for one tag.
     fn call(self, tag: &[u8], into: &mut [u8]) -> u64 {
         let mut ends = PartEnds::default();
-        // SAFETY: each pointer and length is a live slice's, and `into` is as long as the longest tag.
+        // SAFETY: the pointers and lengths are those of live slices, and `into` is as long as the longest tag.
         unsafe {
             match self {
                 Entry::Recognise => {
@@ -178,7 +178,7 @@ impl Entry {
     }
 }
 
-/// The tags of a file, one a line.
+/// Returns the tags of a file with one tag a line.
 struct Tags {
     text: Vec<u8>,
     indices: Vec<(usize, usize)>,
@@ -208,7 +208,7 @@ impl Tags {
     }
 }
 
-/// Goes once over all tags, and gives the nanoseconds that it took.
+/// Calls a function once for each tag, and returns the nanoseconds that this took.
 fn pass(entry: Entry, tags: &Tags, into: &mut [u8]) -> u128 {
     let start = Instant::now();
     let mut sum = 0u64;
@@ -224,7 +224,7 @@ fn time(path: &str) -> std::io::Result<()> {
     let tags = Tags::read(path)?;
     let mut into = vec![0; tags.longest];
     let mut times = [const { Vec::new() }; ENTRIES.len()];
-    // The entries take turns, so that a slow moment of the machine meets each of them.
+    // The entries take turns, so that a slow moment of the machine affects all of them.
     for _ in 0..PASSES {
         for (entry, times) in ENTRIES.iter().zip(&mut times) {
             times.push(pass(*entry, &tags, &mut into));
@@ -264,8 +264,8 @@ fn once(name: &str, path: &str) -> std::io::Result<()> {
     Ok(())
 }
 
-/// The nanoseconds that `repeated_variant` takes on the tags of a file: the least of some passes with it, less that of as
-/// many without.
+/// Returns the nanoseconds that `repeated_variant` takes on the tags of a file: the least time of several passes with
+/// it, minus the least time of as many passes without it.
 fn growth(path: &str) -> std::io::Result<()> {
     let tags = Tags::read(path)?;
     let least = |entry| {
@@ -277,8 +277,8 @@ fn growth(path: &str) -> std::io::Result<()> {
     Ok(())
 }
 
-/// Shapes of tags of 18 bytes. `a` stands for any small letter, `A` for any capital, `0` for any digit, and any
-/// other byte for itself. Letters that are not to be `x` or `a` are written out.
+/// Shapes of tags of 18 bytes. `a` means any lowercase letter, `A` any uppercase letter, `0` any digit, and any other
+/// byte itself. A letter that must not become `x` or `a` is given as it is.
 const SHAPES: [&str; 8] = [
     "en-Aaaa-AA-aaaaaa0",
     "en-Aaaa-AA-x-aaaa0",
@@ -290,7 +290,7 @@ const SHAPES: [&str; 8] = [
     "aaaaaaa-Aaaa-x-a00",
 ];
 
-/// Tags as most programs meet them.
+/// Tags that most programs see.
 const PLAIN: [&str; 32] = [
     "en", "fr", "de", "es", "pt", "it", "ja", "ko", "zh", "ru", "ar", "hi", "nl", "sv", "pl", "yue",
     "en-US", "en-GB", "fr-FR", "fr-CA", "de-DE", "de-AT", "es-ES", "es-419", "pt-BR", "pt-PT",
@@ -303,7 +303,7 @@ const MIDDLE: [&str; 14] = [
     "en-GB", "uz-Latn-UZ", "ja", "de-CH-1901",
 ];
 
-/// Tags of nine bytes. Three irregular tags have as many, and matter at this length alone.
+/// Tags of nine bytes. Three irregular tags also have nine bytes, and affect the time only at this length.
 const NINE: [&str; 14] = [
     "zh-yue-HK", "zh-gan-CN", "zh-hak-TW", "zh-cmn-SG", "ar-arb-EG", "en-fonipa", "en-scouse", "zh-pinyin", "ja-heploc",
     "sl-dajnko", "be-tarask", "pt-ao1990", "en-x-test", "sr-x-test",
@@ -325,7 +325,7 @@ impl Numbers {
     }
 }
 
-/// Writes so many tags, each made from one of the shapes.
+/// Writes `count` tags, each made from one of the shapes.
 fn write_shapes(count: usize) -> std::io::Result<()> {
     let mut numbers = Numbers(1);
     let mut out = std::io::BufWriter::new(std::io::stdout());
@@ -345,7 +345,7 @@ fn write_shapes(count: usize) -> std::io::Result<()> {
     out.flush()
 }
 
-/// Writes so many tags of a list.
+/// Writes `count` tags of a list.
 fn write_some(tags: &[&str], count: usize) -> std::io::Result<()> {
     let mut numbers = Numbers(1);
     let mut out = std::io::BufWriter::new(std::io::stdout());
@@ -355,7 +355,7 @@ fn write_some(tags: &[&str], count: usize) -> std::io::Result<()> {
     out.flush()
 }
 
-/// Writes a tag with so many variants of six bytes, no two alike, in an order by name.
+/// Writes a tag with `count` distinct variants of six bytes, in the named order.
 fn write_variants(count: usize, order: &str) -> std::io::Result<()> {
     let mut variants: Vec<usize> = (0..count).collect();
     match order {

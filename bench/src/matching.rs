@@ -1,11 +1,11 @@
 //! Times matching: `matching times` prints the time of each entry of `langtag_bench` for pairs of a range and a tag and for
 //! headers, and `matching once ENTRY [HEADER]` calls one entry once for each pair, or once for a header, for a tool that
-//! counts instructions. It prints how many calls that were.
+//! counts instructions. It prints the number of calls.
 
 use std::hint::black_box;
 use std::time::Instant;
 
-// A slice crosses as a pointer and a length.
+// A slice is passed as a pointer and a length.
 unsafe extern "C" {
     fn langtag_bench_pair(range: *const u8, range_len: usize, tag: *const u8, tag_len: usize) -> bool;
     fn langtag_bench_matches_basic(range: *const u8, range_len: usize, tag: *const u8, tag_len: usize) -> bool;
@@ -16,7 +16,7 @@ unsafe extern "C" {
 
 type PairEntry = unsafe extern "C" fn(*const u8, usize, *const u8, usize) -> bool;
 
-/// The entries that take a range and a tag. The first one reads them and matches nothing.
+/// The entries that take a range and a tag. The first entry only reads them, and does not match.
 const PAIR_ENTRIES: [(&str, PairEntry); 3] = [
     ("pair", langtag_bench_pair),
     ("matches_basic", langtag_bench_matches_basic),
@@ -28,8 +28,8 @@ const TAGS: [&str; 20] = [
     "az-Cyrl-AZ", "en-GB", "de-CH-1996", "sgn-BE-FR", "en-x-us", "zh-HK", "fr-Latn", "sr-Cyrl", "pt-BR-1990", "uz-Latn",
 ];
 
-/// Each of the tags with six ranges: itself in small letters, its first and last subtag, with `*` between, and `*` for the
-/// first; its first subtag; another tag.
+/// Each of the tags with six ranges: the tag in lowercase; its first and last subtag, also with `*` between them, and
+/// with `*` in place of the first; its first subtag; another tag.
 fn pairs() -> Vec<(String, &'static str)> {
     let mut pairs = Vec::new();
     for (index, tag) in TAGS.iter().enumerate() {
@@ -49,7 +49,7 @@ fn pairs() -> Vec<(String, &'static str)> {
     pairs
 }
 
-/// A browser's header, and hostile ones of 64 kB.
+/// A browser's header, and headers of 64 kB that are meant to be slow.
 fn headers() -> Vec<(&'static str, String)> {
     let mixed: Vec<String> = (0..6_553).map(|n| format!("de;q=0.{:03}", n * 7919 % 1000)).collect();
     vec![
@@ -67,21 +67,21 @@ fn headers() -> Vec<(&'static str, String)> {
 }
 
 fn call_pair(entry: PairEntry, range: &str, tag: &str) -> bool {
-    // SAFETY: each pointer and length is a live slice's.
+    // SAFETY: the pointers and lengths are those of live slices.
     unsafe { entry(range.as_ptr(), range.len(), tag.as_ptr(), tag.len()) }
 }
 
 fn call_header(header: &str) -> bool {
-    // SAFETY: the pointer and the length are a live slice's.
+    // SAFETY: the pointer and the length are those of a live slice.
     unsafe { langtag_bench_tag_for_header(header.as_ptr(), header.len()) }
 }
 
 fn call_tags() -> usize {
-    // SAFETY: it takes nothing.
+    // SAFETY: the function takes no argument.
     unsafe { langtag_bench_tags() }
 }
 
-/// The least nanoseconds of some calls, for about a quarter of a second.
+/// Returns the least nanoseconds of a call, measured for about a quarter of a second.
 fn least(mut call: impl FnMut()) -> f64 {
     let start = Instant::now();
     call();

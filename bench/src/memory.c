@@ -1,7 +1,7 @@
 /*
- * Refuses each allocation of calls of langtag, langtag_match and langtag_registry in turn, and counts them: a call says that
- * memory was refused to it where it was, and nowhere else, and a setter or a copy makes its text once. The memory of a header
- * is bounded by its elements. Linked with --wrap for malloc, realloc and free, which the heap of the library stands on.
+ * Refuses each allocation of calls of langtag, langtag_match and langtag_registry in turn, and counts them. A call has to report a
+ * failed allocation exactly if one was refused, and a setter or a copy may allocate only once. The memory of a header has to be
+ * bounded by the number of its elements. Linked with --wrap for malloc, realloc and free, which the library's heap calls.
  */
 #include "memory.h"
 #include <stdio.h>
@@ -35,7 +35,7 @@ void __wrap_free(void *block) {
     __real_free(block);
 }
 
-/* A call over a text, or over two, and how many allocations it makes; MANY where that is a vector's own affair. */
+/* A call with one text or two, and how many allocations it makes, or MANY if that depends on the growth of a vector. */
 enum { MANY = -1 };
 struct row {
     const char *name;
@@ -45,7 +45,7 @@ struct row {
     int wanted;
 };
 
-/* Calls that return a length or a number, which is 0 where memory was refused. */
+/* Calls that return a length or a number, which is 0 if allocation failed. */
 #define NUMBER(name, ...)                                                                                              \
     static bool name(const char *text, size_t len, size_t *refused) {                                                  \
         size_t number = __VA_ARGS__;                                                                                   \
@@ -61,20 +61,19 @@ NUMBER(minimized, langtag_bench_minimized(text, len, into, sizeof into, refused)
 NUMBER(from_posix, langtag_bench_from_posix(text, len, into, sizeof into, refused))
 NUMBER(lenient, langtag_bench_lenient(text, len, refused))
 NUMBER(chosen, langtag_bench_chosen("fr, de;q=0.5", 12, text, len, refused))
-NUMBER(maps, langtag_bench_maps(text, len, refused))
 
 #define LONG "zh-min-nan-Hant-TW-rozaj-1996-a-bb-cc-u-co-x-y-z"
 
 /*
- * What is copied: the tag, also in its recommended case and as a range; a normal one twice more; and then its parts. The part
- * and its copy are displayed after that.
+ * The copies that are made: of the tag, also in its recommended case and as a range; two more of a normal tag; and then of its
+ * parts. The part and its copy are then displayed.
  */
 static const struct row rows[] = {
-    {"copies", langtag_bench_copies, NULL, "i-klingon", NULL, 9},
-    {"copies", langtag_bench_copies, NULL, "x-a", NULL, 15},
-    {"copies", langtag_bench_copies, NULL, "fr", NULL, 21},
-    {"copies", langtag_bench_copies, NULL, "ES-419", NULL, 24},
-    {"copies", langtag_bench_copies, NULL, LONG, NULL, 72},
+    {"copies", langtag_bench_copies, NULL, "i-klingon", NULL, 8},
+    {"copies", langtag_bench_copies, NULL, "x-a", NULL, 14},
+    {"copies", langtag_bench_copies, NULL, "fr", NULL, 19},
+    {"copies", langtag_bench_copies, NULL, "ES-419", NULL, 22},
+    {"copies", langtag_bench_copies, NULL, LONG, NULL, 70},
     {"from_parts", langtag_bench_from_parts, NULL, "fr", NULL, 1},
     {"from_parts", langtag_bench_from_parts, NULL, "es-419", NULL, 1},
     {"from_parts", langtag_bench_from_parts, NULL, LONG, NULL, 1},
@@ -87,13 +86,12 @@ static const struct row rows[] = {
     {"from_posix", from_posix, NULL, "sr_RS.UTF-8@latin", NULL, 1},
     {"lenient", lenient, NULL, "de_CH, fr;q=0.5, *;q=0.1", NULL, MANY},
     {"chosen", chosen, NULL, "en,fr-FR,it,es,de-CH,de", NULL, MANY},
-    {"maps", maps, NULL, "en,fr-FR,it,es,de-CH,de", NULL, MANY},
     {"header", langtag_bench_header, NULL, "", NULL, 0},
     {"header", langtag_bench_header, NULL, "de-CH, fr;q=0.5, *;q=0.1", NULL, MANY},
     {"header", langtag_bench_header, NULL, "a, b;q=0.9, c, d, e;q=0.3, f, g;q=0, h, i, j, k, l, de", NULL, MANY},
 };
 
-/* The tags of which each is made into each other: a copy, and then each part of the other that is there. */
+/* Each of these tags is changed into each other one: it is copied, and then gets each part of the other tag. */
 static const struct {
     const char *text;
     int parts;
@@ -110,14 +108,14 @@ static bool run(const struct row *row, size_t *refused) {
     return row->call(row->text, len, refused);
 }
 
-/* Says what is wrong of a row when the nth allocation is refused; none is where n is 0. */
+/* Returns what is wrong with a row if the nth allocation is refused. If n is 0, none is refused. */
 static int fault(const struct row *row, size_t n, const char *what) {
     const char *other = row->other ? row->other : "";
     printf("memory: %s of %s %s, allocation %zu refused: %s\n", row->name, row->text, other, n, what);
     return 1;
 }
 
-/* Makes a call as it is, and with each of its allocations refused. Returns the number of faults. */
+/* Makes a call without a refused allocation, and then with each of its allocations refused. Returns the number of faults. */
 static int check(const struct row *row) {
     size_t refused;
     int faults = 0;
@@ -134,11 +132,11 @@ static int check(const struct row *row) {
     return faults;
 }
 
-/* How much memory a header takes in its three readings, for each of its elements; one is there without a comma. */
+/* The memory that a header takes, for each of its elements, by each of three calls. A header without a comma has one element. */
 enum { ELEMENT = 320, MOST = 1000000 };
 static char header[3 * MOST + 3];
 
-/* A header of so many bytes before one element, and one of so many elements. */
+/* A header with a given number of bytes before its only element, and a header with a given number of elements. */
 static int check_header(size_t number) {
     size_t refused = 0, before, each;
     refused_at = bytes = 0;

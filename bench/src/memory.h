@@ -1,4 +1,4 @@
-/* The calls of langtag_bench that take memory: each counts the calls to which memory was refused. */
+/* The calls of langtag_bench that allocate. Each counts the calls in which allocation failed. */
 #include <stdbool.h>
 #include <stddef.h>
 
@@ -10,9 +10,8 @@ bool langtag_bench_normal_lang_tag(const char *bytes, size_t len);
 bool langtag_bench_header(const char *bytes, size_t len, size_t *refused);
 size_t langtag_bench_lenient(const char *header, size_t len, size_t *refused);
 size_t langtag_bench_chosen(const char *header, size_t len, const char *tags, size_t tags_len, size_t *refused);
-size_t langtag_bench_maps(const char *tags, size_t len, size_t *refused);
 
-/* These write a text into a buffer, where there is room, and return its length. */
+/* These write a text to a buffer if it is long enough, and return the length of the text. */
 size_t langtag_bench_recommended(const char *bytes, size_t len, char *into, size_t into_len, size_t *refused);
 size_t langtag_bench_displayed(const char *bytes, size_t len, char *into, size_t into_len, size_t *refused);
 size_t langtag_bench_canonical(const char *bytes, size_t len, char *into, size_t into_len, size_t *refused);

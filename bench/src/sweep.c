@@ -1,8 +1,8 @@
 /*
- * Calls that may fail, over texts of each length to EACH bytes and by steps to MOST, and over all regions, scripts and short
- * languages, and over each prefix of the tags of a file of rows: none says that memory was refused, and each answer is the one
- * that is expected here. By its contract a call could refuse whatever text it likes, and Display could fail on it: that neither
- * does is seen here alone.
+ * Tests calls that may fail, with texts of each length up to EACH bytes, and lengths in steps up to MOST; with all regions, scripts
+ * and short languages; and with each prefix of the tags of a file of rows. No call may report that allocation failed, and each
+ * answer has to be the expected one. The contracts would allow a call to refuse any text, and Display to fail. Only this test shows
+ * that neither happens.
  *
  *     sweep rows/texts.txt
  */
@@ -15,7 +15,7 @@ enum { EACH = 4200, MOST = 2000000 };
 static char text[MOST + 64], wanted[2 * MOST + 64], written[2 * MOST + 64];
 static size_t calls, faults, refused;
 
-/* Notes a call over the text, and says where it was wrong or refused. */
+/* Counts a call with the text, and prints where it was wrong or refused. */
 static void check(const char *name, size_t len, bool is_right) {
     calls++;
     if (is_right && !refused) return;
@@ -24,7 +24,7 @@ static void check(const char *name, size_t len, bool is_right) {
     refused = 0;
 }
 
-/* A text of a shape: a head, so many times a piece, and a tail. */
+/* A text of a shape: a head, then a piece repeated, and a tail. */
 struct shape {
     const char *head, *piece, *tail;
 };
@@ -41,7 +41,7 @@ static size_t write_shape(char *to, const struct shape *shape, size_t times) {
     return append(to, at, shape->tail);
 }
 
-/* Writes the next longer text of a shape; false where that is longer than any. */
+/* Writes the next longer text of a shape. Returns false if it would be longer than MOST. */
 static bool grow(const struct shape *shape, size_t *times, size_t *len) {
     *times += *len < EACH ? 1 : *times / 2;
     if (strlen(shape->head) + *times * strlen(shape->piece) + strlen(shape->tail) > MOST) return false;
@@ -49,7 +49,7 @@ static bool grow(const struct shape *shape, size_t *times, size_t *len) {
     return true;
 }
 
-/* Whether a text of so many bytes was written, and it is the one that is wanted. */
+/* Whether a text of the given length was written, and is the expected text. */
 static bool is_wanted(size_t len, size_t wanted_len) {
     return len == wanted_len && memcmp(written, wanted, len) == 0;
 }
@@ -57,7 +57,7 @@ static bool is_wanted(size_t len, size_t wanted_len) {
 #define LENGTH(array) (sizeof array / sizeof *array)
 #define OTHER "sl-IT-rozaj-a-bb-x-a", 20
 
-/* Tags that are copied and displayed, whole and in their parts, and put into another tag, and that into them. */
+/* Tags that are copied and displayed, whole and in their parts. Their parts are set in another tag, and its parts in them. */
 static const struct shape tags[] = {
     {"x", "-a", ""},          {"x-aa", "-a", ""},
     {"fr-x", "-a", ""},       {"fra-x", "-a", ""},
@@ -71,7 +71,6 @@ static const struct shape tags[] = {
 static void sweep_tags(const struct shape *shape) {
     for (size_t times = 0, len = 0; grow(shape, &times, &len);) {
         check("copies", len, langtag_bench_copies(text, len, &refused));
-        check("maps", len, langtag_bench_maps(text, len, &refused) == 1);
         if (text[0] == 'x') continue;
         check("set_normal", len, langtag_bench_set_normal(OTHER, text, len, &refused));
         check("set_normal", len, langtag_bench_set_normal(text, len, OTHER, &refused));
@@ -81,7 +80,7 @@ static void sweep_tags(const struct shape *shape) {
     }
 }
 
-/* Tags of each part that a setter is given, of which the first has none. */
+/* For each part, the tags from which a setter gets that part. The first tag has no such part. */
 static const char *const ways[] = {
     "de",         "zh-MIN-nan", "abcdefgh", "de-Latn",   "de-cYRL",             "de-zzzz", "de-AaBb",
     "de-US",      "de-us",      "de-419",   "de-000",    "de-1996",             "de-rozaj-BISKE-1994",
@@ -89,7 +88,7 @@ static const char *const ways[] = {
     "de-a-bb-U-co", "de-x-mine",
 };
 
-/* A normal tag, whose parts are put into each of the ways, and theirs into it. */
+/* A normal tag. Its parts are set in each of these tags, and their parts in it. */
 static void check_set(size_t len) {
     for (size_t way = 0; way < LENGTH(ways); way++) {
         size_t other = strlen(ways[way]);
@@ -101,7 +100,8 @@ static void check_set(size_t len) {
     check("from_parts", len, langtag_bench_from_parts(text, len, &refused));
 }
 
-/* Each prefix of a text, of which so many are tags: they are copied and displayed, and the normal ones set. */
+/* The prefixes of a text, of which a given number are tags. These are copied and displayed, and the parts of normal tags are set.
+ * */
 static void sweep_prefixes(const char *row, size_t row_len, size_t wanted_tags) {
     size_t found = 0;
     for (size_t len = 0; len <= row_len; len++) {
@@ -113,7 +113,7 @@ static void sweep_prefixes(const char *row, size_t row_len, size_t wanted_tags) 
     check("prefixes", row_len, found == wanted_tags);
 }
 
-/* The rows `scan | TEXT | READS TAGS ..` of a file, whose texts are ASCII: the prefixes of each, of which TAGS are tags. */
+/* The rows `scan | TEXT | READS TAGS ..` of a file whose texts are ASCII. TAGS prefixes of each text are tags. */
 static size_t sweep_rows(const char *path) {
     static char line[1 << 16], row[1 << 16];
     FILE *file = fopen(path, "r");
@@ -128,7 +128,7 @@ static size_t sweep_rows(const char *path) {
     return rows;
 }
 
-/* Calls that write a text, and the text that is wanted. */
+/* Calls that write a text, and the expected text. */
 typedef size_t write_call(const char *, size_t, char *, size_t, size_t *);
 static const struct {
     const char *name;
@@ -168,7 +168,7 @@ static void sweep_texts(const char *name, write_call *call, const struct shape *
     }
 }
 
-/* Headers, and how many ranges each has: so many at first, and so many more for each piece; bad ones are passed over. */
+/* Headers, and the number of their ranges: a first number, and a number for each further piece. Malformed elements are skipped. */
 static const struct {
     struct shape header;
     size_t first, each;
@@ -195,22 +195,13 @@ static void sweep_headers(const struct shape *header, size_t first, size_t each,
     }
 }
 
-/* The tag for a header among more and more tags, which is the last of them, and for longer and longer headers. */
+/* The tag for a header among more and more tags, of which the last has to be found; and for longer and longer headers. */
 static void sweep_tags_for_headers(void) {
     static const struct shape many = {"", "en,", "DE-ch"}, header = {"", "fr;q=0.5,", "de-ch-1996;q=0.1"};
     for (size_t times = 0, len = 0; grow(&many, &times, &len);)
         check("chosen", len, langtag_bench_chosen("fr, de-ch-1996;q=0.9", 20, text, len, &refused) == times);
     for (size_t times = 0, len = 0; grow(&header, &times, &len);)
         check("chosen", len, langtag_bench_chosen(text, len, "en,de-CH,de", 11, &refused) == 1);
-}
-
-/* Maps of so many tags, all different. */
-static void sweep_maps(void) {
-    for (size_t number = 1; number <= 100000; number += number / 2 + 1) {
-        size_t len = 0;
-        for (size_t tag = 0; tag < number; tag++) len += (size_t)sprintf(text + len, tag ? ",x-%zu" : "x-%zu", tag);
-        check("maps", len, langtag_bench_maps(text, len, &refused) == number);
-    }
 }
 
 /* A tag of few subtags. */
@@ -226,7 +217,7 @@ static void check_short(size_t len) {
     check("minimized", len, langtag_bench_minimized(text, len, written, sizeof written, &refused) > 0);
 }
 
-/* A tag in its recommended case, and in small letters. */
+/* A tag in its recommended case, and in lowercase. */
 static void check_subtag(const char *recommended) {
     size_t len = append(text, 0, recommended), wanted_len = append(wanted, 0, recommended);
     check_short(len);
@@ -236,7 +227,8 @@ static void check_subtag(const char *recommended) {
     check("displayed", len, is_wanted(langtag_bench_displayed(text, len, written, sizeof written, &refused), wanted_len));
 }
 
-/* All tags with so many letters, or digits, at some place: the first is of the first set, the others are of the other. */
+/* All tags with a given number of letters or digits at one position. The first is from one set, and the others are from the other
+ * set. */
 static void sweep_places(char *tag, size_t at, size_t count, char first, char others, size_t range) {
     if (count == 0) return check_subtag(tag);
     for (size_t index = 0; index < range; index++) {
@@ -264,7 +256,6 @@ int main(int count, char **arguments) {
     for (size_t row = 0; row < LENGTH(headers); row++)
         sweep_headers(&headers[row].header, headers[row].first, headers[row].each, headers[row].is_bad);
     sweep_tags_for_headers();
-    sweep_maps();
     sweep_subtags();
     printf("sweep: %zu calls, %zu faults\n", calls, faults);
     return faults != 0;

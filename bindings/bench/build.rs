@@ -1,5 +1,5 @@
-//! Links the C library, in the folder that LANGTAG_LIB_DIR names, and what calls ICU, where `run` built it in the one that ICU_ENTRY
-//! names.
+//! Links the C library in the folder that LANGTAG_LIB_DIR names. If `run` built the code that calls ICU, links this
+//! code too, from the folder that ICU_ENTRY names.
 fn main() {
     println!("cargo:rerun-if-env-changed=LANGTAG_LIB_DIR");
     let folder = std::env::var("LANGTAG_LIB_DIR").expect("LANGTAG_LIB_DIR names the folder of liblangtag_c.a");

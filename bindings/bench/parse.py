@@ -1,5 +1,5 @@
 #!/usr/bin/env python3
-"""Times the Python package beside babel on files of tags, one a line, in turns: a tag of each text, and its parts.
+"""Times the Python package and babel in turns, on files with one tag a line: making a tag of each text, and reading its parts.
 
     PYTHONPATH=FOLDER bench/parse.py FILE    FOLDER has the package langtag with its C module, and babel is installed
 """
@@ -23,7 +23,7 @@ def by_langtag(texts: list[str]) -> int:
 
 
 def by_babel(texts: list[str]) -> int:
-    """How many texts it refuses, most of them for private use, or with an extension."""
+    """Returns how many texts babel refuses. Most of these are for private use or have an extension."""
     refused = 0
     for text in texts:
         try:
@@ -34,7 +34,7 @@ def by_babel(texts: list[str]) -> int:
 
 
 def main(path: str) -> None:
-    """The least time over the pieces of the list, over each of which both go."""
+    """Prints the least time over the pieces of the list. Both parsers read each piece."""
     texts = pathlib.Path(path).read_text().split()
     least = {"langtag.Tag": float("inf"), "babel": float("inf")}
     for start in list(range(0, len(texts), PIECE)) * PASSES:

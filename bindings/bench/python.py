@@ -1,6 +1,6 @@
 #!/usr/bin/env python3
-"""Times the Python package beside babel, in one run: each round takes every call once, in an order that is shuffled, and the
-median of the rounds is printed. What is to hold stands beside it, and whether it does; the status is 1 where something does not.
+"""Times the Python package and babel in one run. Each round makes every call once, in random order, and the median of the rounds is
+printed. Beside it are the limit, and whether the time is within it. The status is 1 if a time is not.
 
     PYTHONPATH=FOLDER bench/python.py [ROUNDS]    FOLDER has the package langtag with its C module, and babel is installed
 """
@@ -28,7 +28,7 @@ NAMES = {
 }
 KEPT = [langtag.Tag(text) for text in TEXTS]
 
-# What is timed: a call, over which values of `it`.
+# The calls that are timed, and the values of `it` for each call.
 CALLS = {
     "nothing": ("pass", TEXTS),
     "construct": ("Tag(it)", TEXTS),
@@ -55,7 +55,7 @@ def tags_to_sort() -> list[langtag.Tag]:
 
 
 def sorting(tags: list[langtag.Tag]) -> float:
-    """The processor's nanoseconds for sorting the tags."""
+    """Returns the processor time for sorting the tags, in nanoseconds."""
     tags = list(tags)
     begun = time.process_time_ns()
     tags.sort()
@@ -63,7 +63,7 @@ def sorting(tags: list[langtag.Tag]) -> float:
 
 
 def timed() -> dict[str, float]:
-    """The median of each call, in nanoseconds, and of some sorts, which stand between the rounds."""
+    """Returns the median of each call in nanoseconds, and that of some sorts, which run between the rounds."""
     runs = {}
     for name, (call, values) in CALLS.items():
         space = {**NAMES, "values": values}

@@ -1,7 +1,7 @@
-# The library for aarch64, by Debian's cross compiler, and under qemu: nothing here ran on such a processor.
+# Checks the library for aarch64 with Debian's cross compiler and qemu. Nothing ran on a real aarch64 processor.
 cross=aarch64-linux-gnu
 qemu_root=/usr/$cross
-# Loader and C library are both the cross compiler's: this machine may have others for this processor, of another version.
+# The loader and the C library are both those of the cross compiler, since this machine may have other versions for aarch64.
 under_qemu="qemu-aarch64 -L $qemu_root -E LD_LIBRARY_PATH=$qemu_root/lib"
 
 aarch64_missing() {
@@ -34,7 +34,7 @@ aarch64_rows() {
 check "aarch64: an example, under qemu" aarch64_example
 check "aarch64: C's tests, under qemu" aarch64_rows
 
-# The answers to random calls and about the registry's tags are those on this processor.
+# The answers to random calls, and about the registry's tags, have to be the same as on this processor.
 aarch64_random() { on_aarch64 "$work/built/test-aarch64" --answer <"$work/calls" | cmp - "$work/answers"; }
 aarch64_tags() {
     sed 's/.*/validity &\ncanonical &/' "$work/tags" | on_aarch64 "$work/built/test-aarch64" --answer | in_its_words | cmp - "$work/told"
@@ -44,7 +44,7 @@ check "aarch64: answers to random calls as on x86-64, under qemu" aarch64_random
 check "aarch64: validity and canonical form of 50,000 tags as on x86-64, under qemu" aarch64_tags
 check "aarch64: 100,000 rows of likely subtags and choices as on x86-64, under qemu" aarch64_likely
 
-# Symbols of archive and library, and the stack. How the work of a call grows is counted on x86-64 alone.
+# Checks the symbols of archive and library, and the stack. The growth of running time is measured only on x86-64.
 aarch64_symbols() {
     mkdir -p "$work/cross" && ln -sf "$(command -v $cross-nm)" "$work/cross/nm" || return 1
     PATH=$work/cross:$PATH make -s -C c check-symbols CC=$cross-gcc ARCHIVE="$aarch64_archive" BUILD="$work/c-aarch64" || return 1
@@ -60,7 +60,7 @@ if [ -x "$root/.ci/stack" ]; then
 fi
 check "aarch64: no symbol of a C library after 2.17, as the wheel says" aarch64_libraries
 
-# The Rust crate needs no archive. Its tests run where there is a standard library of Rust for this processor.
+# The Rust crate needs no archive. Its tests run if there is a standard library of Rust for aarch64.
 rust_on_aarch64() {
     cd "$rust_crate" && CARGO_TARGET_AARCH64_UNKNOWN_LINUX_GNU_LINKER=$cross-gcc \
         CARGO_TARGET_AARCH64_UNKNOWN_LINUX_GNU_RUNNER=$under_qemu cargo test -q --release --target aarch64-unknown-linux-gnu --test rows --test habits

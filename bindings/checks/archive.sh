@@ -1,4 +1,4 @@
-# The archive: named, or built by the toolchain where it is not there or older than what it is made of.
+# The archive is the one that is named. Otherwise the toolchain builds it, if it is missing or older than its sources.
 archive=${LANGTAG_ARCHIVE:-$root/crates/langtag_c/out/liblangtag_c.a}
 
 is_old() {

@@ -1,4 +1,4 @@
-# The C tests, by each compiler that is there, and random texts.
+# Runs the C tests with each compiler that is installed, and random texts.
 with_make() { make -s -C c ARCHIVE="$archive" "$@"; }
 
 check "C: tests, static and shared, under sanitizers and valgrind" with_make check BUILD="$work/c"
@@ -18,11 +18,11 @@ if has clang && has clang++; then
 else
     not_run "C: the same by clang" "it is not there"
 fi
-check "C: forms, distances, choices and refusals of each length to 4,200 bytes, and to 2 MB" with_make sweep BUILD="$work/c"
+check "C: forms, suggestions, distances, choices and refusals of each length to 4,200 bytes, and to 2 MB" with_make sweep BUILD="$work/c"
 check "C: random texts against a second reading, each at the edge of a page" \
     with_make fuzz SECONDS="$FUZZ_SECONDS" SEED="$FUZZ_SEED" BUILD="$work/c"
 
-# The date comes of the library: it is that of the registry's file.
+# The date that the library returns has to be the date of the registry's file.
 dated() {
     printf '#include <langtag.h>\n#include <stdio.h>\nint main(void) { return printf("%%u\\n", (unsigned)langtag_registry_date()) < 0; }\n' |
         cc -x c - -Iinclude -x none "$archive" -o "$work/date" || return 1
@@ -30,13 +30,13 @@ dated() {
 }
 check "C: the date of the registry is that of its file" dated
 
-# What Rust and Python answer to random calls is compared with C's answers.
+# C's answers to random calls, with which the answers of Rust and Python are compared.
 answers_of_c() {
     python3 random_calls.py "$FUZZ_SEED" >"$work/calls" && "$work/c/test" --answer "$work/rows/calls.txt" <"$work/calls" >"$work/answers"
 }
 check "C: answers to random calls, for Rust and Python" answers_of_c
 
-# What C answers about tags of the registry's subtags, in the words of the oracle, a plain reading of the registry.
+# Compares C's answers about tags of the registry's subtags with those of registry/oracle.py.
 oracle() { python3 "$root/registry/oracle.py" "$root/registry/language-subtag-registry" "$@"; }
 in_its_words() {
     paste - - | sed -E 's/^validity \| \S+ \| none\t.* -$/refused/; s/^validity \| \S+ \| valid\tcanonical \| \S+ \| /valid canonical=/
@@ -49,7 +49,7 @@ as_the_oracle() {
 }
 check "C: validity and canonical form of 50,000 tags, by a plain reading of the registry" as_the_oracle
 
-# What it answers about likely subtags, distances, directions, choices and names, beside a plain reading of CLDR's data.
+# Compares C's answers about likely subtags, distances, directions, choices and locale names with those of likely/oracle.py.
 as_the_likely_oracle() {
     local likely=$root/likely
     { "$likely/questions.py" each && "$likely/questions.py" rows 30000 "$FUZZ_SEED"; } >"$work/asked" || return 1

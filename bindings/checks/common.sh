@@ -1,17 +1,17 @@
-# What the parts of bindings/check share.
+# The functions that all parts of bindings/check share.
 passed=0 failed=0
 
-# Seconds after which a check is ended, as one that hangs: some take two minutes, and on a busy machine many times that. One of them
-# runs random texts twice.
+# The seconds after which a check counts as hanging, and is ended. Some checks take two minutes, and many times as long on a busy
+# machine. One of them runs random texts twice.
 limit=$((1800 + 2 * FUZZ_SECONDS))
 
-# The processor seconds of the commands that have ended. Only the shell that ran them is told, so this sets a variable.
+# Sets a variable to the processor seconds of the commands that have ended. Only the shell that ran the commands knows this number.
 count_processors() {
     times >"$work/times"
     processors=$(awk 'NR == 2 { gsub(/[ms]/, " "); print int(60 * ($1 + $3) + $2 + $4) }' "$work/times")
 }
 
-# check NAME COMMAND..: runs a command or a function, and says how long it took, and what it said where it failed.
+# check NAME COMMAND..: runs a command or a function, and prints how long it took. Prints the output if it failed.
 check() {
     local name=$1 begun=$SECONDS status processors used
     shift
@@ -35,7 +35,7 @@ not_run() { echo "not run: $1: $2"; }
 
 has() { command -v "$1" >/dev/null; }
 
-# give_up REASON: nothing can be checked.
+# give_up REASON: ends the run, because nothing can be checked.
 give_up() {
     echo "FAILED: $1"
     echo "0 passed, 1 failed"

@@ -1,4 +1,4 @@
-# The code of the documents and headers, in each language that is there; SQL in postgresql.sh, which has the servers.
+# Runs the code of the documents and headers, in each language that is installed. SQL runs in postgresql.sh, which has the servers.
 examples_of() { LANGTAG_ARCHIVE="$work/lib/liblangtag_c.a" LANGTAG_JS="$work/bindings/js" CARGO_TARGET_DIR="$work/target" "$root/.ci/examples" "$@"; }
 for language in c c++ python; do check "documents: the examples in $language" examples_of $language; done
 if [ -f js/module.js ] && has node; then check "documents: the examples in JavaScript" examples_of javascript; else not_run "documents: JavaScript" "the package is not built"; fi
@@ -8,6 +8,8 @@ if has sqlite3 && echo '#include <sqlite3ext.h>' | cc -E - >/dev/null 2>&1; then
 else
     not_run "documents: SQLite" "there is no sqlite3, or its headers are not installed"
 fi
+check "documents: the commands in a clone" examples_of clone
+if has rt; then check "documents: the program by rt try" examples_of rattle; else not_run "documents: the program by rt try" "there is no rt"; fi
 if [ -d "$work/dist" ]; then
     export LANGTAG_DIST="$work/dist"
     check "documents: the commands that install" examples_of install

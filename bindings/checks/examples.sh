@@ -1,5 +1,5 @@
-# The examples that are servers, the subtitle editor, the count of a million rows, and the extension of SQLite. The store of RDF's
-# literals is run with the Rust crate.
+# Runs the examples that are servers, the subtitle editor, the count of a million rows, and the extension of SQLite. The store of
+# RDF literals runs with the Rust crate.
 strict="-std=c99 -O2 -Wall -Wextra -Wpedantic -Werror"
 PYTHONPATH=$work/bindings/python
 

@@ -1,4 +1,4 @@
-# The library used from an empty folder: the archive and the header alone, and installed.
+# Uses the library from an empty folder: with only the archive and the header, and after an installation.
 wanted() { printf 'language zh\nscript Hant\nregion TW\n'; }
 
 archive_alone() {
@@ -47,7 +47,7 @@ installed_header() {
 }
 check "C++: an example over the installed header" installed_header
 
-# Another archive, which is older than what was built of the first, in folders of other names.
+# Installs another archive in folders with other names. It is older than the files that were built from the first archive.
 elsewhere() {
     make -s -C c "$@" PREFIX="$work/another" LIBDIR="$work/another/lib64" INCLUDEDIR="$work/another/headers" \
         ARCHIVE="$work/another.a" BUILD="$work/c"

@@ -1,4 +1,4 @@
-# The JavaScript package and its page, in Node and in headless Chromium.
+# Checks the JavaScript package and its page, in Node and in headless Chromium.
 wasm_archive=${LANGTAG_WASM_ARCHIVE:-$(python3 "$here/targets.py" archive wasm64-unknown-unknown 2>"$work/log")}
 if [ -z "$wasm_archive" ]; then
     not_run "JavaScript: everything" "there is no archive for WebAssembly: $(tail -1 "$work/log")"
@@ -13,7 +13,7 @@ elif ! has rt && [ -z "${LANGTAG_WASM_MODULE:-}" ]; then
 fi
 js_built() { js/build "$wasm_archive" && cp js/module.js "$work/module.js" && js/build "$wasm_archive" && cmp js/module.js "$work/module.js"; }
 check "JavaScript: the module and the page, twice the same" js_built
-# wasm_without_imports FILE: it exports what the header declares.
+# wasm_without_imports FILE: the module imports nothing, and exports what the header declares.
 wasm_symbols() {
     sed -n 's/^[A-Za-z].* \**\(langtag_[a-z_]*\)(.*[,;]$/\1/p' include/langtag.h | sort >"$work/declared"
     node -e 'const module = new WebAssembly.Module(require("fs").readFileSync("js/langtag32.wasm"));

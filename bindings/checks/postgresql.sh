@@ -1,5 +1,5 @@
-# The extension for PostgreSQL, in servers of its own: nothing is installed in the system, and they run on the loopback as
-# another user than root.
+# Checks the extension for PostgreSQL, in servers that this script starts. Nothing is installed in the system. The servers listen
+# only on the loopback, and run as a user other than root.
 pg_config=${PG_CONFIG:-pg_config}
 if ! has "$pg_config"; then
     not_run "PostgreSQL: everything" "there is no pg_config (in Debian: apt-get install postgresql postgresql-server-dev-15)"
@@ -22,7 +22,7 @@ fi
 path_before=$PATH
 trap 'end_all; rm -rf "$work"' EXIT
 
-# From the tarball, where it was unpacked in an empty folder: its header and its archive.
+# The sources are those of the tarball, unpacked in an empty folder, with its header and its archive.
 postgresql_released() {
     cd "$pg_folder" && tar -xzf "$work"/dist/langtag-postgresql-*.tar.gz && mv langtag-postgresql-* first || return 1
     env -u LANGTAG_ARCHIVE -u LANGTAG_INCLUDE make -s -C first install PG_CONFIG="$pg_config" DESTDIR="$pg_folder/server" || return 1
@@ -32,7 +32,7 @@ postgresql_released() {
     [ "$exported" = 0 ] || { echo "$module exports $exported functions of the library"; return 1; }
 }
 
-# A user's first table.
+# The first table of docs/SQL.md.
 cat >"$work/first.sql" <<'END'
 CREATE EXTENSION langtag;
 CREATE TABLE texts (tag langtag NOT NULL, t text);
@@ -64,7 +64,7 @@ postgresql_regress() { make -s -C "$pg_folder/first" installcheck PG_CONFIG="$pg
 postgresql_later() { later "$here/postgresql" "$here/include" "$work/lib/liblangtag_c.a"; }
 in_postgresql() { cd postgresql/test && python3 "$@"; }
 postgresql_wrong() {
-    cp -r postgresql "$work/wrong_extension" && python3 "$work/wrong_extension/test/wrong_extension.py" PG_CONFIG="$pg_config" \
+    cp -r postgresql "$work/wrong_extension" && PYTHONPATH=$here python3 "$work/wrong_extension/test/wrong_extension.py" PG_CONFIG="$pg_config" \
         DESTDIR="$pg_folder/server" LANGTAG_ARCHIVE="$work/lib/liblangtag_c.a" LANGTAG_INCLUDE="$here/include"
 }
 

@@ -1,11 +1,11 @@
-# The Python module.
+# Checks the Python module.
 unit_tests() { cd python && LANGTAG_ANSWERS=$work/answers python3 -m unittest; }
 check "Python: tests and doctests, and C's answers to random calls" unit_tests
 
 dated() { (cd python && python3 -c 'import langtag; print("File-Date:", langtag.REGISTRY_DATE)') | cmp - <(sed 1q "$root/registry/language-subtag-registry"); }
 check "Python: the date of the registry is that of its file" dated
 
-# The C module, which each Python loads that is there: one binary. A Python that has several names is asked once.
+# The C module is one binary, which each installed Python loads. A Python with several names is used once.
 pythons= programs=
 for python in python3 /usr/bin/python3 python3.8 python3.9 python3.10 python3.11 python3.12 python3.13 python3.14 ~/.pyenv/versions/3.*/bin/python3; do
     program=$("$python" -c 'import os, sys; assert sys.version_info >= (3, 8); print(os.path.realpath(sys.executable))' 2>/dev/null) || continue
@@ -38,7 +38,7 @@ for python in $pythons; do
 done
 if [ -n "$header" ]; then . "$here/checks/python_leaks.sh"; fi
 
-# mypy of this Python, or the program that Debian installs. It also reads a program of a user, whose mistake it has to see.
+# mypy of this Python, or the program that Debian installs. It also checks a user's program, and has to find the mistake in it.
 mypy=
 if python3 -m mypy --version >/dev/null 2>&1; then mypy="python3 -m mypy"; elif has mypy; then mypy=mypy; fi
 type_check() { cd python && $mypy --strict langtag && $mypy --strict ../examples/parts.py ../examples/negotiate.py ../examples/count_tags.py; }

@@ -1,6 +1,6 @@
-# Leaks of the C module, by three nets: references in a debug Python, blocks by valgrind, and sanitizers. Planted: a reference
-# that is lost, and a block that is not freed, each of which its net has to see.
-# leaks_of NAME CFLAGS PYTHON COMMAND..: builds the module in a copy of its own, and runs the command there.
+# Looks for leaks of the C module in three ways: references in a debug Python, blocks with valgrind, and sanitizers. A lost
+# reference and a block that is not freed are planted, and have to be found. leaks_of NAME CFLAGS PYTHON COMMAND..: builds the
+# module in a copy of its own, and runs the command there.
 leaks_of() {
     local folder=$work/leaks-$1 flags=$2 python=$3
     shift 3
@@ -23,7 +23,7 @@ by_sanitizers() {
     ASAN_OPTIONS=detect_leaks=0 LD_PRELOAD= leaks_of sanitized "-g -fsanitize=address,undefined -fno-sanitize-recover" "$header" \
         env LD_PRELOAD="$runtime" ASAN_OPTIONS=detect_leaks=0 "$real" leaks.py 20
 }
-# seen PLANT WORDS COMMAND..: the command fails, and says the words.
+# seen PLANT WORDS COMMAND..: the command has to fail, and to print the words.
 seen() {
     local plant=$1 words=$2 said
     shift 2

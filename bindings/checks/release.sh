@@ -1,5 +1,5 @@
-# What `bindings/release` makes, each installed in an empty folder by a process that does not see the repository, and its
-# first program. Two runs give the same bytes.
+# Installs each package that `bindings/release` makes in an empty folder, by a process that cannot see the repository, and runs its
+# first program. Two runs of `bindings/release` have to make the same bytes.
 if ! has rt && [ -z "${RT_VERSION:-}" ]; then RT_VERSION="not known: there was no rt"; fi
 
 releases() {
@@ -13,13 +13,13 @@ releases() {
     ./release "$archive" "${targets[@]}" | diff "$work/sums" - || return 1
     proves langtag-verified-*-x86_64-elf.tar.gz "$archive" x86_64-unknown-linux-gnu && (cd "$work/dist" && tar -xzOf langtag-verified-*.crate --wildcards '*/PROVED.txt') | grep -x 'commit .*' && ! tar -tzf "$work"/dist/*.crate | grep -E '\.(a|so)$|build\.rs'
 }
-# proves FILE ARCHIVE TARGET: PROVED.txt of a release names the sum of the archive, and its target.
+# proves FILE ARCHIVE TARGET: PROVED.txt of a release has to have the checksum of the archive, and its target.
 proves() {
     (cd "$work/dist" && tar -xzOf $1 --wildcards '*/PROVED.txt') | grep -A1 "^$(sha256sum <"$2" | cut -c1-64)  liblangtag_c.a$" | grep -x "target $3"
 }
 check "release: two runs give the same bytes, with the archive's sum" releases
 
-# So that those of both processors can be unpacked in one place.
+# The name has the processor, so that the tarballs for both processors can be unpacked in one folder.
 own_folders() {
     local file
     for file in "$work"/dist/*-elf.tar.gz; do
@@ -28,7 +28,7 @@ own_folders() {
 }
 check "release: each tarball for C unpacks to a folder of its own name" own_folders
 
-# Each package has the README of its language, and so has what pip shows of the wheel; its Python is asked.
+# Each package has to have the README of its language. So does the metadata of the wheel, which Python reads.
 readmes() {
     local pair
     for pair in c:langtag-verified-*-x86_64-elf.tar.gz python:langtag_verified-*.tar.gz \
@@ -44,7 +44,7 @@ readmes() {
 }
 check "release: each package has a README" readmes
 
-# What the tarball has by its own: the archive as the page names it, and the examples.
+# Checks what only the tarball has: the archive under the name in the page, and the examples.
 by_itself() {
     away 'tar -xzf ../dist/*-x86_64-elf.tar.gz; cd langtag-verified-*; rm ../parts.*
         cc examples/negotiate.c -Iinclude lib/liblangtag_verified.a -o negotiate
@@ -53,7 +53,7 @@ by_itself() {
         cc examples/parts.c -Iinclude lib/liblangtag_verified.a -o parts; ./parts zh-Hant-TW | tee c; cmp c cc'
 }
 
-# away COMMAND..: runs it in an empty folder, where the repository and the copy of bindings are hidden if that can be done.
+# away COMMAND..: runs the command in an empty folder. The repository and the copy of bindings are hidden if that is possible.
 hide=
 if unshare -rm true 2>/dev/null; then hide="unshare -rm"; else not_run "release: hiding the repository" "unshare is refused"; fi
 away() {
@@ -82,14 +82,14 @@ check "release: C by the tarball's own archive and examples" by_itself
 if has pkg-config; then check "release: C by pkg-config" by_pkg_config; else not_run "release: C by pkg-config" "it is not there"; fi
 if has cmake; then check "release: C by find_package" by_cmake; else not_run "release: C by find_package" "there is no cmake"; fi
 
-# As a program for Windows, by mingw and wine, whose lines end with CR LF.
+# The first program for Windows, with mingw and wine. Its lines end in CR LF.
 windows_released() {
     away 'export WINEDEBUG=-all WINEPREFIX=$PWD/prefix; python3 -m zipfile -e ../dist/*-windows.zip .; cd langtag-verified-*-windows
         x86_64-w64-mingw32-gcc ../parts.c -Iinclude lib/liblangtag.dll.a -o bin/parts.exe; '"$wine"' bin/parts.exe zh-Hant-TW | tr -d "\r"'
 }
 if [ -n "${wine:-}" ]; then check "release: C by the DLL for Windows" windows_released; else not_run "release: the DLL for Windows" "there is no mingw, or no wine64"; fi
 
-# The crate names serde, which cargo looks up even where it is off.
+# The crate names serde, which cargo looks up even if the feature is off.
 crate() {
     away 'tar -xzf ../dist/*.crate; cargo new -q --vcs none first; cp parts.rs first/src/main.rs; cd first
         cp -r ../../with-serde/.cargo .cargo; export CARGO_TARGET_DIR=$PWD/target CARGO_HOME=$PWD/cargo-home
@@ -102,17 +102,21 @@ else
     not_run "release: the Rust crate" "there is no cargo, or no serde in $registry"
 fi
 
-# python_package PYTHON FILE..
+# python_package PYTHON COMMANDS: the environment of a Python is made once, and copied for each package.
 python_package() {
-    away "\"$1\" -m venv v; $2 v/bin/python parts.py zh-Hant-TW"
+    local venv=$work/venv${1//\//-}
+    [ -d "$venv" ] || "$1" -m venv "$venv" || return 1
+    away "cp -r $venv v; $2 v/bin/python parts.py zh-Hant-TW"
 }
-wheel_released() { python_package "$1" 'v/bin/pip install -q --no-index --find-links ../dist --only-binary :all: langtag-verified;'; }
-fallback_released() { python_package "$1" 'v/bin/pip install -q --no-index ../dist/*-py3-none-*x86_64.whl;'; }
-is_native() { away "\"$1\" -m venv v; v/bin/pip install -q --no-index --find-links ../dist --only-binary :all: langtag-verified;
-    v/bin/python -c 'import langtag; assert langtag._backend.__name__ == \"langtag._native\"'; v/bin/python parts.py zh-Hant-TW"; }
+wheel_released() { python_package "$1" 'v/bin/python -m pip install -q --no-index --find-links ../dist --only-binary :all: langtag-verified;'; }
+fallback_released() { python_package "$1" 'v/bin/python -m pip install -q --no-index ../dist/*-py3-none-*x86_64.whl;'; }
+is_native() {
+    python_package "$1" 'v/bin/python -m pip install -q --no-index --find-links ../dist --only-binary :all: langtag-verified;
+        v/bin/python -c "import langtag; assert langtag._backend.__name__ == \"langtag._native\"";'
+}
 sdist_released() {
     python_package "$1" "\"$1\" -m pip wheel -q --no-build-isolation --no-deps --no-index -w w ../dist/langtag_verified-*.tar.gz;
-        v/bin/pip install -q --no-index w/*.whl;"
+        v/bin/python -m pip install -q --no-index w/*.whl;"
 }
 for python in python3 python3.9 python3.12 python3.13; do
     if "$python" -c 'import venv, ensurepip' >/dev/null 2>&1; then
@@ -130,7 +134,7 @@ for python in python3 /usr/bin/python3; do
     fi
 done
 
-# For aarch64: the tarball, the wheel as pip unpacks it for that platform, and the crate's archive.
+# For aarch64: the tarball, the wheel as pip unpacks it for that platform, and the archive in the crate.
 released_aarch64() {
     away 'tar -xzf ../dist/*-aarch64-elf.tar.gz; lib=$(echo $PWD/langtag-verified-*/lib)
         aarch64-linux-gnu-gcc parts.c -I$lib/../include $lib/liblangtag_verified.a -o parts
@@ -141,19 +145,14 @@ wheel_of_aarch64() {
     python3 -m pip install -q --no-index --no-deps --target "$work/foreign" --platform manylinux_2_17_aarch64 --only-binary=:all: "$work"/dist/*_aarch64.whl &&
         readelf -h "$work/foreign/langtag/liblangtag_verified.so.1" | grep 'Machine:.*AArch64'
 }
-crate_of_both() {
-    proves langtag-verified-*.crate "$aarch64_archive" aarch64-unknown-linux-gnu &&
-        tar -xzOf "$work"/dist/*.crate --wildcards '*/lib/aarch64/liblangtag_c.a' | cmp - "$aarch64_archive"
-}
 if [ -z "${aarch64_archive:-}" ] || [ -n "${missing:-}" ]; then
     not_run "release: aarch64" "${missing:-there is no archive for it}"
 else
     check "release: C for aarch64 by the tarball, under qemu" released_aarch64
-    check "release: the crate has the archives of both processors" crate_of_both
     if python3 -m pip --version >/dev/null 2>&1; then check "release: the wheel for aarch64" wheel_of_aarch64; fi
 fi
 
-# The package for npm in an empty folder, in Node and in a page; and the page.
+# Installs the package for npm in an empty folder, and uses it in Node and in a web page. Then checks the page of the release.
 npm_package() {
     away 'mkdir empty && cd empty && npm install --offline --no-audit --no-fund --loglevel=error ../../dist/langtag-verified-*.tgz >&2
         echo "import { LanguageTag } from \"langtag-verified\"; const tag = LanguageTag.parse(\"zh-Hant-TW\");

@@ -1,22 +1,28 @@
-# The Rust crate beside the library for C, beside its peers, with serde, and in a program of a user. .ci/rust has its own tests.
+# Compares the Rust crate with the C library and with other crates, and uses it with serde and in a user's program. .ci/rust runs
+# its own tests.
 CARGO_TARGET_DIR=$work/target
 CARGO_TERM_COLOR=never
+# The programs run only once or twice, so they are built without debug information and incremental results. All checks use one set
+# of features, so that the crate is compiled only once.
+CARGO_INCREMENTAL=0
+CARGO_PROFILE_DEV_DEBUG=0
+CARGO_PROFILE_TEST_DEBUG=0
 
 if ! has cargo; then
     not_run "Rust: everything" "there is no cargo"
     return 0
 fi
 
-# All but serde and the peers is built as on a machine that has no registry.
+# Everything except serde and the other crates is built as on a machine without a registry of crates.
 CARGO_HOME=$work/cargo-home
 CARGO_NET_OFFLINE=true
 rust_crate=$work/rust
 
 check "Rust: C's answers to random calls" \
-    env LANGTAG_ANSWERS="$work/answers" bash -c 'cd "$rust_crate" && cargo test -q --test rows as_c_answers -- --nocapture'
-check "Rust: the names of oxilangtag" bash -c 'cd "$rust_crate" && cargo test -q --features oxilangtag oxilangtag && cargo test -q --features oxilangtag --test oxilangtag'
+    env LANGTAG_ANSWERS="$work/answers" bash -c 'cd "$rust_crate" && cargo test -q --features oxilangtag --test rows as_c_answers -- --nocapture'
+check "Rust: the names of oxilangtag" bash -c 'cd "$rust_crate" && cargo test -q --features oxilangtag --doc oxilangtag && cargo test -q --features oxilangtag --test oxilangtag'
 
-# The same program over the crate that it is written for, of which the line with `use` alone is changed.
+# The same program with the crate for which it was written. Only the line with `use` differs.
 literals_elsewhere() {
     local folder=$work/literals
     cargo new -q --vcs none "$folder" && sed 's/^use langtag::oxilangtag::/use oxilangtag::/' "$rust_crate/examples/literals.rs" >"$folder/src/main.rs" || return 1
@@ -37,15 +43,16 @@ else
     not_run "Rust: the tests of oxilangtag and language-tags" "their sources are not in $registry"
 fi
 
-# The manifest as a release has it, with serde of a folder of sources.
+# The manifest of a release, with serde from a folder of sources.
 with_serde() {
     local folder=$work/with-serde
     mkdir "$folder" && cp -r "$rust_crate/src" "$rust_crate/tests" "$rust_crate/examples" "$folder" || return 1
     sed 's/^#: \?//' "$rust_crate/Cargo.toml" >"$folder/Cargo.toml" || return 1
     printf '%s\n' '[dev-dependencies]' 'serde = { version = "1", features = ["derive"] }' 'serde_json = "1"' >>"$folder/Cargo.toml"
     mkdir "$folder/.cargo" && printf '%s\n' '[source.crates-io]' 'replace-with = "folder"' '[source.folder]' "directory = \"$registry\"" >"$folder/.cargo/config.toml"
-    cd "$folder" && RUSTFLAGS=-Dwarnings cargo test -q --features serde,oxilangtag --test serde || return 1
-    cargo run -q --features serde --example articles | diff - <(printf '%s\n' 'fr Vélo' 'zh-Hant 單車' \
+    export RUSTFLAGS=-Dwarnings
+    cd "$folder" && cargo test -q --features serde,oxilangtag --test serde || return 1
+    cargo run -q --features serde,oxilangtag --example articles | diff - <(printf '%s\n' 'fr Vélo' 'zh-Hant 單車' \
         'invalid value: string "de_CH", expected a language tag at line 1 column 19')
 }
 if ls "$registry"/serde-1.* "$registry"/serde_json-1.* >/dev/null 2>&1; then
@@ -61,9 +68,9 @@ program() {
 }
 check "Rust: a program of a user" program
 
-# The program, and python -m langtag.
+# The program `langtag`, and `python -m langtag`.
 programs() {
-    (cd "$rust_crate" && cargo build -q --bin langtag) || return 1
+    (cd "$rust_crate" && cargo build -q --features oxilangtag --bin langtag) || return 1
     cd python && LANGTAG_PROGRAM=$CARGO_TARGET_DIR/debug/langtag python3 -m unittest test_program
 }
 check "Rust: the program langtag, and python -m langtag, answer alike" programs

@@ -1,4 +1,4 @@
-# The DLL for Windows, by mingw and wine: the tests of C and C++ with all rows, over the DLL and its import library.
+# Checks the DLL for Windows with mingw and wine: runs the tests of C and C++ with all rows, over the DLL and its import library.
 mingw=x86_64-w64-mingw32
 wine=$(command -v wine64 || ls /usr/lib/wine/wine64 2>/dev/null || true)
 if ! has $mingw-gcc; then
@@ -13,7 +13,7 @@ windows_built() {
 }
 check "Windows: the DLL builds, the same bytes each time, and exports the functions of the header" windows_built
 
-# Code that takes a page of the stack and more runs behind a wrapper that touches each page before.
+# A function that uses a page of stack or more has a wrapper that touches each page first.
 windows_stack() {
     $mingw-objdump -d --no-show-raw-insn "$work/windows/langtag.dll" >"$work/windows.code" && grep -q 'mov *\$0x1[0-9a-f]\{4\},%eax' "$work/windows.code" || return 1
     python3 - "$root/.ci/stack" <<'END'
@@ -34,7 +34,7 @@ if [ -z "$wine" ] || ! has $mingw-g++; then
     return 0
 fi
 export WINEDEBUG=-all WINEPREFIX=$work/wine WINEARCH=win64
-# of_windows NAME COMPILER SOURCE..: builds a program over the DLL, which stands beside it.
+# of_windows NAME COMPILER SOURCE..: builds a program with the DLL beside it.
 of_windows() {
     local name=$1 compiler=$2
     shift 2

@@ -1,4 +1,4 @@
-# Faults that are planted in the wrappers, and have to be refused by the rows.
+# Plants faults in the wrappers. The rows have to find each of them.
 languages=(C C++ Python)
 if [ -n "$header" ]; then languages+=("Python's C"); else not_run "wrong wrappers in Python's C module" "there is no Python.h"; fi
 if has cargo; then languages+=(Rust); else not_run "wrong wrappers in Rust" "there is no cargo"; fi

@@ -1,6 +1,6 @@
 """Counts the rows of each language in a column of a million tags, as people write them: python3 count_tags.py [FILE.csv COLUMN]
 
-Columns of tags have few distinct ones, so that each is asked once: by pandas where it is there, else by lru_cache.
+Such a column has few distinct tags, so each distinct tag is processed once: by pandas if it is installed, otherwise by lru_cache.
 """
 from __future__ import annotations
 
@@ -19,7 +19,7 @@ WRITTEN = "en en-US EN-us en_GB de de-CH de-ch iw he zh-Hant-TW zh-hant-tw zh-yu
 
 @functools.lru_cache(maxsize=65_536)
 def key(text: str) -> str:
-    """What rows that say the same have in common; "" of a text that is no tag, even with - for _."""
+    """Returns the same key for equivalent tags, and "" for a text that is not a tag even if each _ is read as -."""
     try:
         return langtag.Tag(text.replace("_", "-")).key()
     except langtag.InvalidTag:

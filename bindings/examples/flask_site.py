@@ -2,7 +2,7 @@
 
     curl 'localhost:5000/?lang=sr'; curl -H 'Accept-Language: ger-CH, fr;q=0.5' localhost:5000
 
-The language is the one that the reader picked (?lang=, kept in a cookie), or else the best one for the browser's header.
+The language is the reader's choice (?lang=, kept in a cookie), or else the best language for the browser's header.
 """
 from __future__ import annotations
 
@@ -16,7 +16,8 @@ app = Flask(__name__)
 
 
 def picked() -> str | None:
-    """Returns the language that the reader picked. One that is only near it was not picked: ?lang=tlh is not English."""
+    """Returns the language that the reader picked. A language that is only near the picked one does not count: ?lang=tlh is not
+    English."""
     for text in (request.args.get("lang"), request.cookies.get("lang")):
         match = match_for_header(text, PAGES)
         if match and match.distance < SAME:

@@ -4,8 +4,8 @@
  *     cc negotiate.c $(pkg-config --cflags --libs langtag_verified) -o negotiate && ./negotiate 8080
  *     curl -H 'Accept-Language: zh-TW,zh;q=0.9,en;q=0.8' localhost:8080
  *
- * It serves one request at a time, waits two seconds for each piece of it, and reads no more than 8 kB of it: an example
- * of the choice of a language, and no web server.
+ * It serves one request at a time, waits at most two seconds for each piece of it, and reads at most 8 kB. It is an example of
+ * choosing a language, and not a real web server.
  */
 #define _POSIX_C_SOURCE 200809L
 #include <langtag.h>
@@ -23,7 +23,7 @@ static const char tags[] = "en de de-CH fr zh-Hant";
 static const char *const greetings[] = {"Hello", "Guten Tag", "Gr\u00fcezi", "Bonjour", "\u4f60\u597d"};
 enum { COUNT = sizeof greetings / sizeof *greetings, DEFAULT = 0 };
 
-/* Where each tag stands in their text, as the library reads them. */
+/* The spans of the tags in their text, as the library reads them. */
 static void find_tags(langtag_span *spans) {
     size_t at = 0;
     for (size_t k = 0; k < COUNT; k++) {
@@ -32,13 +32,13 @@ static void find_tags(langtag_span *spans) {
     }
 }
 
-/* The index of the tag that the reader wants, or else of the default. */
+/* Returns the index of the best tag for the reader, or of the default. */
 static size_t choose(const char *accept, size_t len, const langtag_span *spans) {
     const size_t best = accept ? langtag_best_for_header(accept, len, tags, strlen(tags), spans, COUNT) : COUNT;
     return best < COUNT ? best : DEFAULT;
 }
 
-/* The value of a header of a request, up to the end of its line; NULL where there is none. */
+/* Returns the value of a header of a request, up to the end of its line, or NULL if there is no such header. */
 static const char *header(const char *request, const char *name, size_t *len) {
     for (const char *line = strstr(request, "\r\n"); line; line = strstr(line, "\r\n")) {
         line += 2;
@@ -51,8 +51,8 @@ static const char *header(const char *request, const char *name, size_t *len) {
     return NULL;
 }
 
-/* Reads up to the empty line behind the headers, or what comes of it, and puts a NUL behind it. A request with a NUL of
- * its own is taken for an empty one. */
+/* Reads a request up to the empty line after the headers, or as much as arrives, and ends it with a NUL. A request that contains a
+ * NUL counts as empty. */
 static void receive(int connection, char *request, size_t room) {
     static const struct timeval patience = {2, 0};
     size_t got = 0;

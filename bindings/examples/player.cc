@@ -1,6 +1,6 @@
 /*
- * Picks the tracks of a film for a viewer, as a media player does. Tracks are known by their place, and their languages are often codes
- * of ISO 639-2, as Matroska has them.
+ * Picks the tracks of a film for a viewer, as a media player does. Tracks are named by their index. Their languages are often codes
+ * of ISO 639-2, as in Matroska files.
  *
  *     c++ -std=c++17 player.cc $(pkg-config --cflags --libs langtag_verified) -o player
  *     player 'de-CH, en;q=0.5' jpn,eng,ger eng,fre    audio 2 (ger)
@@ -13,7 +13,7 @@
 #include <string>
 #include <vector>
 
-/* From this distance on, a track is in another language than the viewer's. */
+/* At this distance or more, a track is in a language other than the viewer's. */
 constexpr std::uint32_t same = 16;
 
 static std::vector<std::string> split(const std::string &text) {

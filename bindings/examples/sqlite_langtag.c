@@ -1,6 +1,6 @@
 /*
  * A loadable extension for SQLite. It returns parts of language tags, canonical forms, validity, likely subtags, the best tag for a
- * request, and whether a range matches, and it has a collation.
+ * request, and whether a range matches. It also has a collation.
  *
  *     cc -O2 -fPIC -shared sqlite_langtag.c -o sqlite_langtag.so $(pkg-config --cflags --libs langtag_verified)
  *     sqlite> .load ./sqlite_langtag
@@ -8,7 +8,9 @@
  *     sqlite> SELECT langtag_keyword('ar-u-ca-islamic-nu-latn', 'ca'); -- islamic
  *     sqlite> SELECT langtag_canonical('iw-Hebr');                   -- he-Hebr
  *     sqlite> SELECT langtag_is_valid('de-1996-1996');               -- 0
+ *     sqlite> SELECT langtag_suggestion('ger-AT');                   -- de
  *     sqlite> SELECT langtag_maximize('zh-TW');                      -- zh-Hant-TW
+ *     sqlite> SELECT langtag_from_posix('sr_RS@latin');              -- sr-Latn-RS
  *     sqlite> SELECT langtag_best_for_header('zh-TW,zh;q=0.9', 'en', 'zh-Hans', 'zh-Hant'); -- zh-Hant
  *     sqlite> SELECT langtag_match_for_header('tlh', 'de', 'en') ->> 'distance'; -- 30
  *     sqlite> SELECT * FROM texts WHERE langtag_matches_basic('de', tag);
@@ -17,14 +19,18 @@
  * Each function returns NULL if an argument is NULL.
  *
  * langtag_part(tag, part) returns NULL if the text is not a tag, or the part is absent. The parts are language, script, region,
- * variants, extensions and private_use. langtag_keyword(tag, key) returns the value of a key of the extension u (RFC 6067), which is
- * empty if the key has none, and NULL if the key is absent. These return NULL if a text is not a tag:
+ * variants, extensions and private_use. langtag_keyword(tag, key) returns the value of a key of the extension u (RFC 6067), which
+ * is empty if the key has none, and NULL if the key is absent. The following functions return NULL if a text is not a tag:
  *
  *   - langtag_canonical(tag) and langtag_is_valid(tag) (RFC 5646 sections 4.5 and 2.2.9), by langtag_registry_date
+ *   - langtag_suggestion(tag), the registered code that is probably meant by the invalid subtag, also NULL if there is none
  *   - langtag_maximize(tag), langtag_minimize(tag), langtag_is_right_to_left(tag), langtag_distance(desired, supported) (UTS #35)
  *
+ * langtag_from_posix(name) returns the tag for a POSIX locale name, or NULL if it has none. langtag_unknown_modifier(name) returns
+ * the modifier that langtag_from_posix drops because it is not known, or NULL.
+ *
  * langtag_best_for_header(header, tag, ..) returns the best tag for a header, or NULL if none is suitable. langtag_match_for_header
- * returns it as JSON, with its index, the range of the header that it serves, and its distance from that.
+ * returns this tag as JSON, with its index, the range of the header that it serves, and the distance from that range.
  * langtag_matches_basic(range, tag) and langtag_matches_extended(range, tag) return 0 if a text is not a range, or not a tag
  * (RFC 4647 sections 3.3.1 and 3.3.2). In the collation a tag sorts after every longer tag that begins with it. For alphabetical
  * order use ORDER BY lower(tag).
@@ -34,7 +40,7 @@
 #include <string.h>
 SQLITE_EXTENSION_INIT1
 
-/* The span of a part by its name; NULL where no part has that name. */
+/* Returns the span of the part with a name, or NULL if no part has that name. */
 static const langtag_span *part_named(const langtag_parts *parts, const char *name) {
     const struct {
         const char *name;
@@ -101,6 +107,19 @@ static void minimize(sqlite3_context *context, int count, sqlite3_value **values
     written(context, values, langtag_minimize);
 }
 
+static void from_posix(sqlite3_context *context, int count, sqlite3_value **values) {
+    (void)count;
+    written(context, values, langtag_from_posix);
+}
+
+static void unknown_modifier(sqlite3_context *context, int count, sqlite3_value **values) {
+    (void)count;
+    const char *name = (const char *)sqlite3_value_text(values[0]);
+    langtag_span modifier;
+    if (name && langtag_unknown_modifier(name, (size_t)sqlite3_value_bytes(values[0]), &modifier))
+        sqlite3_result_text64(context, name + modifier.start, modifier.len, SQLITE_TRANSIENT, SQLITE_UTF8); /* else NULL */
+}
+
 static void distance(sqlite3_context *context, int count, sqlite3_value **values) {
     (void)count;
     const char *desired = (const char *)sqlite3_value_text(values[0]), *supported = (const char *)sqlite3_value_text(values[1]);
@@ -116,7 +135,8 @@ static void is_right_to_left(sqlite3_context *context, int count, sqlite3_value 
     if (tag && langtag_kind(tag, len)) sqlite3_result_int(context, langtag_is_right_to_left(tag, len)); /* else NULL */
 }
 
-/* The tag that is chosen, by its place among the arguments: 0 where there is none. The tags are spans of one text, in one block. */
+/* Returns the place of the chosen tag among the arguments, or 0 if no tag is chosen. The tags are spans of one text in one
+ * allocated block. */
 static size_t chosen(sqlite3_context *context, int count, sqlite3_value **values, langtag_best_match *match) {
     const char *header = (const char *)sqlite3_value_text(values[0]);
     size_t tags = (size_t)count - 1, header_len = (size_t)sqlite3_value_bytes(values[0]), len = 0;
@@ -149,7 +169,7 @@ static void best_for_header(sqlite3_context *context, int count, sqlite3_value *
     if (best) sqlite3_result_value(context, values[best]); /* else NULL */
 }
 
-/* An object of JSON. What stands in a tag and in a range needs no escape there. */
+/* Returns a JSON object. The bytes of tags and ranges need no escapes in JSON. */
 static void match_for_header(sqlite3_context *context, int count, sqlite3_value **values) {
     langtag_best_match match;
     if (count < 1) {
@@ -171,6 +191,17 @@ static void is_valid(sqlite3_context *context, int count, sqlite3_value **values
     langtag_span invalid;
     uint32_t answer = tag ? langtag_validity(tag, (size_t)sqlite3_value_bytes(values[0]), &invalid) : LANGTAG_VALIDITY_NONE;
     if (answer != LANGTAG_VALIDITY_NONE) sqlite3_result_int(context, answer == LANGTAG_VALID); /* else NULL */
+}
+
+static void suggestion(sqlite3_context *context, int count, sqlite3_value **values) {
+    (void)count;
+    const char *tag = (const char *)sqlite3_value_text(values[0]);
+    langtag_span invalid;
+    char code[3];
+    if (!tag) return; /* NULL */
+    uint32_t fault = langtag_validity(tag, (size_t)sqlite3_value_bytes(values[0]), &invalid);
+    size_t len = langtag_suggestion(fault, tag + invalid.start, invalid.len, code, sizeof code);
+    if (len > 0 && len <= sizeof code) sqlite3_result_text(context, code, (int)len, SQLITE_TRANSIENT);
 }
 
 typedef bool filter(const char *range, size_t range_len, const char *tag, size_t tag_len);
@@ -208,8 +239,11 @@ int sqlite3_sqlitelangtag_init(sqlite3 *db, char **message, const sqlite3_api_ro
         {"langtag_keyword", 2, keyword},
         {"langtag_canonical", 1, canonical},
         {"langtag_is_valid", 1, is_valid},
+        {"langtag_suggestion", 1, suggestion},
         {"langtag_maximize", 1, maximize},
         {"langtag_minimize", 1, minimize},
+        {"langtag_from_posix", 1, from_posix},
+        {"langtag_unknown_modifier", 1, unknown_modifier},
         {"langtag_distance", 2, distance},
         {"langtag_is_right_to_left", 1, is_right_to_left},
         {"langtag_best_for_header", -1, best_for_header},

@@ -1,5 +1,5 @@
 /*
- * Edits a list of a film's subtitle tracks, one a line, a language tag and a title, and writes it anew:
+ * Edits a list of a film's subtitle tracks, and writes it again. Each line has a language tag and a title:
  *
  *     c++ -std=c++17 subtitles.cc $(pkg-config --cflags --libs langtag_verified) -o subtitles
  *     subtitles list film.tracks                        the tracks, and what their tags say
@@ -24,14 +24,14 @@ struct track {
     std::string title;
 };
 
-/* A caret below what does not fit, as compilers point. */
+/* Prints a line with a mark below the wrong subtag, as compilers do. */
 static void point_at(const langtag::refusal &wrong, std::string_view line) {
     const bool is_subtag = wrong.kind == langtag::refusal_kind::subtag && !wrong.subtag.empty();
     std::cerr << "  " << line << "\n  " << std::string(wrong.offset, ' ') << '^'
               << std::string(is_subtag ? wrong.subtag.size() - 1 : 0, '~') << '\n';
 }
 
-/* The tracks of a file; where a line does not begin with a tag, it is pointed at, and the file refused. */
+/* Returns the tracks of a file. If a line does not begin with a tag, prints where it is wrong, and refuses the file. */
 static std::vector<track> read(const std::string &name) {
     std::ifstream file(name);
     if (!file) throw std::runtime_error(name + " can't be read");
@@ -67,7 +67,7 @@ static void list(const std::vector<track> &tracks, const langtag::range &wanted)
     }
 }
 
-/* Sets a part of each track whose tag is this one, in any case. */
+/* Sets a part of each track with this tag, ignoring case. */
 static void set(std::vector<track> &tracks, std::string_view tag, langtag::part part, std::string_view text) {
     for (track &it : tracks)
         if (it.tag == tag) it.tag = it.tag.with(part, text);
@@ -80,7 +80,7 @@ static void tidy(std::vector<track> &tracks) {
     });
 }
 
-/* The first track of the language that a viewer wants, or else the first one of all. */
+/* Returns the best track for a viewer, or else the first track of the file. */
 static const track &pick(const std::vector<track> &tracks, std::string_view header) {
     std::vector<langtag::tag> tags;
     for (const track &it : tracks) tags.push_back(it.tag.view());
@@ -99,7 +99,7 @@ static const std::map<std::string, langtag::part> parts = {
     {"region", langtag::part::region},         {"variants", langtag::part::variants},
     {"extensions", langtag::part::extensions}, {"private_use", langtag::part::private_use}};
 
-/* Whether the command is one. */
+/* Returns whether there is such a command. */
 static bool run(const std::string &command, const std::string &name, std::vector<track> &tracks,
                 const std::vector<std::string> &more) {
     const auto wanted = langtag::range::parse(more.empty() ? std::string_view("*") : more[0]);

@@ -1,6 +1,6 @@
 #!/usr/bin/env python3
-"""The examples in C and Python that answer requests, beside each other: test_examples.py NEGOTIATE, the C program. Both get the
-same headers, and have to give the same answers."""
+"""Compares the examples in C and Python that answer requests: test_examples.py NEGOTIATE, where NEGOTIATE is the C program. Both
+get the same headers, and have to give the same answers."""
 import contextlib
 import http.client
 import socket
@@ -21,7 +21,7 @@ HEADERS = [
 
 @contextlib.contextmanager
 def serving(command):
-    """The port of a server, which runs meanwhile."""
+    """Runs a server, and yields its port."""
     server = subprocess.Popen(command, stdout=subprocess.PIPE, stderr=subprocess.DEVNULL, text=True)
     try:
         yield int(server.stdout.readline().rsplit(":", 1)[1])
@@ -32,7 +32,7 @@ def serving(command):
 
 
 def answers(command):
-    """What a server says to each header."""
+    """Returns the answer of a server to each header."""
     found = []
     with serving(command) as port:
         for header, _ in HEADERS:
@@ -51,7 +51,7 @@ class Examples(unittest.TestCase):
         self.assertEqual(answers([NEGOTIATE, "0"]), wanted)
 
     def test_who_waits_and_who_sends_a_nul(self):
-        with serving([NEGOTIATE, "0"]) as port, socket.create_connection(("127.0.0.1", port)):  # which sends nothing
+        with serving([NEGOTIATE, "0"]) as port, socket.create_connection(("127.0.0.1", port)):  # a client that sends nothing
             with socket.create_connection(("127.0.0.1", port), timeout=20) as client:
                 client.sendall(b"GET / HTTP/1.1\r\nAccept-Language: de\0\r\nAccept-Language: fr\r\n\r\n")
                 self.assertIn(b"Content-Language: en\r\n", client.makefile("rb").read())

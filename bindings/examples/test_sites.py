@@ -1,6 +1,6 @@
 #!/usr/bin/env python3
-"""The examples in which a reader picks a language: test_sites.py PLAYER, the program that was built of player.cc. Without Flask its
-test is left out, and said to be."""
+"""Tests the examples in which a reader picks a language: test_sites.py PLAYER, where PLAYER is the program built from player.cc.
+Without Flask, its test is left out, and the output says so."""
 import subprocess
 import sys
 import unittest
@@ -10,14 +10,14 @@ try:
 except ImportError:
     flask_site = None
 
-# The wishes, the tracks, and what is picked.
+# The viewer's languages, the tracks, and the tracks that are picked.
 TRACKS = [
     ("de-CH, en;q=0.5", "jpn,eng,ger", "eng,fre", "audio 2 (ger)"), ("fr-CA", "jpn,eng", "eng,fre", "audio 0 (jpn), subtitles 1 (fre)"),
     ("en-GB", "jpn,eng,eng", "eng", "audio 1 (eng)"), ("zh-TW, en;q=0.9", "und,chi", "zh-Hans,zh-Hant", "audio 0 (und), subtitles 1 (zh-Hant)"),
     ("tlh", "jpn,eng", "eng", "audio 0 (jpn), subtitles 0 (eng)"), ("fi", "jpn", "eng", "audio 0 (jpn)"), ("", "ger", "", "audio 0 (ger)"),
 ]
 
-# The wish, the cookie, the header, and the language of the page; and whether it is kept.
+# The language in the URL, the cookie, the header, the language of the page, and whether a cookie keeps it.
 PAGES = [
     (None, None, None, "en", False), (None, None, "ger-CH, fr;q=0.5", "de", False), ("sr", None, "de", "sr-Latn", True), ("tlh", None, "de", "de", False),
     ("tlh", "ar", "de", "ar", True), (None, "zh_TW", "de", "zh-Hant", True), ("", "xx", "fi", "en", False), ("de_AT, ar", None, "ar", "de", True),

@@ -1,6 +1,6 @@
 #!/usr/bin/env python3
-"""Tests of the extension for SQLite: test_sqlite.py EXTENSION. It asks the rows that the tests of all languages read, and
-beside them what only SQL has."""
+"""Tests the extension for SQLite: test_sqlite.py EXTENSION [TEST]. It runs the rows that the tests of all languages read, and tests
+what only SQL has."""
 import json
 import re
 import subprocess
@@ -13,35 +13,38 @@ PARTS = ("language", "script", "region", "variants", "extensions", "private_use"
 
 
 def sqlite(script):
-    """What SQLite says, and what it complains of, with the extension loaded."""
+    """Runs statements with the extension loaded. Returns SQLite's output and its errors."""
     command = ["sqlite3", ":memory:", "-cmd", f".load {EXTENSION}"]
     run = subprocess.run(command, input=script, capture_output=True, text=True)
     return run.stdout, run.stderr
 
 
 def text(data):
-    """A text of any bytes, as an expression of SQL."""
+    """Returns a text of any bytes as an SQL expression."""
     return f"CAST(X'{data.hex()}' AS TEXT)"
 
 
 def shown(expression):
-    """A text as its bytes, or NULL."""
+    """Returns an SQL expression that shows the bytes of a text, or NULL."""
     return f"quote(CAST({expression} AS BLOB))"
 
 
-# A call of the rows as a statement, whose answer is one line.
+# Each call of the rows as a statement that returns one line.
 QUERIES = {
     "tag": lambda tag: f"SELECT {','.join(shown(f'langtag_part({text(tag)}, {name!r})') for name in PARTS)}",
     "keyword": lambda tag, key: f"SELECT {shown(f'langtag_keyword({text(tag)}, {text(key)})')}",
     "canonical": lambda tag: f"SELECT {shown(f'langtag_canonical({text(tag)})')}",
     "maximized": lambda tag: f"SELECT {shown(f'langtag_maximize({text(tag)})')}",
     "minimized": lambda tag: f"SELECT {shown(f'langtag_minimize({text(tag)})')}",
+    "posix": lambda name: f"SELECT {shown(f'langtag_from_posix({text(name)})')}",
+    "unknown-modifier": lambda name: f"SELECT {shown(f'langtag_unknown_modifier({text(name)})')}",
     "distance": lambda a, b: f"SELECT langtag_distance({text(a)}, {text(b)})",
     "right-to-left": lambda tag: f"SELECT langtag_is_right_to_left({text(tag)})",
     "best": lambda header, tags:
         f"SELECT coalesce(langtag_best_for_header({', '.join(map(text, [header, *tags.split()]))}), '-')",
     "best-match": lambda header, tags:
         f"SELECT coalesce(langtag_match_for_header({', '.join(map(text, [header, *tags.split()]))}), '-')",
+    "suggestion": lambda tag: f"SELECT {shown(f'langtag_suggestion({text(tag)})')}",
     "validity": lambda tag: f"SELECT coalesce(langtag_is_valid({text(tag)}), 'none')",
     "match": lambda range, tag: f"SELECT langtag_matches_basic({text(range)}, {text(tag)}),"
                                 f" langtag_matches_extended({text(range)}, {text(tag)})",
@@ -50,7 +53,7 @@ QUERIES = {
 
 
 def bytes_of(word):
-    """What was shown; None of NULL."""
+    """Returns the bytes that were shown, or None for NULL."""
     return None if word == "NULL" else bytes.fromhex(word[2:-1]).decode("ascii")
 
 
@@ -66,13 +69,16 @@ def answer_match(said):
     return f"{found['index']} {found['distance']} {found['range']}"
 
 
-# What a line says, in the words of the rows.
+# The answer in a line, in the form of the rows.
 ANSWERS = {
     "tag": answer_tag,
     "keyword": lambda said: "-" if said == "NULL" else bytes_of(said) or "''",
     "canonical": lambda said: bytes_of(said) or "-",
+    "suggestion": lambda said: bytes_of(said) or "-",
     "maximized": lambda said: bytes_of(said) or "-",
     "minimized": lambda said: bytes_of(said) or "-",
+    "posix": lambda said: bytes_of(said) or "-",
+    "unknown-modifier": lambda said: bytes_of(said) or "-",
     "distance": lambda said: said or "-",
     "right-to-left": {"": "-", "1": "yes", "0": "no"}.get,
     "best": lambda said: said,
@@ -84,7 +90,7 @@ ANSWERS = {
 
 
 def adapted(row):
-    """Of a tag its parts, each as one text; of an invalid one that it is invalid."""
+    """Returns the answer as SQLite gives it: each part of a tag as one text, and for an invalid tag only that it is invalid."""
     if row.call == "validity":
         return row.wanted if row.wanted in ("none", "valid") else "invalid"
     if row.call != "tag":
@@ -93,17 +99,19 @@ def adapted(row):
     return "".join(f"\n  {name} {'-'.join(subtags)}" for name, *subtags in lines if name in PARTS)
 
 
-FLOORS = {"table.txt": 255, "likely.txt": 250, "distance.txt": 140, "direction.txt": 325, "choices.txt": 285, "unicode.txt": 25}
+FLOORS = {"table.txt": 255, "likely.txt": 250, "distance.txt": 140, "direction.txt": 325, "posix.txt": 150, "choices.txt": 285,
+          "unicode.txt": 25}
 
 TABLE = "CREATE TABLE texts (tag TEXT PRIMARY KEY COLLATE langtag); INSERT INTO texts VALUES ('zh-Hant'), ('de'), ('zh'), ('');"
-# Statements, and what SQLite says to them.
+# Statements, and SQLite's output for them.
 STATEMENTS = [
     ("SELECT langtag_part(NULL, 'script') IS NULL, langtag_part('zh-Hant', NULL) IS NULL;", "1|1"),
-    ("SELECT langtag_canonical(NULL) IS NULL, langtag_is_valid(NULL) IS NULL;", "1|1"),
+    ("SELECT langtag_canonical(NULL) IS NULL, langtag_is_valid(NULL) IS NULL, langtag_suggestion(NULL) IS NULL;", "1|1|1"),
     ("SELECT langtag_keyword(NULL, 'ca') IS NULL, langtag_keyword('de-u-ca', NULL) IS NULL, langtag_keyword('de-u-ca', 'ca');", "1|1|"),
     ("SELECT langtag_matches_basic('de', NULL) IS NULL, langtag_matches_extended(NULL, 'de') IS NULL;", "1|1"),
     ("SELECT langtag_part('zh-Hant', 'script'), typeof(langtag_canonical('iw')), typeof(langtag_is_valid('iw'));",
      "Hant|text|integer"),
+    ("SELECT langtag_from_posix(NULL) IS NULL, langtag_unknown_modifier(NULL) IS NULL, langtag_unknown_modifier('de@ö');", "1|1|ö"),
     ("SELECT langtag_maximize(NULL) IS NULL, langtag_distance('de', NULL) IS NULL, langtag_best_for_header(NULL, 'de') IS NULL;",
      "1|1|1"),
     ("SELECT langtag_best_for_header('zh-TW,zh;q=0.9,en;q=0.8', 'en', 'zh-Hans', NULL, 'zh-Hant');", "zh-Hant"),
@@ -125,13 +133,13 @@ STATEMENTS = [
 
 class Sqlite(unittest.TestCase):
     def test_rows(self):
-        asked = [row for name in FLOORS for row in rows.read(rows.FOLDER / name) if row.call in QUERIES]
+        asked = [row for name in rows.wanted(FLOORS) for row in rows.read(rows.FOLDER / name) if row.call in QUERIES]
         said, complaint = sqlite("".join(f"{QUERIES[row.call](*row.arguments)};\n" for row in asked))
         self.assertEqual(complaint, "")
         lines = dict(zip(((row.call, *row.arguments) for row in asked), said.splitlines()))
         asker = rows.Asker({call: lambda *arguments, call=call: ANSWERS[call](lines[(call, *arguments)]) for call in QUERIES},
                            adapted)
-        for name, floor in FLOORS.items():
+        for name, floor in rows.wanted(FLOORS).items():
             asker.ask(rows.FOLDER / name, floor)
         if asker.failures():
             self.fail("\n" + asker.failures())
@@ -142,11 +150,11 @@ class Sqlite(unittest.TestCase):
         self.assertIn("no part has that name", sqlite("SELECT langtag_part('de', 'skript');")[1])
 
     def test_memory(self):
-        """What SQLite's allocator has given stays the same over 20,000 calls of each."""
+        """Makes 20,000 calls of each function. The memory of SQLite's allocator must not grow."""
         numbers = "WITH RECURSIVE n(k) AS (SELECT 1 UNION ALL SELECT k + 1 FROM n WHERE k < {})"
         calls = ("langtag_best_for_header('de', 'en', 'de-x-a' || k)", "langtag_maximize('de-x-a' || k)",
                  "langtag_part('de-x-a' || k, 'private_use')", "langtag_canonical('iw-x-a' || k)", "langtag_is_valid('de' || k)",
-                 "langtag_keyword('de-u-ca-a' || k, 'ca')",
+                 "langtag_keyword('de-u-ca-a' || k, 'ca')", "langtag_from_posix('de_x@' || k)", "langtag_unknown_modifier('de@' || k)",
                  "langtag_matches_basic('de', 'de-x-a' || k)", "langtag_matches_extended('de', 'de-x-a' || k)")
         asked = ", ".join(f"count({call})" for call in calls)
         statements = "".join(f"{numbers.format(count)} SELECT {asked} FROM n;\n" for count in (100, 20_000))
@@ -158,4 +166,4 @@ class Sqlite(unittest.TestCase):
 
 if __name__ == "__main__":
     EXTENSION = sys.argv[1]
-    unittest.main(argv=sys.argv[:1])
+    unittest.main(argv=[sys.argv[0], *sys.argv[2:]])

@@ -1,5 +1,5 @@
 #!/usr/bin/env python3
-"""The subtitle editor: test_subtitles.py SUBTITLES, the program that was built of subtitles.cc."""
+"""Tests the subtitle editor: test_subtitles.py SUBTITLES, where SUBTITLES is the program built from subtitles.cc."""
 import pathlib
 import subprocess
 import sys
@@ -36,13 +36,13 @@ zh-Hans 简体中文
 zh-Hant 繁體中文
 """
 
-# A viewer's header, and their track; the first one where they want none.
+# A viewer's header, and the track for it, which is the first track if none is suitable.
 PICKED = [
     ("zh-TW,zh;q=0.9,en;q=0.8", "zh-hant 繁體中文"), ("zh-CN", "zh-Hans 简体中文"), ("de_CH.UTF-8, en;q=0.5", "de Deutsch"),
     ("he", "iw עברית"), ("bs, sr;q=0.9", "sr Srpski"), ("fi", "zh-hant 繁體中文"), ("", "zh-hant 繁體中文"),
 ]
 
-# A line that is not good, and what is said of it.
+# A malformed line, and the message for it.
 POINTED = [
     ("de-419-DE Deutsch", "NAME:8: not a language tag: unexpected subtag 'DE'\n  de-419-DE Deutsch\n         ^~\n"),
     ("de_CH Deutsch", "NAME:8: not a language tag: invalid character '_': expected a letter, a digit or a hyphen\n  de_CH Deutsch\n    ^\n"),

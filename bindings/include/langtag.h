@@ -6,25 +6,26 @@
  *     if (langtag_parse(text, strlen(text), &parts) != LANGTAG_NONE)
  *         printf("%.*s\n", (int)parts.script.len, text + parts.script.start); // Hant
  *
- * Each function is proved to return and write what its comment says, for every input, to end, and to touch only the memory of
- * its arguments. No function allocates, keeps state between calls, calls back, prints, exits or sets errno. So they may be
- * called from any thread, several at once, and from signal handlers. Time grows linearly with the length of the texts, except
- * for langtag_repeats and for the calls that take a list of tags. langtag_next_keyword and langtag_next_field compare each key
- * with the subtags before it.
+ * It is proved that each function, for every input, ends, returns and writes what its comment says, and touches only
+ * the memory of its arguments. No function allocates, keeps state between calls, calls back, prints, exits or sets
+ * errno. So the functions may be called from several threads at once, and from signal handlers. Time grows linearly
+ * with the length of the texts, except for langtag_repeats and for the calls that take a list of tags.
+ * langtag_next_keyword and langtag_next_field compare each key with the subtags before it.
  *
- * Only langtag_validity, langtag_canonical and langtag_is_canonical depend on what is registered.
+ * Only langtag_validity, langtag_canonical and langtag_is_canonical use the IANA registry.
  *
  * WHAT THE CALLER MUST ENSURE. Nothing checks these rules at run time.
  *
- *   1. A pointer with a length after it points to that many readable bytes, and writable ones if it is not const, at most
- *      PTRDIFF_MAX. Nobody else writes to them until the call returns. They may be any bytes, with or without NUL.
+ *   1. A pointer with a length after it points to that many bytes, at most PTRDIFF_MAX. They are readable, and also
+ *      writable if the pointer is not const. Nothing else writes to them until the call returns. They may be any
+ *      bytes, with or without NUL.
  *   2. No pointer is NULL, not even that of an empty text: pass "" instead. langtag_bytes turns NULL into a valid pointer.
- *   3. A pointer to a struct is aligned as C requires, and its memory is writable. Arguments that a comment calls "out" are only
- *      written, so they need not be initialised.
+ *   3. A pointer to a struct is aligned as C requires, and its memory is writable. An argument that a comment marks
+ *      with "(out)" is only written, so it need not be initialised.
  *   4. Memory that a call may write through one argument (an out struct, `rest`, `passed`, a buffer, the bytes of langtag_fold and
  *      langtag_recommend) does not overlap the memory of any other argument. Texts that are only read may overlap.
- *   5. An x86-64 processor has SSE4.2 (x86-64-v2). Any aarch64 processor will do. Calls follow the C calling convention of the
- *      platform. 4 KiB of the stack is free for each call, and 96 KiB for langtag_repeats.
+ *   5. An x86-64 processor has SSE4.2 (x86-64-v2). Any aarch64 processor is supported. Calls follow the C calling
+ *      convention of the platform. 4 KiB of the stack is free for each call, and 96 KiB for langtag_repeats.
  *
  * Offsets and lengths are in bytes, and offsets count from the start of the text. Case is that of ASCII letters only.
  */
@@ -37,7 +38,7 @@
 #include <stdbool.h>
 #endif
 
-/* The version of the bindings, and the number of the soname, which changes if programs have to be rebuilt. */
+/* The version of the bindings, and the number in the library's soname, which changes if programs have to be rebuilt. */
 #define LANGTAG_VERSION "0.1.0"
 #define LANGTAG_ABI_VERSION 1
 
@@ -45,7 +46,7 @@
 extern "C" {
 #endif
 
-/* Marks a call that only reads, and whose result is its only effect. */
+/* Marks a function that only reads memory, and whose only effect is its result. */
 #if defined(__GNUC__) || defined(__clang__)
 #define LANGTAG_PURE __attribute__((pure, warn_unused_result))
 #else
@@ -69,7 +70,7 @@ enum langtag_kind_answer {
     LANGTAG_IRREGULAR = 3    /* rule irregular: one of seventeen, such as i-klingon */
 };
 
-/* `len` bytes of a text, from the offset `start` on. An absent part has the length 0. */
+/* A span of a text: `len` bytes from the offset `start` on. An absent part has the length 0. */
 typedef struct langtag_span {
     size_t start;
     size_t len;
@@ -106,31 +107,31 @@ LANGTAG_PURE uint32_t langtag_kind(const char *bytes, size_t len);
 LANGTAG_PURE size_t langtag_viable(const char *bytes, size_t len);
 
 /*
- * Returns the length of the shortest prefix with which no tag begins, or `len` if there is none: 4 for "i-no", 3 for "en-". A
- * reader that takes one byte after another can stop there.
+ * Returns the length of the shortest prefix with which no tag begins, or `len` if there is none: 4 for "i-no", 3 for
+ * "en-". A program that reads the text byte by byte can stop there.
  */
 LANGTAG_PURE size_t langtag_stop(const char *bytes, size_t len);
 
 /* What langtag_refused returns: that a text is a tag, or why it is not. */
 enum langtag_refused_answer {
     LANGTAG_REFUSED_NONE = 0,   /* it is a tag */
-    LANGTAG_REFUSED_SUBTAG = 1, /* a subtag is not allowed there: DE in de-419-DE, the empty subtag in de--AT */
+    LANGTAG_REFUSED_SUBTAG = 1, /* a subtag is empty or not allowed in its place: DE in de-419-DE, the empty subtag in de--AT */
     LANGTAG_REFUSED_BYTE = 2,   /* a byte is neither a letter nor a digit: _ in de_CH */
     LANGTAG_REFUSED_END = 3     /* the text ends too soon: en-, en-a, i-kling */
 };
 
 /*
- * Returns why a text is not a tag, as an enum langtag_refused_answer, and writes the subtag that is refused (out) and the offset
- * to point at (out).
+ * Returns why a text is not a tag, as an enum langtag_refused_answer. Writes the wrong subtag (out) and the offset to
+ * point at (out).
  *
  *     langtag_span subtag;
  *     size_t offset;
  *     langtag_refused("de-419-DE", 9, &subtag, &offset);
  *     printf("%.*s %zu\n", (int)subtag.len, "de-419-DE" + subtag.start, offset); // DE 7
  *
- * The subtag is the first one at whose end the text so far is neither a tag nor, before a hyphen, the beginning of one. The
- * offset is where it begins, or for LANGTAG_REFUSED_BYTE that of its first byte that is neither a letter nor a digit. For
- * LANGTAG_REFUSED_NONE and LANGTAG_REFUSED_END the subtag is empty, and both are at the end of the text.
+ * The subtag is the first wrong one: no tag begins with the whole subtags up to and including this one. The offset is the start of
+ * the subtag, or for LANGTAG_REFUSED_BYTE its first byte that is neither a letter nor a digit. For LANGTAG_REFUSED_NONE and
+ * LANGTAG_REFUSED_END the subtag is empty, and subtag and offset are at the end of the text.
  */
 uint32_t langtag_refused(const char *bytes, size_t len, langtag_span *subtag, size_t *offset);
 
@@ -143,16 +144,17 @@ LANGTAG_PURE bool langtag_eq(const char *a, size_t a_len, const char *b, size_t 
 /*
  * Compares two texts, ignoring case: returns -1, 0 or 1, and 0 exactly if langtag_eq returns true. They may be any bytes.
  *
- * A text sorts after every longer text that begins with it: zh after zh-Latn. For alphabetical order, de before de-AT, compare
- * copies that langtag_fold has changed, as strings.
+ * A text sorts after every longer text that begins with it: zh sorts after zh-Latn. For alphabetical order (de before
+ * de-AT), change copies with langtag_fold, and compare these as strings.
  */
 LANGTAG_PURE int32_t langtag_cmp(const char *a, size_t a_len, const char *b, size_t b_len);
 
 /*
- * Returns the 64-bit FNV-1a hash of a text in lowercase. `state` is LANGTAG_HASH, or the hash of what comes before the text in
- * a longer key.
+ * Returns the 64-bit FNV-1a hash of a text in lowercase. `state` is LANGTAG_HASH, or the hash of the bytes that come
+ * before the text in a longer key.
  *
- * An attacker who controls the texts can cause collisions. Against that, fold a copy with langtag_fold and use a keyed hash.
+ * An attacker who controls the texts can cause collisions. To prevent that, change a copy with langtag_fold and use a
+ * keyed hash.
  */
 #define LANGTAG_HASH UINT64_C(0xcbf29ce484222325)
 LANGTAG_PURE uint64_t langtag_hash(uint64_t state, const char *bytes, size_t len);
@@ -163,15 +165,15 @@ void langtag_fold(char *bytes, size_t len);
 /*
  * Changes a text to the case that RFC 5646 section 2.1.1 recommends, in place: zh-hant-tw becomes zh-Hant-TW.
  *
- * Letters become lowercase, except in subtags of two bytes, which become uppercase (CH), and of four bytes, which get one
- * uppercase letter (Latn). The exceptions do not apply to the first subtag, nor to any subtag after one of one byte. The text
- * may be any bytes. A tag remains a tag of its kind, with its parts where they were.
+ * Letters become lowercase, except in subtags of two bytes, which become uppercase (CH), and of four bytes, which get
+ * one uppercase letter (Latn). The exceptions do not apply to the first subtag, or to any subtag that comes after a subtag of one
+ * byte. The text may be any bytes. A tag keeps its kind, and its parts keep their offsets.
  */
 void langtag_recommend(char *bytes, size_t len);
 
 /*
- * Takes the first subtag off `rest`, and writes it to `subtag` (out). `rest` is then what comes after the next hyphen. Begin
- * with a copy of the span of a part:
+ * Removes the first subtag from `rest`, and writes it to `subtag` (out). `rest` then begins after the next hyphen.
+ * Begin with a copy of the span of a part:
  *
  *     const char *text = "sl-rozaj-1994";
  *     size_t len = strlen(text);
@@ -181,14 +183,16 @@ void langtag_recommend(char *bytes, size_t len);
  *     while (langtag_next_subtag(text, len, &rest, &variant))
  *         printf("%.*s ", (int)variant.len, text + variant.start); // rozaj 1994
  *
- * Returns false exactly if `rest` is empty or reaches beyond the text, and leaves both spans unchanged then. So an empty subtag
- * after the last hyphen is not returned: "a-" has one subtag. In "a--b" the second of three is empty.
+ * Returns false exactly if `rest` is empty or reaches beyond the text, and then leaves both spans unchanged. So an
+ * empty subtag after the last hyphen is not returned: "a-" has one subtag. In "a--b", the second of three subtags is
+ * empty.
  */
 bool langtag_next_subtag(const char *bytes, size_t len, langtag_span *rest, langtag_span *subtag);
 
 /*
- * Takes the first extension off `rest`, such as u-co-pinyin, in the way of langtag_next_subtag. Begin with `parts.extensions`.
- * Of any other span it takes what comes before the first hyphen that is followed by a subtag of one byte.
+ * Removes the first extension, such as u-co-pinyin, from `rest`, as langtag_next_subtag removes a subtag. Begin with
+ * `parts.extensions`. From any other span, the bytes before the first hyphen that is followed by a subtag of one byte
+ * are removed.
  */
 bool langtag_next_extension(const char *bytes, size_t len, langtag_span *rest, langtag_span *extension);
 
@@ -203,13 +207,14 @@ bool langtag_next_extension(const char *bytes, size_t len, langtag_span *rest, l
  * The value is empty if the key has none, such as kn in de-u-kn. An empty value means true. If a key or the extension is
  * repeated, the first one counts.
  *
- * Returns false and leaves `value` unchanged if the key is not there, or the text is not a tag.
+ * Returns false and leaves `value` unchanged if the key is absent, or the text is not a tag.
  */
 bool langtag_keyword(const char *bytes, size_t len, const char *key, size_t key_len, langtag_span *value);
 
 /*
- * Writes where the next keyword of the extension u is (out): its key, and its value, which may be empty. Each key comes once,
- * with its first value. `passed` counts the subtags of u that are behind; begin with 0, and let the calls change it:
+ * Writes where the key and the value of the next keyword of the extension u are (out). The value may be empty. Each
+ * key is returned once, with its first value. `passed` counts the subtags of u that were passed. Begin with 0, and
+ * let the calls change it:
  *
  *     const char *text = "ar-u-ca-islamic-civil-nu-latn";
  *     size_t passed = 0, len = strlen(text);
@@ -222,9 +227,9 @@ bool langtag_keyword(const char *bytes, size_t len, const char *key, size_t key_
 bool langtag_next_keyword(const char *bytes, size_t len, size_t *passed, langtag_span *key, langtag_span *value);
 
 /*
- * Writes where the attributes of the extension u are (out), which come before its first key (RFC 6067 section 2.1): attr-foo in
- * de-u-attr-foo-ca-buddhist. langtag_next_subtag takes them one by one. A repeated attribute, which has no meaning, is not left
- * out.
+ * Writes where the attributes of the extension u are (out), which come before its first key (RFC 6067 section 2.1):
+ * attr-foo in de-u-attr-foo-ca-buddhist. langtag_next_subtag returns them one by one. A repeated attribute, which has no meaning,
+ * is returned too.
  *
  * Returns false, and writes an empty span, if there are none.
  */
@@ -238,10 +243,10 @@ bool langtag_attributes(const char *bytes, size_t len, langtag_span *attributes)
  */
 bool langtag_transform(const char *bytes, size_t len, langtag_span *language);
 
-/* Finds the value of a field of the extension t, in the way of langtag_keyword: hepburn for m0 in und-t-ja-m0-hepburn. */
+/* Finds the value of a field of the extension t, as langtag_keyword does for u: hepburn for m0 in und-t-ja-m0-hepburn. */
 bool langtag_field(const char *bytes, size_t len, const char *key, size_t key_len, langtag_span *value);
 
-/* Writes the next field of the extension t, in the way of langtag_next_keyword. */
+/* Writes the next field of the extension t, as langtag_next_keyword does for the keywords of u. */
 bool langtag_next_field(const char *bytes, size_t len, size_t *passed, langtag_span *key, langtag_span *value);
 
 /* The parts of a normal tag, by number. */
@@ -255,38 +260,39 @@ enum langtag_part {
 };
 
 /*
- * Writes a normal tag with one part changed to `buffer`, and returns the length of the new tag. `part` is an enum langtag_part.
- * An empty text removes the part. All other parts stay, and the new one keeps its case.
+ * Writes a normal tag with one part changed to `buffer`, and returns the length of the new tag. `part` is an enum
+ * langtag_part. An empty text removes the part. All other parts stay, and the new part keeps its case.
  *
  *     char buffer[64];
  *     size_t len = langtag_with_part("sl-IT-rozaj", 11, LANGTAG_PART_SCRIPT, "Latn", 4, buffer, sizeof buffer);
  *     if (len > 0 && len <= sizeof buffer) printf("%.*s\n", (int)len, buffer); // sl-Latn-IT-rozaj
  *
- * As with snprintf, the result may exceed `buffer_len`. It is then the size that is needed, and nothing is written. A size of
- * tag_len + text_len + 1 is always enough. No NUL is written, and bytes after the new tag are left unchanged.
+ * As with snprintf, the result may be greater than `buffer_len`. It is then the size that is needed, and nothing is
+ * written. A size of tag_len + text_len + 1 is always enough. No NUL is written, and bytes after the new tag are left
+ * unchanged.
  *
- * Returns 0 and writes nothing if the tag is not LANGTAG_NORMAL, if `part` is not one of enum langtag_part, or if the text is
+ * Returns 0 and writes nothing if the tag is not LANGTAG_NORMAL, if `part` is not a value of enum langtag_part, or if the text is
  * not such a part: Latin is not a script. The language cannot be removed.
  */
 size_t langtag_with_part(const char *tag, size_t tag_len, uint32_t part, const char *text, size_t text_len,
                          char *buffer, size_t buffer_len);
 
-/* Where the repeated subtags of a tag are. The length is 0 if there is none. */
+/* Where the repeated subtags of a tag are. A span has the length 0 if no such subtag is repeated. */
 typedef struct langtag_repeated {
     langtag_span variant;   /* the first variant that equals an earlier one, ignoring case */
     langtag_span singleton; /* the first singleton, one byte, that equals an earlier one, ignoring case */
 } langtag_repeated;
 
-/* The bits of what langtag_repeats returns. */
+/* The bits of the result of langtag_repeats. */
 enum langtag_repeats_answer { LANGTAG_REPEATED_VARIANT = 1, LANGTAG_REPEATED_SINGLETON = 2 };
 
 /*
- * Returns whether a normal tag has a variant or a singleton twice, as bits of enum langtag_repeats_answer, and writes where they
- * are (out). Such a tag is well-formed and not valid (RFC 5646 section 2.2.9). Returns 0 for any other text. `repeated` is
- * always written.
+ * Returns whether a variant or a singleton occurs twice in a normal tag, as bits of enum langtag_repeats_answer, and
+ * writes where the first repetition of each is (out). Such a tag is well-formed but not valid (RFC 5646 section
+ * 2.2.9). Returns 0 for any other text. `repeated` is always written.
  *
- * Beyond 8192 variants, time grows with the square of the length: about 0.15 s for 1 MB, and 11 s for 10 MB. Limit the length
- * of untrusted texts.
+ * Beyond 8192 variants, the time is quadratic in the length: about 0.15 s for 1 MB, and 11 s for 10 MB. Limit the
+ * length of untrusted texts.
  */
 uint32_t langtag_repeats(const char *bytes, size_t len, langtag_repeated *repeated);
 
@@ -296,12 +302,12 @@ enum langtag_validity_answer {
     LANGTAG_VALID = 1,                      /* fr-FR, the grandfathered zh-min, x-qt */
     LANGTAG_INVALID_LANGUAGE = 2,           /* not registered: qt in qt-FR */
     LANGTAG_INVALID_EXTLANG = 3,            /* not registered: fra in zh-fra */
-    LANGTAG_INVALID_SECOND_EXTLANG = 4,     /* after another one (section 2.2.2): yue in zh-cmn-yue */
+    LANGTAG_INVALID_SECOND_EXTLANG = 4,     /* a second extended language (section 2.2.2): yue in zh-cmn-yue */
     LANGTAG_INVALID_SCRIPT = 5,             /* not registered: Abcd in fr-Abcd */
     LANGTAG_INVALID_REGION = 6,             /* not registered: FQ in fr-FQ */
     LANGTAG_INVALID_VARIANT = 7,            /* not registered: 1997 in de-1997 */
-    LANGTAG_INVALID_REPEATED_VARIANT = 8,   /* equals an earlier one: the second 1996 in de-1996-1996 */
-    LANGTAG_INVALID_REPEATED_SINGLETON = 9  /* equals an earlier one: the A in fr-a-bb-A-cc */
+    LANGTAG_INVALID_REPEATED_VARIANT = 8,   /* equals an earlier variant: the second 1996 in de-1996-1996 */
+    LANGTAG_INVALID_REPEATED_SINGLETON = 9  /* equals an earlier singleton: the A in fr-a-bb-A-cc */
 };
 
 /*
@@ -319,6 +325,24 @@ enum langtag_validity_answer {
 uint32_t langtag_validity(const char *bytes, size_t len, langtag_span *invalid);
 
 /*
+ * Writes the registered code that is probably meant by a subtag that is not registered, and returns its length, which is 2 or 3:
+ * de for the language deu or ger, GB for the region UK, US for 840. `fault` is what langtag_validity returned, and `subtag` the
+ * invalid subtag.
+ *
+ *     langtag_span invalid;
+ *     uint32_t fault = langtag_validity("ger-AT", 6, &invalid);
+ *     char code[3];
+ *     size_t len = langtag_suggestion(fault, "ger-AT" + invalid.start, invalid.len, code, sizeof code);
+ *     if (len > 0) printf("did you mean %.*s?\n", (int)len, code); // did you mean de?
+ *
+ * The codes are from the aliases of Unicode's CLDR. Returns 0 and writes nothing if the aliases have no code for the subtag, or
+ * more than one region, or a script or region beside the language. Also returns 0 if `fault` is neither LANGTAG_INVALID_LANGUAGE
+ * nor LANGTAG_INVALID_REGION. If `buffer` is too short, nothing is written, and the result is the size that is needed. No NUL is
+ * written.
+ */
+size_t langtag_suggestion(uint32_t fault, const char *subtag, size_t subtag_len, char *buffer, size_t buffer_len);
+
+/*
  * Writes the canonical form of a tag to `buffer` (RFC 5646 section 4.5), and returns its length: iw becomes he, zh-yue becomes
  * yue, art-lojban becomes jbo, en-b-ccc-a-aaa becomes en-a-aaa-b-ccc. The registry is that of langtag_registry_date.
  *
@@ -326,12 +350,14 @@ uint32_t langtag_validity(const char *bytes, size_t len, langtag_span *invalid);
  *     size_t len = langtag_canonical("en-BU", 5, buffer, sizeof buffer);
  *     if (len > 0 && len <= sizeof buffer) printf("%.*s\n", (int)len, buffer); // en-MM
  *
- * As with snprintf, the result may exceed `buffer_len`. It is then the size that is needed, and nothing is written. The form may
- * be longer than the tag: heploc becomes alalc97. No NUL is written, and bytes after the form are left unchanged.
+ * As with snprintf, the result may be greater than `buffer_len`. It is then the size that is needed, and nothing is
+ * written. The form may be longer than the tag: heploc becomes alalc97. No NUL is written, and bytes after the form
+ * are left unchanged.
  *
- * Replacements have the registry's case, everything else keeps its own, and variants keep their order. Step 2 of section 4.5 is
- * repeated after step 3, so that the form of a form is itself: sgn-DD becomes gsg. The tag need not be valid: subtags that are
- * not registered stay, and so do two extended languages and the language before them.
+ * Replacements are in the registry's case, everything else keeps its case, and variants keep their order. Step 2 of
+ * section 4.5 is repeated after step 3, so that canonicalizing a form again changes nothing: sgn-DD becomes gsg. The
+ * tag need not be valid: subtags that are not registered stay, and so do two extended languages and the language
+ * before them.
  *
  * Returns 0 and writes nothing if the text is not a tag.
  */
@@ -350,24 +376,26 @@ LANGTAG_PURE bool langtag_is_canonical(const char *bytes, size_t len);
 LANGTAG_PURE uint32_t langtag_registry_date(void);
 
 /*
- * Writes a tag with its likely subtags to `buffer` (UTS #35, part 1, Add Likely Subtags), and returns its length: zh-TW becomes
- * zh-Hant-TW, and en and und become en-Latn-US. The data are those of langtag_cldr_version. The buffer is written, or not, as by
- * langtag_canonical.
+ * Writes a tag with its likely subtags to `buffer` (UTS #35, part 1, Add Likely Subtags), and returns its length:
+ * zh-TW becomes zh-Hant-TW, and en and und become en-Latn-US. The data are those of langtag_cldr_version. As with
+ * langtag_canonical, nothing is written if the buffer is too short.
  *
  *     char buffer[64];
  *     size_t len = langtag_maximize("zh-TW", 5, buffer, sizeof buffer);
  *     if (len > 0 && len <= sizeof buffer) printf("%.*s\n", (int)len, buffer); // zh-Hant-TW
  *
- * The tag's own subtags stay, with their case, except for und, Zzzz and ZZ. Deprecated subtags stay: use langtag_canonical first
- * to replace them. A tag without likely subtags, such as x-a or qaa, stays as it is.
+ * The tag's own subtags stay, with their case. Only und, Zzzz and ZZ, which mean that something is unknown, are
+ * replaced. Deprecated subtags stay: use langtag_canonical first to replace them. A tag without likely subtags, such
+ * as x-a or qaa, stays as it is.
  *
  * Returns 0 and writes nothing if the text is not a tag.
  */
 size_t langtag_maximize(const char *bytes, size_t len, char *buffer, size_t buffer_len);
 
 /*
- * Writes a tag without its likely subtags to `buffer` (UTS #35, part 1, Remove Likely Subtags), in the way of langtag_maximize:
- * zh-Hant-TW becomes zh-TW, en-Latn-US becomes en. If either the script or the region would be enough, the region is kept.
+ * Writes a tag without its likely subtags to `buffer` (UTS #35, part 1, Remove Likely Subtags), and returns its
+ * length, as langtag_maximize does: zh-Hant-TW becomes zh-TW, en-Latn-US becomes en. If it is enough to keep either
+ * the script or the region, the region is kept.
  */
 size_t langtag_minimize(const char *bytes, size_t len, char *buffer, size_t buffer_len);
 
@@ -378,13 +406,14 @@ size_t langtag_minimize(const char *bytes, size_t len, char *buffer, size_t buff
 LANGTAG_PURE bool langtag_is_right_to_left(const char *bytes, size_t len);
 
 /*
- * Returns how far a supported tag is from the tag that a reader desires (UTS #35, part 1, Language Matching): 0 from zh-TW to
- * zh-Hant, 4 from de-AT to de, 10 from yue to zh-HK, 84 from de to en, and at most 134.
+ * Returns the distance from the tag that a reader desires to a supported tag (UTS #35, part 1, Language Matching): 0
+ * from zh-TW to zh-Hant, 4 from de-AT to de, 10 from yue to zh-HK, 84 from de to en, and at most 134.
  *
- * Up to 15 the languages are nearly the same. Below 50 most readers of the desired language understand the supported one.
- * Languages and regions that CLDR replaces count as what replaces them: iw as he, ger and deu as de. Variants, extensions and private
- * use do not count, nor does what else follows: en-GB-oed is as far as en-GB. The distance is 255 if either tag is und only, for
- * private use as a whole, or begins with i-, and the two are not equal.
+ * Up to 15 the languages are nearly the same. Below 50 most readers of the desired language understand the supported
+ * one. Languages and regions that CLDR replaces count as their replacements: iw counts as he, and ger and deu count
+ * as de. Everything after the region is ignored, such as variants, extensions and private use: en-GB-oed counts as
+ * en-GB. The distance is 255 if the tags differ and either of them is only und, is a private-use tag, or begins with
+ * i-.
  *
  * Returns LANGTAG_NO_DISTANCE if one of the texts is not a tag.
  */
@@ -400,29 +429,31 @@ LANGTAG_PURE uint32_t langtag_distance(const char *desired, size_t desired_len, 
  *     size_t best = langtag_best_for_header(header, strlen(header), have, strlen(have), tags, 3);
  *     printf("%zu\n", best); // 2
  *
- * Ranges are tried in order of weight. The first range with a tag at a distance below 16 wins, and its nearest tag is chosen
- * (langtag_distance). If there is none, the same is done with a distance below 50, and then with look-up (RFC 4647 section 3.4).
- * A tag whose longest matching range has the weight 0 is not chosen. A range "*" chooses nothing, so the program's default stands.
- * Among tags at one distance, a tag from which look-up takes fewer subtags goes first, then one of its language's most likely
- * region, then one of CLDR's paradigms, such as es-419, then the first in the list. So list the tags in the order that you prefer.
+ * Ranges are tried in order of weight. The first range with a tag at a distance below 16 wins, and its nearest tag is
+ * chosen (langtag_distance). If there is no such range, the limit is 50, and after that, look-up is tried (RFC 4647
+ * section 3.4). A tag whose longest matching range has the weight 0 is not chosen. A range "*" chooses nothing, so
+ * the program's default is used. Among tags at the same distance, the best is the tag for which look-up removes the
+ * fewest subtags from the range, then a tag with the most likely region of its language, then one of CLDR's paradigm
+ * locales, such as es-419, then the first in the list. So list the tags in the order that you prefer.
  *
- * Malformed elements count as what they mean: _ is read as a hyphen, what follows . or @ is dropped, and a weight that is not a
- * number is 1.
+ * Malformed elements are read leniently: _ is read as a hyphen, everything after ., @ or _# is dropped, and a weight
+ * that is not a number counts as 1.
  *
- * Time grows with the length of the header times the length of the tags. Limit the header, as most servers do, to 8 KiB.
+ * Time is proportional to the length of the header times the length of the tags. Limit the header to 8 KiB, as most
+ * servers do.
  */
 LANGTAG_PURE size_t langtag_best_for_header(const char *header, size_t header_len, const char *bytes, size_t len,
                                             const langtag_span *tags, size_t tags_len);
 
-/* Which range of a header the best tag serves, and how well. */
+/* The range of a header that the best tag serves, and the distance from the range to the tag. */
 typedef struct langtag_best_match {
-    langtag_span range; /* in the header, as it is written there: de_CH of "de_CH.UTF-8;q=0.5" */
+    langtag_span range; /* in the header, as it is written: de_CH in "de_CH.UTF-8;q=0.5" */
     uint32_t distance;  /* from that range to the tag, as langtag_distance returns it */
 } langtag_best_match;
 
 /*
- * Returns what langtag_best_for_header returns, and writes which range the tag serves and how far the tag is from it (out). A
- * distance of 50 or more means that the tag was found by look-up only.
+ * Returns what langtag_best_for_header returns, and writes the range that the tag serves and the distance from that
+ * range to the tag (out). If the distance is 50 or more, only look-up found the tag.
  *
  *     const char *header = "tlh, gsw;q=0.5", *have = "en de";
  *     const langtag_span tags[] = {{0, 2}, {3, 2}};
@@ -437,34 +468,44 @@ size_t langtag_match_for_header(const char *header, size_t header_len, const cha
                                 const langtag_span *tags, size_t tags_len, langtag_best_match *found);
 
 /*
- * Returns the index of the best tag for a list of language ranges, the most wanted first, or `tags_len` if none is suitable. The
- * ranges are spans of one text, and the tags of another. The choice is that of langtag_best_for_header among ranges of one weight.
+ * Returns the index of the best tag for a list of language ranges, the most wanted first, or `tags_len` if none is
+ * suitable. The ranges are spans of one text, and the tags are spans of another. The choice is that of
+ * langtag_best_for_header if all ranges have the same weight.
  *
- * A range is read as in a header: zh_TW.UTF-8 counts as zh-TW. An extended range counts without its *: zh-*-Hant as zh-Hant. A
- * span that is not a range, such as de;q=0, or not a tag, or that reaches beyond its text, is skipped.
+ * A range is read as in a header: zh_TW.UTF-8 is read as zh-TW. An extended range is read without its *: zh-*-Hant is
+ * read as zh-Hant. A span is skipped if it is not a range, such as de;q=0, or not a tag, or reaches beyond its text.
  */
 LANGTAG_PURE size_t langtag_best_for_ranges(const char *text, size_t text_len, const langtag_span *ranges, size_t ranges_len,
                                             const char *bytes, size_t len, const langtag_span *tags, size_t tags_len);
 
 /*
- * Writes the tag for the name of a POSIX locale to `buffer` (IEEE Std 1003.1, section 8.2), and returns its length: pt_BR.UTF-8
- * becomes pt-BR, sr_RS@latin becomes sr-Latn-RS, ca_ES@valencia becomes ca-ES-valencia, zh_TW_#Hant, as Java prints it, becomes
- * zh-Hant-TW. The buffer is written, or not, as by langtag_canonical.
+ * Writes the tag for a POSIX locale name to `buffer` (IEEE Std 1003.1, section 8.2), and returns its length:
+ * pt_BR.UTF-8 becomes pt-BR, sr_RS@latin becomes sr-Latn-RS, ca_ES@valencia becomes ca-ES-valencia, and zh_TW_#Hant,
+ * as Java prints it, becomes zh-Hant-TW. As with langtag_canonical, nothing is written if the buffer is too short.
  *
- * The codeset is dropped. The modifiers latin, cyrillic, devanagari, iqtelif, valencia, tarask, ijekavian, ijekavianlatin and the
- * codes of scripts count, ignoring case.
+ * The codeset is dropped. The modifiers latin, cyrillic, devanagari, iqtelif, valencia, tarask, ijekavian,
+ * ijekavianlatin and the codes of scripts are used, ignoring case. Other modifiers are dropped.
  *
- * Returns 0 and writes nothing if language and territory are not a tag, such as in C, if they are POSIX, or if they have more
- * than 255 bytes.
+ * Returns 0 and writes nothing if language and territory do not form a tag (C), are POSIX, or have more than 255 bytes.
  */
 size_t langtag_from_posix(const char *name, size_t name_len, char *buffer, size_t buffer_len);
 
-/* Returns the major version of the Unicode CLDR whose likely subtags and distances these are, such as 48 for CLDR 48.2. */
+/*
+ * Returns whether langtag_from_posix drops the modifier of a name because it is not known, and writes where the modifier is (out):
+ * foo in de_DE@foo. A program may want to refuse such a name, because de_DE becomes the same tag.
+ *
+ * Returns false and leaves `modifier` unchanged if there is no modifier, if langtag_from_posix reads it, or if it is not about
+ * the language, such as euro.
+ */
+bool langtag_unknown_modifier(const char *name, size_t name_len, langtag_span *modifier);
+
+/* Returns the major version of Unicode's CLDR from which likely subtags and distances come, such as 48 for CLDR 48.2. */
 LANGTAG_PURE uint32_t langtag_cldr_version(void);
 
 /*
  * Returns the number of a grandfathered tag, ignoring case, in the order of RFC 5646 section 2.1, or
- * LANGTAG_GRANDFATHERED_COUNT if the text is not one of the 26. Below 17 the tag is irregular, otherwise regular:
+ * LANGTAG_GRANDFATHERED_COUNT if the text is not one of the 26. A tag with a number below 17 is irregular, and the
+ * others are regular:
  *
  *  0 en-GB-oed    1 i-ami        2 i-bnn          3 i-default    4 i-enochian   5 i-hak        6 i-klingon
  *  7 i-lux        8 i-mingo      9 i-navajo      10 i-pwn       11 i-tao       12 i-tay       13 i-tsu
@@ -475,7 +516,7 @@ LANGTAG_PURE uint32_t langtag_cldr_version(void);
 #define LANGTAG_GRANDFATHERED_COUNT 26u
 LANGTAG_PURE uint32_t langtag_grandfathered(const char *bytes, size_t len);
 
-/* What langtag_range_kind answers (RFC 4647 section 2). */
+/* What langtag_range_kind returns (RFC 4647 section 2). */
 enum langtag_range_kind_answer {
     LANGTAG_RANGE_NONE = 0,    /* not a language range */
     LANGTAG_RANGE_BASIC = 1,   /* a basic range (section 2.1): de-CH, or only * */
@@ -486,16 +527,17 @@ enum langtag_range_kind_answer {
 LANGTAG_PURE uint32_t langtag_range_kind(const char *bytes, size_t len);
 
 /*
- * Returns whether a range matches a tag by basic filtering (RFC 4647 section 3.3.1): the range is *, or equals the tag, or equals
- * a prefix of it that is followed by a hyphen. Case is ignored. de-DE matches de-DE-1996, but neither de-Deva nor de-Latn-DE.
+ * Returns whether a range matches a tag by basic filtering (RFC 4647 section 3.3.1): the range is *, or equals the
+ * tag, or the tag begins with the range and a hyphen. Case is ignored. de-DE matches de-DE-1996, but neither de-Deva
+ * nor de-Latn-DE.
  *
  * Returns false if the first text is not a language range, or the second is not a tag.
  */
 LANGTAG_PURE bool langtag_matches_basic(const char *range, size_t range_len, const char *tag, size_t tag_len);
 
 /*
- * Returns whether a range matches a tag by extended filtering (RFC 4647 section 3.3.2): de-DE and de-*-DE match de-Latn-DE-1996,
- * but not de-x-DE, since no subtag of one byte may be left out.
+ * Returns whether a range matches a tag by extended filtering (RFC 4647 section 3.3.2): de-DE and de-*-DE match
+ * de-Latn-DE-1996, but not de-x-DE, since no subtag of one byte may be skipped.
  *
  * Returns false if the first text is not a language range, or the second is not a tag.
  */
@@ -511,11 +553,11 @@ LANGTAG_PURE bool langtag_matches_extended(const char *range, size_t range_len, 
  *     while (langtag_next_fallback(range, len, &rest))
  *         printf("%.*s ", (int)rest.len, range + rest.start); // zh-Hant-CN zh-Hant zh
  *
- * Returns false exactly if no fallback is left, or `rest` is empty or reaches beyond the text, and leaves `rest` unchanged then.
- * It does not check that the text is a range; langtag_range_kind does.
+ * Returns false exactly if no fallback is left, or `rest` is empty or reaches beyond the text, and then leaves `rest`
+ * unchanged. It does not check that the text is a range; langtag_range_kind does.
  *
- * A look-up reads an extended range as the basic one without each "-*" (section 3.2). So remove each "-*" from a fallback before
- * you compare it: de-*-DE finds the tag de-DE, and then de. A range that begins with * finds nothing.
+ * A look-up reads an extended range as the basic range without each "-*" (section 3.2). So remove each "-*" from a
+ * fallback before you compare it: de-*-DE finds the tag de-DE, and then de. A range that begins with * finds nothing.
  */
 bool langtag_next_fallback(const char *bytes, size_t len, langtag_span *rest);
 
@@ -528,8 +570,8 @@ enum langtag_accepted_answer {
 };
 
 /*
- * Takes the first element off `rest`, which is the value of an Accept-Language header or the rest of one (RFC 9110 section
- * 12.5.4). Returns an enum langtag_accepted_answer. Empty elements are skipped.
+ * Removes the first element from `rest`, which is the value of an Accept-Language header or the rest of it (RFC 9110
+ * section 12.5.4). Returns an enum langtag_accepted_answer. Empty elements are skipped.
  *
  *     const char *header = "fr;q=0.3, de_CH, de;q=0.9";
  *     size_t len = strlen(header);
@@ -539,46 +581,49 @@ enum langtag_accepted_answer {
  *         if (answer == LANGTAG_ACCEPTED_RANGE)
  *             printf("%.*s %u ", (int)range.len, header + range.start, (unsigned)weight); // fr 300 de 900
  *
- * `range` (out) is where the range is, and `weight` (out) its weight in thousandths: 1000 if none is given, and 0 for "not
- * acceptable". For a malformed element `range` is everything between the commas, and `weight` is 0. The next call goes on after
- * it. So the loop above skips malformed elements; a strict reader stops there and refuses the header.
+ * `range` (out) is where the range is, and `weight` (out) its weight in thousandths: 1000 if none is given, and 0 for
+ * "not acceptable". For a malformed element, `range` is everything between the commas, and `weight` is 0. The next
+ * call continues after that element. So the loop above skips malformed elements. A strict program stops at a malformed element, and
+ * refuses the header.
  *
- * The elements come in the order of the header. A look-up tries the greatest weight first, and ranges of one weight in the order
- * of the header, so sort by falling weight with a stable sort.
+ * The elements are returned in the order of the header. A look-up tries the greatest weight first, and ranges of
+ * equal weight in the order of the header. So collect the ranges, and sort them by falling weight with a stable sort.
  *
- * Returns LANGTAG_ACCEPTED_END exactly if only empty elements are left, or `rest` reaches beyond the text, and writes nothing then.
+ * Returns LANGTAG_ACCEPTED_END exactly if only empty elements are left, or `rest` reaches beyond the text, and then
+ * writes nothing.
  */
 uint32_t langtag_next_accepted(const char *bytes, size_t len, langtag_span *rest, langtag_span *range,
                                uint32_t *weight);
 
 /*
- * Returns the index of the tag that an Accept-Language header finds by look-up (RFC 4647 section 3.4), or `tags_len` if it finds
- * none. The tags are given as to langtag_best_for_header. Malformed elements are skipped.
+ * Returns the index of the tag that look-up finds for an Accept-Language header (RFC 4647 section 3.4), or `tags_len`
+ * if it finds none. The tags are spans of one text, as for langtag_best_for_header. Malformed elements are skipped.
  *
  *     const char *header = "fr;q=0.3, DE-ch-1996;q=0.9", *have = "en de-CH fr";
  *     const langtag_span tags[] = {{0, 2}, {3, 5}, {9, 2}};
  *     size_t index = langtag_tag_for_header_lenient(header, strlen(header), have, strlen(have), tags, 3);
  *     printf("%zu\n", index); // 1
  *
- * The ranges are looked up by falling weight, and those of one weight in the order of the header. Those of the weight 0 are not
- * looked up. A range finds the first tag that equals it, ignoring case, or that equals the first of its fallbacks that is there
- * (langtag_next_fallback). So zh-TW does not find zh-Hant, which langtag_best_for_header does.
+ * The ranges are looked up by falling weight, and ranges of equal weight in the order of the header. Ranges of weight
+ * 0 are not looked up. A range finds the first tag that equals it, ignoring case. If there is none, its fallbacks are tried,
+ * the longest first (langtag_next_fallback). So zh-TW does not find zh-Hant, though
+ * langtag_best_for_header chooses it.
  *
- * To look up a list of ranges, the best one first, join them with commas, each without its "-*".
+ * To look up a list of ranges, the most wanted first, remove each "-*" from them, and join them with commas.
  *
- * Time grows with the length of the header times the length of the tags.
+ * Time is proportional to the length of the header times the length of the tags.
  */
 LANGTAG_PURE size_t langtag_tag_for_header_lenient(const char *header, size_t header_len, const char *bytes, size_t len,
                                                    const langtag_span *tags, size_t tags_len);
 
 /*
- * Looks a header up as langtag_tag_for_header_lenient does, but refuses a header with a malformed element. Returns an enum
- * langtag_accepted_answer.
+ * Looks up a tag as langtag_tag_for_header_lenient does, but refuses a header with a malformed element. Returns an
+ * enum langtag_accepted_answer.
  *
  *   - LANGTAG_ACCEPTED_END: no element is malformed. `index` (out) is what langtag_tag_for_header_lenient returns, and `bad` (out)
  *     is empty, at the end of the header.
- *   - Otherwise: what is wrong with the first malformed element. `index` is `tags_len`, and `bad` is everything between the commas
- *     there.
+ *   - Otherwise: the answer says what is wrong with the first malformed element. `index` is `tags_len`, and `bad` is
+ *     the text of that element between its commas.
  */
 uint32_t langtag_tag_for_header(const char *header, size_t header_len, const char *bytes, size_t len,
                                 const langtag_span *tags, size_t tags_len, size_t *index, langtag_span *bad);

@@ -5,8 +5,8 @@
  *     tag->script();                                                              // "Hant"
  *     langtag::best_for_header("zh-TW,zh;q=0.9", {"zh-Hans", "zh-Hant"})->text(); // "zh-Hant"
  *
- * A tag, a range and their parts are views of the text that they were read from, which has to outlive them. The compiler refuses
- * a temporary string. Bytes after the end of a view are never read, and a view without a pointer is an empty text.
+ * A tag, a range and their parts are views of the text from which they were read, so that text has to outlive them. The compiler
+ * refuses a temporary string. Bytes after the end of a view are never read, and a view without a pointer is an empty text.
  */
 #ifndef LANGTAG_HPP
 #define LANGTAG_HPP
@@ -72,9 +72,19 @@ struct invalid_subtag {
     std::string_view subtag;
     std::size_t start;
 
-    /* Returns what is wrong, in words: "language qt is not registered", "extended language yue is the second". */
+    /* Returns the registered code that is probably meant, by CLDR's aliases, or an empty string: "de" for the language ger. */
+    std::string suggestion() const {
+        char code[3];
+        const auto len = langtag_suggestion(static_cast<std::uint32_t>(fault), subtag.data(), subtag.size(), code, sizeof code);
+        return std::string(code, len <= sizeof code ? len : 0);
+    }
+
+    /* Returns what is wrong, in words: "language qt is not registered", "language ger is not registered: did you mean de?". */
     std::string message() const {
-        const auto say = [this](const char *what, const char *how) { return (what + std::string(subtag)).append(how); };
+        const std::string code = suggestion();
+        const auto say = [this, &code](const char *what, const char *how) {
+            return (what + std::string(subtag)).append(how).append(code.empty() ? "" : ": did you mean " + code + "?");
+        };
         switch (fault) {
         case fault::language: return say("language ", " is not registered");
         case fault::extlang: return say("extended language ", " is not registered");
@@ -95,7 +105,7 @@ inline constexpr std::string_view grandfathered_tags[] = {
     "i-navajo",    "i-pwn",  "i-tao",  "i-tay",     "i-tsu",      "sgn-BE-FR", "sgn-BE-NL",  "sgn-CH-DE", "art-lojban",
     "cel-gaulish", "no-bok", "no-nyn", "zh-guoyu",  "zh-hakka",   "zh-min",    "zh-min-nan", "zh-xiang"};
 
-/* A keyword of the extension u, or a field of the extension t. The value is empty if the key has none. */
+/* A keyword of the extension u, or a field of the extension t. The value is empty if the key has no value. */
 struct key_value {
     std::string_view key, value;
 
@@ -103,7 +113,7 @@ struct key_value {
     friend bool operator!=(const key_value &a, const key_value &b) noexcept { return !(a == b); }
 };
 
-/* A temporary string, for which functions that keep a view have a deleted overload. */
+/* A temporary string. Functions that keep a view have a deleted overload for it. */
 template <class Allocator> using temporary_string = const std::basic_string<char, std::char_traits<char>, Allocator> &&;
 
 /* A language tag (RFC 5646 section 2.1), as a view of its text. */
@@ -121,7 +131,7 @@ public:
     std::string_view text() const noexcept { return text_; }
     langtag::kind kind() const noexcept { return kind_; }
 
-    /* Return the parts, which are empty if they are absent. A private-use tag is its own private-use part. */
+    /* Return the parts, which are empty if they are absent. The private-use part of a private-use tag is the whole tag. */
     std::string_view language() const noexcept { return cut(parts_.language); }
     std::string_view script() const noexcept { return cut(parts_.script); }
     std::string_view region() const noexcept { return cut(parts_.region); }
@@ -135,15 +145,15 @@ public:
         return number < LANGTAG_GRANDFATHERED_COUNT ? grandfathered_tags[number] : std::string_view();
     }
 
-    /* Return the first variant, and the first singleton, that equals an earlier one, ignoring case. Empty if there is none. */
+    /* Return the first variant, and the first singleton, that equals an earlier one, ignoring case, or an empty view. */
     std::string_view repeated_variant() const noexcept { return cut(repeated().variant); }
     std::string_view repeated_singleton() const noexcept { return cut(repeated().singleton); }
 
     /* Returns the value of a key of the extension u, ignoring case: islamic-civil for ca in ar-u-ca-islamic-civil. The value is
-     * empty if the key has none, which means true. Returns std::nullopt if the key is not there. */
+     * empty if the key has none, which means true. Returns std::nullopt if the key is absent. */
     std::optional<std::string_view> keyword(std::string_view key) const noexcept { return value_of(langtag_keyword, key); }
 
-    /* Returns the keywords of the extension u, in order. Each key comes once, with its first value. */
+    /* Returns the keywords of the extension u, in order. Each key is returned once, with its first value. */
     std::vector<key_value> keywords() const { return pairs(langtag_next_keyword); }
 
     /* Returns the attributes of the extension u, which come before its first key: attr-foo in de-u-attr-foo-ca-buddhist. */
@@ -153,7 +163,7 @@ public:
         return cut(found);
     }
 
-    /* Returns the language of the extension t: ja-latn in und-t-ja-latn-m0-hepburn. It is empty if there is none. Returns
+    /* Returns the language of the extension t: ja-latn in und-t-ja-latn-m0-hepburn. It is empty if t has no language. Returns
      * std::nullopt if the tag has no extension t. */
     std::optional<std::string_view> transform() const noexcept {
         langtag_span found;
@@ -165,8 +175,8 @@ public:
     std::optional<std::string_view> field(std::string_view key) const noexcept { return value_of(langtag_field, key); }
     std::vector<key_value> fields() const { return pairs(langtag_next_field); }
 
-    /* Returns the text of the tag with one part changed; an empty text removes the part. Returns std::nullopt if the tag is not
-     * a normal one, or the text is not such a part. */
+    /* Returns the text of the tag with one part changed; an empty text removes the part. Returns std::nullopt if the tag is not a
+     * normal tag, or the text is not such a part. */
     std::optional<std::string> with(langtag::part which, std::string_view given) const {
         std::string made(text_.size() + given.size() + 1, '\0');
         const std::size_t len = langtag_with_part(text_.data(), text_.size(), static_cast<std::uint32_t>(which),
@@ -195,7 +205,7 @@ public:
     }
     bool is_valid() const noexcept { return !invalid_subtag(); }
 
-    /* Returns the canonical form (RFC 5646 section 4.5), by the same registry: iw becomes he. */
+    /* Returns the canonical form (RFC 5646 section 4.5), by the registry of registry_date: iw becomes he. */
     std::string canonical() const { return written(langtag_canonical); }
 
     /* Return the tag with its likely subtags (UTS #35), and without them: zh-TW becomes zh-Hant-TW, and zh-Hant-TW becomes zh-TW. */
@@ -252,7 +262,7 @@ private:
     langtag_parts parts_;
 };
 
-/* The views that a function of langtag.h takes off a part, one after another. */
+/* The views that a function of langtag.h removes from a part, one after another. */
 template <bool (*Next)(const char *, std::size_t, langtag_span *, langtag_span *)> class pieces {
 public:
     class iterator {
@@ -276,7 +286,7 @@ public:
             ++*this;
             return before;
         }
-        /* Compares iterators of one part. The one at the end has an empty view. */
+        /* Compares iterators over the same part. The iterator at the end has an empty view. */
         friend bool operator==(const iterator &a, const iterator &b) noexcept {
             return a.part_.size() == b.part_.size() && a.rest_.len == b.rest_.len;
         }
@@ -315,7 +325,7 @@ inline std::string recommended(std::string_view text) {
     return made;
 }
 
-/* Returns the text in lowercase, which is the same for all equal tags. It is a key for alphabetical order, de before de-AT. All
+/* Returns the text in lowercase, which is the same for all equal tags. It is a key for alphabetical order (de before de-AT). All
  * tags that begin with de- are between the keys "de-" and "de.". */
 inline std::string folded(std::string_view text) {
     std::string made(text);
@@ -336,7 +346,7 @@ inline std::optional<std::string> from_parts(std::string_view language, std::str
                                     {part::private_use, private_use}});
 }
 
-/* A tag that owns its text. After a move from it, it may only be assigned to or destroyed. */
+/* A tag that owns its text. A tag that was moved from may only be assigned to or destroyed. */
 class owned_tag {
 public:
     /* Parses a tag; returns std::nullopt if the text is not a tag. */
@@ -353,7 +363,7 @@ public:
     tag view() const & noexcept { return tag(text_, kind_, parts_); }
     tag view() const && = delete;
 
-    /* Return what a tag says that is not a view. */
+    /* Return the properties of the tag that are not views. */
     langtag::kind kind() const noexcept { return kind_; }
     bool is_valid() const noexcept { return view().is_valid(); }
     bool is_canonical() const noexcept { return view().is_canonical(); }
@@ -362,8 +372,8 @@ public:
     std::string maximized() const { return view().maximized(); }
     std::string minimized() const { return view().minimized(); }
 
-    /* Changes one part; an empty text removes it. Returns false and leaves the tag unchanged if it is not a normal one, or the
-     * text is not such a part. */
+    /* Changes one part; an empty text removes it. Returns false and leaves the tag unchanged if it is not a normal tag, or the text
+     * is not such a part. */
     bool set(part which, std::string_view given) {
         auto made = view().with(which, given);
         auto read = made ? parse(std::move(*made)) : std::nullopt;
@@ -401,7 +411,7 @@ struct best_match {
     std::uint32_t distance; /* from the range to the tag, as distance() returns it; from 50 on the tag was found by look-up only */
 };
 
-/* The tags of a list as the library reads them: their texts, one after another, and where each one is. */
+/* The tags of a list as the library reads them: one text with all tags, and where each of them is. */
 class listed_tags {
 public:
     template <class Tags> explicit listed_tags(const Tags &tags) {
@@ -446,7 +456,7 @@ private:
     std::vector<std::string_view> given_;
 };
 
-/* Tags of both classes are compared with each other and with texts, so that std::less<> finds a tag in a map by each of these. */
+/* Tags of both classes can be compared with each other and with texts, so std::less<> finds a tag in a map by any of these. */
 template <class Value> inline constexpr bool is_tag = std::is_same_v<Value, tag> || std::is_same_v<Value, owned_tag>;
 template <class Value> inline constexpr bool is_text = std::is_convertible_v<const Value &, std::string_view>;
 template <class A, class B>
@@ -473,7 +483,7 @@ enum class refusal_kind : std::uint32_t {
     end = LANGTAG_REFUSED_END
 };
 
-/* Where a text that is not a tag goes wrong: the subtag that is refused, and its start, to underline it. The offset is the place to
+/* Where a text that is not a tag is wrong: the wrong subtag, and its start, for example to underline it. The offset is the place to
  * point at: the start, or a byte that is neither a letter nor a digit. If the text ends too soon, the subtag is empty. */
 struct refusal {
     refusal_kind kind;
@@ -491,7 +501,7 @@ struct refusal {
     }
 
 private:
-    /* The first character of a text in UTF-8. */
+    /* Returns the first character of a text in UTF-8. */
     static std::string first(std::string_view text) {
         std::size_t end = 1;
         while (end < text.size() && (static_cast<unsigned char>(text[end]) & 0xC0) == 0x80) end++;
@@ -543,7 +553,7 @@ public:
 
     std::string_view text() const noexcept { return text_; }
 
-    /* Returns whether it is a basic range (section 2.1): de-CH, or only *. */
+    /* Returns whether this is a basic range (section 2.1): de-CH, or only *. */
     bool is_basic() const noexcept { return is_basic_; }
 
     bool matches_basic(const tag &tag) const noexcept { return langtag::matches_basic(text_, tag); }
@@ -557,15 +567,17 @@ public:
         return range(left, is_basic_ || left.find('*') == left.npos);
     }
 
-    /* Returns the basic range as which a look-up reads an extended one (section 3.2): de-*-DE becomes de-DE. */
+    /* Returns the basic range that a look-up uses for an extended range (section 3.2): de-*-DE becomes de-DE. */
     std::string without_wildcards() const {
         std::string basic(text_);
         for (auto at = basic.find("-*"); at != basic.npos; at = basic.find("-*", at)) basic.erase(at, 2);
         return basic;
     }
 
-    /* Returns the tag that the range finds by look-up (section 3.4): the first that equals the range, or the first of its fallbacks
-     * that equals one. Returns std::nullopt if there is none. An extended range is looked up without its * (section 3.2). A range
+    /* Returns the tag that the range finds by look-up (section 3.4): the tag that equals the range or, if there is none, one of its
+     * fallbacks, of which the longest is tried first. Returns std::nullopt if there is none. An extended range is looked up without
+     * its *
+     * (section 3.2). A range
      * that begins with * finds nothing. */
     std::optional<tag> look_up(const std::vector<tag> &tags) const {
         return listed_tags(tags).chosen(langtag_tag_for_header_lenient, without_wildcards());
@@ -579,7 +591,7 @@ private:
     bool is_basic_;
 };
 
-/* Returns the tag of the first range that finds one. */
+/* Returns the tag of the first range that finds a tag. */
 inline std::optional<tag> look_up(const std::vector<range> &ranges, const std::vector<tag> &tags) {
     std::string header;
     for (const range &range : ranges) header.append(range.without_wildcards()).append(1, ',');
@@ -588,18 +600,19 @@ inline std::optional<tag> look_up(const std::vector<range> &ranges, const std::v
 
 inline std::string_view text_of(const range &range) noexcept { return range.text(); }
 
-/* Whether the texts of a list outlive a call with it: views do, and owners in a list that is not a temporary. */
+/* Whether the texts of a list live longer than a call with the list: views do, and so do owners in a list that is not a temporary.
+ * */
 template <class List, class Element = decltype(*std::begin(std::declval<List &>())), class Plain = std::decay_t<Element>>
 inline constexpr bool stays = std::is_same_v<Plain, tag> || std::is_same_v<Plain, std::string_view> ||
                               std::is_pointer_v<Plain> ||
                               (std::is_lvalue_reference_v<List> && std::is_lvalue_reference_v<Element>);
 
-/* Texts in braces. */
+/* A list of texts in braces. */
 using texts = std::initializer_list<std::string_view>;
 
 /* Returns the best tag for an Accept-Language header, or std::nullopt if none is suitable: zh-Hant for "zh-TW,zh;q=0.9,en;q=0.8".
- * Malformed elements count as what they mean: de_CH is read as de-CH. Among tags at one distance the first in the
- * list is chosen, if look-up and CLDR's likely region do not tell them apart (langtag.h).
+ * Malformed elements are read leniently: de_CH is read as de-CH. Among tags at the same distance, look-up and CLDR's likely regions
+ * decide first, and then the order of the list (langtag.h).
  *
  * The tags are a list of tag, owned_tag, strings or views, such as {"en", "zh-Hant"}. A text that is not a tag is skipped. The
  * result is a view, so the compiler refuses a temporary list of owners. */
@@ -611,8 +624,8 @@ inline std::optional<tag> best_for_header(std::string_view header, const std::ve
     return best_for_header<const std::vector<tag> &>(header, tags);
 }
 
-/* Returns the best tag for a header, as best_for_header does, with its index, the range that it serves, and how far it is from that.
- * A player whose tracks have tags needs the index, and can see by the distance whether a language was found or only one near it. */
+/* Returns the best tag for a header, as best_for_header does, with its index, the range that it serves, and the distance from that
+ * range. A video player needs the index of the track, and the distance shows whether it has the language or only a near one. */
 template <class Tags = texts, std::enable_if_t<stays<Tags>, int> = 0>
 std::optional<best_match> match_for_header(std::string_view header, Tags &&tags) {
     return listed_tags(tags).matched(header);
@@ -623,8 +636,9 @@ inline std::optional<best_match> match_for_header(std::string_view header, const
 template <class Allocator, class Tags = texts>
 std::optional<best_match> match_for_header(temporary_string<Allocator>, Tags &&) = delete;
 
-/* Returns the best tag for a list of ranges, the most wanted first, as best_for_header does for a header of them. The ranges are a
- * list of range, strings or views. An extended range counts without its *. A text that is not a range, such as de;q=0, is skipped. */
+/* Returns the best tag for a list of ranges, the most wanted first, as best_for_header does for a header. The ranges are a
+ * list of range, strings or views. An extended range is read without its *. A text that is not a range, such as de;q=0, is skipped.
+ * */
 template <class Ranges = texts, class Tags = texts, std::enable_if_t<stays<Tags>, int> = 0>
 std::optional<tag> best_for_ranges(const Ranges &ranges, Tags &&tags) {
     return listed_tags(tags).chosen_for(listed_tags(ranges));
@@ -636,10 +650,10 @@ struct weighted_range {
     std::uint32_t weight;
 };
 
-/* Which part of an element of a header is malformed. If both are, it is the range. */
+/* The part of an element of a header that is malformed. If range and weight are both malformed, it is the range. */
 enum class element_part : std::uint32_t { range = LANGTAG_ACCEPTED_BAD_RANGE, weight = LANGTAG_ACCEPTED_BAD_WEIGHT };
 
-/* A malformed element of a header: how many commas are before it, and the offset after the last of them. */
+/* A malformed element of a header: the number of commas before it, the offset after the last of them, and the malformed part. */
 struct bad_element {
     element_part part;
     std::size_t index, offset;
@@ -663,7 +677,7 @@ public:
         return langtag::bad_element{static_cast<element_part>(answer), static_cast<std::size_t>(commas), element.start};
     }
 
-    /* Returns the ranges by falling weight; ranges of one weight keep their order. Ranges of the weight 0 are not acceptable, so they
+    /* Returns the ranges by falling weight; ranges of equal weight keep their order. Ranges of weight 0 are not acceptable, so they
      * are left out. */
     std::vector<weighted_range> ranges() const {
         std::vector<weighted_range> found;
@@ -696,15 +710,15 @@ private:
     std::string_view header_;
 };
 
-/* Returns how far a supported tag is from the tag that a reader desires (UTS #35, Language Matching): 0 from zh-TW to zh-Hant, and at
- * most 134. It is 255 if one of the two has no known language, and they are not equal. */
+/* Returns the distance from the tag that a reader desires to a supported tag (UTS #35, Language Matching): 0 from zh-TW to zh-Hant,
+ * and at most 134. It is 255 if the tags differ and one of them has no known language. */
 inline std::uint32_t distance(const tag &desired, const tag &supported) noexcept {
     const std::string_view a = desired.text(), b = supported.text();
     return langtag_distance(a.data(), a.size(), b.data(), b.size());
 }
 
-/* Returns the tag for the name of a POSIX locale: pt_BR.UTF-8 becomes pt-BR. Returns std::nullopt if there is none, as for C and
- * POSIX. */
+/* Returns the tag for a POSIX locale name: pt_BR.UTF-8 becomes pt-BR. Returns std::nullopt if there is none, such as for the
+ * locales C and POSIX. */
 inline std::optional<std::string> from_posix(std::string_view name) {
     char none;
     std::string made(langtag_from_posix(langtag_bytes(name.data()), name.size(), &none, 0), '\0');
@@ -713,10 +727,18 @@ inline std::optional<std::string> from_posix(std::string_view name) {
     return made;
 }
 
-/* Returns the major version of the Unicode CLDR whose likely subtags and distances these are, such as 48 for CLDR 48.2. */
+/* Returns the modifier that from_posix drops because it is not known: foo in de_DE@foo. Returns std::nullopt if there is none. */
+inline std::optional<std::string_view> unknown_modifier(std::string_view name) noexcept {
+    langtag_span modifier;
+    if (!langtag_unknown_modifier(langtag_bytes(name.data()), name.size(), &modifier)) return std::nullopt;
+    return name.substr(modifier.start, modifier.len);
+}
+template <class Allocator> std::optional<std::string_view> unknown_modifier(temporary_string<Allocator>) = delete;
+
+/* Returns the major version of Unicode's CLDR from which likely subtags and distances come, such as 48 for CLDR 48.2. */
 inline std::uint32_t cldr_version() noexcept { return langtag_cldr_version(); }
 
-/* Writes the text of a tag. */
+/* Writes the text of a tag to a stream. */
 template <class Traits>
 std::basic_ostream<char, Traits> &operator<<(std::basic_ostream<char, Traits> &out, const tag &tag) {
     return out << tag.text();
@@ -738,7 +760,7 @@ template <> struct std::hash<langtag::owned_tag> {
     }
 };
 
-/* Formats a tag as std::format formats its text: {:>10} is ten columns wide. */
+/* Formats a tag as std::format formats its text: {:>10} right-aligns it in ten columns. */
 #ifdef __cpp_lib_format
 template <> struct std::formatter<langtag::tag> : std::formatter<std::string_view> {
     template <class Context> auto format(const langtag::tag &tag, Context &context) const {

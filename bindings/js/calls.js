@@ -1,26 +1,27 @@
 /*
- * The module of proved code, and the memory that it is called through. Addresses are known in this file alone: others give it
- * texts, and get texts, offsets and numbers.
+ * Calls the WebAssembly module of proved code, through its memory. Only this file knows addresses: other files pass texts, and get
+ * texts, offsets and numbers.
  *
- * The texts of a call stand in one block behind the module's own data, and the next call takes the same block, so that nothing is
- * kept. The block grows with the texts. A module is left for a new one after a call that made it great, whose memory could not
- * shrink, and after a call that did not return, as where JavaScript's stack was used up, since its own stack then stays as it was.
+ * The texts of a call are in one block after the module's own data. The next call reuses the block, so nothing is kept. The block
+ * grows with the texts. A new instance of the module is made after a call that made the block large, because its memory cannot
+ * shrink. The same happens after a call that did not return, for example because JavaScript's stack overflowed: the instance's own
+ * stack pointer was not restored then.
  *
- * A unit of a text that is not ASCII becomes the byte 0xFF, which stands in no tag, range or header. So an offset in bytes is one
- * in the text, and a lone surrogate is refused as every other character.
+ * A code unit that is not ASCII becomes the byte 0xFF, which no tag, range or header contains. So an offset in bytes is also an
+ * offset in the string, and a lone surrogate is refused like every other character that is not ASCII.
  */
 import { MODULE } from "./module.js";
 
 const PAGE = 65536;
-const KEPT = 1 << 20; // so many bytes may the block keep
-const OUT_BYTES = 128; // what a call writes but for texts: at most langtag_parts, which has 96
+const KEPT = 1 << 20; // the bytes that the block may keep between calls
+const OUT_BYTES = 128; // the room for what a call writes besides texts: at most langtag_parts, which has 96 bytes
 
 const compiled = new WebAssembly.Module(Uint8Array.from(atob(MODULE), (character) => character.charCodeAt(0)));
 
 let calls, memory, bytes, view, most;
-let isOpen = true; // a call has begun, and has not ended; there is no module yet
-let out, texts; // where the block has what is written, and the texts; as numbers
-let outAddress, textsAddress; // and as the module takes them
+let isOpen = true; // whether a call has begun and not ended; true at first, so that the first call makes the instance
+let out, texts; // the addresses of what a call writes and of its texts, as numbers
+let outAddress, textsAddress; // the same addresses as BigInt, which the module takes
 
 function start() {
     calls = new WebAssembly.Instance(compiled).exports;
@@ -39,7 +40,7 @@ function look() {
     view = new DataView(memory.buffer);
 }
 
-/** Begins a call whose texts take so many bytes. */
+/** Begins a call whose texts have `size` bytes. */
 function open(size) {
     if (isOpen) start();
     isOpen = true;
@@ -50,7 +51,7 @@ function open(size) {
     }
 }
 
-/** Ends a call, and returns its answer. */
+/** Ends a call, and returns its result. */
 function close(answer) {
     isOpen = false;
     if (bytes.length > most) start();
@@ -64,7 +65,7 @@ function write(text, at) {
     }
 }
 
-/** A text of ASCII bytes. */
+/** Returns ASCII bytes as a string. */
 function read(at, length) {
     let text = "";
     for (let begin = 0; begin < length; begin += 8192) {
@@ -73,7 +74,7 @@ function read(at, length) {
     return text;
 }
 
-/** The number at an index of what a call wrote: an offset or a length of 64 bits, of which the greater half is 0. */
+/** Returns the number at an index of what a call wrote: an offset or a length of 64 bits, whose upper 32 bits are 0. */
 const written = (index) => view.getUint32(out + 8 * index, true);
 
 function writeSpan(at, start, length) {
@@ -94,7 +95,7 @@ function askTwo(name, one, other) {
     return close(calls[name](textsAddress, BigInt(one.length), BigInt(texts + one.length), BigInt(other.length)));
 }
 
-/** The new text that a call writes behind a text, "" where it refuses. Most need no more room than this. */
+/** Returns the new text that a call writes after a text, or "" if it writes none. The default room is enough for most texts. */
 function askText(name, text, room = text.length + 16) {
     open(text.length + room);
     write(text, texts);
@@ -114,7 +115,7 @@ function changed(name, text) {
     return close(read(texts, text.length));
 }
 
-/** The kind of a text, and where the six parts stand: offset and length of each. */
+/** Returns the kind of a tag, and the offset and length of each of the six parts, or undefined if the text is not a tag. */
 export function parse(text) {
     const length = text.length;
     open(length);
@@ -145,10 +146,12 @@ export const canonical = (text) => askText("langtag_canonical", text);
 export const maximize = (text) => askText("langtag_maximize", text);
 export const minimize = (text) => askText("langtag_minimize", text);
 export const fromPosix = (name) => askText("langtag_from_posix", name);
+/** Returns the offset and length of a modifier that is not known, or undefined if there is none. */
+export const unknownModifier = (name) => beforeKeys("langtag_unknown_modifier", name);
 export const distance = (desired, supported) => askTwo("langtag_distance", desired, supported) >>> 0;
 export const isRightToLeft = (text) => askOne("langtag_is_right_to_left", text) !== 0;
 
-/** FNV-1a of 64 bits over the folded text. */
+/** Returns the 64-bit FNV-1a hash of the text in lowercase. */
 export function hash(text) {
     open(text.length);
     write(text, texts);
@@ -160,11 +163,11 @@ function askNothing(name) {
     return close(calls[name]());
 }
 
-/** The date of the registry, as the digits of a number. */
+/** Returns the date of the registry as a number, such as 20250131. */
 export const registryDate = () => askNothing("langtag_registry_date");
 export const cldrVersion = () => askNothing("langtag_cldr_version");
 
-/** How a text that is no tag goes wrong, as a number; offset and length of the subtag; and the offset to point at. */
+/** Returns why a text is not a tag, as a number, the offset and length of the wrong subtag, and the offset to point at. */
 export function refused(text) {
     open(text.length);
     write(text, texts);
@@ -172,7 +175,7 @@ export function refused(text) {
     return close([answer, written(0), written(1), written(2)]);
 }
 
-/** What is wrong with a tag, as a number, and where: offset and length. */
+/** Returns what is wrong with a tag, as a number, and the offset and length of the invalid subtag. */
 export function validity(text) {
     open(text.length);
     write(text, texts);
@@ -180,7 +183,17 @@ export function validity(text) {
     return close([answer, written(0), written(1)]);
 }
 
-/** Where the repeated variant and the repeated singleton stand: offset and length of each. */
+/** Returns the code that is meant by an invalid subtag, or "" if there is none. `fault` is the number that validity returned. */
+export function suggestion(fault, subtag) {
+    const room = 3;
+    open(subtag.length + room);
+    write(subtag, texts);
+    const at = texts + subtag.length;
+    const length = Number(calls.langtag_suggestion(fault, textsAddress, BigInt(subtag.length), BigInt(at), BigInt(room)));
+    return close(read(at, length > room ? 0 : length));
+}
+
+/** Returns the offset and length of the repeated variant, and of the repeated singleton. */
 export function repeats(text) {
     open(text.length);
     write(text, texts);
@@ -188,7 +201,7 @@ export function repeats(text) {
     return close([written(0), written(1), written(2), written(3)]);
 }
 
-/** The tag with one part, of a number, set to a text; "" where it refuses. */
+/** Returns the tag with the part of a number set to a text, or "" if the text is not such a part. */
 export function withPart(tag, part, text) {
     const room = tag.length + text.length + 1;
     open(tag.length + text.length + room);
@@ -200,7 +213,7 @@ export function withPart(tag, part, text) {
     return close(read(made, length));
 }
 
-/** Where the value of a key is: offset and length. undefined if the key is not there. */
+/** Returns the offset and length of the value of a key, or undefined if the key is absent. */
 function valueOf(name, text, key) {
     open(text.length + key.length);
     write(text, texts);
@@ -213,11 +226,11 @@ function valueOf(name, text, key) {
 export const keyword = (text, key) => valueOf("langtag_keyword", text, key);
 export const field = (text, key) => valueOf("langtag_field", text, key);
 
-/** Where each key and its value are: offset and length of both. */
+/** Returns a list with the offset and length of each key, and of its value. */
 function pairsOf(name, text) {
     open(text.length);
     write(text, texts);
-    view.setBigUint64(out, 0n, true); // how many subtags have passed
+    view.setBigUint64(out, 0n, true); // the number of subtags that were passed
     const length = BigInt(text.length), key = BigInt(out + 16), value = BigInt(out + 32);
     const pairs = [];
     while (calls[name](textsAddress, length, outAddress, key, value)) pairs.push([written(2), written(3), written(4), written(5)]);
@@ -227,7 +240,7 @@ function pairsOf(name, text) {
 export const keywords = (text) => pairsOf("langtag_next_keyword", text);
 export const fields = (text) => pairsOf("langtag_next_field", text);
 
-/** Where what comes before the first key is: offset and length. undefined if it is not there. */
+/** Returns the offset and length of the one span that a call writes, or undefined if the call returns false. */
 function beforeKeys(name, text) {
     open(text.length);
     write(text, texts);
@@ -238,17 +251,17 @@ function beforeKeys(name, text) {
 export const attributes = (text) => beforeKeys("langtag_attributes", text);
 export const transform = (text) => beforeKeys("langtag_transform", text);
 
-/** Where a range and each of its fallbacks ends. */
+/** Returns the ends of a range and of each of its fallbacks. */
 export function fallbackEnds(range) {
     open(range.length);
     write(range, texts);
-    writeSpan(out, 0, range.length); // a call takes something off it
+    writeSpan(out, 0, range.length); // each call shortens this span
     const ends = [range.length];
     while (calls.langtag_next_fallback(textsAddress, BigInt(range.length), outAddress)) ends.push(written(1));
     return close(ends);
 }
 
-/** The elements of a header that are not empty: for each the answer of the call, offset, length and weight. */
+/** Returns the answer of the call, the offset, the length and the weight for each element of a header that is not empty. */
 export function accepted(header) {
     open(header.length);
     write(header, texts);
@@ -262,7 +275,7 @@ export function accepted(header) {
     }
 }
 
-/** Writes the spans of some texts that stand one behind the other, and returns their address and number. */
+/** Writes the spans of texts that are joined in one text, and returns the address and the number of the spans. */
 function writeSpans(list, at) {
     let start = 0;
     for (const [index, text] of list.entries()) {
@@ -272,7 +285,8 @@ function writeSpans(list, at) {
     return [BigInt(at), BigInt(list.length)];
 }
 
-/** The index of the tag that a call chooses for a text, or for ranges that stand in it, or how many tags there are; and what more it writes. */
+/** Returns the index of the tag that a call chooses for a header, or for the ranges in a text; the number of tags if it chooses
+ * none. */
 function chosen(name, text, tags, ranges, ...more) {
     const joined = tags.join("");
     const at = (text.length + joined.length + 7) & -8;
@@ -285,7 +299,7 @@ function chosen(name, text, tags, ranges, ...more) {
 }
 
 export const bestForHeader = (header, tags) => chosen("langtag_best_for_header", header, tags);
-/** That index; where the range stands in the header: offset and length; and the distance. */
+/** Returns the index of the best tag, the offset and length of its range in the header, and the distance. */
 export function matchForHeader(header, tags) {
     const index = chosen("langtag_match_for_header", header, tags, undefined, outAddress);
     return [index, written(0), written(1), written(2)];

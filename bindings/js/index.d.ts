@@ -1,5 +1,5 @@
 /**
- * Language tags and language ranges by BCP 47 (RFC 5646, RFC 4647), over code that is proved against the grammar.
+ * Language tags and language ranges by BCP 47 (RFC 5646, RFC 4647), over code that is proved to accept exactly the tags of the grammar.
  *
  *     const tag = LanguageTag.parse("zh-yue-Hant-HK-u-co-pinyin-x-mine");
  *     [tag.primaryLanguage, tag.script, tag.region];                              // ["zh", "Hant", "HK"]
@@ -7,15 +7,16 @@
  *     tag.equals("ZH-YUE-hant-hk-U-CO-pinyin-x-MINE");                            // true
  *     bestForHeader("zh-TW,zh;q=0.9,en;q=0.8", ["en", "zh-Hans", "zh-Hant"]);     // "zh-Hant"
  *
- * Offsets and lengths are those of JavaScript's strings. Only `isValid`, `invalidSubtag`, `isCanonical` and `canonical` depend on
- * what is registered. Functions that take a tag or a range also accept a string. An invalid string throws `InvalidTag` or
+ * Offsets and lengths count UTF-16 code units, as in JavaScript's strings. Only `isValid`, `invalidSubtag`, `isCanonical` and `canonical`
+ * use the IANA registry. Functions that take a tag or a range also accept a string. An invalid string throws `InvalidTag` or
  * `InvalidRange`, and any other value throws a `TypeError`.
  */
 
-/** A string, or an object with a text: a tag, a range, one of another copy of this module, or one made by `structuredClone`. */
+/** A string, or an object with a text, such as a tag or a range, also from another copy of this module or from `structuredClone`. */
 export type Text = string | { readonly text: string };
 
-/** The value of an Accept-Language header. Without one, Node has undefined and fetch has null; both ask for nothing. */
+/** The value of an Accept-Language header. For a request without the header, Node has undefined and fetch has null; both are read as an
+ * empty header. */
 export type Header = string | null | undefined;
 
 /** The 26 grandfathered tags in their registered spelling (RFC 5646 section 2.1). The first seventeen are irregular. */
@@ -24,7 +25,7 @@ export const GRANDFATHERED: readonly string[];
 /** The date of the IANA registry inside this library, in a form like "2025-01-31". */
 export const REGISTRY_DATE: string;
 
-/** The major version of the Unicode CLDR whose likely subtags and distances these are, such as 48 for CLDR 48.2. */
+/** The major version of Unicode's CLDR from which likely subtags and distances come, such as 48 for CLDR 48.2. */
 export const CLDR_VERSION: number;
 
 /** The kinds of tags (RFC 5646 section 2.1). Regular grandfathered tags, such as zh-min-nan, are normal. */
@@ -40,13 +41,15 @@ export interface InvalidSubtag {
     readonly subtag: string;
     /** Where the subtag begins. */
     readonly start: number;
+    /** The registered code that is probably meant, by CLDR's aliases: "de" for the language ger, "GB" for the region UK. */
+    readonly suggestion: string | undefined;
     toString(): string;
 }
 
 /** The subtags of an extension: "co-pinyin", or ["co", "pinyin"]. */
 export type Subtags = string | Iterable<string>;
 
-/** The parts that `with` changes. An undefined part stays, and null removes it. */
+/** The parts that `with` changes. A part that is undefined stays as it is, and null removes the part. */
 export interface Parts {
     /** The primary language with its extended languages, such as zh-yue. */
     language?: string | undefined;
@@ -59,15 +62,15 @@ export interface Parts {
     privateUse?: string | null | undefined;
 }
 
-/** What the extension t says (RFC 6497 section 2.2). */
+/** The extension t (RFC 6497 section 2.2). */
 export interface Transform {
-    /** The language of the text that was transformed, such as ja-latn. */
+    /** The language of the text before it was transformed, such as ja-latn. */
     readonly language: string | undefined;
     /** The value of each field, by lowercase keys such as m0. */
     readonly fields: Map<string, string>;
 }
 
-/** A well-formed language tag (RFC 5646 section 2.1). It is immutable. In JSON it is its text. */
+/** A well-formed language tag (RFC 5646 section 2.1). It is immutable, and JSON.stringify writes its text. */
 export class LanguageTag {
     /** Parses a tag; throws InvalidTag if the text is not a tag. */
     constructor(text: Text);
@@ -75,13 +78,16 @@ export class LanguageTag {
     static parse(text: Text): LanguageTag;
     /** Returns whether a text is a tag. */
     static canParse(text: Text): boolean;
-    /** Returns the tag made of these parts; throws EditError if one is not such a part. */
+    /** Returns the tag made of these parts; throws EditError if a text is not such a part. */
     static from(parts: Parts & { language: string }): LanguageTag;
-    /** Returns the tag for the name of a POSIX locale, or undefined if there is none: pt_BR.UTF-8 becomes pt-BR. */
+    /**
+     * Returns the tag for a POSIX locale name, or undefined if there is none: pt_BR.UTF-8 becomes pt-BR. A modifier that is not known is
+     * dropped; `unknownModifier` returns it.
+     */
     static fromPosix(name: string): LanguageTag | undefined;
     /**
-     * Compares two tags, ignoring case, for `sort`: returns -1, 0 or 1. A tag sorts after every longer tag that begins with it: zh
-     * after zh-Latn. For alphabetical order sort by `toFolded`.
+     * Compares two tags, ignoring case, for `sort`: returns -1, 0 or 1. A tag sorts after every longer tag that begins with it: zh sorts
+     * after zh-Latn. For alphabetical order, sort by `toFolded`.
      */
     static compare(this: void, one: Text, other: Text): -1 | 0 | 1;
 
@@ -99,23 +105,23 @@ export class LanguageTag {
     /** The subtags of each extension by its lowercase singleton. If a singleton is repeated, the first one counts. */
     get extensions(): Map<string, string[]>;
     /**
-     * Returns the value of a key of the extension u (RFC 6067), ignoring case, or undefined if the key is not there: islamic-civil for
+     * Returns the value of a key of the extension u (RFC 6067), ignoring case, or undefined if the key is absent: islamic-civil for
      * ca in ar-u-ca-islamic-civil. The value is "" if the key has none, which means true. If a key is repeated, the first one counts.
      */
     keyword(key: string): string | undefined;
     /** The keywords of the extension u, by lowercase keys. If a key is repeated, the first one counts. */
     get keywords(): Map<string, string>;
-    /** The attributes of the extension u, which come before its first key. A repeated attribute comes once. */
+    /** The attributes of the extension u, which come before its first key. A repeated attribute is returned once. */
     get attributes(): string[];
-    /** What the extension t says (RFC 6497), or undefined if the tag has none. */
+    /** The extension t (RFC 6497), or undefined if the tag has none. */
     get transform(): Transform | undefined;
     /** The private-use part with its x, such as x-mine. For a private-use tag it is the whole text. */
     get privateUse(): string | undefined;
     /** The registered spelling if the tag is grandfathered (ignoring case), otherwise undefined. */
     get grandfathered(): string | undefined;
-    /** The first variant that equals an earlier one, ignoring case. Such a tag is well-formed and not valid. */
+    /** The first variant that equals an earlier one, ignoring case. Such a tag is well-formed but not valid. */
     get repeatedVariant(): string | undefined;
-    /** The first singleton that equals an earlier one, ignoring case. Such a tag is well-formed and not valid. */
+    /** The first singleton that equals an earlier one, ignoring case. Such a tag is well-formed but not valid. */
     get repeatedSingleton(): string | undefined;
     /** Whether the tag is valid (RFC 5646 section 2.2.9) by the registry of REGISTRY_DATE. Deprecated subtags are valid. */
     get isValid(): boolean;
@@ -135,17 +141,17 @@ export class LanguageTag {
     toRecommended(): LanguageTag;
     /** Returns the text in lowercase, which is the same for all equal tags. */
     toFolded(): string;
-    /** Returns the 64-bit FNV-1a hash of the lowercase text, the same in every program. Not safe against hash flooding. */
+    /** Returns the 64-bit FNV-1a hash of the lowercase text, which is the same in every program. It is not safe against hash flooding. */
     fnv1a(): bigint;
-    /** Returns the tag with other parts; throws EditError if one is not such a part, or the tag is not a normal one. */
+    /** Returns the tag with other parts; throws EditError if a text is not such a part, or the tag is not a normal tag. */
     with(parts: Parts): LanguageTag;
-    /** Returns whether it equals another tag or a text, ignoring case. */
+    /** Returns whether this tag equals another tag or a text, ignoring case. */
     equals(other: Text): boolean;
     toString(): string;
     toJSON(): string;
 }
 
-/** A language range, basic or extended (RFC 4647 section 2): de-CH, *, *-CH, de-*-DE. In JSON it is its text. */
+/** A language range, basic or extended (RFC 4647 section 2): de-CH, *, *-CH, de-*-DE. JSON.stringify writes its text. */
 export class LanguageRange {
     /** Parses a range; throws InvalidRange if the text is not a range. */
     constructor(text: Text);
@@ -155,15 +161,15 @@ export class LanguageRange {
     static canParse(text: Text): boolean;
     /** The range as it was given. */
     readonly text: string;
-    /** Whether it is a basic range (section 2.1): de-CH, or only *. */
+    /** Whether this is a basic range (section 2.1): de-CH, or only *. */
     get isBasic(): boolean;
-    /** Iterates over the ranges of a look-up (section 3.4), from itself to the shortest: zh-Hant-CN, zh-Hant, zh. */
+    /** Iterates over the ranges that a look-up tries (section 3.4), from this range to the shortest: zh-Hant-CN, zh-Hant, zh. */
     fallbacks(): IterableIterator<LanguageRange>;
-    /** Returns whether it matches a tag by basic filtering (section 3.3.1): de-DE matches de-DE-1996, but not de-Latn-DE. */
+    /** Returns whether this range matches a tag by basic filtering (section 3.3.1): de-DE matches de-DE-1996, but not de-Latn-DE. */
     matchesBasic(tag: Text): boolean;
-    /** Returns whether it matches a tag by extended filtering (section 3.3.2): de-DE matches de-Latn-DE. */
+    /** Returns whether this range matches a tag by extended filtering (section 3.3.2): de-DE matches de-Latn-DE. */
     matchesExtended(tag: Text): boolean;
-    /** Returns whether it equals another range or a text, ignoring case. */
+    /** Returns whether this range equals another range or a text, ignoring case. */
     equals(other: Text): boolean;
     toString(): string;
     toJSON(): string;
@@ -175,24 +181,24 @@ export interface WeightedRange {
     readonly weight: number;
 }
 
-/** What an Accept-Language header asks for (RFC 9110 section 12.5.4). */
+/** The ranges of an Accept-Language header (RFC 9110 section 12.5.4). */
 export class AcceptLanguage {
     private constructor();
     /** Parses a header; throws AcceptLanguageError if an element is malformed, such as de_CH or de;q=2. */
     static parse(header: Header): AcceptLanguage;
     /** Parses a header, and skips malformed elements. */
     static lenient(header: Header): AcceptLanguage;
-    /** The ranges by falling weight, without those of the weight 0. */
+    /** The ranges by falling weight, without ranges of weight 0. */
     readonly ranges: readonly WeightedRange[];
     /** Returns the tag that the ranges find by look-up, the greatest weight first, or the last argument. */
     lookUp<Tag extends Text, Otherwise = undefined>(tags: Iterable<Tag>, otherwise?: Otherwise): Tag | Otherwise;
-    /** Returns the best tag by language distance, as bestForHeader does. Malformed elements of the header count, too. */
+    /** Returns the best tag by language distance, as bestForHeader does. Malformed elements of the header are read leniently. */
     best<Tag extends Text, Otherwise = undefined>(tags: Iterable<Tag>, otherwise?: Otherwise): Tag | Otherwise;
 }
 
 /**
- * Returns the tag of the first range that finds one, or the last argument (RFC 4647 section 3.4). A range finds the tag that equals
- * it, or that equals the first of its fallbacks that is there. An extended range is looked up without its *.
+ * Returns the tag of the first range that finds a tag, or the last argument (RFC 4647 section 3.4). A range finds the tag that
+ * equals it. If there is none, its fallbacks are tried, the longest first. An extended range is looked up without its *.
  *
  *     lookUp(["nl", "ZH-hant-CN"], ["en", "zh-Hant", "zh"]); // "zh-Hant"
  */
@@ -211,8 +217,8 @@ export function tagForHeaderLenient<Tag extends Text, Otherwise = undefined>(
 ): Tag | Otherwise;
 
 /**
- * Returns how far a supported tag is from the tag that a reader desires (UTS #35, Language Matching), by CLDR_VERSION: at most 134, or
- * 255 if one of them has no known language, such as und.
+ * Returns the distance from the tag that a reader desires to a supported tag (UTS #35, Language Matching), by CLDR_VERSION. It is at most
+ * 134, or 255 if the tags differ and one of them has no known language, such as und.
  *
  *     distance("zh-TW", "zh-Hant"); // 0
  *     distance("de", "en");         // 84
@@ -220,8 +226,17 @@ export function tagForHeaderLenient<Tag extends Text, Otherwise = undefined>(
 export function distance(desired: Text, supported: Text): number;
 
 /**
- * Returns the best tag for a header by language distance, or the last argument if none is suitable. Malformed elements count as what
- * they mean: de_CH is read as de-CH. Time grows with the length of the header times that of the tags.
+ * Returns the modifier that `LanguageTag.fromPosix` drops because it is not known, or undefined if there is none. Two folders of
+ * translations whose names differ only in such a modifier would become the same tag.
+ *
+ *     unknownModifier("de_DE@foo");   // "foo"
+ *     unknownModifier("sr_RS@latin"); // undefined
+ */
+export function unknownModifier(name: string): string | undefined;
+
+/**
+ * Returns the best tag for a header by language distance, or the last argument if none is suitable. Malformed elements are read
+ * leniently: de_CH is read as de-CH. Time is proportional to the length of the header times the length of the tags.
  *
  *     bestForHeader("gsw", ["fr", "de-CH"], "fr"); // "de-CH"
  */
@@ -231,26 +246,26 @@ export function bestForHeader<Tag extends Text, Otherwise = undefined>(
 
 /** The best tag for a header: what `matchForHeader` returns. */
 export interface BestMatch<Tag> {
-    /** Its index in the list. */
+    /** The index of the tag in the list. */
     readonly index: number;
     /** The tag, as it is in the list. */
     readonly tag: Tag;
-    /** How far it is from the range, as `distance` says it. From 50 on the tag was found by look-up only. */
+    /** The distance from the range to the tag, as `distance` returns it. If it is 50 or more, only look-up found the tag. */
     readonly distance: number;
-    /** The range that it serves, as the header has it. */
+    /** The range that the tag serves, as it is written in the header. */
     readonly range: string;
 }
 
 /**
- * Returns the best tag for a header, as bestForHeader does, with its index, range and distance, or undefined. The distance tells
- * whether the language was found, or only one that is near it.
+ * Returns the best tag for a header, as bestForHeader does, with its index, range and distance, or undefined. The distance shows whether
+ * the list has the language itself, or only a language near it.
  *
  *     matchForHeader("tlh", ["de", "en"]); // { index: 1, tag: "en", distance: 30, range: "tlh" }
  */
 export function matchForHeader<Tag extends Text>(header: Header, tags: Iterable<Tag>): BestMatch<Tag> | undefined;
 
 /**
- * Returns the best tag for a list of ranges, the most wanted first, such as `navigator.languages`. An extended range counts without its
+ * Returns the best tag for a list of ranges, the most wanted first, such as `navigator.languages`. An extended range is read without its
  * *. A text that is not a range, such as de;q=0, is skipped.
  *
  *     bestForRanges(["fi", "zh_TW", "en"], ["en", "zh-Hans", "zh-Hant"]); // "zh-Hant"
@@ -261,7 +276,7 @@ export function bestForRanges<Tag extends Text, Otherwise = undefined>(
 
 /**
  * Returns an English name of a tag, made of the registry's descriptions of its subtags: "Portuguese (Brazil)" for pt-BR. The languages of
- * ISO 639-1 and 639-2, scripts, regions and variants have one, and other subtags stand as they are. For other languages than English
+ * ISO 639-1 and 639-2, scripts, regions and variants have a name, and other subtags are shown as they are. For names in other languages,
  * use `Intl.DisplayNames`.
  */
 export function describe(tag: Text): string;
@@ -276,11 +291,11 @@ export function stopLength(text: Text): number;
 export class InvalidTag extends RangeError {
     private constructor();
     readonly text: string;
-    /** The subtag that is refused: DE in de-419-DE, de_CH in de_CH; undefined if the text ends too soon. */
+    /** The wrong subtag: DE in de-419-DE, de_CH in de_CH. It is undefined if the text ends too soon. */
     readonly subtag: string | undefined;
     /** Where the subtag begins, or the end of a text that ends too soon. */
     readonly start: number;
-    /** The offset to point at: that of the subtag, or of its first character that is neither a letter nor a digit. */
+    /** The offset to point at: the start of the subtag, or its first character that is neither a letter nor a digit. */
     readonly offset: number;
     /** What is wrong, without the text. */
     readonly reason: string;
@@ -294,14 +309,15 @@ export class InvalidRange extends RangeError {
     readonly text: string;
 }
 
-/** Thrown if a part cannot be changed: `text` is not such a part, or is undefined if the tag is not a normal one. */
+/** Thrown if a part cannot be changed. `text` is not such a part, or is undefined if the tag is not a normal tag. */
 export class EditError extends RangeError {
     private constructor();
     readonly part: keyof Parts;
     readonly text: string | undefined;
 }
 
-/** Thrown if a header has a malformed element: how many commas are before it, where it begins, and which part is malformed. */
+/** Thrown if a header has a malformed element. It has the number of commas before the element, where the element begins, and which part
+ * is malformed. */
 export class AcceptLanguageError extends RangeError {
     private constructor();
     readonly header: string;

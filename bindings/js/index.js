@@ -1,11 +1,11 @@
 /**
- * Language tags and language ranges by BCP 47 (RFC 5646, RFC 4647), over code that is proved against the grammar. index.d.ts says
- * what each thing does.
+ * Language tags and language ranges by BCP 47 (RFC 5646, RFC 4647), over code that is proved to accept exactly the tags of the
+ * grammar. index.d.ts documents each export.
  */
 import * as calls from "./calls.js";
 import { NAMES } from "./names.js";
 
-/** The 26 grandfathered tags as they are registered (RFC 5646 section 2.1): first the seventeen irregular ones. */
+/** The 26 grandfathered tags in their registered spelling (RFC 5646 section 2.1). The first seventeen are irregular. */
 export const GRANDFATHERED = Object.freeze([
     "en-GB-oed", "i-ami", "i-bnn", "i-default", "i-enochian", "i-hak", "i-klingon", "i-lux", "i-mingo", "i-navajo", "i-pwn",
     "i-tao", "i-tay", "i-tsu", "sgn-BE-FR", "sgn-BE-NL", "sgn-CH-DE", "art-lojban", "cel-gaulish", "no-bok", "no-nyn",
@@ -14,7 +14,7 @@ export const GRANDFATHERED = Object.freeze([
 
 export const REGISTRY_DATE = String(calls.registryDate()).replace(/(....)(..)(..)/, "$1-$2-$3");
 
-/** The major version of the Unicode CLDR whose likely subtags and distances these are, such as 48 for CLDR 48.2. */
+/** The major version of Unicode's CLDR from which likely subtags and distances come, such as 48 for CLDR 48.2. */
 export const CLDR_VERSION = calls.cldrVersion();
 
 const KINDS = [undefined, "normal", "private-use", "irregular"];
@@ -23,26 +23,28 @@ const FAULTS = [
     "language", "extlang", "second-extlang", "script", "region", "variant", "repeated-variant", "repeated-singleton",
 ];
 
-/** How a message shows a text: escaped, and not all of a long one. */
+/** Returns a text as a message shows it: escaped, and only its beginning if it is long. */
 const quoted = (text) => JSON.stringify(text.length > 80 ? `${text.slice(0, 80)}…` : text);
 
-/** The text of what is one or has one, as a tag has, also one of another copy of this module, or one that was cloned. */
+/** Returns a string itself, or the text of an object, such as a tag, also of another copy of this module or made by
+ * structuredClone. */
 function textOf(value) {
     const text = typeof value === "object" && value !== null ? value.text : value;
     if (typeof text === "string") return text;
     throw new TypeError(`a text or a tag is wanted, and this is ${value === null ? "null" : `of type ${typeof value}`}`);
 }
 
-/** Some tags or ranges. A single text is refused, since its letters are none. */
+/** Returns a list of tags or ranges. A single string is refused, since its letters would be read as the elements. */
 function several(values, what) {
     if (typeof values === "string") throw new TypeError(`a list of ${what} is wanted, and this is of type string`);
     return values;
 }
 
-/** Returns the text of a header. A request without one asks for nothing: Node has undefined for it, and fetch has null. */
+/** Returns the text of a header. A request without the header, for which Node has undefined and fetch has null, gives the empty
+ * text. */
 const headerText = (header) => textOf(header ?? "");
 
-/** An error that tells the text that is refused. */
+/** The base of the errors, which copies the given properties, such as the refused text. */
 class Refusal extends RangeError {
     constructor(message, more) {
         super(message);
@@ -87,18 +89,20 @@ const HOW = { "second-extlang": "is the second", "repeated-variant": "is repeate
 
 /** The first subtag that makes a tag invalid. */
 class InvalidSubtag {
-    constructor(fault, subtag, start) {
-        Object.freeze(Object.assign(this, { fault, subtag, start }));
+    constructor(answer, subtag, start) {
+        const suggestion = calls.suggestion(answer, subtag) || undefined;
+        Object.freeze(Object.assign(this, { fault: FAULTS[answer - 2], subtag, start, suggestion }));
     }
     toString() {
         const kind = this.fault.replace("extlang", "extended language").replace(/^(second|repeated)-/, "");
-        return `${kind} '${this.subtag}' ${HOW[this.fault] ?? "is not registered"}`;
+        const meant = this.suggestion ? `: did you mean '${this.suggestion}'?` : "";
+        return `${kind} '${this.subtag}' ${HOW[this.fault] ?? "is not registered"}${meant}`;
     }
 }
 
 /**
- * Returns what a part is set to, as a text. null takes a part out, and so does an empty list. One empty subtag makes "-", which no
- * part is, so that it is refused.
+ * Returns the text to which a part is set. null and an empty list remove the part. A list of one empty subtag becomes "-", which is
+ * not a part, so it is refused.
  */
 function partText(value) {
     if (value === null) return "";
@@ -154,7 +158,7 @@ export class LanguageTag {
         return this.text.slice(offset, offset + length);
     }
 
-    /** The text of a part, of a number; "" where it is absent. */
+    /** Returns the text of the part with a number, or "" if the part is absent. */
     #part(part) {
         return this.#at(this.#spans[2 * part], this.#spans[2 * part + 1]);
     }
@@ -230,7 +234,7 @@ export class LanguageTag {
         return { language: this.#at(...language) || undefined, fields: this.#mapOf(calls.fields(this.text)) };
     }
 
-    /** Values by lowercase keys, of which each comes once. */
+    /** Returns a map from lowercase keys to values. Each key occurs once in the list. */
     #mapOf(pairs) {
         return new Map(pairs.map(([start, length, ...value]) => [this.#at(start, length).toLowerCase(), this.#at(...value)]));
     }
@@ -259,7 +263,7 @@ export class LanguageTag {
 
     get invalidSubtag() {
         const [answer, start, length] = calls.validity(this.text);
-        return answer > 1 ? new InvalidSubtag(FAULTS[answer - 2], this.#at(start, length), start) : undefined;
+        return answer > 1 ? new InvalidSubtag(answer, this.#at(start, length), start) : undefined;
     }
 
     get isCanonical() {
@@ -380,7 +384,7 @@ export class LanguageRange {
 
 const rangeOf = (value) => (value instanceof LanguageRange ? value : new LanguageRange(value));
 
-/** The tag that a call chooses for a header or for ranges, or what stands for none. */
+/** Returns the tag that a call chooses for a header or for ranges, or `otherwise` if it chooses none. */
 function chosen(choose, wanted, tags, otherwise) {
     const list = [...several(tags, "tags")];
     const index = choose(wanted, list.map((tag) => tagOf(tag).text));
@@ -440,6 +444,11 @@ export function distance(desired, supported) {
     return calls.distance(tagOf(desired).text, tagOf(supported).text);
 }
 
+export function unknownModifier(name) {
+    const text = textOf(name), found = calls.unknownModifier(text);
+    return found && text.slice(found[0], found[0] + found[1]);
+}
+
 export function bestForHeader(header, tags, otherwise) {
     return chosen(calls.bestForHeader, headerText(header), tags, otherwise);
 }
@@ -462,7 +471,7 @@ export function bestForRanges(ranges, tags, otherwise) {
     return chosen(calls.bestForRanges, [...several(ranges, "ranges")].map(textOf), tags, otherwise);
 }
 
-let names; // by subtags in the recommended case, and by grandfathered tags; read when they are first asked for
+let names; // the keys are subtags in the recommended case, and grandfathered tags; filled by the first call of describe
 
 export function describe(value) {
     names ??= new Map(NAMES.split("\n").map((line) => [line.slice(0, line.indexOf(" ")), line.slice(line.indexOf(" ") + 1)]));

@@ -1,13 +1,13 @@
 /*
  * PostgreSQL's types langtag (a language tag, RFC 5646), langtag_range (a language range, RFC 4647) and langtag_part (some
- * subtags of a tag), over the proved C library. What a function answers is said in langtag.sql.in.
+ * subtags of a tag), over the proved C library. langtag.sql.in says what each function returns.
  *
- * A value is a varlena of its bytes and nothing else, as text is, so that the casts to text cost nothing. Those of langtag
- * are in the case that RFC 5646 recommends: equal tags have equal bytes. The C names begin with pg_langtag_, as the
- * library's own begin with langtag_.
+ * A value is a varlena with only the bytes of its text, as the type text is, so that casts to text cost nothing. Values of langtag
+ * are in the case that RFC 5646 recommends, so equal tags have equal bytes. The C names begin with pg_langtag_, since those of the
+ * library begin with langtag_.
  *
- * The module is installed twice: as langtag, and under a name with the registry's date for the functions that rest on the
- * registry, so that a file that is replaced changes no value that an index or a generated column holds.
+ * The module is installed twice: as langtag, and, for the functions that use the registry, under a name with the registry's date.
+ * So replacing a file changes no value that an index or a generated column contains.
  */
 #include "postgres.h"
 
@@ -39,7 +39,7 @@ PG_MODULE_MAGIC;
 
 void _PG_init(void);
 
-/* The archive is built for x86-64-v2, and would end the server on an older processor. */
+/* The archive is built for x86-64-v2, and would crash the server on an older processor. */
 void _PG_init(void) {
     if (!__builtin_cpu_supports("sse4.2"))
         ereport(ERROR, (errcode(ERRCODE_FEATURE_NOT_SUPPORTED),
@@ -55,13 +55,13 @@ static struct varlena *value_of(const char *bytes, size_t len) {
 
 /* ---- what is refused ---- */
 
-/* As much of a text as a message should have, cut behind a character. */
+/* Returns a text as a message shows it: cut after a whole character if it is too long. */
 static char *shown(const char *text, size_t len) {
     size_t cut = (size_t)pg_mbcliplen(text, (int)len, 60);
     return cut == len ? pnstrdup(text, len) : psprintf("%s...", pnstrdup(text, cut));
 }
 
-/* Where a text that is no tag goes wrong: at which character, and with which subtag. */
+/* Returns a message that says where a text that is not a tag is wrong: at which character, and in which subtag. */
 static char *why_no_tag(const char *text, size_t len) {
     langtag_span subtag;
     size_t offset = 0;
@@ -106,7 +106,7 @@ static struct varlena *checked_range(const char *text, size_t len) {
     return value_of(text, len);
 }
 
-/* Some subtags, or none: exactly what may stand behind the x- of a tag for private use. */
+/* Whether a text is a list of subtags, which may be empty: exactly what may follow the x- of a private-use tag. */
 static struct varlena *checked_part(const char *text, size_t len) {
     char *tag = palloc(len + 2);
     memcpy(tag, "x-", 2);
@@ -117,7 +117,7 @@ static struct varlena *checked_part(const char *text, size_t len) {
     return value_of(text, len);
 }
 
-/* How a value comes in: as a text of C, as a message of the binary protocol, and by a cast from text. */
+/* The input functions of a type: from a C string, from a message of the binary protocol, and by a cast from text. */
 #define INPUT(type, checked)                                                                                           \
     PG_FUNCTION_INFO_V1(pg_##type##_in);                                                                               \
     Datum pg_##type##_in(PG_FUNCTION_ARGS) {                                                                           \
@@ -140,7 +140,7 @@ INPUT(langtag, checked_tag)
 INPUT(langtag_range, checked_range)
 INPUT(langtag_part, checked_part)
 
-/* Of all three types. */
+/* The output functions of all three types. */
 PG_FUNCTION_INFO_V1(pg_langtag_out);
 Datum pg_langtag_out(PG_FUNCTION_ARGS) { PG_RETURN_CSTRING(TextDatumGetCString(PG_GETARG_DATUM(0))); }
 
@@ -172,14 +172,14 @@ Datum pg_langtag_viable(PG_FUNCTION_ARGS) {
     PG_RETURN_INT32((int32)langtag_viable(BYTES(given), LEN(given)));
 }
 
-/* ---- order, equality and hash of tags and parts, without regard to case; two tags are equal by their bytes ---- */
+/* ---- order, equality and hash of tags and parts, ignoring case; equal tags have equal bytes ---- */
 
-/* The order in which a text comes before those that it begins, so that what a basic range matches stands together:
- * de, de-AT, de-CH, dea. langtag_cmp has those that a text begins before the text. */
+/* Compares texts in the order in which a text sorts before the longer texts that begin with it, so that all tags that a basic range
+ * matches are together: de, de-AT, de-CH, dea. langtag_cmp sorts the longer texts first. */
 static int compare(const char *a, size_t a_len, const char *b, size_t b_len) {
     size_t common = Min(a_len, b_len), same = 0;
     int found;
-    while (same < common && a[same] == b[same]) same++; /* most of what an index compares begins alike */
+    while (same < common && a[same] == b[same]) same++; /* most of the texts that an index compares begin with the same bytes */
     found = same < common ? langtag_cmp(a + same, common - same, b + same, common - same) : 0;
     return found != 0 ? found : (a_len > b_len) - (a_len < b_len);
 }
@@ -213,7 +213,7 @@ Datum pg_langtag_larger(PG_FUNCTION_ARGS) {
     PG_RETURN_POINTER(compare(BYTES(a), LEN(a), BYTES(b), LEN(b)) >= 0 ? a : b);
 }
 
-/* The server's hash over the small letters. */
+/* Returns the server's hash of the lowercase text. */
 static Datum hash(FunctionCallInfo fcinfo, bool extended) {
     struct varlena *value = PG_GETARG_VARLENA_PP(0);
     char room[128], *folded = room;
@@ -243,7 +243,7 @@ static int sort_compare(Datum x, Datum y, SortSupport sort) {
     return order;
 }
 
-/* The first eight small letters as a number; zeros stand behind a shorter value, as no tag has such a byte. */
+/* Returns the first eight bytes in lowercase as a number. A shorter value is filled with zeros, which no tag has. */
 static Datum sort_abbreviate(Datum original, SortSupport sort) {
     struct varlena *value = PG_DETOAST_DATUM_PACKED(original);
     char head[sizeof(Datum)] = {0};
@@ -255,7 +255,7 @@ static Datum sort_abbreviate(Datum original, SortSupport sort) {
     return DatumBigEndianToNative(number);
 }
 
-/* Eight bytes tell most tags apart, and cost little where they do not. */
+/* Eight bytes distinguish most tags, and comparing them costs little if they are equal. */
 static bool sort_abbreviate_abort(int count, SortSupport sort) { return false; }
 
 PG_FUNCTION_INFO_V1(pg_langtag_sortsupport);
@@ -290,7 +290,7 @@ PART(pg_langtag_script, script)
 PART(pg_langtag_region, region)
 PART(pg_langtag_private_use, private_use)
 
-/* The primary subtag, and in `rest` the extended ones after it. */
+/* Returns the primary subtag, and sets `rest` to the extended subtags after it. */
 static langtag_span primary_of(struct varlena *tag, langtag_span *rest) {
     langtag_parts parts;
     langtag_span primary = {0, 0};
@@ -317,7 +317,7 @@ Datum pg_langtag_extlang(PG_FUNCTION_ARGS) {
 
 typedef bool (*walk)(const char *, size_t, langtag_span *, langtag_span *);
 
-/* What a walk over a part gives, as an array of langtag_part. */
+/* Returns what a walk over a part returns, as an array of langtag_part. */
 static Datum list(FunctionCallInfo fcinfo, struct varlena *tag, langtag_span rest, walk next) {
     Oid type = get_element_type(get_func_rettype(fcinfo->flinfo->fn_oid));
     ArrayBuildState *found = NULL;
@@ -345,7 +345,7 @@ Datum pg_langtag_extensions(PG_FUNCTION_ARGS) {
     return list(fcinfo, tag, parts.extensions, langtag_next_extension);
 }
 
-/* The value of a key, which is empty if the key has none; NULL if the key is absent. */
+/* Returns the value of a key, which is empty if the key has none, or NULL if the key is absent. */
 PG_FUNCTION_INFO_V1(pg_langtag_keyword);
 Datum pg_langtag_keyword(PG_FUNCTION_ARGS) {
     struct varlena *tag = PG_GETARG_VARLENA_PP(0);
@@ -355,7 +355,7 @@ Datum pg_langtag_keyword(PG_FUNCTION_ARGS) {
     PG_RETURN_TEXT_P(cstring_to_text_with_len(BYTES(tag) + value.start, (int)value.len));
 }
 
-/* Each key once, with its first value: an array of rows, each a key and its value. */
+/* Returns each key once, with its first value, as an array of rows: a key and its value. */
 PG_FUNCTION_INFO_V1(pg_langtag_keywords);
 Datum pg_langtag_keywords(PG_FUNCTION_ARGS) {
     struct varlena *tag = PG_GETARG_VARLENA_PP(0);
@@ -374,7 +374,7 @@ Datum pg_langtag_keywords(PG_FUNCTION_ARGS) {
     return makeMdArrayResult(found, 2, sizes, lower, CurrentMemoryContext, true);
 }
 
-/* The labels of the enum langtag_kind, by the numbers of the library. */
+/* The labels of the enum langtag_kind, in the order of the library's numbers. */
 static const char *const kinds[] = {[LANGTAG_NORMAL] = "normal", [LANGTAG_PRIVATE_USE] = "private use",
                                     [LANGTAG_IRREGULAR] = "irregular"};
 
@@ -421,7 +421,7 @@ SETTER(pg_langtag_set_variants, LANGTAG_PART_VARIANTS, "variants")
 SETTER(pg_langtag_set_extensions, LANGTAG_PART_EXTENSIONS, "extensions")
 SETTER(pg_langtag_set_private_use, LANGTAG_PART_PRIVATE_USE, "private use")
 
-/* Each tag has had its recommended case since it came in. */
+/* Each tag got its recommended case when it was read. */
 PG_FUNCTION_INFO_V1(pg_langtag_recommended);
 Datum pg_langtag_recommended(PG_FUNCTION_ARGS) { PG_RETURN_POINTER(PG_GETARG_VARLENA_PP(0)); }
 
@@ -442,10 +442,21 @@ Datum pg_langtag_invalid_subtag(PG_FUNCTION_ARGS) {
     return span_or_null(fcinfo, BYTES(tag), invalid);
 }
 
+PG_FUNCTION_INFO_V1(pg_langtag_suggestion);
+Datum pg_langtag_suggestion(PG_FUNCTION_ARGS) {
+    struct varlena *tag = PG_GETARG_VARLENA_PP(0);
+    langtag_span invalid;
+    char code[3];
+    uint32 fault = langtag_validity(BYTES(tag), LEN(tag), &invalid);
+    size_t len = langtag_suggestion(fault, BYTES(tag) + invalid.start, invalid.len, code, sizeof code);
+    if (len == 0 || len > sizeof code) PG_RETURN_NULL();
+    PG_RETURN_POINTER(value_of(code, len));
+}
+
 typedef size_t (*form_of)(const char *, size_t, char *, size_t);
 
 /* Returns a form of a tag in its recommended case, or NULL if the library writes none. A canonical form has at most twice as many
- * bytes as the tag, and 14. */
+ * bytes as the tag, plus 14. */
 static Datum form(FunctionCallInfo fcinfo, form_of write) {
     struct varlena *tag = PG_GETARG_VARLENA_PP(0), *form;
     size_t room = 2 * LEN(tag) + 14, len;
@@ -473,6 +484,14 @@ Datum pg_langtag_minimized(PG_FUNCTION_ARGS) { return form(fcinfo, langtag_minim
 
 PG_FUNCTION_INFO_V1(pg_langtag_from_posix);
 Datum pg_langtag_from_posix(PG_FUNCTION_ARGS) { return form(fcinfo, langtag_from_posix); }
+
+PG_FUNCTION_INFO_V1(pg_langtag_unknown_modifier);
+Datum pg_langtag_unknown_modifier(PG_FUNCTION_ARGS) {
+    struct varlena *name = PG_GETARG_VARLENA_PP(0);
+    langtag_span found;
+    if (!langtag_unknown_modifier(BYTES(name), LEN(name), &found)) PG_RETURN_NULL();
+    PG_RETURN_TEXT_P(cstring_to_text_with_len(BYTES(name) + found.start, (int)found.len));
+}
 
 PG_FUNCTION_INFO_V1(pg_langtag_distance);
 Datum pg_langtag_distance(PG_FUNCTION_ARGS) {
@@ -509,17 +528,17 @@ Datum pg_langtag_matches_extended(PG_FUNCTION_ARGS) {
     PG_RETURN_BOOL(langtag_matches_extended(BYTES(range), LEN(range), BYTES(tag), LEN(tag)));
 }
 
-/* A bound is made of a range alone. */
+/* A bound is only made from a range. */
 PG_FUNCTION_INFO_V1(pg_langtag_bound_in);
 Datum pg_langtag_bound_in(PG_FUNCTION_ARGS) {
     ereport(ERROR, (errcode(ERRCODE_FEATURE_NOT_SUPPORTED), errmsg("cannot accept a value of type langtag_bound")));
     PG_RETURN_NULL();
 }
 
-/* Bounds for what a range matches: the lower one is the least of it, the upper one stands behind all of it. Of de-CH they
- * are de-CH and "de-CH.", as the byte after the hyphen; for extended filtering only the first subtag counts; of * they
- * are the empty text and one that stands behind all letters. The bounds are compared with tags, and need not be any: so
- * they are of a type of their own, else one could be put into a column of tags. */
+/* Return the bounds of the tags that a range matches: the lower bound is not after the first of them, and the upper bound is after
+ * all of them. For de-CH they are de-CH and "de-CH.", since "." is the byte after the hyphen. For extended filtering only the first
+ * subtag is used. For * they are the empty text and a text that sorts after all letters. Bounds are compared with tags, but need
+ * not be tags. So they have a separate type, and cannot be put into a column of tags. */
 static Datum bound(FunctionCallInfo fcinfo, bool extended, bool upper) {
     struct varlena *range = PG_GETARG_VARLENA_PP(0), *answer;
     const char *bytes = BYTES(range);
@@ -545,7 +564,7 @@ BOUND(pg_langtag_basic_upper, false, true)
 BOUND(pg_langtag_extended_lower, true, false)
 BOUND(pg_langtag_extended_upper, true, true)
 
-/* A call of one of the functions above, in the schema where the extension stands, for a comparison with tags. */
+/* Returns the expression that calls one of the functions above, in the schema of the extension, for a comparison with tags. */
 static Expr *bound_call(PlannerInfo *root, Oid schema, const char *name, Oid type, Node *range) {
     Oid range_type = exprType(range);
     List *names = list_make2(makeString(get_namespace_name(schema)), makeString(pstrdup(name)));
@@ -556,7 +575,8 @@ static Expr *bound_call(PlannerInfo *root, Oid schema, const char *name, Oid typ
     return (Expr *)eval_const_expressions(root, (Node *)as_tag);
 }
 
-/* Whether a range that is known when the query is planned is bounded; and whether its bounds hold more than it matches. */
+/* Returns whether a range that is known when the query is planned has bounds, and sets `lossy` if the bounds include tags that it
+ * does not match. */
 static bool bounded(Const *range, bool *lossy) {
     struct varlena *value;
     if (range->constisnull) return false;
@@ -565,7 +585,7 @@ static bool bounded(Const *range, bool *lossy) {
     return BYTES(value)[0] != '*';
 }
 
-/* Turns a match into bounds on a btree index of tags, or gives NULL where it has none. */
+/* Converts a match to bounds for a btree index of tags, or returns NULL if it has no bounds. */
 static List *index_condition(SupportRequestIndexCondition *request, bool extended) {
     List *arguments = is_opclause(request->node)     ? ((OpExpr *)request->node)->args
                       : is_funcclause(request->node) ? ((FuncExpr *)request->node)->args
@@ -606,9 +626,10 @@ Datum pg_langtag_basic_support(PG_FUNCTION_ARGS) { return support(fcinfo, false)
 PG_FUNCTION_INFO_V1(pg_langtag_extended_support);
 Datum pg_langtag_extended_support(PG_FUNCTION_ARGS) { return support(fcinfo, true); }
 
-/* ---- which tag a request gets ---- */
+/* ---- the best tag for a request ---- */
 
-/* The tags of an array, or the texts, which have to be tags; without its NULLs. Where each stands is written, unless `places` is NULL. */
+/* Returns the tags of an array, or its texts, which have to be tags, without NULLs. Writes the index of each in the array, unless
+ * `places` is NULL. */
 static struct varlena **tags_of(ArrayType *array, int *count, int **places) {
     struct varlena **tags;
     Datum *values;
@@ -628,15 +649,15 @@ static struct varlena **tags_of(ArrayType *array, int *count, int **places) {
     return tags;
 }
 
-/* What the library chooses among tags for a header. */
+/* A function of the library that chooses among tags for a header. */
 typedef size_t choice(const char *header, size_t header_len, const char *bytes, size_t len, const langtag_span *tags, size_t count);
 
-/* One call of the library, which nothing interrupts, compares each range of a header with each of some tags: so many are the tags,
- * and so many bytes have they together, if they are more than one. */
+/* A call of the library compares each range of a header with each tag, and cannot be interrupted. So one call gets at most this
+ * many tags, with at most this many bytes in total, or a single longer tag. */
 #define TAGS_AT_ONCE 64
 #define BYTES_AT_ONCE 4096
 
-/* The place of the tag that is chosen of some, or `count`. */
+/* Returns the index of the chosen tag, or `count` if none is chosen. */
 static int chosen_of(choice *choose, text *header, struct varlena **tags, int count) {
     langtag_span spans[TAGS_AT_ONCE];
     StringInfoData all;
@@ -651,8 +672,8 @@ static int chosen_of(choice *choose, text *header, struct varlena **tags, int co
     return (int)Min(chosen, (size_t)count);
 }
 
-/* The tag so far stands before the next tags: which of two tags goes before the other rests on no third one, and of two that are
- * alike the first one stays. */
+/* The tag chosen so far is put before the next tags. This is correct because the choice between two tags depends on no third tag,
+ * and of two equally good tags the first is chosen. */
 static int chosen_index(choice *choose, text *header, struct varlena **tags, int count) {
     int best = -1;
     for (int next = 0; next < count;) {
@@ -683,7 +704,7 @@ static Datum chosen(FunctionCallInfo fcinfo, choice *choose) {
 PG_FUNCTION_INFO_V1(pg_langtag_tag_for_header);
 Datum pg_langtag_tag_for_header(PG_FUNCTION_ARGS) { return chosen(fcinfo, langtag_tag_for_header_lenient); }
 
-/* So long may the header be, for which distances are computed. */
+/* The greatest length of a header for which distances are computed. */
 #define LONGEST_HEADER 8192
 
 static void check_header(text *header) {
@@ -698,7 +719,8 @@ Datum pg_langtag_best_for_header(PG_FUNCTION_ARGS) {
     return chosen(fcinfo, langtag_best_for_header);
 }
 
-/* The row of the best tag. Among all tags it serves the range that it serves alone, since of one tag the best range rests on no other. */
+/* Returns the row of the best tag. The range that it serves is found with this tag alone, since the best range for a tag does not
+ * depend on other tags. */
 PG_FUNCTION_INFO_V1(pg_langtag_match_for_header);
 Datum pg_langtag_match_for_header(PG_FUNCTION_ARGS) {
     text *header = PG_GETARG_TEXT_PP(1);

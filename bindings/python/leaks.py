@@ -1,6 +1,6 @@
-"""Every call and every refusal many times, each group after itself: python3 leaks.py [TIMES]. In a debug build of Python, with a
-C module built by -DPy_DEBUG, as many references stand afterwards as before. Under valgrind (PYTHONMALLOC=malloc) or sanitizers it
-is the program that they watch."""
+"""Makes every call and every refusal many times, group by group: python3 leaks.py [TIMES]. In a debug build of Python, with a C
+module built by -DPy_DEBUG, there must be as many references afterwards as before. It is also the program that valgrind
+(PYTHONMALLOC=malloc) and sanitizers watch."""
 import copy
 import gc
 import pickle
@@ -63,6 +63,9 @@ def read():
     for tag in (Tag(LONG), Tag("x-a"), Tag("i-klingon"), Tag("de-a-bb-A-cc-1996"), Tag("de-1996-1996")):
         for name in PARTS:
             getattr(tag, name)
+    str(Tag("ger-AT").invalid_subtag), str(Tag("fr-FQ").invalid_subtag), Tag("en-UK").invalid_subtag.suggestion
+    for wrong in ((), (2,), (2, 5), ("a", "ger")):
+        refused(langtag._backend.suggestion, *wrong)
 
 
 def extensions():
@@ -113,6 +116,7 @@ def ask():
     langtag.kind("de"), langtag.viable("d_"), langtag.stop("d_"), refused(langtag.kind, 5), refused(langtag.viable, None)
     langtag.distance("de", Tag("en")), refused(langtag.distance, "de", 5), refused(langtag.distance, 5, "de"), Tag("az-IR").is_right_to_left
     Tag.from_posix("sr_RS@latin"), refused(Tag.from_posix, "C"), refused(Tag.from_posix, 5)
+    langtag.unknown_modifier("de_DE@foo"), langtag.unknown_modifier(b"de@euro"), refused(langtag.unknown_modifier, 5)
 
 
 def main(times):

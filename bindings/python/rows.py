@@ -1,8 +1,9 @@
-"""The rows that the tests of all languages read: a call, its arguments and its answer. They stand in rows/,
-whose README says their form."""
+"""Reads the rows that the tests of all languages run: a call, its arguments and its result. They are in rows/, whose README
+describes their form."""
 from __future__ import annotations
 
 import collections
+import os
 import pathlib
 import re
 import traceback
@@ -10,21 +11,29 @@ from typing import Callable, Iterator, Mapping, NamedTuple
 
 FOLDER = pathlib.Path(__file__).resolve().parent.parent.parent / "rows"
 
-#: How many arguments each call has.
+#: The number of arguments of each call.
 CALLS = {name: int(count) for name, count in re.findall(r"(?m)^([\w-]+) (\d)$", (FOLDER / "calls.txt").read_text("ascii"))}
+
+#: The one file of rows to run, if LANGTAG_ROWS names one.
+ALONE = os.environ.get("LANGTAG_ROWS")
 
 Answer = Callable[..., "str | None"]
 
 
 class Row(NamedTuple):
-    """A row: where it stands, its text, the call, the arguments as bytes, and the answer. A row without an answer is a question. The
-    lines that belong to a row stand in its answer, each behind a line feed."""
+    """A row: its file and line, its text, the call, the arguments as bytes, and the answer. A row without an answer is a question.
+    Further lines of a row are in its answer, each after a line feed."""
 
     place: str
     text: str
     call: str
     arguments: list[bytes]
     wanted: str
+
+
+def wanted(floors: Mapping[str, int]) -> dict[str, int]:
+    """Returns the files of rows to run, each with the least number of rows that it must have."""
+    return {name: floor for name, floor in floors.items() if name == (ALONE or name)}
 
 
 def expand(line: str) -> str:
@@ -36,7 +45,7 @@ def unescape(word: str) -> bytes:
 
 
 def read(path: pathlib.Path) -> Iterator[Row]:
-    """The rows of a file."""
+    """Reads the rows of a file."""
     lines = path.read_text("ascii").splitlines()
     for at, line in enumerate(lines):
         if not line or line[0] in "# ":
@@ -45,16 +54,16 @@ def read(path: pathlib.Path) -> Iterator[Row]:
         words = text.split(" | ")
         end = CALLS[words[0]] + 1
         wanted = " | ".join(words[end:])
-        for more in lines[at + 1 :]:
-            if not more.startswith(" "):
+        for more in range(at + 1, len(lines)):  # a slice for each row would be quadratic
+            if not lines[more].startswith(" "):
                 break
-            wanted += "\n" + expand(more)
+            wanted += "\n" + expand(lines[more])
         yield Row(f"{path.name}:{at + 1}", text, words[0], [unescape(word) for word in words[1:end]], wanted)
 
 
 class Asker:
-    """Asks rows of a language: `answers` has its answer to the arguments of a call, None where it has none to them, and
-    `adapted` is what the language wants of a row's answer."""
+    """Runs the rows in a language: `answers` has the language's answer to a call with its arguments, or None if it has no such
+    call, and `adapted` changes a row's answer to the form of the language."""
 
     def __init__(self, answers: Mapping[str, Answer], adapted: Callable[[Row], str] = lambda row: row.wanted):
         self.answers, self.adapted = answers, adapted
@@ -63,7 +72,7 @@ class Asker:
         self.lacking: list[str] = []
 
     def ask(self, path: pathlib.Path, floor: int) -> None:
-        """Asks the rows of a file, of which there have to be as many as the floor. Writes the answers to questions."""
+        """Runs the rows of a file, which has to have at least `floor` rows. Writes the answers to questions."""
         before = sum(self.asked.values())
         for row in read(path):
             found = self.answer(row)
@@ -81,7 +90,7 @@ class Asker:
             self.lacking.append(f"{path.name}: at least {floor} rows were to be asked, and {asked} were")
 
     def answer(self, row: Row) -> str | None:
-        """The language's answer; where a test of it fails, which one."""
+        """Returns the language's answer, or the test that failed."""
         try:
             return self.answers[row.call](*row.arguments) if row.call in self.answers else None
         except Exception as error:
@@ -89,7 +98,7 @@ class Asker:
             return f"{type(error).__name__} {error}, line {at.lineno}: {at.line}"
 
     def failures(self) -> str:
-        """What went wrong, of the rows that differ the first three."""
-        never = [f"no row asks {call}" for call in self.answers if not self.asked[call]]
+        """Returns what went wrong: the first three rows that differ."""
+        never = [f"no row asks {call}" for call in self.answers if not self.asked[call] and not ALONE]
         count = [f"{len(self.differing)} differ"] if self.differing else []
         return "\n".join(self.differing[:3] + count + self.lacking + never)

@@ -1,6 +1,6 @@
-"""Builds the package with its C module, one binary for each Python since 3.8; or, where that can't be, with the shared library,
-which the module reaches by ctypes. Both come from an sdist, or from the repository: the archive from crates/langtag_c/out, the
-library from bindings/c/build. LANGTAG_ARCHIVE and LANGTAG_LIBRARY name others."""
+"""Builds the package with its C module, which is one binary for all Pythons since 3.8. If this cannot be built, the package gets
+the shared library, which it calls through ctypes. The archive and the library are those of the sdist, or in the repository those of
+crates/langtag_c/out and bindings/c/build. LANGTAG_ARCHIVE and LANGTAG_LIBRARY name others."""
 import os
 import pathlib
 import platform
@@ -21,7 +21,7 @@ HERE = pathlib.Path(__file__).resolve().parent
 
 
 def found(variable, *paths):
-    """The file that a variable names, or else the first of the paths that is there; None where none is."""
+    """Returns the file that a variable names, or else the first of the paths that exists, or None."""
     paths = [os.environ[variable]] if os.environ.get(variable) else paths
     return next((path for path in map(pathlib.Path, paths) if path.is_file()), None)
 
@@ -33,7 +33,7 @@ HEADER = next((path for path in (HERE / "langtag.h", HERE / "../include/langtag.
 
 
 def lacking():
-    """Why the C module can't be built, if so."""
+    """Returns why the C module can't be built, or None if it can."""
     if platform.python_implementation() != "CPython" or sysconfig.get_config_var("Py_GIL_DISABLED"):
         return "this Python does not load modules of the stable ABI"
     if not pathlib.Path(sysconfig.get_paths()["include"], "Python.h").is_file():
@@ -57,7 +57,7 @@ class WithLibrary(build_py):
 
 
 class ForEachPython(bdist_wheel):
-    """One wheel for each Python of one platform."""
+    """A wheel for all Pythons of one platform."""
 
     def finalize_options(self):
         super().finalize_options()

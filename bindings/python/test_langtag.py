@@ -1,5 +1,5 @@
-"""python3 -m unittest, in this folder. test_rows asks the rows that the tests of all languages read; here stands what only
-Python has."""
+"""Tests of what only Python has: python3 -m unittest, in this folder. test_rows runs the rows that the tests of all languages
+read."""
 import copy
 import doctest
 import gc
@@ -108,7 +108,7 @@ class Values(unittest.TestCase):
         self.assertEqual((str(parse("EN-ca-X-CA").recommended()), parse("EN-ca-X-CA").folded()), ("en-CA-x-ca", "en-ca-x-ca"))
 
     def test_lengths(self):
-        """Of a form, around the room that a call may have for it."""
+        """Forms whose lengths are near the size of the first buffer of a call."""
         for length in (*range(180, 200), *range(500, 530), 5000):
             rest = ("-abcdefg" * length)[:length].rstrip("-")
             tag = Tag("iw-x" + rest)
@@ -119,7 +119,7 @@ class Values(unittest.TestCase):
         self.assertEqual({Tag(text).key() for text in ("IW-il", "he-IL", "iw-IL")}, {"he-IL"})
 
     def test_single_letters(self):
-        """Bytes of one byte are shared by all of Python, and must not be changed in their place."""
+        """A bytes object of one byte is shared in all of Python, so it must not be changed in place."""
         self.assertEqual((hash(Range("A")), str(Range("A")), b"A"[0]), (hash(Range("a")), "A", 65))
 
     def test_habits(self):
@@ -155,7 +155,7 @@ class Values(unittest.TestCase):
         self.assertEqual(again.best(["en", "fr-CA"]), "fr-CA")
 
     def test_other_objects(self):
-        """Of another type, the other side is asked."""
+        """A comparison with another type asks the other object."""
         for value in (Tag("de"), Range("de")):
             self.assertTrue(value == unittest.mock.ANY and unittest.mock.ANY == value)
             self.assertFalse(value != unittest.mock.ANY)
@@ -182,7 +182,7 @@ class Values(unittest.TestCase):
                     call(kind.__new__(kind))
 
 
-#: Each way in which something is refused.
+#: Each way in which an argument is refused.
 REFUSALS = (
     lambda text: Tag(text), lambda text: parse(text), lambda text: Range(text), lambda text: Tag.from_posix(text),
     lambda text: Tag("de").replace(script=text), lambda text: Tag.from_parts(text), lambda text: Tag("x-a").replace(script="Latn"),
@@ -277,7 +277,7 @@ class Negotiation(unittest.TestCase):
                 look_up(ranges, tags, None)
 
     def test_texts(self):
-        """A text serves where a tag or a range does, and is what is returned."""
+        """A text is accepted wherever a tag or a range is, and the same text is returned."""
         for texts in (["fr", "de-CH"], [b"fr", b"de-CH"], (Tag("fr"), Tag("de-CH")), iter(["fr", b"de-CH"]), {"fr": 1, "de-CH": 2}):
             kept = list(texts)
             for call in (look_up, langtag.best_for_ranges):
@@ -312,7 +312,7 @@ class Negotiation(unittest.TestCase):
                 self.assertEqual(call(f"zz;q=0.9,{header.replace(',', ';q=0.5,')};q=0.5", [names[-1], name]), name, place)
 
     def test_extended_ranges(self):
-        """Of a list: each * behind a hyphen is left out, and no other."""
+        """In a list of ranges, each * after a hyphen is left out, and no other *."""
         self.assertIsNone(langtag.best_for_ranges(["de-*a"], ["dea"]))
         self.assertEqual(langtag.best_for_ranges(["zh-*-Hant-x-" + "abcdefgh-" * 9 + "a"], ["en", "zh-Hant"]), "zh-Hant")
 
@@ -321,7 +321,7 @@ class Negotiation(unittest.TestCase):
             self.assertEqual(str(tag_for_header_lenient(header, [Tag("fr"), Tag("nl")], None)), "nl")
 
     def test_weights(self):
-        """Every text of up to four bytes of these as a weight, and some longer ones, beside RFC 9110 section 12.4.2."""
+        """Compares every weight of up to four of these bytes, and some longer ones, with RFC 9110 section 12.4.2."""
         texts = ["".join(text) for length in range(5) for text in itertools.product("01.>5", repeat=length)]
         texts += ["0.1234", "0.0004", "0.999", "1.0000", "1.000", "0.5 5", "00.5", "+0.5", "0,5", "0.001", "0.0001"]
         for text in texts:
@@ -339,7 +339,7 @@ class Negotiation(unittest.TestCase):
         self.assertEqual(langtag.best_for_ranges(["fi"], tags, "none"), "none")
         self.assertEqual(AcceptLanguage("en;q=0, fr, *;q=0.5").best(["en", "fr-CA"]), "fr-CA")
         self.assertEqual(AcceptLanguage.lenient("zh_TW").best(tags, 5), b"zh-Hant")
-        for number in (0, 63, 64, 65, 3000):  # the C module keeps few tags elsewhere than many
+        for number in (0, 63, 64, 65, 3000):  # the C module keeps few tags on the stack, and many tags on the heap
             many = [b"de", *["x-a"] * number, Tag("zh-x-" + "long-" * 50 + "tag")]
             self.assertIs(langtag.best_for_header("zh;q=0.5, de", many), many[0])
             self.assertIs(langtag.best_for_header("zh", tuple(many)), many[-1])
@@ -356,7 +356,7 @@ class Negotiation(unittest.TestCase):
         self.assertLess(time.monotonic() - begun, 10)
 
 
-#: Tags with their names, as JavaScript's tests have them.
+#: Tags with their names. JavaScript's tests have the same list.
 NAMES = (
     ("pt-BR", "Portuguese (Brazil)"), ("sr-Latn", "Serbian (Latin)"), ("zh-yue-HK", "Yue Chinese (Hong Kong)"), ("yue", "Yue Chinese"),
     ("ZH-hant-tw", "Chinese (Han [Traditional variant], Taiwan, Province of China)"), ("el", "Modern Greek (1453-)"), ("ms", "Malay"),
@@ -428,7 +428,7 @@ class Edits(unittest.TestCase):
 
 class Memory(unittest.TestCase):
     def calls(self, number):
-        """Each call that keeps something, once, with texts that no other number has."""
+        """Makes each call that could keep memory once, with texts that differ for each number."""
         tag = Tag(f"iw-BU-heploc-t-de-m0-u{number}-u-attr-co-a{number:02}-x-a{number}")
         tag.keyword("co"), tag.keyword("zz"), tag.keywords, tag.attributes, tag.transform
         tag.canonical(), tag.recommended(), tag.folded(), tag.replace(script="Latn"), hash(tag), repr(tag), tag.is_valid
@@ -440,7 +440,7 @@ class Memory(unittest.TestCase):
                 wrong()
 
     def test_that_nothing_is_kept(self):
-        """What Python's allocators have given grows by less than any object for each number."""
+        """The memory from Python's allocators grows by less than one object for each number."""
         tracemalloc.start()
         self.addCleanup(tracemalloc.stop)
         for number in range(200):
@@ -455,7 +455,7 @@ class Memory(unittest.TestCase):
 
 IS_NATIVE = langtag._backend.__name__ == "langtag._native"
 
-#: What each of several interpreters does.
+#: The program that each of several interpreters runs.
 INTERPRETED = """
 import langtag
 tag = langtag.Tag("zh-Hant-TW")
@@ -487,7 +487,7 @@ class Threads(unittest.TestCase):
         self.assertGreater(sum(seen), 100)
 
     def meanwhile(self, call):
-        """How often another thread ran during a call, and its answer."""
+        """Returns how often another thread ran during a call, and the result of the call."""
         answers, counted = [], 0
         thread = threading.Thread(target=lambda: answers.append(call()))
         thread.start()
@@ -523,7 +523,7 @@ class Threads(unittest.TestCase):
 class Backends(unittest.TestCase):
     @unittest.skipUnless(IS_NATIVE and "LANGTAG_OTHER" in os.environ, "there is one")
     def test_that_both_have_the_same(self):
-        """The same members; LANGTAG_OTHER names the library."""
+        """The C module and the ctypes module have the same members. LANGTAG_OTHER names the library."""
         code = """import langtag
 print(*sorted(name for base in (langtag._backend.TagBase, langtag._backend.RangeBase) for name in vars(base) if name[0] != "_"))"""
         said = [subprocess.run([sys.executable, "-c", code], capture_output=True, text=True, check=True,

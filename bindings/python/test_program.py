@@ -1,4 +1,5 @@
-"""python -m langtag: its lines, and that it answers as the program of the Rust crate does, which LANGTAG_PROGRAM names."""
+"""Tests `python -m langtag`: its lines, and that its answers are those of the program of the Rust crate, which LANGTAG_PROGRAM
+names."""
 import os
 import pathlib
 import re
@@ -10,7 +11,7 @@ HERE = pathlib.Path(__file__).resolve().parent
 ROWS = HERE.parents[1] / "rows"
 PYTHON = [sys.executable, "-m", "langtag"]
 ODD = [b"", b"\xff", b"en\xff-x", b"de--DE", b"en-", b"e\xcc\x81", b"a\tb", b"x" * 200, b"-", b"--", b"de\r", b"\x85-de", b"\xc3\xa9-b",
-       b"fr-a-bb-A-cc", b"de-1996-1996", b"en-a-bb-x-a-b", b"X-a", b"sl-Latn-IT-rozaj-1994-u-co-x-y", b"de" + b"-abcdefgh" * 40]
+       b"fr-a-bb-A-cc", b"de-1996-1996", b"ger-AT", b"en-UK", b"fr-FQ", b"en-a-bb-x-a-b", b"X-a", b"sl-Latn-IT-rozaj-1994-u-co-x-y", b"de" + b"-abcdefgh" * 40]
 PAIRS = b"de-AT de\n\nfr\nde\tde-CH\nen_US en\nen en_US\na b c\n\xff de\nzh-TW  zh-Hant \nde\x0bfr\nde\x0cfr\nde fr\r"
 WRONG = [[], ["shows"], ["show", "--csv"], ["best"], ["match"], ["match", "d*"], ["distance", "de"], ["show", "--basic"], ["--help"], ["-h"],
          ["--version"], ["-V"], ["--", "show", "--tsv"], ["show", "-x"], [b"\xff"]]
@@ -22,13 +23,13 @@ def run(program, arguments, given=b""):
 
 
 def texts():
-    """The texts of the rows of two calls."""
+    """Returns the texts of the rows of two calls."""
     found = re.findall(rb"(?m)^(?:canonical|types) \| ([\w-]+)", (ROWS / "registry.txt").read_bytes() + (ROWS / "texts.txt").read_bytes())
     return [*dict.fromkeys(found)][:300] + ODD
 
 
 def calls():
-    """Arguments and lines."""
+    """Yields arguments of the program and lines of input."""
     columns, lines = ([], ["--tsv"]), b"\n".join(texts())
     for option in columns:
         for command in ("show", "check", "canonical", "maximize", "minimize"):
@@ -65,10 +66,11 @@ class Program(unittest.TestCase):
 
     @unittest.skipUnless(os.environ.get("LANGTAG_PROGRAM"), "LANGTAG_PROGRAM names no program")
     def test_the_other_program(self):
+        """Compares both programs. Python runs without `site`, which takes most of the time of its start."""
         program = [os.environ["LANGTAG_PROGRAM"]]
         for arguments, given in calls():
             with self.subTest(arguments=arguments):
-                self.assertEqual(run(PYTHON, arguments, given), run(program, arguments, given))
+                self.assertEqual(run([*PYTHON[:1], "-S", *PYTHON[1:]], arguments, given), run(program, arguments, given))
 
 
 if __name__ == "__main__":

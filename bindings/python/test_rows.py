@@ -1,5 +1,5 @@
-"""The rows that the tests of all languages read, asked of this module; and where LANGTAG_ANSWERS names a file, the C library's
-answers to other calls."""
+"""Runs the rows that the tests of all languages read. If LANGTAG_ANSWERS names a file, also compares the C library's answers to
+other calls. If LANGTAG_ROWS names a file of rows, runs only these rows."""
 import os
 import pathlib
 import pickle
@@ -12,7 +12,7 @@ from langtag import (GRANDFATHERED, AcceptLanguage, AcceptLanguageError, EditErr
                      tag_for_header, tag_for_header_lenient)
 
 KINDS = {None: "none", langtag.Kind.NORMAL: "normal", langtag.Kind.PRIVATE_USE: "private", langtag.Kind.IRREGULAR: "irregular"}
-# Where a header asks for none of the tags.
+# The result if a header finds none of the tags.
 DEFAULT = "-"
 
 
@@ -25,7 +25,7 @@ def made(kind, text):
 
 
 def copied(error):
-    """An error that was pickled, and is the same."""
+    """Returns a copy of an error made by pickle, after checking that it is the same."""
     again = pickle.loads(pickle.dumps(error))
     assert (type(again), str(again), vars(again)) == (type(error), str(error), vars(error))
     return again
@@ -58,9 +58,10 @@ def answer_tag(text):
 
 
 def adapted(row):
-    """Of a tag, the extensions that a dict holds, by small singletons, the first of each; and no offsets of repeats."""
+    """Returns the answer as Python gives it: of the extensions of a tag only the first of each singleton, in lowercase, and no
+    offsets of repeats."""
     if row.call in ("keywords", "transform"):
-        return re.sub(r"\w\w=", lambda key: key[0].lower(), row.wanted)  # a dict has small keys
+        return re.sub(r"\w\w=", lambda key: key[0].lower(), row.wanted)  # a dict has lowercase keys
     if row.call != "tag":
         return row.wanted
     lines = []
@@ -76,7 +77,7 @@ def adapted(row):
     return "\n".join(lines)
 
 
-# What a fault is called, of which kind of subtag, and how the message ends.
+# The name of each fault, the kind of the subtag, and the end of the message.
 FAULTS = {
     "language": ("language", "is not registered"),
     "extlang": ("extended language", "is not registered"),
@@ -99,8 +100,14 @@ def answer_validity(text):
         return "valid"
     assert text[wrong.start :].decode().startswith(wrong.subtag)
     kind, how = FAULTS[wrong.fault]
-    assert str(wrong) == f"{kind} '{wrong.subtag}' {how}"
+    meant = f": did you mean '{wrong.suggestion}'?" if wrong.suggestion else ""
+    assert str(wrong) == f"{kind} '{wrong.subtag}' {how}{meant}"
     return f"{wrong.fault} {wrong.start} {wrong.subtag}"
+
+
+def answer_suggestion(text):
+    tag = made(Tag, text)
+    return tag and tag.invalid_subtag and tag.invalid_subtag.suggestion or "-"
 
 
 def answer_canonical(text):
@@ -120,7 +127,7 @@ def answer_grandfathered(text):
 
 
 def answer_scan(text):
-    """How many bytes decide the text, how many of its fronts are tags, and what it is, with the ends of its parts."""
+    """Returns how many bytes have to be read, how many prefixes are tags, and the kind of the text with the ends of its parts."""
     tag, fronts = made(Tag, text), sum(langtag.kind(text[:end]) is not None for end in range(len(text) + 1))
     what = KINDS[langtag.kind(text)]
     if tag is not None and tag.kind is langtag.Kind.IRREGULAR:
@@ -128,7 +135,7 @@ def answer_scan(text):
     if tag is not None and tag.kind is langtag.Kind.NORMAL:
         ends = [len(tag.language)]
         extensions = "-".join("-".join([key, *subtags]) for key, subtags in tag.extensions.items())
-        if tag.repeated_singleton:  # of one singleton, a dict has the first extension alone
+        if tag.repeated_singleton:  # a dict has only the first extension of a singleton
             return None
         for part in (tag.script, tag.region, "-".join(tag.variants), extensions, tag.private_use):
             ends.append(ends[-1] + (1 + len(part) if part else 0))
@@ -137,7 +144,7 @@ def answer_scan(text):
 
 
 def answer_recommended(text):
-    """Of tags; None of other texts."""
+    """Returns the answer for a tag, and None for other texts."""
     tag = made(Tag, text)
     return None if tag is None else str(tag.recommended())
 
@@ -154,7 +161,7 @@ def answer_match(range, tag):
 
 
 def answer_order(a, b):
-    """Of tags, or of ranges; None where the texts are neither."""
+    """Returns the answer for two tags or two ranges, and None for other texts."""
     for kind in (Tag, Range):
         x, y = made(kind, a), made(kind, b)
         if x is not None and y is not None:
@@ -199,7 +206,7 @@ def replaced(tag, part, value, given):
 
 
 def answer_edit(tag, part, given):
-    """By a text, and of variants by a tuple too."""
+    """Sets the part by a text, and variants also by a tuple."""
     tag, part, given = Tag(tag), part.decode(), given.decode()
     before = str(tag)
     found = replaced(tag, part, None if given == "none" else given, given)
@@ -214,7 +221,7 @@ def likely(text, form):
 
 
 def answer_refused(text):
-    """The kind by the message."""
+    """Returns the kind of the error, which it reads from the message."""
     try:
         Tag(text)
     except InvalidTag as error:
@@ -242,6 +249,11 @@ def answer_posix(name):
         return str(Tag.from_posix(name))
     except ValueError:
         return "-"
+
+
+def answer_unknown_modifier(name):
+    found = langtag.unknown_modifier(name)
+    return "-" if found is None else found
 
 
 def answer_best(header, tags):
@@ -295,24 +307,25 @@ def answer_best_match(header, tags):
 ANSWERS = {
     "keyword": answer_keyword, "keywords": answer_keywords, "transform": answer_transform,
     "attributes": lambda text: " ".join(Tag(text).attributes) or "-",
-    "refused": answer_refused, "distance": answer_distance, "right-to-left": answer_direction, "posix": answer_posix, "best": answer_best,
+    "refused": answer_refused, "distance": answer_distance, "right-to-left": answer_direction, "posix": answer_posix,
+    "unknown-modifier": answer_unknown_modifier, "best": answer_best,
     "best-ranges": answer_best_ranges,
     "best-match": answer_best_match,
     "maximized": lambda text: likely(text, Tag.maximized), "minimized": lambda text: likely(text, Tag.minimized),
-    "tag": answer_tag, "scan": answer_scan, "recommended": answer_recommended, "validity": answer_validity,
+    "tag": answer_tag, "scan": answer_scan, "recommended": answer_recommended, "validity": answer_validity, "suggestion": answer_suggestion,
     "canonical": answer_canonical, "grandfathered": answer_grandfathered,
     "viable": lambda text: f"{langtag.viable(text)} {langtag.stop(text)}", "range": answer_range, "match": answer_match,
     "order": answer_order, "header": answer_header, "ranges": answer_ranges, "edit": answer_edit,
 }
 FLOORS = {"table.txt": 360, "texts.txt": 710, "negotiation.txt": 102, "edits.txt": 125, "likely.txt": 250,
-          "refused.txt": 60, "distance.txt": 140, "direction.txt": 325, "posix.txt": 80, "choices.txt": 285, "lists.txt": 15,
+          "refused.txt": 60, "distance.txt": 140, "direction.txt": 325, "posix.txt": 150, "choices.txt": 285, "lists.txt": 15,
           "unicode.txt": 400}
 
 
 class Rows(unittest.TestCase):
     def test_answers(self):
         asker = rows.Asker(ANSWERS, adapted)
-        for name, floor in FLOORS.items():
+        for name, floor in rows.wanted(FLOORS).items():
             asker.ask(rows.FOLDER / name, floor)
         if "LANGTAG_ANSWERS" in os.environ:
             asker.ask(pathlib.Path(os.environ["LANGTAG_ANSWERS"]), 1000)

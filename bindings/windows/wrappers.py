@@ -1,8 +1,9 @@
 #!/usr/bin/env python3
-"""Writes what a DLL for Windows has beside the proved code: wrappers.py FOLDER
+"""Writes the files that a DLL for Windows needs besides the proved code: wrappers.py FOLDER
 
-The code of the proved archive follows the calling convention of System V. For each function of langtag.h a wrapper of one line follows
-that of Windows, has the function's own name, and calls the code by the name langtag_sysv_.. In FOLDER stand then
+The code of the proved archive follows the calling convention of System V. For each function of langtag.h there is a wrapper of one
+line. The wrapper follows the convention of Windows, has the function's own name, and calls the code, whose name begins with
+langtag_sysv_. These files are written to FOLDER:
 
     wrappers.c     the wrappers, and memcpy, memmove and memset for the code
     langtag.def    what the DLL exports
@@ -15,8 +16,8 @@ HERE = pathlib.Path(__file__).resolve().parent
 sys.path.insert(0, str(HERE.parent))
 from check_declarations import of_header  # noqa: E402
 
-# Windows lends a thread one page of its stack after the other. Code that takes more than a page touches each; this code does not, so
-# a wrapper does it before. Other functions take less than a page, which .ci/stack tests.
+# Windows gives a thread one page of its stack after another, so code that uses more than a page has to touch each page in order.
+# The code of langtag_repeats does not, so its wrapper does it first. Other functions use less than a page, which .ci/stack tests.
 DEEP = {"langtag_repeats": 96 * 1024}
 
 HEAD = """\

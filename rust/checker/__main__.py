@@ -1,10 +1,10 @@
 """Compares the Rust modules below rust/src with the Rattle sources that they are made from.
 
-    python3 rust/checker           fails at each difference that is no kind of kinds.txt, or of which counts.txt has another count
-    python3 rust/checker --count   writes counts.txt anew, to be read before it is committed
+    python3 rust/checker           fails if a difference is of no kind in kinds.txt, or if counts.txt has another count for its kind
+    python3 rust/checker --count   writes counts.txt again; read the changes before you commit it
 
-It shares no code with rust/erase. It takes what is ghost out of a source by the grammar alone, and compares what is left with
-the Rust file as it is compiled, word by word. Comments and layout are not compared.
+It shares no code with rust/erase. It removes ghost code from a source only by the grammar, and compares the rest with the Rust file
+as it is compiled, word by word. Comments and layout are not compared.
 """
 import collections
 import pathlib
@@ -28,7 +28,7 @@ class Checker:
         self.ghosts, self.counts, self.faults = collections.Counter(), {}, []
 
     def pairs(self):
-        """Yields each source with the file that is made from it, and finds files that have no partner."""
+        """Yields each source with the file that is made from it, and reports files without a partner."""
         for crate, module in CRATES.items():
             names = {"mod" if path.stem == "lib" else path.stem for path in (self.sources / crate / "src").iterdir()}
             folder = self.modules / ELSEWHERE.get(crate, "") / module

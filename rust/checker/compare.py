@@ -1,4 +1,4 @@
-"""Compares two lists of words, which may differ by the kinds on the list alone."""
+"""Compares two lists of words, which may differ only by the kinds in kinds.txt."""
 from words import skip_to
 
 
@@ -7,7 +7,7 @@ class Difference(Exception):
 
 
 def compare(old, new, kinds, counts):
-    """Goes through both lists, and raises a Difference where they go on in a way that is on no list."""
+    """Goes through both lists, and raises a Difference if they differ in a way that is not a known kind."""
     at, to = 0, 0
     while at < len(old) or to < len(new):
         if at < len(old) and to < len(new) and old[at] == new[to]:
@@ -27,7 +27,7 @@ def place(words, at):
 
 
 def step(kind, old, at, new, to, kinds, counts):
-    """Returns where both lists go on behind a difference of one kind that begins here, or None."""
+    """Returns where both lists continue after a difference of one kind that begins here, or None."""
     taken, given = match(kind.old, old, at - kind.alike), match(kind.new, new, to - kind.alike)
     if not taken or not given:
         return None
@@ -39,7 +39,7 @@ def step(kind, old, at, new, to, kinds, counts):
 
 
 def match(form, words, at):
-    """Returns where a form ends that begins here, with the words that its variables stand for."""
+    """Returns where a form that begins here ends, and the words that its variables stand for."""
     found, place_in_form = {}, 0
     if at < 0:
         return None

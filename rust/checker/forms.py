@@ -1,4 +1,5 @@
-"""Forms of Rattle that the erased sources have in another form, too long for the list of kinds: what has to stand for them."""
+"""Some Rattle code differs from the erased code by more than kinds.txt can express. For such code, this module makes the form that
+the erased code must have."""
 import re
 
 from words import group_end, skip_to, starts, words_of
@@ -20,14 +21,16 @@ CRATES = {
     "langtag_unicode": "unicode",
     "langtag_c": "calls",
 }
-# The crates whose modules stand elsewhere than below src: the C library has those modules, too.
+# The crates whose modules are not below src. The C library also has the modules below src.
 ELSEWHERE = {"langtag_c": "../c/src"}
+# The error whose message ends with a suggestion, which is written by hand.
+SUGGESTING = "InvalidSubtag"
 IMPLS = """impl{generics} fmt::Display for {type} {{ fn fmt(&self, f: &mut fmt::Formatter<'_>) -> fmt::Result {{ {body} }} }}
 impl{bound} core::error::Error for {type} {{}}"""
 
 
 def with_paths(words, crate, counts):
-    """Names each path as the one crate has it."""
+    """Changes each path to its path in the single Rust crate."""
     out = []
     for at, word in enumerate(words):
         is_first = starts(words, at + 1, ":", ":") and words[at - 1] != ":"
@@ -41,7 +44,7 @@ def with_paths(words, crate, counts):
 
 
 def with_errors(words, counts):
-    """Writes out what thiserror derives: the message of each error, and that it is one."""
+    """Writes out the impls that thiserror derives: the message of each error, and the trait `Error`."""
     out, at = [], 0
     while at < len(words):
         if not starts(words, at, "#", "[", "derive") or "Error" not in words[at : group_end(words, at + 1)]:
@@ -71,6 +74,8 @@ def with_impls(item):
         body = f"f.write_str({messages[0][2]})"
     else:
         body = "match self {" + ",".join(arm(name, *message) for message in messages) + "}"
+    if name == SUGGESTING:
+        body += "?; self.write_suggestion(f)"
     lifetime = parameter.startswith("'")
     type_ = f"{name}<'_>" if lifetime else f"{name}<{parameter}>" if parameter else name
     generics, bound = ("", "") if lifetime or not parameter else (f"<{parameter}>", f"<{parameter}: fmt::Debug>")
@@ -85,7 +90,8 @@ def without_error(item):
 
 
 def without_messages(item):
-    """Returns an item without `#[error(..)]`, and for each the variant that follows, what opens its fields, and the message."""
+    """Returns an item without `#[error(..)]`, and for each of these attributes the variant after it, the bracket that opens its
+    fields, and the message."""
     plain, messages, at = [], [], 0
     while at < len(item):
         if starts(item, at, "#", "[", "error", "("):
@@ -99,7 +105,7 @@ def without_messages(item):
 
 
 def arm(name, variant, opens, message):
-    """Returns how a variant writes its message: `{0}` is its field, which is named in the pattern."""
+    """Returns the `match` arm that writes the message of a variant: `{0}` is its field, which the pattern names."""
     fields = re.findall(r"\{(\w+)\}", message)
     if opens == "(":
         pattern = "(value)" if fields else "(_)"

@@ -1,9 +1,9 @@
-"""What is ghost in a Rattle source, by the grammar alone: it has no effect when the program runs."""
+"""Finds ghost code in a Rattle source only by the grammar. Ghost code has no effect when the program runs."""
 from words import group_end, skip_to, starts
 
 
 def without_ghosts(words, counts):
-    """Returns the words without what is ghost."""
+    """Returns the words without ghost code."""
     kept, at = [], 0
     while at < len(words):
         end = ghost_end(words, at)
@@ -19,7 +19,7 @@ def without_ghosts(words, counts):
 
 
 def ghost_end(words, at):
-    """Returns where something ghost ends that begins here, or None."""
+    """Returns where ghost code that begins here ends, or None."""
     if words[at] == "ghost":
         end = skip_to(words, at, (";", ",", "}"))
         return end if words[end] == "}" else end + 1
@@ -45,7 +45,7 @@ def attribute(words, at):
 
 
 def without_drop(words):
-    """Takes `Drop` from each derive: it says that a value may be dropped, which each may be in Rust."""
+    """Removes `Drop` from each derive. It says that a value may be dropped, as every value may be in Rust."""
     kept, at = [], 0
     while at < len(words):
         if not starts(words, at, "#", "[", "derive"):

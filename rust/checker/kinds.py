@@ -11,13 +11,13 @@ LIMIT = 120
 
 class Kind(NamedTuple):
     name: str
-    old: list  # the words in Rattle; a word behind `$` stands for any words in balance
+    old: list  # the words in Rattle; a word after `$` means any words with balanced brackets
     new: list
-    alike: int  # how many words both begin with
+    alike: int  # the number of words with which both begin
 
 
 def read_kinds():
-    """Returns the kinds that are forms, the longest first, and the names of all."""
+    """Returns the kinds that are forms, the longest first, and the names of all kinds."""
     kinds, names = [], []
     for block in re.split(r"\n\s*\n", (HERE / "kinds.txt").read_text(encoding="utf-8")):
         name, *lines = [line for line in block.splitlines() if line and not line.startswith("#")] or [""]

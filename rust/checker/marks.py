@@ -1,4 +1,4 @@
-"""What stands beside the code of a file: attributes that the eraser adds, and imports."""
+"""Removes the attributes that the eraser adds, and the imports, which are compared separately from the code."""
 from words import OPENED_BY, group_end, starts, words_of
 
 INLINE = words_of("#[inline]")
@@ -7,7 +7,7 @@ BEFORE_ITEMS = ("pub", "fn", "struct", "enum", "impl", "use", "mod", "const", "t
 
 
 def without_marks(words, counts):
-    """Takes out `#[inline]`, which stands before a function, and `#[cfg(feature = "alloc")]`, before an item or a method."""
+    """Removes `#[inline]` before a function, and `#[cfg(feature = "alloc")]` before an item or a method."""
     kept, at, opened = [], 0, []
     while at < len(words):
         if starts(words, at, *INLINE) and is_function(words, at + len(INLINE)):
@@ -33,7 +33,7 @@ def is_function(words, at):
 
 
 def opens_impl(kept):
-    """Returns whether a brace that follows opens an impl or a trait."""
+    """Returns whether the next brace opens an impl or a trait."""
     at = len(kept) - 1
     while at >= 0 and kept[at] not in (";", "{", "}"):
         if kept[at] in ("impl", "trait"):
@@ -43,7 +43,7 @@ def opens_impl(kept):
 
 
 def without_imports(words):
-    """Returns the words without `use` and `mod` items, and these items as a set: their order is layout."""
+    """Returns the words without `use` and `mod` items, and these items as a set, since their order does not matter."""
     out, items, at = [], set(), 0
     while at < len(words):
         start = at

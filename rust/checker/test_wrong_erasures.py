@@ -1,5 +1,5 @@
 #!/usr/bin/env python3
-"""Changes one thing in an erased file, as a fault of the eraser would, and shows that the checker refuses it.
+"""Plants faults in an erased file that a faulty eraser could make, and tests that the checker finds each of them.
 
     python3 rust/checker/test_wrong_erasures.py
 """

@@ -9,7 +9,7 @@ OPENED_BY = {")": "(", "]": "[", "}": "{"}
 
 
 class Word(str):
-    """A word, and the line that it stands in."""
+    """A word, and its line."""
 
     line = 0
 
@@ -25,7 +25,7 @@ def words_of(text):
 
 
 def group_end(words, at):
-    """Returns the place behind the group that opens here."""
+    """Returns the place after the group that opens here."""
     opened = []
     for place in range(at, len(words)):
         if words[place] in OPENED_BY.values():
@@ -49,7 +49,7 @@ def starts(words, at, *wanted):
 
 
 def without_last_commas(words):
-    """Leaves out the comma before a closing bracket, which is layout, unless it makes a tuple of one."""
+    """Removes the comma before a closing bracket, which is layout, except in a tuple with one element."""
     kept, opened = [], []
     for place, word in enumerate(words):
         if word in OPENED_BY.values():
@@ -66,7 +66,7 @@ def without_last_commas(words):
 
 
 def without_arm_braces(words):
-    """Leaves out the braces around the one expression of an arm, `=> { a }`, which are layout."""
+    """Removes the braces around a single expression of an arm, `=> { a }`, since they are layout."""
     for at in range(len(words) - 3, -1, -1):
         if starts(words, at, "=", ">", "{"):
             end = group_end(words, at + 2)

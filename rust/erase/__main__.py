@@ -1,7 +1,7 @@
-"""Takes the contracts out of the Rattle sources: what is left is the Rust crate.
+"""Removes the contracts from the Rattle sources. The rest is the Rust crate.
 
     python3 rust/erase           writes the modules below rust/src
-    python3 rust/erase --check   says by what they differ from what it would write
+    python3 rust/erase --check   prints how the modules differ from what it would write
 """
 import filecmp
 import pathlib
@@ -53,7 +53,7 @@ def write(out):
             name = "mod.rs" if source.stem == "lib" else source.stem + ".rs"
             code, names = erase(source, module)
             if module.crate == "langtag_c":
-                code.rewrite("mod $name;", "pub(crate) mod $name;")  # its exports stand beside it
+                code.rewrite("mod $name;", "pub(crate) mod $name;")  # its exports are beside it
             files[source, out / module.folder / name] = code
             inside |= names
     finish([code for (_, path), code in files.items() if path.is_relative_to(out / "src")], inside)
@@ -65,7 +65,7 @@ def write(out):
 
 
 def finish(files, inside):
-    """Does what takes a look at all files: what is for the crate alone, and what is left out without `alloc`."""
+    """Makes the changes that need all files: which items are private to the crate, and which are left out without `alloc`."""
     for code in files:
         keep_inside(code, inside)
     owning = owning_items(files)

@@ -1,4 +1,4 @@
-"""Which crates of Rattle become modules of which Rust crate."""
+"""The table that says which crates of Rattle become modules of which Rust crate."""
 from typing import NamedTuple
 
 
@@ -8,7 +8,7 @@ class Module(NamedTuple):
     path: str  # how code names it: `crate::place`
 
 
-# In the order in which they stand on each other. Another Rust crate gets lines of its own, with folders of its own.
+# Each crate comes after the crates on which it depends. Another Rust crate would get its own lines, with its own folders.
 MODULES = [
     Module("langtag_scan", "src/scan", "crate::scan"),
     Module("langtag_case", "src/case", "crate::case"),
@@ -24,20 +24,20 @@ MODULES = [
     Module("langtag_likely", "src/likely", "crate::likely"),
     Module("langtag_choice", "src/choice", "crate::choice"),
     Module("langtag_unicode", "src/unicode", "crate::unicode"),
-    # The C library is a crate of its own, rust/c, which has the modules above, too.
+    # The C library is a separate crate, rust/c, which also has the modules above.
     Module("langtag_c", "c/src/calls", "crate::calls"),
 ]
 
-# The modules that users name. What the others have they find at the root, as far as src/lib.rs has it.
+# The modules that users name. The items of other modules are at the root, if src/lib.rs exports them.
 PUBLIC = {"crate::matching", "crate::registry", "crate::likely", "crate::choice", "crate::unicode"}
 
 
 def path_of(crate):
-    """Returns how code names the module of a crate, or None if it is none of them."""
+    """Returns the path of a crate's module in code, or None for other crates."""
     return next((module.path for module in MODULES if module.crate == crate), None)
 
 
 def public_path_of(crate):
-    """Returns how users name what the module of a crate has: `langtag::registry`, or `langtag` for what is at the root."""
+    """Returns the path under which users find the items of a crate: `langtag::registry`, or `langtag` for items at the root."""
     path = path_of(crate)
     return path.replace("crate", "langtag") if path in PUBLIC else path and "langtag"

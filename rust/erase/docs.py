@@ -1,4 +1,4 @@
-"""Doc comments: the examples become code that rustdoc runs, and names are those of the Rust crate."""
+"""Changes doc comments: the examples become code that rustdoc runs, and names become those of the Rust crate."""
 import re
 import textwrap
 
@@ -18,7 +18,7 @@ def erase_docs(code, module):
 
 
 def with_names(text, module):
-    """Names paths as users of the crate do, and takes the allocator out of calls."""
+    """Changes paths to the paths that users of the crate write, and removes the allocator from calls."""
     text = re.sub(r"(\]\(|\]: |)\b(crate|langtag\w*)::(?=[\w{])", lambda it: it[1] + name_of(it[2], module, it[1]) + "::", text)
     return re.sub(r"(?<=[(\s])alloc, |, alloc\b(?=\))|(?<=\()alloc(?=\))", "", text)
 
@@ -33,7 +33,7 @@ CLAIM = re.compile(r":[ \n]`(?P<code>[A-Z]\w*::[^`]+)`[ \n]is[ \n]`(?P<value>[^`
 
 
 def with_claims(before, module):
-    """Moves the claims of a doc comment that has no example into one, which runs."""
+    """Changes the claims of a doc comment that has no example to an example that runs."""
     lines = before.split("\n")
     marks = [re.match(r"(\s*///)(?: |$)", line) for line in lines]
     if "```" in before or not any(marks) or not public_path_of(module.crate):
@@ -54,7 +54,7 @@ def with_claims(before, module):
 
 
 def wrapped(text, width):
-    """The lines of a text, in which code is not broken."""
+    """Returns a text as wrapped lines, without breaking code."""
     text = re.sub(r"`[^`]*`", lambda code: code[0].replace(" ", "\0"), text)
     return [line.replace("\0", " ") for line in textwrap.wrap(text, width, break_long_words=False, break_on_hyphens=False)]
 
@@ -63,7 +63,7 @@ SECTION = re.compile(r"(?<![\[`])RFC (\d{4}) section (\d+(?:\.\d+)*)(?![\]`])")
 
 
 def with_links(before):
-    """Links the first mention of each section of an RFC in a doc comment, and names the targets at its end."""
+    """Makes the first mention of each section of an RFC in a doc comment a link, and adds the targets at the end."""
     out, targets, is_code, indent = [], {}, False, ""
     for line in [*before.split("\n"), ""]:
         mark = re.match(r"\s*//[/!]|", line)[0]
@@ -86,7 +86,7 @@ def linked(found, targets):
 
 
 def with_examples(before):
-    """Changes the lines of each block of code between the marks."""
+    """Changes the lines of each code block."""
     out, block = [], None
     for line in before.split("\n"):
         mark, text = re.match(r"(\s*//[/!] ?|)(.*)", line).groups()
@@ -103,7 +103,8 @@ def with_examples(before):
 
 
 def doc_test(lines, mark):
-    """Returns the lines of an example, in a `main` that can fail, where a value after an expression is asserted."""
+    """Returns the lines of an example in a `main` that returns a Result. A value in a comment after an expression becomes an
+    assertion."""
     lines = [re.sub(r"assert(_eq|_ne|)!\(rt; ", r"assert\1!(", line) for line in lines]
     lines = [asserted(line) for line in lines]
     if any(can_fail(line) for line in lines):

@@ -1,10 +1,14 @@
-"""Writes out what Rattle's crates derive and Rust's would need a crate for: thiserror's impls, and comparisons by one field."""
+"""Writes out the impls that Rattle's crates derive, and for which Rust would need another crate: the impls of thiserror, and
+comparisons by one field."""
 import re
 
 from tokens import words_of
 
-# The types whose `Debug` src/shim.rs has.
+# The types whose `Debug` is in src/shim.rs.
 SHOWN = {"Caseless"}
+
+# The errors whose message ends with a suggestion, which src/suggestion.rs writes.
+SUGGESTING = {"InvalidSubtag"}
 
 DISPLAY = """
 
@@ -54,6 +58,8 @@ def write_error_impls(code, place):
     item = Item(code, place)
     body = message_of_struct(code, place, item) if item.kind == "struct" else messages_of_enum(code, item)
     item = Item(code, place)
+    if item.name in SUGGESTING:
+        body = f"{body}?; self.write_suggestion(f)"
     bounds = (f"<{item.parameter}>", f"<{item.parameter}: fmt::Debug>") if item.parameter else ("", "")
     code.add_behind(item.end, DISPLAY.format(bound=bounds[0], debug=bounds[1], type=item.type, body=body))
 
@@ -83,7 +89,7 @@ def arm_of(name, variant, opening, message):
 
 
 def erase_compared(code):
-    """`derive_where`, which the tag types have: they are compared, hashed and shown by their text alone."""
+    """Replaces the `derive_where` of the tag types, which are compared, hashed and shown only by their text."""
     while (place := code.find("#[derive_where")) >= 0:
         end = code.after(place + 1)
         if not code.at(place + 3, *words_of("(skip)")):

@@ -1,10 +1,10 @@
-"""Functions with a condition, and what a crate lends to others of the repository, are for the crate alone: their `pub use` becomes
-`pub(crate) use`."""
+"""Makes functions with a condition, and items that only other crates of the repository may use, private to the crate: `pub use`
+becomes `pub(crate) use`."""
 import re
 
 
 def lent_by(root):
-    """Returns the names below the line `// For CRATE..` of a lib.rt, which are `pub` for these crates, and for nobody else."""
+    """Returns the names below the line `// For CRATE..` of a lib.rt, which are `pub` only for these crates."""
     _, _, uses = root.read_text(encoding="utf-8").partition("\n// For ")
     return set(re.findall(r"(\w+)[,;}]", uses))
 

@@ -1,7 +1,7 @@
-"""The feature `alloc`: what owns memory is left out without it.
+"""The feature `alloc`: without it, items that own memory are left out.
 
-An item that names a String, a Vec, an AllocError or another item that is left out is left out itself. In an impl of a type
-that stays, methods are.
+An item is left out if it names a String, a Vec, an AllocError or another item that is left out. In an impl of a type that stays,
+single methods are left out.
 """
 import re
 
@@ -34,13 +34,13 @@ def items(code, place, end):
 
 
 def names(code, start, end):
-    """The names in some code but for those of methods and fields."""
+    """Returns the names in some code, except those of methods and fields."""
     is_name = lambda at: code.tokens[at].kind == "word" and code[at - 1] != "." and not code.at(at - 3, "mem", ":", ":")
     return {code[at] for at in range(start, end) if is_name(at)}
 
 
 def parts(code, owning):
-    """Returns the items of a file, and in place of an impl of a type that stays what is in it; with whether it was in one."""
+    """Returns the items of a file. An impl of a type that stays is replaced by its items; a flag says so."""
     for item in items(code, 0, len(code)):
         if item.word == "impl" and not names(code, item.keyword, item.body) & owning:
             yield from ((inner, True) for inner in items(code, item.body + 1, item.end))
@@ -73,7 +73,7 @@ def mark_owning(code, owning):
 
 
 def split_import(code, item, owning):
-    """Imports what is always there and what is left out in two lines."""
+    """Splits an import into two lines: the items that are always there, and the items that may be left out."""
     text = code.text_of(item.start, item.end)
     root, brace, listed = text.partition("{")
     listed = re.findall(r"\w+(?: as \w+)?", listed)

@@ -1,7 +1,7 @@
-"""Takes out what is there for the proof alone: ghost items, clauses, tactics, models."""
+"""Removes what only the proof needs: ghost items, clauses, tactics and models."""
 
-# What becomes of a call that breaks the condition of a function, for those that users can reach. A method of another name is
-# for the crate alone, and so is a free function (exports.py).
+# What happens in a call that breaks the condition of a function, for the methods that users can call. Any other method is private
+# to the crate, and so is a free function (exports.py).
 BROKEN = {
     "byte": "Panics if `index` is not less than `len()`.",
     "recognise": "A source that counts wrongly or that changes its bytes gets a wrong answer or a panic, and nothing worse.",
@@ -10,7 +10,7 @@ BROKEN = {
 
 
 def erase_ghosts(code):
-    """Returns the names of the free functions that others can name and that have a condition."""
+    """Returns the names of the public free functions that have a condition."""
     drop_ghost_items(code)
     drop_clauses(code, "ensures", lambda place: None)
     conditional = set()
@@ -37,7 +37,8 @@ def drop_clauses(code, word, then):
 
 
 def restrict(code, place):
-    """Keeps a method with a condition for the crate, whose callers were proved to meet it. Yields the name of a free function."""
+    """Makes a method with a condition private to the crate, because only callers in the crate were proved to meet the condition.
+    Yields the name of a free function."""
     while code[place] != "fn":
         place -= 1
     name, is_public = code[place + 1], code[place - 1] == "pub"
@@ -73,7 +74,7 @@ def drop_attributes(code):
 
 
 def drop_models(code):
-    """`impl Model for X {..}`: how the prover sees a type."""
+    """Removes `impl Model for X {..}`, which says how the prover sees a type."""
     place = 0
     while (place := code.find("impl", place)) >= 0:
         body = code.next_of(("{",), place)

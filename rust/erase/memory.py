@@ -1,4 +1,5 @@
-"""Allocation: Rattle's std takes an allocator and returns a Result; in Rust the functions of src/memory.rs do."""
+"""Changes calls that allocate: in Rattle's std they take an allocator and return a Result. In Rust, the functions of src/memory.rs
+return a Result."""
 
 FORMS = [
     ("alloc: Global,", ""),
@@ -26,7 +27,7 @@ def erase_allocators(code):
 
 
 def erase_clones(code):
-    """`Clone` of a walk: it copies, so that it has no error."""
+    """Changes `Clone` of an iterator, which only copies and so cannot fail."""
     place = 0
     while (place := code.find("impl", place)) >= 0:
         body = code.next_of(("{",), place)

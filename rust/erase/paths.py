@@ -1,9 +1,9 @@
-"""Paths and imports: many crates become the modules of one, and `std` becomes `core` and `alloc`."""
+"""Changes paths and imports: many crates become the modules of one crate, and `std` becomes `core` and `alloc`."""
 import re
 
 from crates import path_of
 
-# What Rust's core has not, or has without an import.
+# The names that Rust's core does not have, or has without an import.
 GONE = {"AllocError", "Global", "Model", "TryFrom", "AsStr", "Error"}
 SHIM = {"AllocError", "AsStr", "try_string", "try_string_with_capacity", "try_vec"}
 TRAITS = {"TryText": {"try_push_str", "try_replace_range"}, "TryItems": {"try_push", "try_sort_by_key"}}
@@ -30,7 +30,7 @@ def erase_imports(code):
 
 
 def prune(code, place, end):
-    """Leaves of an import what the code names, and Rust has."""
+    """Keeps the names of an import that the code uses, and that Rust has."""
     text = "".join(token.text for token in code.tokens[place + 1 : end])
     root, _, names = text.rpartition("::")
     names = names.strip("{}").split(",")
@@ -45,7 +45,7 @@ def prune(code, place, end):
 
 
 def is_named(code, name, start, end):
-    """Returns whether code outside of the import and of derives has a name by itself."""
+    """Returns whether code outside of imports and derives uses a name."""
     for place in range(len(code)):
         if code[place] == name and not start <= place <= end and not code.at(place - 2, ":", ":") and not in_derive(code, place):
             return True

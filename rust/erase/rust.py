@@ -1,10 +1,10 @@
-"""What Rattle writes otherwise than Rust of edition 2021."""
+"""Changes syntax that differs between Rattle and Rust of edition 2021."""
 import re
 
-INLINED = 40  # A function of so few tokens is inlined across crates.
+INLINED = 40  # A function with at most this many tokens is inlined across crates.
 
 FORMS = [
-    # The C library has its exports in a file of its own, rust/c/src/exports.rs.
+    # The C library has its exports in a separate file, rust/c/src/exports.rs.
     ('#[unsafe(no_mangle)] pub extern "C" fn', "pub fn"),
     ("fn fmt<W: fmt::Write>", "fn fmt"),
     ("fmt::Formatter<W>", "fmt::Formatter<'_>"),
@@ -29,7 +29,7 @@ def erase_forms(code):
 
 
 def nest_let_chains(code):
-    """`if a && let b = c {..}` becomes `if a { if let b = c {..} }`: chains of them are of a later edition."""
+    """`if a && let b = c {..}` becomes `if a { if let b = c {..} }`: such chains need a later edition."""
     place = 0
     while (place := code.find("if", place)) >= 0:
         place += 1
@@ -59,7 +59,8 @@ def nest(code, ands, body):
 
 
 def mark_inlined(code):
-    """Marks short functions. Private ones too: without it, calls between the modules of this crate cost a quarter more."""
+    """Adds `#[inline]` to short functions, private ones too. Without it, calls between the modules of this crate cost a quarter
+    more."""
     place = 0
     while (place := code.find("fn", place)) >= 0:
         start = start_of_function(code, place)

@@ -1,7 +1,6 @@
-"""Source text as a list of tokens that rules look through and change.
+"""Source text as a list of tokens, which rules search and change.
 
-A token keeps the white space and the comments before it, doc comments too, so that a rule sees code alone. Layout is left to
-rustfmt.
+A token keeps the white space and the comments before it, doc comments too, so that rules see only code. rustfmt sets the layout.
 """
 import re
 
@@ -25,7 +24,7 @@ class Token:
 
 
 def lex(text):
-    """Returns the tokens of a text. The last is the end, which has what stands behind all others."""
+    """Returns the tokens of a text. The last token is the end, with the text after all other tokens."""
     tokens, end = [], 0
     while not tokens or tokens[-1].kind != "end":
         found = TOKEN.match(text, end)
@@ -61,16 +60,16 @@ class Code:
         return self.tokens[place].text if 0 <= place < len(self.tokens) else ""
 
     def text_of(self, start, end):
-        """Returns some code as it stands, but for what stands before it."""
+        """Returns the text of some code, without the space and comments before it."""
         first, *others = self.tokens[start:end]
         return first.text + "".join(token.before + token.text for token in others)
 
     def at(self, place, *texts):
-        """Returns whether the code goes on with these tokens."""
+        """Returns whether the code continues with these tokens."""
         return all(self[place + offset] == text for offset, text in enumerate(texts))
 
     def find(self, code, start=0, end=None):
-        """Returns the first place from `start` on where the code goes on so, or -1."""
+        """Returns the first place from `start` on where the code continues with these tokens, or -1."""
         texts = words_of(code)
         for place in range(start, len(self) if end is None else end):
             if self.tokens[place].text == texts[0] and self.at(place, *texts):
@@ -81,7 +80,7 @@ class Code:
         return {token.text for token in self.tokens[start:end] if token.kind == "word"}
 
     def after(self, place):
-        """Returns the place behind a token, or behind the group that it opens."""
+        """Returns the place after a token, or after the group that it opens."""
         if self[place] not in CLOSING or self.tokens[place].kind != "mark":
             return place + 1
         depth = 0
@@ -101,7 +100,7 @@ class Code:
         return place
 
     def replace(self, start, end, code):
-        """Puts code in place of some tokens, and returns the place behind it. What stood before them stays before it."""
+        """Replaces tokens by code, and returns the place after it. The space and comments before the tokens stay."""
         new = lex(code)[:-1]
         if new:
             new[0].before = self.tokens[start].before
@@ -114,16 +113,16 @@ class Code:
         return start + len(new)
 
     def drop(self, start, end):
-        """Takes some tokens out, with the comments that are theirs."""
+        """Removes tokens, with the comments that belong to them."""
         self.tokens[end].before = kept(self.tokens[start].before) + self.tokens[end].before
         del self.tokens[start:end]
 
     def add_behind(self, place, code):
-        """Puts code behind a token, before the comments of the next one."""
+        """Adds code after a token, before the comments of the next token."""
         self.tokens[place + 1 : place + 1] = lex(code)[:-1]
 
     def rewrite(self, old, new, start=0):
-        """Puts one form in place of another everywhere. `$a` stands for any tokens in balance."""
+        """Replaces one form by another everywhere. `$a` stands for any tokens with balanced brackets."""
         place, pattern = start, words_of(old)
         while (place := self.find(pattern[0], place)) >= 0:
             found = self.match(pattern, place)
@@ -134,14 +133,14 @@ class Code:
             place = self.replace(place, behind, filled(new, taken))
 
     def rewrite_once(self, old, new, start):
-        """Does so at the first such form from a place on."""
+        """Replaces a form once, at its first place from a given place on."""
         pattern = words_of(old)
         place = next(at for at in range(start, len(self)) if self.match(pattern, at))
         behind, taken = self.match(pattern, place)
         self.replace(place, behind, filled(new, taken))
 
     def match(self, pattern, place):
-        """Returns where a form that begins here ends, with what its variables stand for."""
+        """Returns where a form that begins here ends, and what its variables stand for."""
         taken, at = {}, 0
         while at < len(pattern):
             if pattern[at] == "$":
@@ -160,7 +159,7 @@ def filled(form, taken):
 
 
 def joined(first, second):
-    """What stands before a token once those before it have gone: all comments, and the wider space."""
+    """Returns the text before a token after the tokens before it were removed: all comments, and the wider space."""
     if second.strip():
         return first.rstrip() + second if first.strip() else second
     if first.strip():
@@ -169,7 +168,7 @@ def joined(first, second):
 
 
 def kept(before):
-    """What stays of the comments before a token that goes: those of the file, and one that ends the line before."""
+    """Returns the comments before a removed token that stay: those of the file, and a comment that ends the line before."""
     lines = before.split("\n")
     stays = [line for line in lines if line.lstrip().startswith("//!")]
     if re.match(r"\s*//(?![/!])", lines[0]):

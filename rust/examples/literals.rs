@@ -1,18 +1,19 @@
-//! A small store of RDF's literals with language tags, by subject. It loads N-Triples, refuses what is no tag by its place, and
-//! answers `FILTER langMatches(lang(?text), "de")`:
+//! A small store of RDF's literals with language tags, by subject. It loads N-Triples, reports where a text is not a
+//! tag, and answers `FILTER langMatches(lang(?text), "de")`:
 //!
 //! ```sh
 //! cargo run --features oxilangtag --example literals cities.nt de
 //! ```
 //!
-//! It is written for the crate oxilangtag, and stands over it where the next line alone is changed.
+//! It is written for the crate oxilangtag. To use that crate, only the next line has to be changed.
 use langtag::oxilangtag::{LanguageTag, LanguageTagParseError};
 
 use std::collections::{BTreeMap, BTreeSet};
 use std::error::Error;
 use std::fmt;
 
-/// A text and its language. Literals are equal where both are, letter for letter: tags are normalized as they come in.
+/// A text and its language. Two literals are equal if their texts and their tags are equal, including case. Tags are
+/// normalized when they are loaded.
 #[derive(Clone, Debug, PartialEq, Eq, PartialOrd, Ord, Hash)]
 struct Literal {
     language: LanguageTag<String>,
@@ -25,7 +26,7 @@ impl fmt::Display for Literal {
     }
 }
 
-/// Why a file is refused: line and column, both from 1.
+/// Why a file is refused, with the line and the column, both counted from 1.
 #[derive(Debug)]
 enum LoadError {
     Triple {
@@ -62,12 +63,12 @@ impl Error for LoadError {
 #[derive(Default)]
 struct Store {
     literals: BTreeMap<String, BTreeSet<Literal>>,
-    /// How many literals there are of each language, asked by a `&str`.
+    /// The number of literals of each language. The map can be searched with a `&str`.
     counts: BTreeMap<LanguageTag<String>, usize>,
 }
 
 impl Store {
-    /// Takes `<subject> <predicate> "value"@tag .` of each line.
+    /// Loads lines of the form `<subject> <predicate> "value"@tag .`
     fn load(&mut self, text: &str) -> Result<(), LoadError> {
         for (line, triple) in (1..).zip(text.lines()) {
             let (subject, value, tag) = split(triple).ok_or(LoadError::Triple { line })?;
@@ -96,7 +97,7 @@ impl Store {
         }
     }
 
-    /// The literals whose language a basic range matches, by their subjects.
+    /// Returns the literals whose language a basic range matches, each with its subject.
     fn matching<'a>(&'a self, range: &'a str) -> impl Iterator<Item = (&'a str, &'a Literal)> {
         let all = self
             .literals
@@ -110,7 +111,8 @@ impl Store {
     }
 }
 
-/// SPARQL's langMatches (RFC 4647 section 3.3.1): a tag that is the range, or begins with it and a hyphen.
+/// Returns whether SPARQL's langMatches holds (RFC 4647 section 3.3.1): the range is `*`, or the tag equals the range
+/// or begins with the range and a hyphen.
 fn lang_matches(tag: &LanguageTag<String>, range: &str) -> bool {
     let begins = |text: &str| text.eq_ignore_ascii_case(range);
     let follows = tag.as_bytes().get(range.len());
@@ -118,10 +120,10 @@ fn lang_matches(tag: &LanguageTag<String>, range: &str) -> bool {
         || tag.get(..range.len()).is_some_and(begins) && matches!(follows, None | Some(b'-'))
 }
 
-/// What ends a triple.
+/// The text that ends a triple.
 const END: &str = " .";
 
-/// Subject, value and tag of a triple.
+/// Returns the subject, the value and the tag of a triple.
 fn split(triple: &str) -> Option<(&str, &str, &str)> {
     let (subject, rest) = triple.split_once(' ')?;
     let (_, literal) = rest.split_once(" \"")?;

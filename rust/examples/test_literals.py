@@ -1,6 +1,6 @@
 #!/usr/bin/env python3
-"""The store of RDF's literals: test_literals.py LITERALS.., programs that were built of literals.rs over this crate and over others
-of its names. Each has to give the same answers."""
+"""Tests the store of RDF's literals: test_literals.py LITERALS.. Each argument is a program that was built from literals.rs, with
+this crate or with another crate of the same names. All programs have to give the same answers."""
 import pathlib
 import subprocess
 import sys
@@ -13,7 +13,7 @@ CITIES = [
     ("Aarau", 'Aarau, \\"im Aargau\\"', "de-1996"), ("Aarau", "Aarau", "x-de"), ("Aarau", "阿勞", "zh-hant-tw"),
 ]
 
-# A range, and what the program prints.
+# A range, and what the program prints for it.
 ANSWERS = {
     "de": '<Aarau> "Aarau, \\"im Aargau\\""@de-1996\n<Bern> "Bern"@de\n<Bern> "Bärn"@de-CH\n1 in de itself\n',
     "de-CH": '<Bern> "Bärn"@de-CH\n1 in de-CH itself\n',
@@ -21,7 +21,7 @@ ANSWERS = {
     "it": "0 in it itself\n",
 }
 
-# The last line of a file, and what is said of it.
+# The last line of a file, and the error message about it.
 REFUSALS = [
     (f'<Bern> {LABEL} "Bärn"@de_CH .', 'line 9, column 60: "de_CH" is not a tag'),
     (f'<Bern> {LABEL} "Berna"@de-419-DE .', 'line 9, column 61: "de-419-DE" is not a tag'),
@@ -30,7 +30,7 @@ REFUSALS = [
 
 
 def load(program, lines, wanted_range):
-    """What a program prints, and what it complains of."""
+    """Returns the exit status of a program, its output, and its messages on standard error."""
     with tempfile.TemporaryDirectory() as folder:
         path = pathlib.Path(folder, "cities.nt")
         path.write_text("".join(f"{line}\n" for line in lines), encoding="utf-8")

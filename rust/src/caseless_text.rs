@@ -1,4 +1,4 @@
-//! How to look a text up in a map whose keys are tags.
+//! Looking up a text in a map whose keys are tags.
 use core::borrow::Borrow;
 use core::cmp::Ordering;
 use core::fmt;
@@ -12,8 +12,9 @@ use crate::*;
 /// A text without the case of its ASCII letters. Use it to look up a text in a map with tags, parts or ranges as keys, without
 /// allocating.
 ///
-/// Each text, borrowed or owned, and each tag implements it. A map whose keys are [`LangTagBuf`](crate::LangTagBuf) cannot be
-/// asked by `&LangTag`, because no key contains a `LangTag` to borrow, nor by `&str`, which is hashed with its case.
+/// Each text, borrowed or owned, and each tag implements this trait. A map whose keys are
+/// [`LangTagBuf`](crate::LangTagBuf) cannot be searched with a `&LangTag`, because no key contains a `LangTag` to
+/// borrow. Nor can it be searched with a `&str`, which is hashed with its case.
 ///
 /// ```
 /// # #[cfg(feature = "alloc")] {
@@ -31,7 +32,7 @@ pub trait CaselessText {
     /// Returns the text, with its case.
     fn text(&self) -> &str;
 
-    /// Returns the same text, to look it up in a map.
+    /// Returns the text as a key for looking it up in a map.
     fn caseless(&self) -> &dyn CaselessText
     where
         Self: Sized,

@@ -4,7 +4,7 @@ use core::fmt;
 use crate::matching::InvalidLanguageRange;
 use crate::*;
 
-/// Writes the traits of errors that are what was refused.
+/// Implements the traits of the errors that contain only the refused text.
 macro_rules! compared {
     ($($error:ident),+) => {$(
         impl<T: Clone> Clone for $error<T> {
@@ -31,7 +31,7 @@ macro_rules! errors {
 
         #[cfg(feature = "alloc")]
         impl $error<&str> {
-            /// Returns the same error with a copy of the text, which outlives what was read.
+            /// Returns the same error with a copy of the text, so that it does not borrow the input.
             ///
             /// ```
             /// # use langtag::{matching::*, *};
@@ -56,7 +56,7 @@ compared!(InvalidSingleton, InvalidGrandfatheredTag);
 for_text_types!(errors);
 
 impl<T: AsRef<str>> InvalidLangTag<T> {
-    /// Returns where the text is wrong. It is `None` only if the error was made from a text that is a tag.
+    /// Returns where the text is wrong. It is `None` only if a program made the error from a text that is a tag.
     ///
     /// ```
     /// use langtag::{LangTag, RefusalKind};

@@ -1,5 +1,5 @@
-//! The calls of a borrowed type on its owned form: `owned.script()` is `owned.as_lang_tag().script()`.
-#[allow(unused_imports)] // LanguageRange is named in links alone
+//! The methods of each borrowed type, on its owned form: `owned.script()` is `owned.as_lang_tag().script()`.
+#[allow(unused_imports)] // only links name LanguageRange
 use crate::matching::{Fallbacks, LanguageRange, LanguageRangeBuf};
 use crate::*;
 

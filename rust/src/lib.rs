@@ -24,37 +24,38 @@
 //! - [`matching`]: language ranges, filters and look-up (RFC 4647), and Accept-Language headers (RFC 9110)
 //! - [`registry`]: the IANA Language Subtag Registry: which tags are valid, and their canonical forms (RFC 5646)
 //! - [`likely`]: likely subtags (UTS #35)
-//! - [`choice`]: the tag that suits a reader best, and the distance of two tags (UTS #35)
-//! - [`unicode`]: what the extensions `u` and `t` say: keywords, such as a calendar, and transforms (RFC 6067, RFC 6497)
+//! - [`choice`]: the best tag for a reader, and the distance of two tags (UTS #35)
+//! - [`unicode`]: the extensions `u` and `t`, with keywords, such as a calendar, and transforms (RFC 6067, RFC 6497)
 //!
 //! # What is proved
 //!
-//! This crate is the proved source with its contracts taken out, compiled by your rustc. The source is written in Rattle, which
-//! is Rust with contracts, and each contract is proved there. The crate itself is not proved. Between the proofs and your program
-//! stand:
+//! This crate is the proved source with its contracts taken out, compiled by your rustc. The source is written in
+//! Rattle, which is Rust with contracts, and all its contracts are proved. The crate itself is not proved. Besides the
+//! proofs, you trust:
 //!
 //! - rustc and `core`, in place of the compiler and the std of Rattle.
 //! - The differences between the two sources that are not contracts. There are some fifty kinds, and `checker/kinds.txt` gives
 //!   a reason for each. A checker that shares no code with the eraser refuses all others.
-//! - The files directly below `src`, which are written by hand. Erased modules use two of them: `memory.rs` allocates and
-//!   returns an error if that fails, and `shim.rs` compares tags by their text. The others add what Rust programs
-//!   expect, such as `FromStr` and `AsRef<str>`.
+//! - The files directly below `src`, which are written by hand. The modules made from the proved source use three of
+//!   them. `memory.rs` allocates and returns an error if that fails, `shim.rs` compares tags by their text, and
+//!   `suggestion.rs` ends the message of an invalid subtag. The others add what Rust programs expect, such as `FromStr`
+//!   and `AsRef<str>`.
 //! - The width of `usize`. It is proved for 64 bits that nothing overflows. 32 bits are tested, not proved.
-//! - Your own implementations of [`ByteSource`], [`choice::TagList`] and [`choice::RangeList`]. A fault there can give a
-//!   wrong answer or a panic, and nothing else: the crate has no unsafe code.
+//! - Your own implementations of [`ByteSource`], [`choice::TagList`] and [`choice::RangeList`]. An error in them can
+//!   only cause a wrong answer or a panic, since the crate has no unsafe code.
 //!
-//! No public call makes a value without a test, so there is no `Script` that is not a script.
+//! Every public call that makes a value checks its text, so there is no `Script` that is not a script.
 //!
 //! # Features
 //!
-//! - `alloc` (default): the owned forms, the setters, and what makes new texts. Without it, the crate needs no allocator. It
-//!   never needs std.
-//! - `oxilangtag`: the module of that name has the names of the crate oxilangtag.
-//! - `serde`, in releases: tags, parts and ranges are strings. The manifest in the repository names no other crate, so that
-//!   cargo works there without a network.
+//! - `alloc` (default): the owned forms, the setters, and the calls that make new texts. Without it, the crate needs no
+//!   allocator. It never needs std.
+//! - `oxilangtag`: the module `oxilangtag`, with the names of the crate oxilangtag.
+//! - `serde`, in releases: tags, parts and ranges are serialized as strings. The manifest in the repository names no
+//!   other crate, so that cargo works in the repository without a network.
 //!
-//! Calls whose names begin with `try_` return an error if allocation fails, and leave the tag as it was, as the setters do.
-//! Their short forms, such as `to_owned` and `clone`, abort instead, as is usual in Rust.
+//! If allocation fails, setters and calls whose names begin with `try_` return an error and leave the tag unchanged.
+//! The short forms of these calls, such as `to_owned` and `clone`, abort instead, as is usual in Rust.
 //!
 //! # Where the items of langtag 0.4.0 are
 //!
@@ -63,21 +64,21 @@
 //! | `&LangTag`, `&Script` .., unsized types behind references | `LangTag<'a>`, `Script<'a>` .., `Copy` values |
 //! | `LangTagBuf`, `ScriptBuf` .. | the same names |
 //! | `X::new`, of anything that has text | `X::new(&str)`, `XBuf::new(String)`; `TryFrom`; `FromStr` of `XBuf`; [`LangTag::from_bytes`] |
-//! | `X::new_unchecked`, `XBuf::new_unchecked` | none: each value was tested |
-//! | `InvalidX` | the same names; [`InvalidLangTag::refusal`] says where a text goes wrong, [`InvalidLangTag::reason`] why |
+//! | `X::new_unchecked`, `XBuf::new_unchecked` | none: the text of each value is checked |
+//! | `InvalidX` | the same names; [`InvalidLangTag::refusal`] says where a text is wrong, [`InvalidLangTag::reason`] why |
 //! | `as_str`, `as_bytes`, `as_x`, `into_string`, `Display`, `Debug` | the same names |
 //! | `into_bytes` | the same name |
 //! | `validate` | `X::new(text).is_ok()` |
-//! | `len`, `is_empty` | those of `str`, by `Deref` |
-//! | `Deref<Target = str>`, `AsRef<str>`, `AsRef<[u8]>` | the same, of owned forms too |
-//! | `Borrow` | [`CaselessText`], by which a map is asked with a text in any case |
+//! | `len`, `is_empty` | the methods of `str`, by `Deref` |
+//! | `Deref<Target = str>`, `AsRef<str>`, `AsRef<[u8]>` | the same, also for owned forms |
+//! | `Borrow` | [`CaselessText`], with which a map is searched, ignoring case |
 //! | `PartialEq` with `str`, `&str`, `String` | the same, both ways; case is ignored; also `eq_str` |
 //! | `PartialEq` with `[u8]` | [`case_insensitive_eq`] |
 //! | `ToOwned`, `Clone` of owned forms | the methods `to_owned` and `clone`; `try_to_owned` returns an error if allocation fails |
 //! | `language`, `script`, `region`, `variants`, `extensions`, `private_use`, `private_use_subtags` | the same names |
 //! | `kind`, `is_normal`, `is_private_use`, `is_grandfathered`, `as_normal`, `as_private_use`, `as_grandfathered` | the same names |
 //! | `Kind`, `TypedLangTag`, `PrivateUseLangTag`, `PrivateUseLangTagBuf` | the same names |
-//! | `GrandfatheredLangTag`, the static `GRANDFATHERED` | the same names, a constant |
+//! | `GrandfatheredLangTag`, the static `GRANDFATHERED` | the same names; `GRANDFATHERED` is a constant |
 //! | `Singleton`, its `FromStr` | the same; `Singleton::from_string` returns the text if it is refused |
 //! | `Extensions::get`, `iter`, `iter_extension` | the same names; case is ignored |
 //! | `PrimaryLanguage`, of three letters or of `abc-def` | of 2 to 8 letters (RFC 5646 section 2.1) |
@@ -107,6 +108,8 @@ pub mod choice;
 mod extension;
 mod language;
 pub mod likely;
+// For the C library: shortened_len.
+#[allow(unused_imports)]
 pub mod matching;
 mod output;
 mod place;
@@ -119,7 +122,7 @@ mod tables;
 mod tag;
 pub mod unicode;
 
-// Habits of Rust, by hand over these.
+// Written by hand: what Rust programs expect of these types.
 mod caseless_text;
 mod invalid;
 #[cfg(feature = "alloc")]
@@ -131,6 +134,7 @@ pub mod oxilangtag;
 #[cfg(feature = "serde")]
 mod serde;
 mod shown;
+mod suggestion;
 mod text;
 mod walks;
 

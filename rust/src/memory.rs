@@ -43,7 +43,7 @@ pub(crate) fn try_string_with_capacity(room: usize) -> Result<String, AllocError
     Ok(owned)
 }
 
-/// Returns a list of `len` times one byte.
+/// Returns a list with one byte repeated `len` times.
 pub(crate) fn try_vec(byte: u8, len: usize) -> Result<Vec<u8>, AllocError> {
     let mut bytes = Vec::new();
     bytes.try_reserve_exact(len)?;
@@ -51,7 +51,7 @@ pub(crate) fn try_vec(byte: u8, len: usize) -> Result<Vec<u8>, AllocError> {
     Ok(bytes)
 }
 
-/// The calls that make a text longer.
+/// Calls that make a text longer, and return an error if allocation fails.
 pub(crate) trait TryText {
     fn try_push_str(&mut self, text: &str) -> Result<(), AllocError>;
     fn try_replace_range(
@@ -79,7 +79,7 @@ impl TryText for String {
     }
 }
 
-/// The calls that make a list longer, or sort it with a second list.
+/// Calls that make a list longer, or sort it, and return an error if allocation fails.
 pub(crate) trait TryItems<T> {
     fn try_push(&mut self, item: T) -> Result<(), AllocError>;
 
@@ -103,7 +103,8 @@ impl<T> TryItems<T> for Vec<T> {
                 .map(|(index, item)| (key(item), index)),
         );
         order.sort_unstable();
-        // `order[place].1` is where the item was that belongs there. It may have been swapped away since, to where its chain ends.
+        // `order[place].1` is the old index of the item that belongs at the index `place`. If an earlier swap moved
+        // that item, the loop follows the swaps to its present index.
         for place in 0..self.len() {
             let mut index = order[place].1;
             while index < place {

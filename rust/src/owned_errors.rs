@@ -1,4 +1,4 @@
-//! Owned forms of the errors that contain more than a text. They outlive the text that was read.
+//! Owned forms of the errors that contain more than a text. They do not borrow the text.
 use alloc::string::String;
 use core::error::Error;
 use core::fmt;
@@ -74,10 +74,15 @@ impl InvalidSubtagBuf {
             }
         }
     }
+
+    /// Returns the registered code that is probably meant, as [`InvalidSubtag::suggestion`] does.
+    pub fn suggestion(&self) -> Option<&'static str> {
+        self.as_invalid_subtag().suggestion()
+    }
 }
 
 impl InvalidSubtag<'_> {
-    /// Returns the same error with a copy of the subtag, which outlives the tag.
+    /// Returns the same error with a copy of the subtag, so that it does not borrow the tag.
     pub fn into_owned(self) -> InvalidSubtagBuf {
         match self {
             InvalidSubtag::Language(subtag) => InvalidSubtagBuf::Language(subtag.into()),
@@ -125,7 +130,7 @@ pub enum AcceptLanguageErrorBuf {
         index: usize,
         /// Where the element begins, in bytes.
         offset: usize,
-        /// Which part of it is malformed.
+        /// The part of the element that is malformed.
         part: ElementPart,
     },
     /// Allocation failed.
@@ -133,7 +138,7 @@ pub enum AcceptLanguageErrorBuf {
 }
 
 impl AcceptLanguageError<'_> {
-    /// Returns the same error with a copy of the header, which outlives what was read.
+    /// Returns the same error with a copy of the header, so that it does not borrow the input.
     pub fn into_owned(self) -> AcceptLanguageErrorBuf {
         match self {
             AcceptLanguageError::BadElement {
@@ -177,14 +182,14 @@ impl fmt::Display for AcceptLanguageErrorBuf {
 /// ```
 #[derive(Clone, Debug, PartialEq, Eq)]
 pub enum PosixErrorBuf {
-    /// The name has no language.
+    /// The name gives no tag.
     NoTag(String),
     /// Allocation failed.
     Memory(AllocError),
 }
 
 impl PosixError<'_> {
-    /// Returns the same error with a copy of the name, which outlives what was read.
+    /// Returns the same error with a copy of the name, so that it does not borrow the input.
     pub fn into_owned(self) -> PosixErrorBuf {
         match self {
             PosixError::NoTag(name) => PosixErrorBuf::NoTag(name.into()),

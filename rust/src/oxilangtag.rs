@@ -1,9 +1,9 @@
 //! The names of the crate oxilangtag 0.1, for programs that are written for it: `use langtag::oxilangtag::LanguageTag`
 //! in place of `use oxilangtag::LanguageTag`. It accepts what [`LangTag`] accepts.
 //!
-//! As there, and unlike the other types of this crate, a tag is compared, ordered and hashed as its text, with its case, so
-//! that a map by tags can be asked by a `str`; none of the 26 grandfathered tags has parts; and
-//! [`private_use`](LanguageTag::private_use) of a tag for private use is all of it.
+//! In three respects, [`LanguageTag`] is like oxilangtag, and unlike the other types of this crate. A tag is compared,
+//! ordered and hashed as its text, with its case, so a map with tags as keys can be searched with a `str`. None of the
+//! 26 grandfathered tags has parts. [`private_use`](LanguageTag::private_use) of a private-use tag is its whole text.
 //!
 //! ```
 //! use langtag::oxilangtag::LanguageTag;
@@ -38,7 +38,7 @@ use crate::{Ends, LangTag, LangTagBuf, NormalLangTag, Subtags};
 #[derive(Clone, Copy)]
 pub struct LanguageTag<T> {
     tag: T,
-    /// Where the parts end, of a tag that has parts.
+    /// Where the parts end, if the tag has parts.
     ends: Option<Ends>,
 }
 
@@ -78,7 +78,7 @@ impl<T: Deref<Target = str>> LanguageTag<T> {
         &self.tag
     }
 
-    /// Returns the text that it was made of.
+    /// Returns the value from which the tag was parsed.
     ///
     /// ```
     /// use langtag::oxilangtag::LanguageTag;
@@ -257,7 +257,8 @@ impl<T: Deref<Target = str>> LanguageTag<T> {
         Subtags::new(self.private_use().map_or("", |part| &part[2..]))
     }
 
-    /// The tag with its parts, if it has parts. A `Deref` that lends another text each time gets wrong parts, or a panic.
+    /// Returns the tag with its parts, if it has parts. If the `Deref` of a text returns a different text each time,
+    /// the parts may be wrong, or a call may panic.
     fn normal(&self) -> Option<NormalLangTag<'_>> {
         Some(NormalLangTag::with_ends(&self.tag, self.ends?))
     }
@@ -288,7 +289,7 @@ impl LanguageTag<String> {
     }
 }
 
-/// The error for a text that is not a tag. Its message says how much of the text can begin a tag.
+/// The error for a text that is not a tag. Its message says how many bytes of the text can begin a tag.
 ///
 /// ```
 /// use langtag::oxilangtag::LanguageTag;
@@ -347,7 +348,7 @@ impl<T: Ord> Ord for LanguageTag<T> {
     }
 }
 
-/// Writes both ways of a comparison with a text.
+/// Implements a comparison with a text, in both directions.
 macro_rules! compared {
     ($($text:ty),+) => {$(
         impl<'a, T: PartialEq<$text>> PartialEq<$text> for LanguageTag<T> {
@@ -405,7 +406,7 @@ impl FromStr for LanguageTag<String> {
     }
 }
 
-/// Writes the ways from a tag over one text to a tag over another one.
+/// Implements the conversions from a tag over one type of text to a tag over another.
 macro_rules! converted {
     ($($from:ty => $to:ty, $convert:expr;)+) => {$(
         impl<'a> From<LanguageTag<$from>> for LanguageTag<$to> {

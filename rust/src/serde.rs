@@ -1,7 +1,7 @@
-//! Tags, their parts and ranges as strings of serde: `Serialize` and `Deserialize`, in lists, options and as keys of maps. The
-//! borrowed types are read of a string that the input lends.
+//! Tags, their parts and ranges as strings of serde: `Serialize` and `Deserialize`, in lists, options and as keys of
+//! maps. The borrowed types are deserialized from a string that is borrowed from the input.
 //!
-//! This stands behind `cfg(feature = "serde")`. The manifest of a release declares that feature with its dependency.
+//! This module needs `cfg(feature = "serde")`. The manifest of a release declares that feature and its dependency.
 use alloc::string::String;
 use core::fmt;
 

@@ -1,4 +1,4 @@
-//! What the erased modules need of Rattle's std and of derive_where.
+//! The items of Rattle's std and of derive_where that the modules made from the proved source use.
 #[cfg(feature = "alloc")]
 pub use crate::memory::AllocError;
 #[cfg(feature = "alloc")]
@@ -24,14 +24,14 @@ impl AsStr for alloc::string::String {
     }
 }
 
-/// The text of a tag or a part is shown as any other.
+/// The text of a tag or a part has the same debug output as any other text.
 impl<T: core::fmt::Debug> core::fmt::Debug for crate::scan::Caseless<T> {
     fn fmt(&self, f: &mut core::fmt::Formatter<'_>) -> core::fmt::Result {
         self.0.fmt(f)
     }
 }
 
-/// Compares, orders, hashes and shows a type by its field `text` alone.
+/// Implements comparison, order, hash and debug output of a type by its field `text`, and nothing else.
 macro_rules! by_text {
     ($tag:ty) => {
         impl PartialEq for $tag {

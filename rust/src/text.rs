@@ -1,8 +1,8 @@
-//! What Rust programs expect of a type over a text: views of the text, conversions and comparisons. One macro writes them for the
-//! fifteen types of a tag and its parts, and for language ranges.
+//! What Rust programs expect of a type over a text: views of the text, conversions and comparisons. Macros implement
+//! them for the fifteen types of a tag and its parts, and for language ranges.
 //!
-//! `==` with a text ignores the case of ASCII letters, as `==` of two tags does. `Borrow<str>` is not there, since a `str` is hashed
-//! with its case: a map is asked by [`CaselessText`](crate::CaselessText).
+//! `==` with a text ignores the case of ASCII letters, as `==` of two tags does. `Borrow<str>` is not implemented,
+//! since a `str` is hashed with its case. A map is searched with [`CaselessText`](crate::CaselessText).
 use core::ops::Deref;
 
 use crate::matching::{InvalidLanguageRange, LanguageRange};
@@ -64,7 +64,7 @@ macro_rules! borrowed {
     )+};
 }
 
-/// Writes `==` of a type over a text and of a text, both ways.
+/// Implements `==` between a type over a text and a text, in both directions.
 macro_rules! compared {
     ([$($lifetime:lifetime)?] $name:ty, $text:ty) => {
         impl$(<$lifetime>)? PartialEq<$text> for $name {
@@ -152,7 +152,7 @@ mod owned {
     use crate::matching::{InvalidLanguageRange, LanguageRange, LanguageRangeBuf};
     use crate::*;
 
-    /// Aborts if allocation fails, as `String` does.
+    /// Returns the result, or aborts if allocation failed, as `String` does.
     #[inline]
     fn or_end<T>(made: Result<T, AllocError>, text: &str) -> T {
         made.unwrap_or_else(|_| handle_alloc_error(Layout::for_value(text)))
@@ -161,9 +161,9 @@ mod owned {
     macro_rules! owned {
         ($($name:ident, $owned:ident, $error:ident, $lend:ident, $what:literal;)+) => {$(
             impl $name<'_> {
-                #[doc = concat!("Returns the owned form of the same text. Where memory is refused, the program ends, as it does in `String`; [`try_to_owned`](", stringify!($name), "::try_to_owned) returns an error there.")]
+                #[doc = concat!("Returns the owned form of the same text. It aborts if allocation fails, as `String` does; [`try_to_owned`](", stringify!($name), "::try_to_owned) returns an error instead.")]
                 ///
-                #[doc = concat!("It is no method of `ToOwned`, since what is `Clone` has a `to_owned` of that trait already, which returns another `", stringify!($name), "`.")]
+                #[doc = concat!("This is not a method of the trait `ToOwned`, whose `to_owned` returns another `", stringify!($name), "`, as for every type that is `Clone`.")]
                 #[inline]
                 pub fn to_owned(&self) -> $owned {
                     or_end(self.try_to_owned(), self.as_str())

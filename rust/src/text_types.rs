@@ -1,6 +1,7 @@
-//! The list of the types over a text: the borrowed type, the owned one, the error, the call that borrows, and what it is.
+//! The list of the types over a text: the borrowed type, the owned type, the error, the call that borrows, and a
+//! description.
 
-/// Hands the list to another macro, which writes items for each of them.
+/// Passes this list to another macro, and that macro writes items for each type.
 macro_rules! for_text_types {
     ($write:ident) => {
         $write! {

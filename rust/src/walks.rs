@@ -1,4 +1,5 @@
-//! Traits of lists and iterators that Rust programs expect: `for` over a list, and iterators that stay at their end.
+//! Traits of lists and iterators that Rust programs expect: `for` over a list, and iterators that keep returning `None`
+//! at their end.
 use core::iter::FusedIterator;
 
 use crate::matching::{Fallbacks, Filtered};

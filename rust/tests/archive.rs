@@ -1,5 +1,5 @@
-//! 1,000,000 texts that look random, asked of this crate and of the proved archive, which the C library is. It is run where the
-//! archive is there:
+//! Compares this crate with the proved C library on 1,000,000 pseudo-random texts. The test needs the archive of that
+//! library:
 //!
 //!     RUSTFLAGS="--cfg archive -L native=$PWD/../crates/langtag_c/out" cargo test --release --test archive
 #![cfg(archive)]
@@ -27,6 +27,7 @@ extern "C" {
     fn langtag_recommend(bytes: *mut u8, len: usize);
     fn langtag_repeats(bytes: *const u8, len: usize, repeated: *mut [Span; 2]) -> u32;
     fn langtag_validity(bytes: *const u8, len: usize, invalid: *mut Span) -> u32;
+    fn langtag_suggestion(fault: u32, subtag: *const u8, subtag_len: usize, buffer: *mut u8, buffer_len: usize) -> usize;
     fn langtag_canonical(bytes: *const u8, len: usize, buffer: *mut u8, buffer_len: usize) -> usize;
     fn langtag_is_canonical(bytes: *const u8, len: usize) -> bool;
     fn langtag_maximize(bytes: *const u8, len: usize, buffer: *mut u8, buffer_len: usize) -> usize;
@@ -40,7 +41,7 @@ extern "C" {
     fn langtag_matches_extended(range: *const u8, range_len: usize, tag: *const u8, tag_len: usize) -> bool;
 }
 
-/// Numbers that look random, the same in every run.
+/// Pseudo-random numbers, which are the same in every run.
 struct Numbers(u64);
 
 impl Numbers {
@@ -54,13 +55,14 @@ impl Numbers {
 }
 
 #[rustfmt::skip]
-const PIECES: [&str; 48] = [
+const PIECES: [&str; 51] = [
     "en", "zh", "yue", "abcd", "x", "X", "i", "a", "u", "1", "Hant", "1994", "419", "US", "rozaj", "12345678", "abcdefghi", "klingon",
     "min-nan", "art-lojban", "sgn-BE-FR", "en-GB-oed", "-", "_", "", "\u{e9}", "9", "B", "co", "default", "und", "iw", "BU", "sr", "Latn",
-    "he", "heploc", "TW", "HK", "pa", "PK", "Arab", "*", "de", "CH", "nb", "cmn", "hsb",
+    "he", "heploc", "TW", "HK", "pa", "PK", "Arab", "*", "de", "CH", "nb", "cmn", "hsb", "ger",
+    "UK", "840",
 ];
 
-/// Returns a text of up to seven pieces; in every third a character is put somewhere.
+/// Returns a text of up to seven pieces. About one text in three has an extra character somewhere.
 fn random_text(numbers: &mut Numbers) -> String {
     let pieces: Vec<&str> = (0..1 + numbers.below(7))
         .map(|_| PIECES[numbers.below(PIECES.len())])
@@ -73,7 +75,7 @@ fn random_text(numbers: &mut Numbers) -> String {
     text
 }
 
-/// Returns where a part stands in a text.
+/// Returns the span of a part in a text.
 fn span_of(text: &str, part: &str) -> Span {
     Span {
         start: part.as_ptr() as usize - text.as_ptr() as usize,
@@ -83,7 +85,7 @@ fn span_of(text: &str, part: &str) -> Span {
 
 fn same_parts(text: &str, tag: Option<LangTag<'_>>) {
     let mut theirs = [Span::default(); 6];
-    // SAFETY: here and below each pointer and length is that of a live slice or value.
+    // SAFETY: here and below, each pointer and each length belong to a live slice or value.
     let kind = unsafe { langtag_parse(text.as_ptr(), text.len(), &mut theirs) };
     let ours = tag.map_or(0, |tag| 1 + tag.kind() as u32);
     assert_eq!(ours, kind, "{text:?}");
@@ -155,6 +157,12 @@ fn same_validity(text: &str, tag: LangTag<'_>) {
         !subtag.is_some_and(|part| span_of(text, part) != invalid),
         "{text:?}"
     );
+    let part = &text[invalid.start..invalid.start + invalid.len];
+    let mut code = [0; 3];
+    let len =
+        unsafe { langtag_suggestion(theirs, part.as_ptr(), part.len(), code.as_mut_ptr(), 3) };
+    let meant = fault_at(tag).and_then(|(fault, _)| fault.suggestion());
+    assert_eq!(meant.unwrap_or("").as_bytes(), &code[..len], "{text:?}");
     let bits = unsafe { langtag_repeats(text.as_ptr(), text.len(), &mut repeated) };
     let normal = tag.as_normal();
     let variant = normal.and_then(|tag| tag.repeated_variant());
@@ -273,7 +281,7 @@ fn same_choice(header: &str, texts: &[String]) {
     same_look_up(header, &all, &spans, &tags);
 }
 
-/// By the tag that is found, strictly and leniently.
+/// Compares the tags that look-up finds, with strict and with lenient reading of the header.
 fn same_look_up(header: &str, all: &str, spans: &[Span], tags: &[LangTag<'_>]) {
     let none = LangTag::new("x-none").unwrap();
     let found = AcceptLanguage::lenient(header).unwrap().look_up(tags, none);

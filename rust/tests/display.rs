@@ -1,4 +1,4 @@
-//! Tags and parts are displayed as their text is, with a width too.
+//! Tags and parts are displayed like their text, also with a width.
 use langtag::{LangTag, Script};
 
 #[test]

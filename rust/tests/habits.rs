@@ -1,4 +1,4 @@
-//! What a Rust program does with tags: comparisons, maps, conversions, errors that leave a function.
+//! What a Rust program typically does with tags: comparisons, maps, conversions, and errors that leave a function.
 use std::collections::hash_map::DefaultHasher;
 use std::collections::{BTreeSet, HashSet};
 use std::hash::{Hash, Hasher};
@@ -100,7 +100,7 @@ fn case_is_ignored() {
     assert_eq!(german.extensions(), french.extensions());
 }
 
-/// A text that a map is asked by is compared, ordered and hashed as the tag is.
+/// A text with which a map is searched is compared, ordered and hashed like a tag.
 #[test]
 fn texts_without_case() {
     let tags = tags(["de-DE", "zh", "DE-de", "zh-Latn", "de"]);
@@ -121,7 +121,7 @@ fn order() {
     let sorted: Vec<_> = BTreeSet::from(tags(["de-DE", "zh", "DE-de", "zh-Latn", "de"]))
         .into_iter()
         .collect();
-    assert_eq!(sorted, ["de-de", "de", "zh-latn", "zh"]); // a text that begins another comes after it
+    assert_eq!(sorted, ["de-de", "de", "zh-latn", "zh"]); // a text sorts after each longer text that begins with it
 }
 
 #[test]

@@ -1,5 +1,5 @@
-//! Each call that allocates is made again and again: its first request for memory is refused, then its second, and so on until it
-//! makes no more. Each refusal is an error that says so, and changes nothing.
+//! Repeats each call that allocates. The first time, its first request for memory is refused, then its second, and so
+//! on until no request is refused. The call must return an error for each refusal, and change nothing.
 #![cfg(feature = "alloc")]
 use std::alloc::{GlobalAlloc, Layout, System};
 use std::cell::Cell;
@@ -11,7 +11,7 @@ use langtag::unicode::extensions_form;
 use langtag::*;
 
 thread_local! {
-    /// How many requests are granted before one is refused; None grants all.
+    /// The number of requests that are granted before all others are refused. `None` grants all requests.
     static GRANTED: Cell<Option<usize>> = const { Cell::new(None) };
     static REFUSED: Cell<usize> = const { Cell::new(0) };
 }
@@ -34,7 +34,7 @@ impl Refusing {
     }
 }
 
-// SAFETY: each request is refused, or handed to the system's allocator.
+// SAFETY: each request is refused, or passed to the system's allocator.
 unsafe impl GlobalAlloc for Refusing {
     unsafe fn alloc(&self, layout: Layout) -> *mut u8 {
         if Refusing::refuses() {
@@ -58,7 +58,8 @@ unsafe impl GlobalAlloc for Refusing {
 #[global_allocator]
 static ALLOCATOR: Refusing = Refusing;
 
-/// Makes a call with ever more requests granted, until it makes no more. `call` returns whether memory was refused.
+/// Repeats a call with one more request granted each time, until no request is refused. `call` returns whether memory
+/// was refused.
 fn refuse_each(name: &str, call: impl Fn() -> bool) {
     for granted in 0.. {
         GRANTED.set(Some(granted));
@@ -156,7 +157,7 @@ fn headers() {
     });
 }
 
-/// Calls a setter on a copy of a tag, and returns whether memory was refused. The copy then is as it was.
+/// Calls a setter on a copy of a tag, and returns whether memory was refused. The copy must then be unchanged.
 fn set<E: PartialEq + core::fmt::Debug>(
     text: &str,
     refused: E,

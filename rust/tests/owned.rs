@@ -1,4 +1,4 @@
-//! Tags that own their text, and errors that outlive theirs.
+//! Tags that own their text, and errors that outlive the refused text.
 #![cfg(feature = "alloc")]
 use std::borrow::Cow;
 use std::collections::{BTreeMap, HashMap};
@@ -41,7 +41,7 @@ fn are_made_of_lent_ones() {
         (lent.private_use(), owned.clone())
     );
     assert_eq!(String::from(owned), "zh-Hant-x-a");
-    // A reference to a tag has the same method, and not the one of ToOwned.
+    // On a reference to a tag, `to_owned` is the same method, not the method of `ToOwned`.
     let texts: Vec<LangTagBuf> = [lent].iter().map(|tag| tag.to_owned()).collect();
     assert_eq!(texts, [lent]);
 }
@@ -218,7 +218,7 @@ fn ranges_are_stored() {
     assert!("*".parse::<LanguageRangeBuf>().unwrap().is_basic());
 }
 
-/// What leaves a function as a boxed error owns its text.
+/// An error that leaves a function as a boxed error owns its text.
 #[test]
 fn errors_outlive_their_text() {
     fn read(tag: &str, range: &str) -> Result<(), Box<dyn Error>> {
@@ -239,11 +239,15 @@ fn errors_outlive_their_text() {
     assert_eq!(error("en-", "*"), "invalid language tag");
     assert_eq!(error("de", "d*"), "invalid language range");
     assert_eq!(error("qt", "*"), "language qt is not registered");
+    assert_eq!(
+        error("en-UK", "*"),
+        "region UK is not registered: did you mean GB?"
+    );
     assert_eq!(read_range("d*"), Err(InvalidLanguageRange("d*".into())));
     assert!(read("de", "*").is_ok());
 }
 
-/// Those that have more than a text own it too, and say the same.
+/// Errors that contain more than a text can own it too, with the same message.
 #[test]
 fn errors_with_more_than_a_text() {
     use langtag::likely::from_posix;
@@ -255,6 +259,7 @@ fn errors_with_more_than_a_text() {
         "zh-cmn-yue",
         "fr-Abcd",
         "fr-FQ",
+        "en-UK",
         "de-1997",
         "de-1996-1996",
         "fr-a-bb-A-cc",
@@ -262,8 +267,12 @@ fn errors_with_more_than_a_text() {
         let invalid = validate(LangTag::new(text).unwrap()).unwrap_err();
         let owned = InvalidSubtagBuf::from(invalid);
         assert_eq!(
-            (owned.as_invalid_subtag(), owned.to_string()),
-            (invalid, invalid.to_string())
+            (
+                owned.as_invalid_subtag(),
+                owned.suggestion(),
+                owned.to_string()
+            ),
+            (invalid, invalid.suggestion(), invalid.to_string())
         );
     }
     fn read(header: &str, name: &str, tag: &str) -> Result<(), Box<dyn Error>> {
@@ -315,7 +324,7 @@ fn singletons_and_grandfathered_tags() {
     );
 }
 
-/// `?` on options, closures, and a struct that derives.
+/// Callers use `?` on options, closures, and a struct with derived traits.
 #[test]
 fn callers() {
     fn script_of(text: &str) -> Option<ScriptBuf> {
@@ -361,7 +370,7 @@ fn headers() {
     assert_eq!((index, offset), (1, 9));
 }
 
-/// A long header takes no time by its square.
+/// The time for a long header does not grow with the square of its length.
 #[test]
 fn long_headers() {
     let begun = std::time::Instant::now();

@@ -30,7 +30,7 @@ fn parts() {
     assert!(tag.private_use_subtags().eq(["a", "b"]));
 }
 
-/// The mark of private use is a letter in either case.
+/// The `x` of private use may be uppercase.
 #[test]
 fn private_use_in_capitals() {
     for text in ["X-a", "x-A", "X-a-b"] {
@@ -42,7 +42,7 @@ fn private_use_in_capitals() {
     assert_eq!((tag.private_use(), tag.extension()), (Some("X-a"), None));
 }
 
-/// A grandfathered tag has no parts, and one for private use is all private.
+/// A grandfathered tag has no parts. A private-use tag is only a private-use part.
 #[test]
 fn whole_tags() {
     for text in ["i-klingon", "zh-min-nan", "art-lojban", "X-fr-CH"] {
@@ -64,7 +64,7 @@ fn whole_tags() {
         .eq(["a", "b"]));
 }
 
-/// As there, case counts, so that a map is asked by a `str`.
+/// As in oxilangtag, case counts, so a map can be searched with a `str`.
 #[test]
 fn texts() {
     let tag: LanguageTag<String> = "EN-us".parse().unwrap();

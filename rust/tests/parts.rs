@@ -132,7 +132,7 @@ fn a_refused_byte_is_shown() {
 #[test]
 fn characters_convert() {
     assert_eq!(Singleton::try_from('U').unwrap().unwrap(), b'U');
-    // The last eight bits of U+0161 are those of `a`.
+    // The last eight bits of U+0161 are the bits of `a`.
     for c in ['\u{161}', 'x', 'X', '-', 'é', '\0', '\u{ff}', '\u{10ffff}'] {
         assert_eq!(Singleton::try_from(c).unwrap_err().0, c);
     }

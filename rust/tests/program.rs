@@ -16,11 +16,11 @@ fn langtag(arguments: &[&str], input: &[u8]) -> Output {
     let input = input.to_vec();
     let writer = std::thread::spawn(move || stdin.write_all(&input));
     let output = child.wait_with_output().unwrap();
-    let _ = writer.join().unwrap(); // A program that wants no lines closes its input.
+    let _ = writer.join().unwrap(); // A program that reads no lines closes its input.
     output
 }
 
-/// What it prints, and its status.
+/// Checks what the program prints, and its exit status.
 #[track_caller]
 fn prints(arguments: &[&str], input: &str, wanted: &str, status: i32) {
     let output = langtag(arguments, input.as_bytes());
@@ -32,7 +32,7 @@ fn prints(arguments: &[&str], input: &str, wanted: &str, status: i32) {
     assert_eq!(output.status.code(), Some(status), "{arguments:?}");
 }
 
-/// What it says on standard error.
+/// Checks what the program writes to standard error.
 #[track_caller]
 fn says(arguments: &[&str], wanted: &str) {
     let output = langtag(arguments, b"");
@@ -170,6 +170,7 @@ fn explanations() {
     );
     says(&["maximize", "é-b"], "langtag: `é-b` is not a language tag: invalid character `é`: expected a letter, a digit or a hyphen\n    é-b\n    ^\n");
     says(&["check", "fr-a-bb-A-cc"], "langtag: `fr-a-bb-A-cc` is not valid: singleton A is repeated\n    fr-a-bb-A-cc\n            ^\n");
+    says(&["check", "de-UK"], "langtag: `de-UK` is not valid: region UK is not registered: did you mean GB?\n    de-UK\n       ^^\n");
     says(&["check", "de-CH-1996-1996"], "langtag: `de-CH-1996-1996` is not valid: variant 1996 is repeated\n    de-CH-1996-1996\n               ^^^^\n");
     says(&["best", "de", "d!"], "langtag: `d!` is not a language tag: invalid character `!`: expected a letter, a digit or a hyphen\n    d!\n     ^\n");
     says(&["show", "fr-FR"], "");
@@ -222,7 +223,7 @@ fn what_is_not_utf_8() {
     assert_eq!(String::from_utf8_lossy(&output.stdout), wanted);
 }
 
-/// Each line is answered before the next one is read.
+/// Each line is answered before the next line is read.
 #[test]
 fn answers_do_not_wait() {
     use std::io::{BufRead, BufReader};

@@ -1,22 +1,22 @@
-//! Variants and singletons that stand in a tag twice (RFC 5646 sections 2.2.5, 2.2.6 and 2.2.9).
+//! Variants and singletons that occur twice in a tag (RFC 5646 sections 2.2.5, 2.2.6 and 2.2.9).
 use langtag::NormalLangTag;
 
 fn normal(text: &str) -> NormalLangTag<'_> {
     NormalLangTag::new(text).unwrap()
 }
 
-/// The variant that stands in a tag twice, in the letters of the later one; empty where none does.
+/// Returns the first variant that repeats an earlier variant, in its own case, or the empty text if there is none.
 fn repeated_variant<'a>(tag: &NormalLangTag<'a>) -> &'a str {
     tag.repeated_variant()
         .map_or("", |variant| variant.as_str())
 }
 
-/// The byte of the singleton that stands in a tag twice.
+/// Returns the byte of the first singleton that repeats an earlier singleton.
 fn repeated_singleton(tag: &NormalLangTag<'_>) -> Option<u8> {
     Some(tag.repeated_singleton()?.unwrap())
 }
 
-/// Tags, and the variant and the singleton that stand in each twice, in the letters of the later one; empty where none does.
+/// Tags, and the first repeated variant and singleton of each, in their own case. The text is empty if nothing is repeated.
 const TWICE: [(&str, &str, &str); 14] = [
     (
         "Ri-063-c-u6v-ZfhkToTB-C-IFfmv-XT-j-rdyYFMhK-h-pY-D5-Oh6FqBhL-hcXt-v-WdpNx71-K-c74m4-eBTT7-JdH7Q1Z",
@@ -55,10 +55,10 @@ fn the_later_one_of_two_is_told() {
     }
 }
 
-/// How many variants a tag has, which of them are others, and the one that stands twice.
+/// The number of variants, the variants that replace a numbered variant at an index, and the repeated variant.
 type Variants = (u16, &'static [(u16, &'static str)], &'static str);
 
-/// To 143 bytes of variants, and past them.
+/// Tags with at most 143 bytes of variants, and with more.
 const FEW: [Variants; 10] = [
     (1, &[], ""),
     (24, &[], ""),
@@ -72,7 +72,7 @@ const FEW: [Variants; 10] = [
     (40, &[(39, "b0020")], ""),
 ];
 
-/// To one block of 8,192, and past it.
+/// Tags with at most one block of 8,192 variants, and with more.
 const MANY: [Variants; 12] = [
     (8_192, &[], ""),
     (8_192, &[(8_191, "A0000")], "A0000"),
@@ -92,7 +92,7 @@ const MANY: [Variants; 12] = [
     ),
 ];
 
-/// A tag of so many variants, `a0000`, `a0001` .., with others at some indices.
+/// Returns a tag with `count` numbered variants, `a0000`, `a0001` .., and other variants at some indices.
 fn with_variants(count: u16, others: &[(u16, &str)]) -> String {
     let mut text = String::from("en");
     for index in 0..count {

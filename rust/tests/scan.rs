@@ -1,4 +1,4 @@
-//! What works on bytes (RFC 5646 section 2.1): recognisers over sources that were read before or compute their bytes, and case.
+//! Functions over bytes (RFC 5646 section 2.1): case, and recognisers over sources that were read before or that compute their bytes.
 use std::cmp::Ordering;
 use std::hash::Hasher;
 
@@ -7,7 +7,7 @@ use langtag::{
     ByteSource, Ends, Metered,
 };
 
-/// `en-x` followed by so many times `-a`, of which no byte is stored.
+/// The text `en-x` with `-a` repeated many times after it. None of its bytes is stored.
 struct PrivateSubtags {
     len: usize,
     reads: u128,
@@ -155,7 +155,7 @@ fn bytes_that_are_no_text_have_an_order() {
     assert_eq!(case_insensitive_cmp(b"\xff", b""), Ordering::Less);
 }
 
-/// Keeps the bytes of each call that fed it.
+/// A hasher that keeps the bytes of each call.
 #[derive(Default)]
 struct Calls(Vec<Vec<u8>>);
 

@@ -1,4 +1,4 @@
-//! Tags, parts and ranges as strings of serde: in structs, lists, options and as keys of maps, without a word of the user's.
+//! Tags, parts and ranges as strings of serde: in structs, lists and options, and as keys of maps.
 #![cfg(feature = "serde")]
 use std::collections::{BTreeMap, HashMap};
 

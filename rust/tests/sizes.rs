@@ -1,4 +1,4 @@
-//! How much room values take: a tag keeps where its parts end.
+//! The sizes of values: a tag stores its text and the ends of its parts.
 #![cfg(target_pointer_width = "64")]
 use core::mem::size_of;
 

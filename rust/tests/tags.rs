@@ -1,5 +1,5 @@
-//! Tags of every kind, lent and owned: how they are shown, kept and compared (RFC 5646 section 2.1.1), and how they become one
-//! another.
+//! Tags of every kind, borrowed and owned: how they are displayed, stored, compared (RFC 5646 section 2.1.1) and
+//! converted.
 #![cfg(feature = "alloc")]
 use std::cmp::Ordering;
 use std::collections::{BTreeSet, HashMap, HashSet};
@@ -15,7 +15,7 @@ fn normal(text: &str) -> NormalLangTag<'_> {
     NormalLangTag::new(text).unwrap()
 }
 
-/// Two tags and how they are ordered.
+/// Two tags, and their order.
 const PAIRS: [(&str, &str, Ordering); 8] = [
     ("dE-AraB-lY", "DE-aRaB-LY", Ordering::Equal),
     ("fr-FR", "Fr-fr", Ordering::Equal),
@@ -100,7 +100,7 @@ fn refused_edits_are_shown_and_compared() {
     }
 }
 
-/// Normal tags of each shape, with parts and without.
+/// Normal tags of each shape, with and without optional parts.
 const NORMAL: [&str; 4] = [
     "fr",
     "zh-hakka",
@@ -156,7 +156,7 @@ const LANGUAGES: [&str; 11] = [
     "zho-abc-def-ghi",
 ];
 
-/// Scripts and regions, of which an absent one is empty, and how they stand after a language.
+/// Scripts and regions, each empty if it is absent, and their text after a language.
 const PLACES: [(&str, &str, &str); 6] = [
     ("", "", ""),
     ("", "HK", "-HK"),
@@ -253,7 +253,7 @@ fn owned_tags_are_handed_on() {
 
 #[test]
 fn tags_are_chosen_by_a_closure() {
-    /// The first private use subtag, by a match over the types of tags.
+    /// Returns the first private use subtag, by a match on the type of the tag.
     fn first_private<'a>(tag: &TypedLangTag<'a>) -> Option<&'a str> {
         let first = match tag {
             TypedLangTag::Normal(tag) => tag.private_use_subtags().next()?,
@@ -277,7 +277,7 @@ fn tags_are_chosen_by_a_closure() {
     assert_eq!(first, [None, Some("a"), None]);
 }
 
-/// What a caller gets of a text that has to be a valid tag.
+/// The error of a caller for a text that is not a valid tag.
 #[derive(Debug)]
 enum Refused<'a> {
     NotATag(InvalidLangTag<&'a str>),

@@ -1,5 +1,5 @@
 /*
- * Times the choice for a header of five ranges over twenty tags beside ICU's LocaleMatcher, which is made once for the tags:
+ * Times the choice for a header of five ranges over twenty tags, and ICU's LocaleMatcher, which is made once for the tags.
  * `choice` prints the time of each, and `choice once ENTRY HEADER` calls one once, for a tool that counts instructions.
  */
 #include <langtag.h>
@@ -19,7 +19,8 @@ namespace {
 const char *const tags[] = {"en", "en-GB", "fr", "fr-CA", "de", "de-CH", "es", "es-419", "pt-BR", "pt-PT",
                             "it", "nl", "sv", "pl", "ru", "ja", "ko", "zh-Hans", "zh-Hant", "ar"};
 
-/* Whose range is served: the first, a tag nearer than 16; the last, such a one; the last, by look-up; the last, behind a weight 0; none. */
+/* The range that is served: the first, with a tag nearer than 16; the last, with such a tag; the last, by look-up; the last, after
+ * one of weight 0; none. */
 const struct {
     const char *name, *header;
 } headers[] = {
@@ -78,10 +79,10 @@ const struct {
 #endif
 };
 
-/* What a call returned, so that the compiler leaves none out. */
+/* The results of the calls are stored here, so that the compiler keeps all calls. */
 volatile size_t kept;
 
-/* The nanoseconds of a call: the median of passes that the entries make in turns. */
+/* Returns the nanoseconds of a call: the median of several passes, in which the entries take turns. */
 void time_header(const char *name, const char *header) {
     enum { PASSES = 51, CALLS = 2000, ENTRIES = sizeof entries / sizeof *entries };
     std::vector<double> times[ENTRIES];

@@ -1,4 +1,4 @@
-//! Times this library beside oxilangtag, and beside ICU where `icu.cc` was built, on a file of tags, one a line, in one run.
+//! Times this library, oxilangtag, and ICU if `icu.cc` was built, in one run on a file with one tag a line.
 //!
 //! `against-oxilangtag FILE` times, and `against-oxilangtag once ENTRY FILE` calls one entry once for each tag, for a
 //! tool that counts instructions.
@@ -6,7 +6,7 @@ use std::hint::black_box;
 use std::mem::MaybeUninit;
 use std::time::Instant;
 
-/// What `langtag_parse` writes: where six parts stand.
+/// What `langtag_parse` writes: the offsets and lengths of six parts.
 #[repr(C)]
 struct Parts([usize; 12]);
 
@@ -24,7 +24,7 @@ extern "C" {
     ) -> u32;
 }
 
-/// The C function alone.
+/// Calls only the C function.
 #[no_mangle]
 #[inline(never)]
 fn entry_langtag_parse(text: &str) -> usize {
@@ -35,7 +35,7 @@ fn entry_langtag_parse(text: &str) -> usize {
     kind as usize
 }
 
-/// The Rust crate: a tag, and its six parts.
+/// Parses a tag with the Rust crate, and reads its six parts.
 #[no_mangle]
 #[inline(never)]
 fn entry_langtag_verified(text: &str) -> usize {
@@ -53,7 +53,7 @@ fn entry_langtag_verified(text: &str) -> usize {
     1
 }
 
-/// The same by oxilangtag.
+/// Does the same with oxilangtag.
 #[no_mangle]
 #[inline(never)]
 fn entry_oxilangtag(text: &str) -> usize {
@@ -73,7 +73,7 @@ fn entry_oxilangtag(text: &str) -> usize {
 
 type Write = unsafe extern "C" fn(*const u8, usize, *mut u8, usize) -> usize;
 
-/// Has a C function write a form of a tag.
+/// Calls a C function that writes a form of a tag.
 fn written(write: Write, text: &str) -> usize {
     let mut buffer = MaybeUninit::<[u8; 64]>::uninit();
     // SAFETY: the pointer and the length are those of a live slice, and 64 bytes can be written at `buffer`.
@@ -101,7 +101,7 @@ fn entry_langtag_minimize(text: &str) -> usize {
     written(langtag_minimize, text)
 }
 
-/// The C function that says how far a supported tag is, `en-GB`.
+/// The C function that measures the distance to a supported tag, `en-GB`.
 #[no_mangle]
 #[inline(never)]
 fn entry_langtag_distance(text: &str) -> usize {
@@ -110,7 +110,7 @@ fn entry_langtag_distance(text: &str) -> usize {
     distance as usize
 }
 
-/// The canonical form by the Rust crate, with the parse before it.
+/// Parses a tag, and makes its canonical form, with the Rust crate.
 #[no_mangle]
 #[inline(never)]
 fn entry_to_canonical(text: &str) -> usize {
@@ -118,7 +118,7 @@ fn entry_to_canonical(text: &str) -> usize {
     tag.map_or(0, |tag| black_box(langtag::registry::canonical(tag)).map_or(0, |form| form.len()))
 }
 
-/// Whether a tag is its canonical form, with the parse before it.
+/// Parses a tag, and returns whether it is its own canonical form.
 #[no_mangle]
 #[inline(never)]
 fn entry_is_canonical(text: &str) -> usize {
@@ -126,7 +126,7 @@ fn entry_is_canonical(text: &str) -> usize {
     usize::from(tag.is_ok_and(langtag::registry::is_canonical))
 }
 
-/// The same as `entry_oxilangtag` by ICU's class `Locale`, in C++.
+/// Does the same as `entry_oxilangtag` with ICU's class `Locale`, in C++.
 #[cfg(icu)]
 #[no_mangle]
 #[inline(never)]
@@ -140,7 +140,7 @@ fn entry_icu(text: &str) -> usize {
 
 type Entry = (&'static str, fn(&str) -> usize);
 
-/// What is timed. The first one is that to which the others are compared.
+/// The functions that are timed. The others are compared with the first one.
 const ENTRIES: &[Entry] = &[
     ("oxilangtag", entry_oxilangtag),
     ("langtag_parse", entry_langtag_parse),
@@ -155,7 +155,7 @@ const ENTRIES: &[Entry] = &[
     ("langtag_distance", entry_langtag_distance),
 ];
 
-/// Goes once over all tags, and gives the nanoseconds that it took.
+/// Calls a function once for each tag, and returns the nanoseconds that this took.
 fn pass(entry: fn(&str) -> usize, tags: &[&str]) -> u128 {
     let start = Instant::now();
     for tag in tags {
@@ -164,7 +164,8 @@ fn pass(entry: fn(&str) -> usize, tags: &[&str]) -> u128 {
     start.elapsed().as_nanos()
 }
 
-/// The least time over the pieces of the list, over each of which the entries go in turns: so a busy machine changes little.
+/// Returns the least times over the pieces of the list. The entries take turns on each piece, so a busy machine affects
+/// all of them alike.
 fn time(tags: &[&str]) {
     const PASSES: usize = 5;
     const PIECE: usize = 1000;

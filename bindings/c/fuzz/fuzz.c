@@ -1,8 +1,8 @@
 /*
- * fuzz SECONDS SEED: random texts through each function of langtag.h, beside the second reading of the two RFCs
- * (reading.h). Each text stands at the edge of a page that nobody may touch. It stops at the first difference, with
- * status 1, and says, as it does where it crashes, which texts these were: the same seed makes the same texts. The
- * status is 1 too where one of the four kinds did not come up.
+ * fuzz SECONDS SEED: calls each function of langtag.h with random texts, and compares it with a second implementation of the two
+ * RFCs (reading.h). Each text is at the edge of a page that must not be touched. It stops at the first difference with status 1,
+ * and prints the texts, as it also does after a crash. The same seed makes the same texts. The status is also 1 if one of the four
+ * kinds of texts did not occur.
  */
 #include "generate.h"
 #include "pages.h"
@@ -15,7 +15,7 @@
 #include <string.h>
 #include <time.h>
 
-/* What is looked at, for the message where something differs. */
+/* What is being compared, for the message if something differs. */
 static unsigned long long chosen_seed, number;
 static slice looked_at, looked_at_beside, looked_at_range, looked_at_header;
 
@@ -58,7 +58,8 @@ static langtag_parts check_parse(slice text) {
     return parts;
 }
 
-/* langtag_viable and langtag_stop. Where a prefix begins a tag, so does each shorter one: two have to be looked at. */
+/* langtag_viable and langtag_stop. If a prefix begins a tag, each shorter prefix does so too, so only two prefixes have to be
+ * compared. */
 static void check_viable(slice text) {
     size_t viable = langtag_viable(text.at, text.len);
     SAME(viable <= text.len && (viable == 0 || begins_a_tag((slice){text.at, viable})));
@@ -84,10 +85,10 @@ static void check_comparisons(slice text, slice other) {
     SAME(langtag_hash(langtag_hash(LANGTAG_HASH, text.at, cut), text.at + cut, text.len - cut) == hash);
 }
 
-/* langtag_next_subtag on the variants, which langtag_repeats then has to agree with */
+/* langtag_next_subtag on the variants; langtag_repeats has to agree with its results */
 static langtag_span check_variants(slice text, langtag_span variants) {
     subtags wanted = split(at(text, variants));
-    langtag_span rest = variants, variant = {below(40), below(40)}, repeated = {0, 0}; /* what is out is not read */
+    langtag_span rest = variants, variant = {below(40), below(40)}, repeated = {0, 0}; /* the calls do not read out arguments */
     size_t k = 0;
     for (; langtag_next_subtag(text.at, text.len, &rest, &variant); k++) {
         SAME(k < wanted.count && is_same(at(text, variant), wanted.of[k]));
@@ -98,7 +99,7 @@ static langtag_span check_variants(slice text, langtag_span variants) {
     return repeated;
 }
 
-/* langtag_next_extension, which has to cut where a subtag of one byte stands */
+/* langtag_next_extension, which has to end an extension before each subtag of one byte */
 static langtag_span check_extensions(slice text, langtag_span extensions) {
     subtags wanted = split(at(text, extensions));
     langtag_span rest = extensions, extension = {below(40), below(40)}, repeated = {0, 0};
@@ -131,7 +132,7 @@ static void check_lists(slice text, const langtag_parts *parts) {
 
 static bool is_span(langtag_span a, langtag_span b) { return a.start == b.start && a.len == b.len; }
 
-/* The walks, on spans of which many do not lie within the text. */
+/* The walks, on spans of which many are not within the text. */
 static void check_odd_spans(slice text) {
     langtag_span odd = {below(2) ? below(40) : (size_t)0 - below(40), below(2) ? below(40) : (size_t)0 - below(40)};
     langtag_span rest = odd, got = {below(40), below(40)}, untouched = got;
@@ -151,7 +152,7 @@ static void check_odd_spans(slice text) {
     SAME(is_span(rest, odd) && is_span(got, untouched));
 }
 
-/* langtag_with_part, with more room than is wanted, just as much, or less */
+/* langtag_with_part, with a buffer that is too long, exactly long enough, or too short */
 static void check_with_part(slice text, slice other, pages out) {
     char wanted[2 * ROOM + 2], filled[2 * ROOM + 8];
     unsigned from = below(6), part = below(3) ? from : below(7);
@@ -168,8 +169,8 @@ static void check_with_part(slice text, slice other, pages out) {
 
 static bool has_same_bytes(slice a, slice b) { return a.len == b.len && memcmp(a.at, b.at, a.len) == 0; }
 
-/* What the form of a tag has of it, whatever is registered. Only a tag without extensions and private use is replaced as a
- * whole, by one without. */
+/* What the canonical form keeps of a tag, whatever is registered. Only a tag without extensions and private use is replaced as a
+ * whole, by a tag that has none either. */
 static void check_form(slice text, slice form) {
     char again[2 * ROOM], ordered[ROOM];
     tag old = read_tag(text), new = read_tag(form);
@@ -187,7 +188,8 @@ static void check_form(slice text, slice form) {
 
 typedef size_t write_form(const char *, size_t, char *, size_t);
 
-/* A form with more room than is wanted, just as much, or less: only it changes a byte, and only where there is room. */
+/* A form, with a buffer that is too long, exactly long enough, or too short. Only the bytes of the form change, and only if it
+ * fits. */
 static size_t check_room(slice text, write_form *write, char *form, pages out) {
     char filled[2 * ROOM];
     size_t len = write(text.at, text.len, out.last, 0), room = below(3) ? len : below(2 * ROOM);
@@ -212,7 +214,8 @@ static void check_canonical(slice text, slice other, pages out) {
     SAME(are_alike((slice){others, len}, (slice){form, len}));
 }
 
-/* langtag_maximize or langtag_minimize: the form is its own, and has the tag's variants, extensions and private use. */
+/* langtag_maximize or langtag_minimize: the form of the form is the form itself, and it has the tag's variants, extensions and
+ * private use. */
 static void check_likely(slice text, write_form *write, pages out) {
     char form[2 * ROOM], again[2 * ROOM];
     size_t len = check_room(text, write, form, out);
@@ -222,11 +225,16 @@ static void check_likely(slice text, write_form *write, pages out) {
     SAME(write(form, len, again, sizeof again) == len && memcmp(form, again, len) == 0);
 }
 
-/* langtag_from_posix: of a tag with neither codeset nor modifier it is that tag. */
+/* langtag_from_posix: a tag without codeset and modifier stays. langtag_unknown_modifier: the text after the first @. */
 static void check_posix(slice name, pages out) {
     char form[2 * ROOM];
     size_t len = check_room(name, langtag_from_posix, form, out);
     SAME(len == 0 || read_tag((slice){form, len}).kind != 0);
+    const char *mark = name.len ? memchr(name.at, '@', name.len) : NULL;
+    langtag_span modifier = {0, 0};
+    bool is_unknown = langtag_unknown_modifier(name.at, name.len, &modifier);
+    SAME(is_unknown ? mark && modifier.len > 0 && name.at + modifier.start == mark + 1 && modifier.start + modifier.len == name.len
+                    : modifier.start == 0 && modifier.len == 0);
     SAME(read_tag(name).kind == 0 || name.len > 255 || has_same_bytes((slice){form, len}, name) ||
          are_alike(name, (slice){"posix", 5}));
 }
@@ -258,7 +266,7 @@ static void check_choice(slice text, slice other, slice header) {
     SAME(read_tag(at(text, tags[index])).kind != 0);
 }
 
-/* The index of the tag that a range finds, or `count`. */
+/* Returns the index of the tag that a range finds, or `count`. */
 static size_t read_look_up(slice range, slice text, const langtag_span *tags, size_t count) {
     size_t lengths[MAX_SUBTAGS + 1], fallbacks = 1 + read_fallbacks(range, lengths + 1);
     lengths[0] = range.len;
@@ -296,7 +304,7 @@ static void check_ranges(slice range, slice text) {
     SAME(langtag_matches_extended(range.at, range.len, text.at, text.len) == matches_extended(range, text));
 }
 
-/* langtag_next_fallback: of what is not a range, what is left stands before a hyphen. */
+/* langtag_next_fallback: if the text is not a range, the rest still ends before a hyphen. */
 static void check_fallbacks(slice range) {
     size_t lengths[MAX_SUBTAGS], count = read_fallbacks(range, lengths), k = 0;
     bool is_range = range_kind(range) != 0;
@@ -332,7 +340,7 @@ static void check_case(char *bytes, size_t len) {
     SAME(memcmp(bytes, folded, len) == 0);
 }
 
-/* One text through all functions; answers its kind. */
+/* Calls all functions with one text, and returns its kind. */
 static unsigned check_one(pages here, pages there, pages out) {
     char text[ROOM], other[ROOM], range[ROOM], header[ROOM];
     size_t len = make_text(text), other_len = make_neighbour(text, len, other), range_len = make_range(range);
@@ -377,7 +385,7 @@ static double now(void) {
     return (double)time.tv_sec + 1e-9 * (double)time.tv_nsec;
 }
 
-/* Signals of a crash, and who was told of each before: a sanitizer, or the system. */
+/* The signals of a crash, and their previous handlers: those of a sanitizer or of the system. */
 static const int crashes[] = {SIGSEGV, SIGBUS, SIGILL, SIGFPE, SIGABRT};
 enum { CRASHES = sizeof crashes / sizeof *crashes };
 static struct sigaction told_before[CRASHES];

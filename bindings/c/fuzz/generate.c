@@ -36,7 +36,7 @@ static size_t bytes_of(const char *alphabet, char *into) {
     return len;
 }
 
-/* Subtags in a row, at times with one byte changed. */
+/* Random subtags joined by hyphens, sometimes with one byte changed. */
 static size_t subtags_in_a_row(char *into, uint32_t most) {
     size_t len = 0;
     for (uint32_t left = below(most) + 1; left-- > 0;) {
@@ -53,7 +53,7 @@ static size_t subtags_in_a_row(char *into, uint32_t most) {
     return len;
 }
 
-/* Puts down one of some subtags, behind a hyphen. */
+/* Appends a hyphen and one of some subtags. */
 static size_t put(char *into, size_t len, const char *const *of, uint32_t count) {
     const char *subtag = of[below(count)];
     if (len + strlen(subtag) + 1 > ROOM - 2) return len;
@@ -65,7 +65,7 @@ static size_t put(char *into, size_t len, const char *const *of, uint32_t count)
     if (below(one_in) == 0)                                                                                            \
     len = put(into, len, (const char *const[]){__VA_ARGS__}, sizeof((const char *[]){__VA_ARGS__}) / sizeof(char *))
 
-/* A normal tag, at times with one byte changed. */
+/* A normal tag, sometimes with one byte changed. */
 static size_t normal_tag(char *into) {
     size_t len = 0;
     PUT(1, "de", "zh", "sgn", "abcd", "klingons", "iw");
@@ -85,7 +85,7 @@ static size_t normal_tag(char *into) {
     return len;
 }
 
-/* A grandfathered tag, at times with one byte changed or with a subtag behind it. */
+/* A grandfathered tag, sometimes with one byte changed or with another subtag after it. */
 static size_t grandfathered_tag(char into[ROOM]) {
     const char *tag = grandfathered[below(GRANDFATHERED)];
     size_t len = strlen(tag);
@@ -109,7 +109,7 @@ size_t make_text(char into[ROOM]) {
     }
 }
 
-/* A text of which some subtags are "*". */
+/* A text in which some subtags are "*". */
 size_t make_range(char into[ROOM]) {
     size_t len = below(4) == 0 ? bytes_of("abx1*-*-", into) : subtags_in_a_row(into, 4), start = 0, out = 0;
     char made[ROOM];
@@ -124,7 +124,7 @@ size_t make_range(char into[ROOM]) {
     return out;
 }
 
-/* An Accept-Language header, at times with one byte changed. */
+/* An Accept-Language header, sometimes with one byte changed. */
 size_t make_header(char into[ROOM]) {
     static const char *const words[] = {",",        ",",     ", ",   ",\t,",      ";q=0.5", " ; Q=1.000",
                                         ";q=1.001", ";q=",   ";",    "*",         "fr-CH",  "de",

@@ -1,4 +1,4 @@
-/* Texts for the fuzzer: random bytes, bytes of tags, subtags in a row, and grandfathered tags. */
+/* Texts for the fuzzer: random bytes, bytes of tags, random subtags, and grandfathered tags. */
 #ifndef GENERATE_H
 #define GENERATE_H
 

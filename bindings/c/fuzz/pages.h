@@ -1,4 +1,4 @@
-/* Places for a text at the edge of a page that nobody may touch, so that no access outside the text goes unseen. */
+/* Pages for a text at the edge of a page that must not be touched, so that every access outside the text is found. */
 #ifndef PAGES_H
 #define PAGES_H
 
@@ -6,13 +6,13 @@
 #include <stddef.h>
 
 typedef struct pages {
-    char *first, *last; /* the first byte that may be touched, and the first that may not be again */
+    char *first, *last; /* the first byte that may be touched, and the first byte after it that must not be touched */
 } pages;
 
-/* False where the system refuses it. */
+/* Returns false if the system refuses. */
 bool open_pages(pages *made);
 
-/* Copies a text to one end of the pages. An empty text stands where no byte may be read. */
+/* Copies a text to one end of the pages. For an empty text, no byte may be read at its address. */
 char *place(pages at, const char *text, size_t len, bool at_the_end);
 
 #endif

@@ -27,7 +27,7 @@ bool matches_basic(slice range, slice tag) {
     return range.len == tag.len || tag.at[range.len] == '-';
 }
 
-/* The steps of section 3.3.2, as they stand there. */
+/* The steps of section 3.3.2, as in the RFC. */
 bool matches_extended(slice range, slice tag) {
     if (range_kind(range) == 0 || read_tag(tag).kind == 0) return false;
     subtags r = split(range), t = split(tag);

@@ -1,6 +1,6 @@
 /*
- * A second reading of RFC 5646 and RFC 4647, written for the fuzzer alone and apart from the library: plain, slow, and
- * close to the words of the two RFCs. It splits a text at its hyphens, and goes over the subtags by the ABNF.
+ * A second implementation of RFC 5646 and RFC 4647, written only for the fuzzer and independently of the library. It is plain,
+ * slow, and close to the words of the two RFCs. It splits a text at its hyphens, and reads the subtags by the ABNF.
  */
 #ifndef READING_H
 #define READING_H
@@ -25,8 +25,8 @@ typedef struct subtags {
     size_t count;
 } subtags;
 
-/* The parts of a tag, in the order of the grammar, as slices of its text. An absent part is empty, and stands where the
- * part before it ends. */
+/* The parts of a tag, in the order of the grammar, as slices of its text. An absent part is empty, and starts at the end of the
+ * part before it. */
 typedef struct tag {
     unsigned kind; /* 0 none, 1 normal, 2 private use, 3 irregular */
     slice parts[6];
@@ -48,8 +48,8 @@ bool begins_a_tag(slice text);
 unsigned which_grandfathered(slice text);
 size_t read_with_part(slice text, unsigned part, slice given, char into[]);
 
-/* Extensions by their singletons, whatever the case of these, and those of one as they stood (RFC 5646 section 4.5), in
- * order.c. */
+/* Extensions sorted by their singletons, ignoring case. Extensions of the same singleton keep their order (RFC 5646 section 4.5).
+ * In order.c. */
 size_t in_order(slice extensions, char into[]);
 
 /* The recommended case (RFC 5646 section 2.1.1), in case.c. */
@@ -63,7 +63,7 @@ bool matches_extended(slice range, slice tag);
 /* An element of an Accept-Language header that is not empty. */
 typedef struct element {
     uint32_t answer; /* 1 a range, 2 a bad range, 3 a bad weight */
-    slice range;     /* of a bad one all of it */
+    slice range;     /* the whole element if it is malformed */
     uint32_t weight;
 } element;
 

@@ -17,14 +17,14 @@ static bool is_variant(slice s) { return s.len >= 5 || (s.len == 4 && is_digit((
 static bool is_mark(slice s) { return s.len == 1 && fold((unsigned char)s.at[0]) == 'x'; }
 static bool is_singleton(slice s) { return s.len == 1 && !is_mark(s); }
 
-/* What all rules share: subtags of one to eight letters and digits. */
+/* What all rules require: subtags of one to eight letters and digits. */
 static bool are_subtags(const subtags *s) {
     for (size_t k = 0; k < s->count; k++)
         if (s->of[k].len < 1 || s->of[k].len > 8 || !all_of(s->of[k], is_alphanum)) return false;
     return true;
 }
 
-/* How many subtags from one on belong to each part of rule langtag; false where some are left over or lacking. */
+/* Counts the subtags, from the given one on, of each part of rule langtag. Returns false if subtags are left over or missing. */
 static bool count_parts(const subtags *s, size_t counts[6]) {
     size_t k = 0, from;
 #define IS(test) (k < s->count && test(s->of[k]))
@@ -50,7 +50,7 @@ static bool count_parts(const subtags *s, size_t counts[6]) {
     return k == s->count;
 }
 
-/* The slices of the parts, by how many subtags each has. */
+/* Writes the slices of the parts, by the number of subtags of each. */
 static void cut(const subtags *s, const size_t counts[6], slice parts[6]) {
     const char *end = s->of[0].at;
     for (size_t part = 0, k = 0; part < 6; k += counts[part++]) {
@@ -87,9 +87,9 @@ tag read_tag(slice text) {
     return found;
 }
 
-/* Some tag begins with a text where an irregular tag does, or where the text is one once its last subtag has five
- * bytes: whatever may stand there may be as long, but for the subtags that have to be shorter, and after these one may
- * follow. */
+/* Some tag begins with a text in two cases. Either an irregular tag begins with it, or it becomes a tag if its last subtag is
+ * extended to five bytes. A subtag of five bytes is allowed almost everywhere. Only some subtags have to be shorter, and after
+ * these another subtag may follow. */
 bool begins_a_tag(slice text) {
     char filled[MAX_SUBTAGS + 8];
     size_t last = 0, len = text.len;
@@ -103,7 +103,8 @@ bool begins_a_tag(slice text) {
     return read_tag((slice){filled, len}).kind != 0;
 }
 
-/* The tag with a part set to a text, where its parts, joined, are read as these very ones; else 0. */
+/* Writes the tag with a part set to a text, and returns its length. Returns 0 if the joined parts are not read as the same parts.
+ * */
 size_t read_with_part(slice text, unsigned part, slice given, char into[]) {
     tag read = read_tag(text);
     size_t len = 0;

@@ -1,4 +1,4 @@
-/* How the work of each function of the library for C grows with its text. */
+/* Measures how the instructions of each function of the C library grow with its text. */
 #include "growth.h"
 #include <langtag.h>
 
@@ -11,7 +11,7 @@ static size_t offset;
 static char buffer[2 * sizeof text];
 static langtag_span tags[sizeof text];
 
-/* The tag for a header among those that stand between commas and hyphens of the text, as languages of eight letters do. */
+/* The tag for a header. The tags are the languages of eight letters between the commas and hyphens of the text. */
 static size_t best_among(const char *header) {
     size_t count = 0, start = 0;
     for (size_t at = 0; at <= len; at++) {
@@ -45,6 +45,8 @@ FUNCTION(field, result = langtag_field(text, len, "m0", 2, &found))
 FUNCTION(next_field, offset = 0; while (langtag_next_field(text, len, &offset, &found, &rest)) result = found.len)
 FUNCTION(repeats, result = langtag_repeats(text, len, &repeated))
 FUNCTION(validity, result = langtag_validity(text, len, &found))
+FUNCTION(suggestion, result = langtag_suggestion(LANGTAG_INVALID_LANGUAGE, text, len, buffer, sizeof buffer) +
+                               langtag_suggestion(LANGTAG_INVALID_REGION, text, len, buffer, sizeof buffer))
 FUNCTION(canonical, result = langtag_canonical(text, len, buffer, sizeof buffer))
 FUNCTION(registry_date, result = langtag_registry_date())
 FUNCTION(maximize, result = langtag_maximize(text, len, buffer, sizeof buffer))
@@ -63,6 +65,7 @@ FUNCTION(tag_for_header_lenient, found = (langtag_span){0, len};
          result = langtag_tag_for_header_lenient(text, len, "de-DE", 5, &(langtag_span){0, 5}, 1) +
                   langtag_tag_for_header_lenient("de", 2, text, len, &found, 1))
 FUNCTION(from_posix, result = langtag_from_posix(text, len, buffer, sizeof buffer))
+FUNCTION(unknown_modifier, result = langtag_unknown_modifier(text, len, &found))
 FUNCTION(cldr_version, result = langtag_cldr_version())
 FUNCTION(is_canonical, result = langtag_is_canonical(text, len))
 FUNCTION(grandfathered, result = langtag_grandfathered(text, len))
@@ -98,6 +101,7 @@ static const struct function functions[] = {
     {"next_field", next_field},
     {"repeats", repeats},
     {"validity", validity},
+    {"suggestion", suggestion},
     {"canonical", canonical},
     {"registry_date", registry_date},
     {"maximize", maximize},
@@ -111,6 +115,7 @@ static const struct function functions[] = {
     {"tag_for_header", tag_for_header},
     {"tag_for_header_lenient", tag_for_header_lenient},
     {"from_posix", from_posix},
+    {"unknown_modifier", unknown_modifier},
     {"cldr_version", cldr_version},
     {"is_canonical", is_canonical},
     {"grandfathered", grandfathered},

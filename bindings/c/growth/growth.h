@@ -1,7 +1,7 @@
 /*
- * Counts how the work of functions grows with their text: under callgrind, which counts instructions, each is called over
- * texts of n and of 2n bytes, of each shape. growth.py runs the program and compares the counts. n is 20,000; 100,000 where
- * more than 8192 variants, and ranges, are wanted; and 4,000 where the work is known to grow with the square.
+ * Measures how the instructions of functions grow with their text. Under callgrind, which counts instructions, each function is
+ * called with texts of n and of 2n bytes, of each shape. growth.py runs the program and compares the counts. n is 20,000, or
+ * 100,000 if more than 8192 variants or ranges are needed, or 4,000 if the function is known to be quadratic.
  */
 #include <stdint.h>
 #include <stdio.h>
@@ -12,7 +12,7 @@
 #define BYTES 20000
 #endif
 
-/* A text of a shape: a beginning, and then pieces, in each of which a number stands for '#'; and where it has one, its n. */
+/* A shape of texts: a beginning, then pieces, in each of which a number replaces '#'; and its n, if it has its own. */
 static const struct {
     const char *name, *head, *piece;
     size_t bytes;
@@ -41,7 +41,7 @@ static const struct {
     {"many_ranges", "de", ",a-######;q=0.#", 100000},
 };
 
-/* The text of a call, and another that is the same where no call has changed it. */
+/* The text of a call, and another text, which is equal unless a call has changed it. */
 #define LONGEST (BYTES > 100000 ? BYTES : 100000)
 static char text[2 * LONGEST + 16], other[2 * LONGEST + 16];
 static size_t len;
@@ -55,7 +55,7 @@ struct function {
 #define FUNCTION(name, ...)                                                                                            \
     static void name(void) { __VA_ARGS__; }
 
-/* Writes a text of a shape, of at most so many bytes: whole pieces, with numbers in an order that is not theirs. */
+/* Writes a text of a shape with at most a given number of bytes. It has only whole pieces, with numbers in mixed order. */
 static size_t write_shape(char *to, size_t shape, size_t most) {
     size_t at = strlen(shapes[shape].head), size = strlen(shapes[shape].piece);
     memcpy(to, shapes[shape].head, at);
@@ -70,14 +70,17 @@ static size_t write_shape(char *to, size_t shape, size_t most) {
     return at;
 }
 
-/* Calls each function over each text, and has callgrind say what it took. */
+/* Calls each function with each text, and lets callgrind print the instructions. Each text is written only once, since that takes
+ * longer than most calls. */
 static int count(const struct function *functions, size_t number) {
-    for (size_t function = 0; function < number; function++) {
-        for (size_t shape = 0; shape < sizeof shapes / sizeof *shapes; shape++) {
-            for (size_t times = 1; times <= 2; times++) {
+    static char written[sizeof text];
+    for (size_t shape = 0; shape < sizeof shapes / sizeof *shapes; shape++) {
+        for (size_t times = 1; times <= 2; times++) {
+            len = write_shape(written, shape, times * (shapes[shape].bytes ? shapes[shape].bytes : (size_t)BYTES));
+            for (size_t function = 0; function < number; function++) {
                 char label[64];
-                len = write_shape(text, shape, times * (shapes[shape].bytes ? shapes[shape].bytes : (size_t)BYTES));
-                memcpy(other, text, len);
+                memcpy(text, written, len);
+                memcpy(other, written, len);
                 snprintf(label, sizeof label, "%s %s %d", functions[function].name, shapes[shape].name, (int)times);
                 CALLGRIND_ZERO_STATS;
                 functions[function].call();

@@ -1,25 +1,26 @@
 #!/usr/bin/env python3
-"""Fails where a function's instructions grow faster than its text: growth.py PROGRAM FILE.., under valgrind. The files, a
-header or sources of Rattle, declare the functions that the program has to call. Work that is done twice is not seen so.
+"""Fails if the instructions of a function grow faster than its text: growth.py PROGRAM FILE.., which runs the program under
+valgrind. The files, a header or sources of Rattle, declare the functions that the program has to call. Work that is done twice is
+not found in this way.
 
-Twice the text may take MOST times the instructions, and more where SQUARES says so."""
+Twice the text may take at most MOST times the instructions, or more if SQUARES says so."""
 import glob
 import re
 import subprocess
 import sys
 import tempfile
 
-FEW = 5000  # instructions that a text of any length may take
+FEW = 5000  # instructions that a call may take for a text of any length
 MOST = 2.2
-# What is known, and documented, to grow with the square: repeated variants past 8192, by blocks, variants with prefixes, and a
-# header in which many ranges would have a tag that another of weight 0 refuses.
+# The cases that are known and documented to be quadratic: more than 8192 repeated variants, variants with prefixes, and a header in
+# which many ranges would find a tag that a range of weight 0 excludes.
 SQUARES = {
     ("repeats", "many_variants"): 3,
     ("repeated_variant", "many_variants"): 3,
     ("misplaced_variant", "prefixed"): 4.4,
     ("best_for_header", "refused"): 4.4,
 }
-# What a header declares, and a source of Rattle exports.
+# The functions that a header declares, and those that a Rattle source exports.
 DECLARED = re.compile(r'\blangtag_(\w+)\([^;{]*\);|extern "C" fn langtag_bench_(\w+)')
 
 

@@ -1,7 +1,7 @@
 /*
- * Calls that write a form, ask how near two tags are, choose one or point at a fault, over texts of each length to EACH bytes and
- * by steps to MOST: each answer is the one that is wanted, in a buffer of just so many bytes, and nothing is written in a smaller
- * one. It is proved of each; seen here is the code as it is built.
+ * Tests calls that write a form or a suggestion, measure a distance, choose a tag, or find a fault. The texts have each length up
+ * to EACH bytes, and lengths in steps up to MOST. Each answer has to be the expected one, in a buffer of exactly its length, and
+ * nothing may be written to a smaller buffer. All of this is proved; this program tests the built code.
  */
 #include <langtag.h>
 #include <stdio.h>
@@ -13,13 +13,13 @@ static char text[MOST + 64], wanted[MOST + 64], written[MOST + 64];
 static langtag_span spans[MOST / 2 + 64];
 static size_t calls, faults;
 
-/* Notes a call over the text, and says where it was wrong. */
+/* Counts a call with the text, and prints where it was wrong. */
 static void check(const char *name, size_t len, bool is_right) {
     calls++;
     if (!is_right && faults++ < 30) printf("sweep: %s of %zu bytes, %.*s: wrong\n", name, len, len < 40 ? (int)len : 40, text);
 }
 
-/* A text of a shape: a head, so many times a piece, and a tail. */
+/* A text of a shape: a head, then a piece repeated, and a tail. */
 struct shape {
     const char *head, *piece, *tail;
 };
@@ -36,7 +36,7 @@ static size_t write_shape(char *to, const struct shape *shape, size_t times) {
     return append(to, at, shape->tail);
 }
 
-/* Writes the next longer text of a shape; false where that is longer than any. */
+/* Writes the next longer text of a shape. Returns false if it would be longer than MOST. */
 static bool grow(const struct shape *shape, size_t *times, size_t *len) {
     *times += *len < EACH ? 1 : *times / 2;
     if (strlen(shape->head) + *times * strlen(shape->piece) + strlen(shape->tail) > MOST) return false;
@@ -48,13 +48,28 @@ static bool grow(const struct shape *shape, size_t *times, size_t *len) {
 
 typedef size_t write_call(const char *, size_t, char *, size_t);
 
-/* Whether a call writes the text that is wanted, of which there is none where its length is 0. */
+/* Whether a call writes the expected text. A length of 0 means that no text is expected. */
 static bool is_written(write_call *call, size_t len, size_t wanted_len) {
     if (call(text, len, written, 0) != wanted_len) return false;
     memset(written, '~', wanted_len + 1);
     if (wanted_len > 0 && call(text, len, written, wanted_len - 1) != wanted_len) return false;
     if (wanted_len > 0 && (written[0] != '~' || memcmp(written, written + 1, wanted_len) != 0)) return false;
     return call(text, len, written, wanted_len) == wanted_len && memcmp(written, wanted, wanted_len) == 0 && written[wanted_len] == '~';
+}
+
+/* The suggestion for a tag, and for a text as a language and as a region. */
+static size_t suggestion(const char *bytes, size_t len, char *buffer, size_t buffer_len) {
+    langtag_span invalid;
+    uint32_t fault = langtag_validity(bytes, len, &invalid);
+    return langtag_suggestion(fault, bytes + invalid.start, invalid.len, buffer, buffer_len);
+}
+
+static size_t suggested_language(const char *bytes, size_t len, char *buffer, size_t buffer_len) {
+    return langtag_suggestion(LANGTAG_INVALID_LANGUAGE, bytes, len, buffer, buffer_len);
+}
+
+static size_t suggested_region(const char *bytes, size_t len, char *buffer, size_t buffer_len) {
+    return langtag_suggestion(LANGTAG_INVALID_REGION, bytes, len, buffer, buffer_len);
 }
 
 static const struct {
@@ -78,13 +93,17 @@ static const struct {
     {"from_posix", langtag_from_posix, {"pt_BR.", "a", ""}, {"pt-BR", "", ""}},
     {"from_posix", langtag_from_posix, {"sr_RS.", "_.", "@latin"}, {"sr-Latn-RS", "", ""}},
     {"from_posix", langtag_from_posix, {"ca_ES@", "valencia", "@"}, {"ca-ES", "", ""}},
+    {"suggestion", suggestion, {"ger", "-abcde", ""}, {"de", "", ""}},
+    {"suggestion", suggestion, {"fr-Latn-840-x", "-a", ""}, {"US", "", ""}},
+    {"suggestion", suggested_language, {"deu", "u", ""}, {"", "", ""}},
+    {"suggestion", suggested_region, {"UK", "K", ""}, {"", "", ""}},
 };
 
 static void sweep_form(const char *name, write_call *call, const struct shape *given, const struct shape *other) {
     for (size_t times = 0, len = 0; grow(given, &times, &len);) check(name, len, is_written(call, len, write_shape(wanted, other, times)));
 }
 
-/* Names whose language and territory have up to 255 bytes are tags, and longer ones none. */
+/* Names whose language and territory have at most 255 bytes have a tag, and longer names have none. */
 static void sweep_names(void) {
     static const struct shape given = {"de", "_abcde", "@cyrillic"}, other = {"de-Cyrl", "-abcde", ""};
     for (size_t times = 0, len = 0; grow(&given, &times, &len);) {
@@ -93,7 +112,23 @@ static void sweep_names(void) {
     }
 }
 
-/* Tags, how far they are from de and de from them, and whether they are written from right to left. */
+/* Modifiers of each length, and names of each length with a modifier: whether the modifier is unknown, and where it begins. */
+static void sweep_modifiers(void) {
+    static const struct shape modifiers = {"de@", "a-", "b"}, names = {"de", "_a", "@foo"}, known = {"de", "_a", "@latin"};
+    langtag_span modifier;
+    for (size_t times = 0, len = 0; grow(&modifiers, &times, &len);) {
+        bool is_unknown = langtag_unknown_modifier(text, len, &modifier);
+        check("unknown_modifier", len, is_unknown && modifier.start == 3 && modifier.len == len - 3);
+    }
+    for (size_t times = 0, len = 0; grow(&names, &times, &len);) {
+        bool is_unknown = langtag_unknown_modifier(text, len, &modifier);
+        check("unknown_modifier", len, is_unknown && modifier.start == len - 3 && modifier.len == 3);
+    }
+    for (size_t times = 0, len = 0; grow(&known, &times, &len);)
+        check("unknown_modifier", len, !langtag_unknown_modifier(text, len, &modifier));
+}
+
+/* Tags, their distances from de and to de, and whether they are written from right to left. */
 static const struct {
     struct shape tag;
     uint32_t distance, back;
@@ -115,7 +150,8 @@ static void sweep_tag(const struct shape *tag, uint32_t distance, uint32_t back,
     }
 }
 
-/* What is not a tag: why, how far before its end the subtag begins and the byte stands, and how long the subtag is. */
+/* Texts that are not tags: the reason, the distances of the wrong subtag and of the offset from the end, and the length of the
+ * subtag. */
 static const struct {
     struct shape text;
     uint32_t answer;
@@ -147,7 +183,8 @@ static size_t choice(size_t header_len) {
     return langtag_best_for_header(text, header_len, "en,de-CH,ja", 11, (langtag_span[]){{0, 2}, {3, 5}, {9, 2}}, 3);
 }
 
-/* The same, with a range of the header that is as far as its distance says. Its first five bytes tell: of these de_CH alone is no tag. */
+/* The same, with the range of the header. The distance has to be that of the first five bytes of the range. If these are de_CH,
+ * which is not a tag, it is 0. */
 static bool is_matched(size_t header_len) {
     langtag_best_match match;
     size_t best = langtag_match_for_header(text, header_len, "en,de-CH,ja", 11, (langtag_span[]){{0, 2}, {3, 5}, {9, 2}}, 3, &match);
@@ -156,7 +193,7 @@ static bool is_matched(size_t header_len) {
     return match.distance == (distance == LANGTAG_NO_DISTANCE ? 0 : distance);
 }
 
-/* Headers that find the second by look-up. */
+/* Headers that find the second tag by look-up. */
 static const struct shape looked_up[] = {
     {"", "fr;q=0.5,", "de-ch-1996;q=0.1"}, {"", " ", "de-CH"}, {"de-CH", "-a", ""}, {"", ",", "DE-ch"}, {"", "d!,", "de-ch;q=0.1"},
 };
@@ -175,10 +212,10 @@ static void sweep_look_ups(void) {
     }
 }
 
-/* Ranges that choose the second. */
+/* Ranges that choose the second tag. */
 static const struct shape ranges[] = {{"", " ", "de_CH.UTF-8"}, {"de-LI", "-a", ""}, {"de-CH", "-*", ""}, {"de", "-*", "-ch"}};
 
-/* More and more tags, of which the header chooses the last, and then one of a range of weight 0. */
+/* More and more tags, of which the header chooses the last, and then a tag that a range of weight 0 excludes. */
 static void sweep_choices(void) {
     static const struct shape many = {"", "en,", "DE-ch"};
     static const char *const wish = "fr, de-ch-1996;q=0.9", *const zero = "de, de-CH;q=0";
@@ -203,6 +240,7 @@ static void sweep_choices(void) {
 int main(void) {
     for (size_t row = 0; row < LENGTH(forms); row++) sweep_form(forms[row].name, forms[row].call, &forms[row].given, &forms[row].wanted);
     sweep_names();
+    sweep_modifiers();
     for (size_t row = 0; row < LENGTH(tags); row++) sweep_tag(&tags[row].tag, tags[row].distance, tags[row].back, tags[row].is_right_to_left);
     for (size_t row = 0; row < LENGTH(refusals); row++)
         sweep_refusal(&refusals[row].text, refusals[row].answer, refusals[row].before, refusals[row].subtag_len, refusals[row].offset_before);

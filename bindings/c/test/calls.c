@@ -1,16 +1,16 @@
-/* What the library answers to the calls of the rows, in their words. */
+/* The library's answers to the calls of the rows, in the form of the rows. */
 #include "rows.h"
 
 #include "check.h"
 #include <stdlib.h>
 
-/* An entry for each number of an enum, whose names are those of the header. */
+/* The name of each number of an enum, as in the header. */
 static const char *named(const char *const *names, size_t count, uint32_t number) {
     return number < count && names[number] ? names[number] : "unknown";
 }
 #define NAMED(names, number) named(names, sizeof(names) / sizeof *(names), number)
 
-/* Bytes as the rows have them. */
+/* Writes bytes as the rows have them. */
 static void put_bytes(text *to, const char *bytes, size_t len) {
     char escaped[8];
     put_word(to, len == 0 ? " ''" : " ");
@@ -32,7 +32,7 @@ static void put_number(text *to, const char *name, unsigned long long number) {
     put_word(to, digits);
 }
 
-/* A part, as its name and its subtags. */
+/* Writes the name and the subtags of a part. */
 static void put_part(text *to, const char *name, text from, langtag_span part) {
     langtag_span rest = part, subtag;
     if (part.len > 0) put_word(to, name);
@@ -108,7 +108,7 @@ static void answer_validity(text *to, const text *arguments) {
         [LANGTAG_INVALID_REPEATED_SINGLETON] = "repeated-singleton",
     };
     text a = arguments[0];
-    langtag_span invalid = {1, 2}; /* what is out is not read */
+    langtag_span invalid = {1, 2}; /* the call does not read an out argument */
     uint32_t answer = langtag_validity(a.at, a.len, &invalid);
     put_word(to, " "), put_word(to, NAMED(names, answer));
     if (answer == LANGTAG_VALIDITY_NONE || answer == LANGTAG_VALID) {
@@ -119,9 +119,23 @@ static void answer_validity(text *to, const text *arguments) {
     put_bytes(to, a.at + invalid.start, invalid.len);
 }
 
+/* The suggestion for the first invalid subtag, in a buffer of exactly its length. In a shorter buffer nothing is written. */
+static void answer_suggestion(text *to, const text *arguments) {
+    text a = arguments[0];
+    langtag_span invalid;
+    char code[8] = "~~~~~~~";
+    uint32_t fault = langtag_validity(a.at, a.len, &invalid);
+    size_t len = langtag_suggestion(fault, a.at + invalid.start, invalid.len, code, 0);
+    if (len > 0 && langtag_suggestion(fault, a.at + invalid.start, invalid.len, code, len - 1) != len) put_word(to, " another length");
+    if (memcmp(code, "~~~~~~~", sizeof code)) put_word(to, " in no room");
+    if (langtag_suggestion(fault, a.at + invalid.start, invalid.len, code, len) != len || code[len] != '~') put_word(to, " too much");
+    if (len > 0) put_word(to, " "), put(to, code, len);
+    else put_word(to, " -");
+}
+
 typedef size_t write_form(const char *, size_t, char *, size_t);
 
-/* A form in more room than is wanted, in just as much, and in less, of which only the form may change a byte. */
+/* A form in a buffer that is too long, exactly long enough, and too short. The call may change only the bytes of the form. */
 static void put_form(text *to, text a, write_form *write) {
     size_t len = write(a.at, a.len, (char[]){'~'}, 0);
     size_t rooms[] = {len + 8, len, len > 0 ? len - 1 : 0};
@@ -153,6 +167,18 @@ static void answer_minimized(text *to, const text *arguments) { put_form(to, arg
 
 static void answer_posix(text *to, const text *arguments) { put_form(to, arguments[0], langtag_from_posix); }
 
+static void answer_unknown_modifier(text *to, const text *arguments) {
+    text name = arguments[0];
+    langtag_span modifier = {1, 2};
+    if (langtag_unknown_modifier(name.at, name.len, &modifier)) {
+        put_word(to, " "), put(to, name.at + modifier.start, modifier.len);
+        if (name.at[modifier.start - 1] != '@' || modifier.start + modifier.len != name.len) put_word(to, " in another place");
+        return;
+    }
+    put_word(to, " -");
+    if (modifier.start != 1 || modifier.len != 2) put_word(to, " and a modifier");
+}
+
 static void answer_right_to_left(text *to, const text *arguments) {
     text a = arguments[0];
     bool is_tag = langtag_kind(a.at, a.len) != LANGTAG_NONE;
@@ -180,7 +206,7 @@ static void answer_refused(text *to, const text *arguments) {
         [LANGTAG_REFUSED_END] = "end",
     };
     text a = arguments[0];
-    langtag_span subtag = {1, 2}; /* what is out is not read */
+    langtag_span subtag = {1, 2}; /* the call does not read an out argument */
     size_t offset = 3;
     uint32_t answer = langtag_refused(a.at, a.len, &subtag, &offset);
     put_word(to, " "), put_word(to, NAMED(names, answer));
@@ -195,14 +221,14 @@ static void answer_viable(text *to, const text *arguments) {
     put_number(to, "", langtag_stop(a.at, a.len));
 }
 
-/* Where each part of a normal tag ends, also of one that is absent. */
+/* Where each part of a normal tag ends, including absent parts. */
 static void put_ends(text *to, langtag_parts parts) {
     const langtag_span spans[] = {parts.language, parts.script,     parts.region,
                                   parts.variants, parts.extensions, parts.private_use};
     for (size_t k = 0; k < sizeof spans / sizeof *spans; k++) put_number(to, "", spans[k].start + spans[k].len);
 }
 
-/* How many bytes decide the text, how many of its fronts are tags, and what it is. */
+/* How many bytes have to be read, how many prefixes are tags, and the kind of the text. */
 static void answer_scan(text *to, const text *arguments) {
     text a = arguments[0];
     size_t tags = 0;
@@ -254,7 +280,8 @@ static uint32_t part_named(text name) {
     return part;
 }
 
-/* Into more room than is wanted, of which only the new tag may change a byte, and into too little. */
+/* Writes to a buffer that is too long, in which the call may change only the bytes of the new tag, and to a buffer that is too
+ * short. */
 static void put_edited(text *to, text tag, uint32_t part, text given) {
     size_t room = tag.len + given.len + 2, at;
     char *buffer = malloc(room);
@@ -274,7 +301,7 @@ static void put_edited(text *to, text tag, uint32_t part, text given) {
     free(buffer);
 }
 
-/* In C the empty text takes any part out, as `none` does: of a script, a region and a private use part there is no other. */
+/* In C the empty text removes any part, as `none` does. A script, a region and a private-use part are never empty. */
 static void answer_edit(text *to, const text *arguments) {
     text tag = arguments[0], given = arguments[2];
     uint32_t part = part_named(arguments[1]);
@@ -286,7 +313,7 @@ static void answer_edit(text *to, const text *arguments) {
 
 enum { MOST_TAGS = 64 };
 
-/* The tags of a text as spans of it, and one more that reaches out of it. */
+/* The tags of a text as spans of it, and one more span that reaches beyond the text. */
 static size_t find_tags(text words, langtag_span *tags) {
     size_t count = 0;
     for (size_t at = 0; at < words.len && count < MOST_TAGS - 1;) {
@@ -306,7 +333,7 @@ static void put_tag(text *to, text words, const langtag_span *tags, size_t count
     else put_word(to, index == count ? " -" : " beyond the tags");
 }
 
-/* The tag that a call chooses, also beside a span out of the text. */
+/* The tag that a call chooses, without and with a span that reaches beyond the text. */
 static void put_chosen(text *to, choice *choose, text header, text words) {
     langtag_span tags[MOST_TAGS];
     size_t count = find_tags(words, tags);
@@ -316,7 +343,7 @@ static void put_chosen(text *to, choice *choose, text header, text words) {
     if (again != (index < count ? index : count + 1)) put_word(to, " but another beside a span out of the text");
 }
 
-/* Strictly: the tag, or which element is bad. */
+/* The result of the strict call: the tag, or the malformed element. */
 static void put_strictly(text *to, text header, text words) {
     langtag_span tags[MOST_TAGS], bad;
     size_t count = find_tags(words, tags), index, commas = 0;
@@ -338,7 +365,7 @@ static void answer_header(text *to, const text *arguments) {
     put_word(to, " |"), put_chosen(to, langtag_tag_for_header_lenient, arguments[0], arguments[1]);
 }
 
-/* Ranges are a header with commas between, each without its "-*". */
+/* Makes a header from ranges: they are joined by commas, and each "-*" is removed. */
 static void answer_ranges(text *to, const text *arguments) {
     text header = {NULL, 0, 0};
     put(&header, "", 0);
@@ -361,7 +388,7 @@ static void answer_keyword(text *to, const text *arguments) {
     else put_word(to, value.start == 1 && value.len == 2 ? " -" : " - with a span");
 }
 
-/* KEY=VALUE of each, and whether each is found by its key. */
+/* Writes KEY=VALUE for each, and checks that each is found by its key. */
 static int put_pairs(text *to, text tag, next_pair *next, find_value *find) {
     size_t passed = 0;
     langtag_span key, value, found;
@@ -379,7 +406,7 @@ static void answer_keywords(text *to, const text *arguments) {
     if (put_pairs(to, arguments[0], langtag_next_keyword, langtag_keyword) == 0) put_word(to, " -");
 }
 
-/* Each once: those that equal an earlier one are left out. */
+/* Writes each attribute once: an attribute that equals an earlier one is left out. */
 static void answer_attributes(text *to, const text *arguments) {
     text tag = arguments[0];
     langtag_span rest, one, earlier, before, all;
@@ -405,7 +432,7 @@ static void answer_transform(text *to, const text *arguments) {
 
 static void answer_best(text *to, const text *arguments) { put_chosen(to, langtag_best_for_header, arguments[0], arguments[1]); }
 
-/* Also beside spans out of the texts. */
+/* Also with spans that reach beyond the texts. */
 static void answer_best_ranges(text *to, const text *arguments) {
     langtag_span ranges[MOST_TAGS], tags[MOST_TAGS];
     const text *from = &arguments[0], *words = &arguments[1];
@@ -416,7 +443,7 @@ static void answer_best_ranges(text *to, const text *arguments) {
     if (again != (index < count ? index : count + 1)) put_word(to, " but another beside spans out of the texts");
 }
 
-/* The index, the distance and the range; all is written also where there is none. */
+/* The index, the distance and the range. All out arguments are written even if no tag is suitable. */
 static void answer_best_match(text *to, const text *arguments) {
     langtag_span tags[MOST_TAGS];
     text header = arguments[0], words = arguments[1];
@@ -437,10 +464,12 @@ static void answer_best_match(text *to, const text *arguments) {
 call calls[] = {
     {"tag", answer_tag, 0, 0},
     {"validity", answer_validity, 0, 0},
+    {"suggestion", answer_suggestion, 0, 0},
     {"canonical", answer_canonical, 0, 0},
     {"maximized", answer_maximized, 0, 0},
     {"minimized", answer_minimized, 0, 0},
     {"posix", answer_posix, 0, 0},
+    {"unknown-modifier", answer_unknown_modifier, 0, 0},
     {"right-to-left", answer_right_to_left, 0, 0},
     {"distance", answer_distance, 0, 0},
     {"grandfathered", answer_grandfathered, 0, 0},

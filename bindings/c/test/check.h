@@ -1,4 +1,4 @@
-/* What the test files share. */
+/* The macros that the test files share. */
 #ifndef CHECK_H
 #define CHECK_H
 

@@ -1,7 +1,7 @@
 /* langtag_eq, langtag_cmp and langtag_hash */
 #include "check.h"
 
-/* What is changed between two calls is read again: LANGTAG_PURE is not `const`. */
+/* A text that changes between two calls is read again: LANGTAG_PURE does not mean `const`. */
 static void changed_bytes(void) {
     static char text[] = "de-DE-1996";
     size_t len = sizeof text - 1;

@@ -1,4 +1,4 @@
-// What C++ makes of the header: its types by their names, and a text without a pointer.
+// Tests langtag.h in C++: the names of its types, and langtag_bytes for a null pointer.
 #include <langtag.h>
 
 int main() {

@@ -1,7 +1,7 @@
 /*
- * Tests of the C interface: test CALLS FILE FLOOR .. asks the rows of each file, of which there have to be as many as its floor,
- * and tests by hand what they do not have, the edges of inputs and what stays as it was. test --answer CALLS answers the calls
- * of the standard input. CALLS is rows/calls.txt.
+ * Tests of the C interface. `test CALLS FILE FLOOR ..` runs the rows of each file, which has to have at least FLOOR rows. It also
+ * runs tests written by hand for what the rows do not have: limits of inputs, and arguments that have to stay unchanged.
+ * `test --answer CALLS` answers the calls of standard input. CALLS is rows/calls.txt.
  */
 #include "check.h"
 #include "rows.h"

@@ -12,7 +12,7 @@ static bool all_are_zero(void) {
     return memcmp(&parts, &none, sizeof none) == 0;
 }
 
-/* What is absent, where the table shows nothing. */
+/* The spans of absent parts, which the rows do not have. */
 static void absent_parts(void) {
     CHECK(parse(TEXT("en-x-a")) == LANGTAG_NORMAL);
     CHECK(parts.script.start == 2 && parts.script.len == 0 && parts.extensions.start == 2 && parts.extensions.len == 0);
@@ -31,7 +31,7 @@ static void edges(void) {
     CHECK(langtag_kind(langtag_bytes(NULL), 0) == LANGTAG_NONE);
 }
 
-/* What a call writes whatever it answers. */
+/* What a call writes whatever it returns. */
 static void written_always(void) {
     static const char *const texts[] = {"", "en_US", "de", "i-klingon", "de-1996-u-co-phonebk", "de-1996-1996"};
     for (size_t k = 0; k < sizeof texts / sizeof *texts; k++) {
@@ -42,7 +42,7 @@ static void written_always(void) {
     }
 }
 
-/* Numbers that are no answer to a text. */
+/* Calls that return a number and take no text. */
 static void versions(void) {
     uint32_t date = langtag_registry_date();
     CHECK(date / 10000 > 2000 && date / 100 % 100 - 1 < 12 && date % 100 - 1 < 31);

@@ -1,4 +1,4 @@
-/* Reads rows, and compares what the calls answer. */
+/* Reads rows, and compares their results with the answers of the calls. */
 #include "rows.h"
 
 #include "check.h"
@@ -17,7 +17,7 @@ void put(text *to, const char *bytes, size_t len) {
 
 void put_word(text *to, const char *word) { put(to, word, strlen(word)); }
 
-/* Puts a line with each {N:piece} written out. */
+/* Appends a line in which each {N:piece} is expanded. */
 static void put_expanded(text *to, const char *line, size_t len) {
     const char *end = line + len;
     while (line < end) {
@@ -33,7 +33,7 @@ static void put_expanded(text *to, const char *line, size_t len) {
     }
 }
 
-/* Takes a field off a row, up to the next bar. */
+/* Removes a field from a row, up to the next bar. */
 static text take_field(const char **row) {
     const char *end = strstr(*row, " | ");
     size_t len = end ? (size_t)(end - *row) : strlen(*row);
@@ -42,7 +42,7 @@ static text take_field(const char **row) {
     return field;
 }
 
-/* The bytes of a field, in memory of their number, so that a sanitizer sees who reads behind them. */
+/* Returns the bytes of a field in a block of exactly their number, so that a sanitizer finds reads beyond the end. */
 static text argument_of(text word) {
     text out = {malloc(word.len ? word.len : 1), 0, word.len};
     const char *at = word.at, *end = at + word.len;
@@ -72,7 +72,7 @@ static void tell(const char *name, int line, const char *row, const char *wanted
     if (told++ < 3) printf("%s:%d: %.300s\n  wanted%.300s\n  found %.300s\n", name, line, row, wanted, found);
 }
 
-/* Asks one row, with the lines that belong to it behind it. */
+/* Runs one row, with the lines after it that belong to it. */
 static bool ask(const char *name, int line, const char *row, const char *more) {
     const char *rest = row;
     text arguments[ARGUMENTS], found = {NULL, 0, 0}, wanted = {NULL, 0, 0};

@@ -1,7 +1,7 @@
 /*
- * Asks langtag.hpp the rows that the tests of all languages read: rows FILE FLOOR .. A row whose answer is another is
- * told, three at most; a row without an answer is written with one; and a file in which fewer rows than its floor were
- * asked, or a call that no row asks, is a failure. The files say their form.
+ * Runs the rows that the tests of all languages read with langtag.hpp: rows FILE FLOOR .. . At most three rows that differ are
+ * printed. A row without an answer is printed with its answer. It fails if a file has fewer rows than its FLOOR, or if no row has a
+ * call that C++ has. rows/README.md describes the form of the files.
  */
 #include <langtag.hpp>
 
@@ -14,7 +14,7 @@
 using langtag::tag;
 using strings = std::vector<std::string>;
 
-/* What a row says of the text that follows. */
+/* Appends a line with the name and the subtags of a part, unless the part is empty. */
 static void say(std::string &out, const char *name, std::string_view part) {
     if (part.empty()) return;
     out.append("\n  ").append(name);
@@ -81,7 +81,8 @@ static std::string validity_of(const strings &asked) {
     const std::string subtag(wrong->subtag), at = " " + std::to_string(wrong->start) + " " + subtag;
     if (wrong->subtag.data() != one->text().data() + wrong->start) return "another offset than" + at;
     const auto said = [&](const char *name, const char *what, const char *how) {
-        const std::string message = std::string(what) + " " + subtag + " is " + how;
+        const std::string code = wrong->suggestion();
+        const std::string message = std::string(what) + " " + subtag + " is " + how + (code.empty() ? "" : ": did you mean " + code + "?");
         return wrong->message() == message ? name + at : name + at + ", and says: " + wrong->message();
     };
     switch (wrong->fault) {
@@ -95,6 +96,13 @@ static std::string validity_of(const strings &asked) {
     case langtag::fault::repeated_singleton: return said("repeated-singleton", "singleton", "repeated");
     }
     return "unknown" + at;
+}
+
+static std::string suggestion_of(const strings &asked) {
+    const auto one = tag::parse(asked[0]);
+    const auto wrong = one ? one->invalid_subtag() : std::nullopt;
+    const std::string code = wrong ? wrong->suggestion() : "";
+    return code.empty() ? "-" : code;
 }
 
 static std::string canonical_of(const strings &asked) {
@@ -119,7 +127,7 @@ static std::string viable_of(const strings &asked) {
     return std::to_string(langtag::viable(asked[0])) + " " + std::to_string(langtag::stop(asked[0]));
 }
 
-/* How many bytes decide the text, how many of its fronts are tags, and what it is, with the ends of its parts. */
+/* Returns how many bytes have to be read, how many prefixes are tags, and the kind of the text with the ends of its parts. */
 static std::string scan_of(const strings &asked) {
     const std::string_view text = asked[0];
     const auto one = tag::parse(text);
@@ -135,7 +143,7 @@ static std::string scan_of(const strings &asked) {
     return out;
 }
 
-/* Bytes as the rows have them. */
+/* Returns bytes as the rows have them. */
 static std::string escaped(const std::string &text) {
     std::string out = text.empty() ? "''" : "";
     char digits[8];
@@ -165,7 +173,7 @@ static std::string match_of(const strings &asked) {
     return basic ? extended ? "both" : "basic" : extended ? "extended" : "neither";
 }
 
-/* Of tags; none where a text is not one. */
+/* Returns the answer for tags, or an empty text if one of the texts is not a tag. */
 static std::string order_of(const strings &asked) {
     const auto one = tag::parse(asked[0]), other = tag::parse(asked[1]);
     if (!one || !other) return "";
@@ -223,7 +231,7 @@ static std::string ranges_of(const strings &asked) {
     return found_or_default(langtag::look_up(ranges, tags_of(texts)));
 }
 
-/* With a part set; and where a tag has no parts, with no part set. An empty text takes each part out, as `none` does. */
+/* Returns the tag with one part set, or the answer for a tag without parts. An empty text removes any part, as `none` does. */
 static std::string edit_of(const strings &asked) {
     using langtag::part;
     static const std::map<std::string, part> parts = {
@@ -284,6 +292,10 @@ static std::string distance_of(const strings &asked) {
 
 static std::string posix_of(const strings &asked) { return langtag::from_posix(asked[0]).value_or("-"); }
 
+static std::string unknown_modifier_of(const strings &asked) {
+    return std::string(langtag::unknown_modifier(asked[0]).value_or("-"));
+}
+
 static std::string best_of(const strings &asked) {
     const strings texts = split(asked[1], " ");
     const auto best = langtag::best_for_header(asked[0], tags_of(texts));
@@ -307,7 +319,7 @@ static std::string keyword_of(const strings &asked) {
     return !value ? "-" : value->empty() ? "''" : std::string(*value);
 }
 
-/* KEY=VALUE of each, and whether each is found by its key. */
+/* Returns KEY=VALUE for each, and checks that each is found by its key. */
 static std::string said_of(const std::vector<langtag::key_value> &pairs,
                            const std::function<std::optional<std::string_view>(std::string_view)> &find) {
     std::string out;
@@ -324,7 +336,7 @@ static std::string keywords_of(const strings &asked) {
     return said_of(one->keywords(), [&](std::string_view key) { return one->keyword(key); }).substr(1);
 }
 
-/* Each once. */
+/* Returns each attribute once. */
 static std::string attributes_of(const strings &asked) {
     const auto one = tag::parse(asked[0]);
     strings seen;
@@ -355,10 +367,11 @@ static std::string best_match_of(const strings &asked) {
     return std::to_string(match->index) + ' ' + std::to_string(match->distance) + ' ' + std::string(match->range);
 }
 
-using answer = std::string (*)(const strings &asked); /* empty where C++ does not answer */
+using answer = std::string (*)(const strings &asked); /* returns an empty text if C++ has no answer */
 static const std::map<std::string, answer> calls = {
     {"tag", tag_of},
     {"validity", validity_of},
+    {"suggestion", suggestion_of},
     {"canonical", canonical_of},
     {"viable", viable_of},
     {"range", range_of},
@@ -376,6 +389,7 @@ static const std::map<std::string, answer> calls = {
     {"right-to-left", right_to_left_of},
     {"distance", distance_of},
     {"posix", posix_of},
+    {"unknown-modifier", unknown_modifier_of},
     {"best", best_of},
     {"best-ranges", best_of_ranges},
     {"keyword", keyword_of},
@@ -385,7 +399,7 @@ static const std::map<std::string, answer> calls = {
     {"best-match", best_match_of},
 };
 
-/* A line with each {N:piece} written out. */
+/* Returns a line in which each {N:piece} is expanded. */
 static std::string expand(const std::string &line) {
     std::string out;
     std::size_t from = 0;
@@ -399,7 +413,7 @@ static std::string expand(const std::string &line) {
     return out.append(line, from, line.npos);
 }
 
-/* The bytes of a word: '' is empty, and \xNN a byte. */
+/* Returns the bytes of a word: '' is the empty text, and \xNN a byte. */
 static std::string unescape(const std::string &word) {
     if (word == "''") return "";
     const strings pieces = split(word, "\\x");
@@ -418,7 +432,7 @@ static std::string join(const strings &words, std::size_t from, const std::strin
 static std::map<std::string, int> times_asked;
 static int differing;
 
-/* How many arguments each call has, from rows/calls.txt. */
+/* Returns the number of arguments of each call, from rows/calls.txt. */
 static std::map<std::string, std::size_t> counts;
 
 static void read_counts(const char *name) {
@@ -427,7 +441,7 @@ static void read_counts(const char *name) {
         if (!line.empty() && line[0] != '#') counts[line.substr(0, line.find(' '))] = std::stoul(line.substr(line.find(' ')));
 }
 
-/* Asks one row, the lines that belong to it behind it. */
+/* Runs one row, with the lines after it that belong to it. */
 static bool ask(const std::string &place, const std::string &row, const std::string &more) {
     const strings fields = split(row, " | ");
     const auto call = calls.find(fields[0]);

@@ -1,5 +1,5 @@
-/* The rows that the tests of all languages read, a call with its arguments and its answer. They stand in rows/,
- * whose README says their form. */
+/* Reads the rows that the tests of all languages run: a call with its arguments and its answer. They are in rows/, whose README
+ * describes their form. */
 #ifndef ROWS_H
 #define ROWS_H
 
@@ -7,7 +7,7 @@
 #include <stddef.h>
 #include <stdio.h>
 
-/* Bytes that grow, with a NUL behind them. An argument has just its own bytes. */
+/* A growing array of bytes that ends in NUL. An argument has exactly its own bytes, without NUL. */
 typedef struct text {
     char *at;
     size_t len, room;
@@ -16,7 +16,8 @@ typedef struct text {
 void put(text *to, const char *bytes, size_t len);
 void put_word(text *to, const char *word);
 
-/* A call of the rows. Its answer is put as the rows have it, with a blank before each word; none where C has none. */
+/* A call of the rows. Its answer is written in the form of the rows, with a space before each word, or not at all if C has no such
+ * call. */
 typedef struct call {
     const char *name;
     void (*answer)(text *to, const text *arguments);
@@ -25,14 +26,14 @@ typedef struct call {
 
 enum { ARGUMENTS = 3 };
 
-/* Every call, and after them one without a name. */
+/* All calls. The last entry has no name. */
 extern call calls[];
 
-/* Reads how many arguments each call has, from rows/calls.txt. False where the file is not there. */
+/* Reads the number of arguments of each call from rows/calls.txt. Returns false if there is no such file. */
 bool read_calls(const char *name);
 
-/* Asks each row, counts those that differ as failures, and tells three of them; a row without an answer is written with
- * one. Returns how many rows were asked. */
+/* Runs each row, counts rows that differ as failures, and prints the first three of them. Prints a row without an answer with its
+ * answer. Returns how many rows were run. */
 int ask_rows(FILE *file, const char *name);
 
 #endif

@@ -1,4 +1,4 @@
-/* Must not compile: the tag would be a view of a string that is gone at the end of the line. */
+/* This must not compile: the tag would be a view of a string that is destroyed at the end of the line. */
 #include <langtag.hpp>
 
 int main() {

@@ -1,4 +1,4 @@
-/* What only langtag.hpp has: views, and what they must not be of, walks, and tags as keys. rows.cc asks it the rows. */
+/* Tests what only langtag.hpp has: views, texts of which no view may be made, walks, and tags as keys. rows.cc runs the rows. */
 #include <langtag.hpp>
 
 #include <cstdio>
@@ -15,7 +15,7 @@ static int failures;
 
 using langtag::tag;
 
-/* A text may be given, or it can't: a temporary string is gone before the view of it is used. */
+/* Whether a type of text is accepted. A temporary string is not, since it is destroyed before its view is used. */
 template <class Text, class = void> struct is_viewed : std::false_type {};
 template <class Text>
 struct is_viewed<
@@ -37,7 +37,7 @@ static_assert(!std::is_constructible<langtag::accept_language, std::string>::val
 static_assert(!std::is_constructible<langtag::subtags, std::string>::value);
 static_assert(!std::is_constructible<langtag::extensions, const std::string>::value);
 
-/* A list of tags may be given, or it can't: a temporary one that owns its texts. */
+/* Whether a type of list is accepted. A temporary list that owns its texts is not. */
 template <class List, class = void> struct is_listed : std::false_type {};
 template <class List>
 struct is_listed<List, std::void_t<decltype(langtag::best_for_header("de", std::declval<List>())),
@@ -115,7 +115,7 @@ static void check_keys() {
     CHECK(!one->with({{langtag::part::script, "Latin"}, {langtag::part::region, "AT"}}) && one->with({}) == "de-CH");
 }
 
-/* A map of tags is asked by what need not own a text. */
+/* A map of tags can be searched by values that do not own a text. */
 static void check_lookups() {
     std::map<langtag::owned_tag, int, std::less<>> owners;
     std::map<tag, int, std::less<>> views;
@@ -145,6 +145,9 @@ static void check_refused() {
     const auto byte = langtag::refused("zh-de_CH");
     CHECK(byte && byte->start == 3 && byte->offset == 5 && byte->subtag == "de_CH");
     CHECK(tag::parse("de-1996-FQ") == std::nullopt && tag::parse("de-FQ")->invalid_subtag()->start == 3);
+    const auto meant = [](const char *text) { return tag::parse(text)->invalid_subtag()->suggestion(); };
+    CHECK(meant("ger-AT") == "de" && meant("en-uk") == "GB" && meant("en-840") == "US" && meant("hbs").empty() && meant("fr-FQ").empty());
+    CHECK(tag::parse("en-UK")->invalid_subtag()->message() == "region UK is not registered: did you mean GB?");
     CHECK(shown("de_CH") == "de_CH 2 invalid character '_': expected a letter, a digit or a hyphen");
     CHECK(shown("de--AT") == " 3 empty subtag" && shown("en-a") == " 4 unexpected end: expected a subtag" && shown({}) == " 0 unexpected end: expected a subtag");
 }
@@ -163,10 +166,12 @@ static void check_likely() {
     CHECK(match && match->index == 2 && match->tag.text().data() == other->text().data() && match->range == "zh_TW" && match->distance == 0);
     CHECK(!langtag::match_for_header({}, tags) && !langtag::match_for_header("en", {}) && !langtag::match_for_header("fi", tags));
     CHECK(langtag::from_posix("sr_RS@latin") == "sr-Latn-RS" && !langtag::from_posix("C") && !langtag::from_posix({}));
+    const std::string name = "de_DE.UTF-8@Foo";
+    CHECK(langtag::unknown_modifier(name)->data() == name.data() + 12 && !langtag::unknown_modifier("sr_RS@latin") && !langtag::unknown_modifier({}));
     CHECK(langtag::cldr_version() == langtag_cldr_version());
 }
 
-/* The lists that hold tags. What is no tag is passed over. */
+/* Lists that contain tags. Texts that are not tags are skipped. */
 static void check_lists() {
     const char *header = "zh-TW,de;q=0.5";
     std::vector<langtag::owned_tag> owners;

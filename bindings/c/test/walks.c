@@ -18,7 +18,7 @@ static void whole_walks(void) {
     CHECK(!langtag_next_extension(text, len, &rest, &got) && is(text, got, "t-en"));
 }
 
-/* An empty subtag is returned where a hyphen follows it, and not at the end. */
+/* An empty subtag is returned if a hyphen follows it, but not at the end. */
 static void empty_subtags(void) {
     langtag_span rest = {0, 2}, got;
     CHECK(langtag_next_subtag("a-", 2, &rest, &got) && got.len == 1 && !langtag_next_subtag("a-", 2, &rest, &got));
@@ -42,7 +42,7 @@ static void spans_from_elsewhere(void) {
     }
 }
 
-/* The example of RFC 4647 section 3.4, and what ends in a single character. */
+/* The example of RFC 4647 section 3.4, and ranges that end in a subtag of one character. */
 static void fallbacks(void) {
     static const char *const walks[][6] = {
         {"zh-Hant-CN-x-private1-private2", "zh-Hant-CN-x-private1", "zh-Hant-CN", "zh-Hant", "zh", NULL},
@@ -62,7 +62,7 @@ static void fallbacks(void) {
     }
 }
 
-/* What each element of a header is: its answer, where it stands, and its weight. */
+/* The elements of a header: the answer of the call, the span, and the weight. */
 static void elements(void) {
     static const struct {
         uint32_t answer;

@@ -3,7 +3,7 @@
  *
  *     curl 'localhost:8080/?lang=sr'; curl -H 'Accept-Language: ger-CH, fr;q=0.5' localhost:8080
  *
- * The language is the one that the reader picked (?lang=, kept in a cookie), or else the best one for the browser's header.
+ * The language is the reader's choice (?lang=, kept in a cookie), or else the best language for the browser's header.
  */
 import { createServer } from "node:http";
 import { LanguageTag, matchForHeader } from "langtag-verified";
@@ -12,7 +12,8 @@ const PAGES = new Map([["en", "Hello"], ["de", "Guten Tag"], ["sr-Latn", "Dobar 
 const TAGS = [...PAGES.keys()];
 const SAME = 16; // from this distance on, a tag is of another language
 
-/** The language that the reader picked. One that is only near it was not picked: ?lang=tlh is not English. */
+/** Returns the language that the reader picked. A language that is only near the picked one does not count: ?lang=tlh is not
+ *  English. */
 function picked(request) {
     const asked = new URL(request.url, "http://localhost").searchParams.get("lang");
     const kept = /(?:^|; )lang=([\w-]*)/.exec(request.headers.cookie)?.[1];

@@ -1,11 +1,11 @@
-/* What the page shows of the texts that are typed: by textContent alone, so that each stands there as a text. */
+/* Shows the results for the texts that are typed. It sets only textContent, so a text is never read as HTML. */
 import {
     AcceptLanguage, AcceptLanguageError, bestForHeader, describe, distance, InvalidTag, LanguageRange, LanguageTag, REGISTRY_DATE, tagForHeaderLenient,
 } from "../index.js";
 
 const find = (id) => document.getElementById(id);
 
-/** An element with a class, and texts or elements in it. */
+/** Returns an element with a class, which contains texts or elements. */
 function made(name, className, ...children) {
     const element = document.createElement(name);
     if (className) element.className = className;
@@ -13,10 +13,10 @@ function made(name, className, ...children) {
     return element;
 }
 
-/** So many ranges and tags are shown, the first of more. */
+/** At most this many ranges and tags are shown. */
 const MOST = 100;
 
-/** What is shown of a text: all but the middle of a very long one, which stays in its field. */
+/** Returns a text as it is shown: without its middle if it is very long. The field keeps the whole text. */
 const short = (text) => (text.length > 1000 ? `${text.slice(0, 500)}…${text.slice(-400)}` : text);
 const cell = (text, className) => made("td", className, short(text));
 
@@ -25,7 +25,7 @@ const PARTS = [
     ["extensions", "extensions", "2.2.6"], ["private use", "private", "2.2.7"],
 ];
 
-/** The parts of a tag that there are: name, class, text, section. */
+/** Returns the parts that a tag has: name, class, text, section. */
 function partsOf(tag) {
     const extensions = [...tag.extensions].map(([singleton, subtags]) => [singleton, ...subtags].join("-")).join("-");
     const { language, script, region } = tag;
@@ -39,17 +39,17 @@ function partsOf(tag) {
     return parts.filter((part) => part.text);
 }
 
-/** Shows a text as it is typed, in pieces with classes; those without a class stand between them. */
+/** Shows a text as it is typed, in pieces. Only some pieces have a class. */
 function showPieces(id, pieces) {
     find(id).replaceChildren(...pieces.filter(([text]) => text !== "").map(([text, className]) => (className ? made("b", className, short(text)) : short(text))));
 }
 
-/** A piece of which some is wrong, as three pieces. */
+/** Splits a piece into three, of which the middle one is wrong. */
 function markedIn(text, className, begin, end) {
     return [[text.slice(0, begin), className], [text.slice(begin, end), `${className} invalid`], [text.slice(end), className]];
 }
 
-/** What may stand behind a front of a text: the part that it is of, whether it is all of the part, and an example. */
+/** The subtags that may follow a beginning of a tag: their part, whether the example is the whole part, and an example. */
 const EXAMPLES = [
     ["a language, of two to eight letters", "language", true, "de"],
     ["an extended language, of three letters", "extended language", false, "yue"],
@@ -62,7 +62,8 @@ const EXAMPLES = [
     ["private use, x with subtags behind it", "private use", true, "x-mine"],
 ];
 
-/** What could stand behind a front: of each kind of subtag, whether the library takes an example as one of that part. */
+/** Returns the descriptions of the subtags that may follow a beginning of a tag: the library has to accept the example as such a
+ *  part. */
 function couldStand(front) {
     return EXAMPLES.filter(([, name, isWhole, example]) => {
         if (!LanguageTag.canParse(front + example)) return false;
@@ -71,17 +72,17 @@ function couldStand(front) {
     }).map(([told, , , example]) => `${told}: ${example}`);
 }
 
-/** Shows a text of which some is refused, or that something is missing. */
+/** Shows which part of a text is refused, or that something is missing. */
 function showBroken(id, text, begin, end) {
     showPieces(id, [[text.slice(0, begin)], [text.slice(begin, end) || "…", "refused"], [text.slice(end)]]);
 }
 
-/** The character at an offset, of one unit or two; "" at the end. */
+/** Returns the character at an offset, which has one or two code units, or "" at the end. */
 const characterAt = (text, offset) => (offset < text.length ? String.fromCodePoint(text.codePointAt(offset)) : "");
 
 function showRefused(text, error) {
     const refused = /^[0-9a-z]+$/i.test(error.subtag ?? "") ? error.subtag : ""; // else one character of it
-    const place = [...text.slice(0, error.offset)].length + 1; // as people count
+    const place = [...text.slice(0, error.offset)].length + 1; // counted from 1
     if (text === "") find("tag-text").replaceChildren();
     else showBroken("tag-text", text, error.offset, error.offset + (refused || error.subtag && characterAt(text, error.offset) || "").length);
     find("tag-summary").textContent = text === "" ? "Type a tag." : `Not a tag: ${error.reason}${error.offset < text.length ? ` (character ${place})` : ""}.`;
@@ -127,7 +128,7 @@ function showTag() {
     find("tag-forms").replaceChildren(...forms.flatMap(([name, form, className]) => [made("dt", "", name), made("dd", className, short(String(form)))]));
 }
 
-/** The tags at hand; words that are none are told, and left out. */
+/** Returns the tags of the list. Words that are not tags are reported, and left out. */
 function readTags() {
     const words = find("tags").value.split(/[\s,]+/).filter(Boolean);
     const bad = words.filter((word) => !LanguageTag.canParse(word));
@@ -136,7 +137,7 @@ function readTags() {
     return words.filter((word) => LanguageTag.canParse(word)).map((word) => LanguageTag.parse(word));
 }
 
-/** How far the tags are from a range that is a tag. */
+/** Returns the distances of the tags from a range that is a tag. */
 function distances(range, tags) {
     if (!LanguageTag.canParse(range)) return "";
     const told = tags.slice(0, 20).map((tag) => `${short(tag.text)} ${distance(range, tag)}`);

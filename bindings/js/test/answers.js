@@ -1,7 +1,7 @@
-/* What the package answers to a row, in the row's words. It runs in Node and in a page. */
+/* Returns the package's answer to a row, in the form of the rows. It runs in Node and in a web page. */
 import {
     AcceptLanguage, AcceptLanguageError, bestForHeader, bestForRanges, distance, EditError, GRANDFATHERED, InvalidRange, InvalidTag, matchForHeader,
-    LanguageRange, LanguageTag, lookUp, stopLength, tagForHeader, tagForHeaderLenient, viableLength,
+    LanguageRange, LanguageTag, lookUp, stopLength, tagForHeader, tagForHeaderLenient, unknownModifier, viableLength,
 } from "../index.js";
 import * as calls from "../calls.js";
 
@@ -12,7 +12,7 @@ function assert(holds, what) {
     if (!holds) throw new Error(`not so: ${what}`);
 }
 
-/** What is made of a text; undefined where it is refused, by an error that tells it. */
+/** Returns what a constructor makes of a text, or undefined if it refuses the text. The error has to contain the text. */
 function made(type, text) {
     try {
         const value = type.parse(text);
@@ -49,9 +49,10 @@ function answerTag(text) {
     return lines.join("\n");
 }
 
-/** Of a tag, the extensions that a map holds, by small singletons, the first of each; and no offsets of repeats. */
+/** Returns the answer as JavaScript gives it: of the extensions of a tag only the first of each singleton, in lowercase, and no
+ *  offsets of repeats. */
 export function adapted({ call, wanted }) {
-    if (call === "keywords" || call === "transform") return wanted.replace(/\w\w=/g, (key) => key.toLowerCase()); // a map has small keys
+    if (call === "keywords" || call === "transform") return wanted.replace(/\w\w=/g, (key) => key.toLowerCase()); // a map has lowercase keys
     if (call !== "tag") return wanted;
     const lines = wanted.split("\n").filter((line) => !line.startsWith("  at_"));
     return lines.map((line) => {
@@ -83,9 +84,12 @@ function answerValidity(text) {
     assert(tag.isValid === (wrong === undefined), "valid");
     if (wrong === undefined) return "valid";
     assert(text.startsWith(wrong.subtag, wrong.start), "the subtag");
-    assert(String(wrong) === FAULTS[wrong.fault].replace("SUBTAG", wrong.subtag), String(wrong));
+    const meant = wrong.suggestion ? `: did you mean '${wrong.suggestion}'?` : "";
+    assert(String(wrong) === FAULTS[wrong.fault].replace("SUBTAG", wrong.subtag) + meant, String(wrong));
     return `${wrong.fault} ${wrong.start} ${wrong.subtag}`;
 }
+
+const answerSuggestion = (text) => made(LanguageTag, text)?.invalidSubtag?.suggestion ?? "-";
 
 function answerCanonical(text) {
     const tag = made(LanguageTag, text);
@@ -101,7 +105,7 @@ function answerGrandfathered(text) {
     return `${found === undefined ? 26 : GRANDFATHERED.indexOf(found)} ${kindOf(text)}`;
 }
 
-/** How many bytes decide the text, how many of its fronts are tags, and what it is, with the ends of its parts. */
+/** Returns how many bytes have to be read, how many prefixes are tags, and the kind of the text with the ends of its parts. */
 function answerScan(text) {
     const tag = made(LanguageTag, text);
     let fronts = 0;
@@ -109,7 +113,7 @@ function answerScan(text) {
     const what = [stopLength(text), fronts, kindOf(text)];
     if (tag?.kind === "irregular") what.push(GRANDFATHERED.indexOf(tag.grandfathered));
     if (tag?.kind === "normal") {
-        if (tag.repeatedSingleton !== undefined) return undefined; // of one singleton, a map has the first extension alone
+        if (tag.repeatedSingleton !== undefined) return undefined; // a map has only the first extension of a singleton
         const extensions = [...tag.extensions].map(([key, subtags]) => [key, ...subtags].join("-")).join("-");
         let end = tag.language.length;
         what.push(end);
@@ -213,7 +217,7 @@ function edited(tag, part, value) {
     }
 }
 
-/** By a text, and of variants by a list too. */
+/** Sets the part by a text, and variants also by a list. */
 function answerEdit(text, name, given) {
     const tag = LanguageTag.parse(text), part = name === "private_use" ? "privateUse" : name;
     const found = edited(tag, part, given === "none" ? null : given);
@@ -245,6 +249,7 @@ export const answers = {
     scan: answerScan,
     recommended: (text) => made(LanguageTag, text)?.toRecommended().toString(),
     validity: answerValidity,
+    suggestion: answerSuggestion,
     canonical: answerCanonical,
     grandfathered: answerGrandfathered,
     viable: (text) => `${viableLength(text)} ${stopLength(text)}`,
@@ -256,6 +261,7 @@ export const answers = {
     order: answerOrder,
     refused: answerRefused,
     posix: (name) => LanguageTag.fromPosix(name)?.text ?? "-",
+    "unknown-modifier": (name) => unknownModifier(name) ?? "-",
     "right-to-left": (text) => ({ true: "yes", false: "no", undefined: "-" })[made(LanguageTag, text)?.isRightToLeft],
     distance: answerDistance,
     best: answerBest,
@@ -268,4 +274,4 @@ export const answers = {
     edit: answerEdit,
 };
 
-export const FLOORS = { "table.txt": 360, "texts.txt": 710, "negotiation.txt": 102, "edits.txt": 125, "likely.txt": 200, "posix.txt": 75, "direction.txt": 300, "distance.txt": 130, "choices.txt": 275, "lists.txt": 15, "refused.txt": 60, "unicode.txt": 400 };
+export const FLOORS = { "table.txt": 360, "texts.txt": 710, "negotiation.txt": 102, "edits.txt": 125, "likely.txt": 200, "posix.txt": 150, "direction.txt": 300, "distance.txt": 130, "choices.txt": 275, "lists.txt": 15, "refused.txt": 60, "unicode.txt": 400 };

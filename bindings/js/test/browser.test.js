@@ -1,6 +1,6 @@
 /*
- * The rows and a worker in headless Chromium, which CHROMIUM names, under a content security policy. PACKAGE names a folder with the
- * package; else it is this one.
+ * Runs the rows and a worker in headless Chromium, which CHROMIUM names, under a content security policy. PACKAGE names a folder
+ * with the package; by default it is this folder.
  */
 import assert from "node:assert/strict";
 import { readFileSync } from "node:fs";
@@ -20,7 +20,7 @@ const PAGES = {
     "/worker.js": 'import { LanguageTag } from "/package/index.js"; onmessage = ({ data }) => postMessage(LanguageTag.parse(data).script);',
 };
 
-/** Where a path of the server stands. The rows' answers import ../index.js, which is the package's. */
+/** Returns the file for a path of the server. answers.js imports ../index.js, which is that of the package. */
 function fileOf(path) {
     if (path.startsWith("/package/test/")) return new URL(`bindings/js/test/${path.slice(14)}`, ROOT);
     if (path.startsWith("/package/")) return new URL(path.slice(9), PACKAGE);

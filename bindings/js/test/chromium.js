@@ -1,4 +1,4 @@
-/* Headless Chromium, by its protocol over a pipe: no library, and no port. */
+/* Controls headless Chromium by its protocol over a pipe, without a library and without a port. */
 import { spawn } from "node:child_process";
 import { mkdtempSync, rmSync } from "node:fs";
 import { tmpdir } from "node:os";
@@ -12,7 +12,7 @@ export class Chromium {
     #waiting = new Map();
     #next = 1;
     #session;
-    /** What a page asked the network for, wrote to its console as an error, or threw. */
+    /** The requests of a page to the network, the errors in its console, and its exceptions. */
     requests = [];
     errors = [];
 
@@ -64,14 +64,14 @@ export class Chromium {
         await loaded;
     }
 
-    /** The value of an expression, or of what it promises. */
+    /** Returns the value of an expression, or of its promise. */
     async value(expression) {
         const { result, exceptionDetails } = await this.send("Runtime.evaluate", { expression, awaitPromise: true, returnByValue: true });
         if (exceptionDetails) throw new Error(exceptionDetails.exception?.description ?? exceptionDetails.text);
         return result.value;
     }
 
-    /** How long a processor worked for the page, whatever else runs on the machine. */
+    /** Returns the processor time that the page took. It does not depend on what else runs on the machine. */
     async seconds() {
         const { metrics } = await this.send("Performance.getMetrics");
         return metrics.find(({ name }) => name === "ProcessTime").value;
@@ -89,5 +89,5 @@ export class Chromium {
     }
 }
 
-/** The program, where it is there: CHROMIUM names it. */
+/** The path of Chromium, which the variable CHROMIUM has; undefined if it is not set. */
 export const program = process.env.CHROMIUM;

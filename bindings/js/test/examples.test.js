@@ -1,4 +1,4 @@
-/* The examples that answer requests. */
+/* Tests the examples that answer requests. */
 import assert from "node:assert/strict";
 import { spawn } from "node:child_process";
 import { once } from "node:events";
@@ -11,7 +11,7 @@ const HEADERS = [
     ["zh-TW,zh;q=0.9,en;q=0.8", "zh-Hant"], ["de_CH, en;q=0.1", "de-CH"], [",,, ,de,", "de"],
 ];
 
-// The wish, the cookie, the header, the language of the page, and whether it is kept.
+// The language in the URL, the cookie, the header, the language of the page, and whether a cookie keeps it.
 const PAGES = [
     ["", "", "ger-CH, fr;q=0.5", "de", false], ["?lang=sr", "", "de", "sr-Latn", true], ["?lang=tlh", "", "de", "de", false],
     ["?lang=tlh", "lang=ar", "de", "ar", true], ["", "a=b; lang=zh_TW", "de", "zh-Hant", true], ["?lang=", "lang=xx", "fi", "en", false],

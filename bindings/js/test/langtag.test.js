@@ -1,4 +1,4 @@
-/* What only JavaScript has: values, errors, texts of any units, and the module's memory. */
+/* Tests what only JavaScript has: values, errors, texts of any code units, and the memory of the module. */
 import assert from "node:assert/strict";
 import { cpSync, mkdtempSync, readFileSync, rmSync } from "node:fs";
 import { tmpdir } from "node:os";
@@ -9,10 +9,11 @@ import * as langtag from "../index.js";
 
 const {
     AcceptLanguage, AcceptLanguageError, EditError, GRANDFATHERED, InvalidRange, InvalidTag, LanguageRange, LanguageTag, REGISTRY_DATE,
-    bestForHeader, bestForRanges, CLDR_VERSION, distance, lookUp, stopLength, tagForHeader, tagForHeaderLenient, viableLength,
+    bestForHeader, bestForRanges, CLDR_VERSION, distance, lookUp, stopLength, tagForHeader, tagForHeaderLenient, unknownModifier,
+    viableLength,
 } = langtag;
 
-/** How many bytes the module's memory has: of each module that is started, in their order. */
+/** The memory of each instance of the module, in the order in which they were made. */
 const memories = [];
 const Instance = WebAssembly.Instance;
 WebAssembly.Instance = function (...given) {
@@ -26,9 +27,9 @@ const other = await import(pathToFileURL(join(folder, "index.js")));
 rmSync(folder, { recursive: true });
 const calls = await import("../calls.js?watched");
 calls.kind("en");
-const watched = memories.length - 1; // the first of those that `calls` starts
+const watched = memories.length - 1; // the index of the first instance that `calls` makes
 
-/** What is thrown. */
+/** Returns the error that a function throws. */
 function thrown(call) {
     try {
         call();
@@ -124,6 +125,8 @@ test("likely subtags, distances and the best tag", () => {
     assert.deepEqual(["ar", "az-Arab", "he", "de", "ar-Latn"].map((text) => LanguageTag.parse(text).isRightToLeft), [true, true, true, false, false]);
     assert.equal(LanguageTag.fromPosix("pt_BR.UTF-8")?.text, "pt-BR");
     assert.equal(LanguageTag.fromPosix(""), undefined);
+    assert.deepEqual(["de_DE@foo", "ä@ö€", "sr_RS@latin", "de@euro", "de", ""].map(unknownModifier), ["foo", "ö€", undefined, undefined, undefined, undefined]);
+    assert.throws(() => unknownModifier(null), TypeError);
     assert.ok(CLDR_VERSION >= 48);
 });
 
@@ -246,6 +249,14 @@ test("edits", () => {
     for (const parts of [{ language: null }, { script: "" }, { region: "\u212aE" }, { script: "La\ud800n" }]) {
         assert.throws(() => tag.with(parts), EditError);
     }
+});
+
+test("the code that is meant by one that is not registered", () => {
+    const of = (text) => LanguageTag.parse(text).invalidSubtag;
+    assert.deepEqual({ ...of("ger-AT") }, { fault: "language", subtag: "ger", start: 0, suggestion: "de" });
+    assert.equal(String(of("en-UK")), "region 'UK' is not registered: did you mean 'GB'?");
+    assert.deepEqual(["en-840", "hbs", "fr-FQ", "en-USA", "de-1997", "de-1996-1996"].map((text) => of(text).suggestion),
+        ["US", undefined, undefined, undefined, undefined, undefined]);
 });
 
 test("ranges, headers and their errors", () => {

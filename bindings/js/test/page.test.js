@@ -1,4 +1,5 @@
-/* The page in headless Chromium, which CHROMIUM names, by its DOM; PAGE names its file. SCREENSHOTS names a folder for pictures. */
+/* Tests the page by its DOM, in headless Chromium, which CHROMIUM names. PAGE names the file of the page. SCREENSHOTS names a
+ * folder for pictures. */
 import assert from "node:assert/strict";
 import { writeFileSync } from "node:fs";
 import { after, before, test } from "node:test";
@@ -17,7 +18,7 @@ before(async () => {
 
 after(() => browser?.close());
 
-/** Types a text in the place of another, as by the keyboard. */
+/** Replaces the text of a field, as if it was typed. */
 async function type(id, text) {
     await browser.value(`document.getElementById(${JSON.stringify(id)}).select(), document.getElementById(${JSON.stringify(id)}).focus()`);
     if (text === "") await browser.send("Input.dispatchKeyEvent", { type: "keyDown", key: "Delete", windowsVirtualKeyCode: 46 });
@@ -151,7 +152,7 @@ test("a range matches tags", { skip }, async () => {
     assert.deepEqual(await shown("#range-matches"), []);
 });
 
-/** The least contrast of a text that is shown with what is behind it (WCAG). */
+/** Returns the least contrast of a visible text with its background (WCAG). */
 const CONTRAST = `(() => {
     const light = (color) => color.match(/[\\d.]+/g).slice(0, 3).map((it) => it / 255)
         .map((it) => (it <= 0.04045 ? it / 12.92 : ((it + 0.055) / 1.055) ** 2.4)).reduce((sum, it, at) => sum + it * [0.2126, 0.7152, 0.0722][at], 0);

@@ -1,18 +1,18 @@
 /*
- * The rows that the tests of all languages read: a call, its arguments and its answer. They stand in rows/,
- * whose README says their form.
+ * Reads the rows that the tests of all languages run: a call, its arguments and its answer. They are in rows/, whose README
+ * describes their form.
  */
 
-/** How many arguments each call has, by the content of rows/calls.txt. */
+/** Returns the number of arguments of each call, from the content of rows/calls.txt. */
 export const counts = (content) => Object.fromEntries(content.match(/^[\w-]+ \d$/gm).map((line) => [line.split(" ")[0], Number(line.at(-1))]));
 
 const expand = (line) => line.replace(/\{(\d+):([^}]*)\}/g, (_, count, piece) => piece.repeat(Number(count)));
 
-/** The text of a word, in which a byte is the character of its number. */
+/** Returns the text of a word. Each byte becomes the character with its number. */
 const unescape = (word) =>
     word === "''" ? "" : word.replace(/\\x(..)/g, (_, digits) => String.fromCharCode(Number.parseInt(digits, 16)));
 
-/** The rows of a file. The lines that belong to a row stand in its answer. */
+/** Returns the rows of a file. The lines that belong to a row are in its answer. */
 export function* read(name, content, calls) {
     const lines = content.split("\n");
     for (const [at, line] of lines.entries()) {
@@ -26,9 +26,9 @@ export function* read(name, content, calls) {
 }
 
 /**
- * Asks the rows of a file, by the counts of arguments of its calls, of which there have to be as many as the floor: `answers` has the answer to the arguments of a call,
- * undefined where there is none to them, and `adapted` is what is wanted of a row. Returns how many were asked of each call, and
- * what differs.
+ * Runs the rows of a file, which has to have at least `floor` rows. `answers` returns the answer to a call, or undefined if the
+ * language has none, and `adapted` returns the expected answer of a row. Returns how many rows of each call were run, and the
+ * differences.
  */
 export function ask(name, content, calls, floor, answers, adapted) {
     const asked = {}, differing = [];

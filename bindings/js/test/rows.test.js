@@ -1,4 +1,4 @@
-/* The rows, and the answers of C to random calls where LANGTAG_ANSWERS names a file of them. */
+/* Runs the rows. If LANGTAG_ANSWERS names a file, also compares C's answers to random calls. */
 import assert from "node:assert/strict";
 import { readFileSync } from "node:fs";
 import test from "node:test";

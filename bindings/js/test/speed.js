@@ -1,4 +1,4 @@
-/* Times LanguageTag with six parts beside Intl.Locale with as many, in one run, over tags that both take. */
+/* Times LanguageTag and Intl.Locale, each with six parts, in one run over tags that both accept. */
 import { LanguageTag } from "../index.js";
 
 const TAGS = ["zh-Hant-TW", "en", "de-CH-1996", "yue-Hant-HK-u-co-stroke-x-mine", "sr-Latn-RS", "fr-FR", "en-US-u-ca-gregory-nu-latn", "sl-rozaj-biske-1994"];
@@ -12,7 +12,7 @@ const theirs = (text) => {
     return [locale.language, locale.script, locale.region, locale.calendar, locale.collation, locale.numberingSystem].length;
 };
 
-/** The nanoseconds of a call, the least of some rounds. */
+/** Returns the nanoseconds of a call: the least of several rounds. */
 function time(call, count) {
     let least = Infinity;
     for (let round = 0; round < 7; round++) {

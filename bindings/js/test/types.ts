@@ -1,10 +1,11 @@
-// What tsc has to take, and what it has to refuse.
+// Code that tsc has to accept, and code that it has to refuse.
 import { AcceptLanguage, bestForHeader, bestForRanges, EditError, InvalidTag, LanguageRange, LanguageTag, lookUp, REGISTRY_DATE, tagForHeader, tagForHeaderLenient, type Fault } from "langtag-verified";
 
 const tag: LanguageTag = LanguageTag.parse("zh-Hant");
 const script: string | undefined = tag.script;
 const subtags: string[] | undefined = tag.extensions.get("u");
 const fault: Fault | undefined = tag.invalidSubtag?.fault;
+const meant: string | undefined = tag.invalidSubtag?.suggestion;
 const other = tag.with({ script: "Latn", region: null, variants: ["1996"], extensions: { u: ["co", "pinyin"] }, privateUse: undefined });
 const again = LanguageTag.from({ language: "de", extensions: other.extensions });
 const found: "de" | "fr" = tagForHeader("fr", ["de", "fr"] as const, "de");

@@ -23,7 +23,7 @@ EXPLAIN (COSTS OFF) SELECT * FROM texts WHERE matches_basic(tag, 'de');
 RESET enable_indexonlyscan;
 EXPLAIN (COSTS OFF) SELECT tag FROM texts WHERE tag <@ 'zh-hant';
 SELECT tag FROM texts WHERE tag <@ 'zh-hant';
--- Ranges of another table
+-- Ranges from another table
 RESET enable_bitmapscan;
 EXPLAIN (COSTS OFF) SELECT r, tag FROM unnest('{de,zh,*,de-*}'::langtag_range[]) AS r JOIN texts ON tag <@ r;
 SELECT r, tag FROM unnest('{de,zh,*,de-*}'::langtag_range[]) AS r JOIN texts ON tag <@ r ORDER BY r::text COLLATE "C", tag;
@@ -33,27 +33,27 @@ SET plan_cache_mode = force_generic_plan;
 EXPLAIN (COSTS OFF) EXECUTE below ('zh');
 EXECUTE below ('zh'); EXECUTE below ('*'); EXECUTE below (NULL);
 RESET plan_cache_mode;
--- A tag is a range, by the index of the one side and not of the other
+-- A tag is used as a range: an index on the tags is used, but an index on the ranges is not
 EXPLAIN (COSTS OFF) SELECT a.tag, b.tag FROM texts a JOIN texts b ON a.tag <@ b.tag AND a.tag <> b.tag;
 SELECT a.tag, b.tag FROM texts a JOIN texts b ON a.tag <@ b.tag AND a.tag <> b.tag ORDER BY 1, 2;
 SELECT tag FROM texts WHERE 'de-ch' <@ tag ORDER BY tag;
 RESET enable_seqscan;
--- What is no range is refused
+-- A text that is not a range is refused
 SELECT count(*) FROM texts WHERE tag <@ NULL;
 SELECT tag FROM texts WHERE tag <@ 'de_CH';
--- A column that is no first index column, and an index of another kind, are not bounded
+-- No bounds are used for a column that is not the first of its index, or for an index of another kind
 CREATE INDEX ON texts USING hash (tag);
 CREATE INDEX ON texts (t, tag);
 SET enable_seqscan = off; SET enable_bitmapscan = off;
 EXPLAIN (COSTS OFF) SELECT * FROM texts WHERE t = 'd' AND tag <@ 'de';
 RESET enable_seqscan; RESET enable_bitmapscan;
--- Ranges of any length, by the index as without it
+-- Ranges of any length give the same result with and without the index
 CREATE TABLE long AS SELECT ('de-x-' || repeat('abcdefgh-', k) || 'a')::langtag AS tag FROM generate_series(1, 40) AS k; CREATE INDEX ON long (tag);
 SET enable_seqscan = off; SET enable_bitmapscan = off;
 SELECT string_agg(found::text, ' ' ORDER BY k) FROM generate_series(1, 40) AS k, LATERAL (SELECT count(*) AS found FROM long WHERE tag ~ ('de-*-x-' || repeat('abcdefgh-', k) || 'a')::langtag_range) s;
 SELECT string_agg(found::text, ' ' ORDER BY k) FROM generate_series(1, 40) AS k, LATERAL (SELECT count(*) AS found FROM long WHERE tag <@ ('DE-x-' || repeat('abcdefgh-', k) || 'a')::langtag_range) s;
 RESET enable_seqscan; RESET enable_bitmapscan; DROP TABLE long;
--- Estimates by the column's statistics
+-- Row estimates from the column's statistics
 CREATE TABLE counted AS SELECT CASE WHEN k % 10 = 0 THEN 'de-CH' WHEN k % 10 < 4 THEN 'de-Latn-CH' ELSE 'fr' END::langtag AS tag FROM generate_series(1, 10000) AS k;
 ANALYZE counted;
 CREATE FUNCTION estimate(query text) RETURNS text LANGUAGE plpgsql AS $$ DECLARE line text; BEGIN
@@ -62,7 +62,7 @@ SELECT estimate('SELECT * FROM counted WHERE tag <@ ''de'''), estimate('SELECT *
 DROP FUNCTION estimate; DROP TABLE texts, counted;
 -- Bounds
 SELECT langtag_basic_lower('DE-ch'), langtag_basic_upper('DE-ch'), langtag_extended_lower('de-*-CH'), langtag_extended_upper('de-*-CH'), langtag_basic_upper('*');
--- No bound becomes a tag
+-- A bound cannot be converted to a tag
 CREATE TABLE tags (tag langtag);
 INSERT INTO tags SELECT langtag_basic_upper('de');
 INSERT INTO tags SELECT langtag_basic_upper('de')::text::langtag;

@@ -1,20 +1,20 @@
 \pset null NULL
--- Equality and order: without regard to case, the shorter first
+-- Equality and order ignore case, and a shorter tag sorts first
 SELECT 'ZH-hant'::langtag = 'zh-Hant', 'zh'::langtag <> 'zh-Hant', 'de' < 'de-AT'::langtag, 'de-CH'::langtag < 'dea', 'de'::langtag < 'DE', 'de'::langtag <= 'DE',
     'de'::langtag >= 'DE', 'de'::langtag > 'DE', 'ZH'::langtag <> 'zh';
 SELECT t FROM unnest('{zh-Latn,zh,DE,dea,de-CH,de-1996,x-a,de-AT,i-ami}'::langtag[]) AS t ORDER BY t;
 SELECT t FROM unnest('{zh-Latn,zh,DE,dea,de-CH,de-1996,x-a,de-AT,i-ami}'::langtag[]) AS t ORDER BY t DESC;
 SELECT min(t), max(t), count(DISTINCT t) FROM unnest('{zh,DE,de-CH,DE-ch,aa}'::langtag[]) AS t;
 SELECT langtag_cmp('de', 'DE'), langtag_cmp('de', 'de-CH'), langtag_cmp('de-CH', 'de'), langtag_cmp('dea', 'de-CH');
--- What abbreviated keys leave to be compared: tags with eight letters in common
+-- Tags with the same first eight letters, which abbreviated keys do not distinguish
 SELECT t FROM unnest('{zh-Hant-TW,zh-Hant-CN,zh-Hant,zh-Hant-AA-rozaj,ZH-hant-aa}'::langtag[]) AS t ORDER BY t;
--- These may never change: hash indexes and partitions hold them.
+-- These hashes must never change, because hash indexes and partitions contain them.
 SELECT langtag_hash('zh-HANT'), langtag_hash_extended('zh-Hant', 0), langtag_hash_extended('zh-Hant', 8816678312871386365);
 SELECT langtag_part_hash('HANT'), langtag_part_hash_extended('Hant', 0), langtag_part_hash_extended('hant', 8816678312871386365);
 SELECT langtag_hash('zh-Hant') = langtag_part_hash('ZH-HANT');
 SELECT langtag_part_hash(('x-' || repeat('ABCDEFGH-', 40) || 'a')::langtag_part) = langtag_part_hash(('x-' || repeat('abcdefgh-', 40) || 'A')::langtag_part),
     langtag_part_hash(('x-' || repeat('ABCDEFGH-', 40) || 'a')::langtag_part) = langtag_part_hash(('x-' || repeat('abcdefgh-', 40) || 'b')::langtag_part);
--- Parts are compared without regard to case, and grouped so
+-- Parts are compared and grouped ignoring case
 SELECT 'DE'::langtag_part = 'de', 'DE'::langtag_part <> 'de', 'DE'::langtag_part < 'DEa', 'x'::langtag_part > 'A', 'A'::langtag_part <= 'a', 'A'::langtag_part >= 'b';
 SELECT p FROM unnest('{Latn,DE,de-x,419}'::langtag_part[]) AS p ORDER BY p;
 SELECT min(p), max(p), count(DISTINCT p) FROM unnest('{DE,de,419,CH}'::langtag_part[]) AS p;
@@ -62,10 +62,10 @@ SELECT region(tag), count(*) FROM texts GROUP BY region(tag) ORDER BY 1;
 SET enable_hashagg = off;
 SELECT tag, count(*) FROM (SELECT tag FROM texts UNION ALL SELECT tag FROM hashed) s GROUP BY tag ORDER BY tag;
 RESET enable_hashagg;
--- Arrays by GIN
+-- Arrays with a GIN index
 CREATE TABLE lists (tags langtag[]); INSERT INTO lists VALUES ('{de,FR-ch}'), ('{en}'); CREATE INDEX ON lists USING gin (tags);
 SELECT * FROM lists WHERE tags @> '{fr-CH}';
--- The btree keeps a tag with many rows once
+-- The btree stores a tag with many rows only once
 CREATE TABLE many (tag langtag, t text); INSERT INTO many SELECT CASE k % 2 WHEN 0 THEN 'zh-Hant-TW' ELSE 'ZH-hant-tw' END::langtag, 'zh-Hant-TW' FROM generate_series(1, 20000) AS k;
 CREATE INDEX many_tag ON many (tag); CREATE INDEX many_t ON many (t COLLATE "C");
 SELECT pg_relation_size('many_tag') = pg_relation_size('many_t');

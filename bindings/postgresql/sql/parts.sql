@@ -12,10 +12,10 @@ SELECT kind('de') = 'irregulär';
 SELECT region('de-CH') = 'ch', region('de-CH') = 'DE', region('de') IS NULL, script('de-latn') = 'LATN', variants('de-1996-rozaj') @> '{ROZAJ}', '1901' = ANY (variants('de-1996'));
 SELECT region('de-CH') = 'C_H';
 SELECT recommended('ZH-hant');
--- In PL/pgSQL and without an expression around it, where the type of an array is that of the function.
+-- In PL/pgSQL, and without an expression around the call, an array has the type that the function returns.
 DO $$ BEGIN RAISE NOTICE '%', variants('sl-rozaj-1994'); END $$;
 SELECT * FROM variants('sl-rozaj-1994');
 SELECT * FROM kind('i-ami');
--- Keywords: the value of a key, which is empty if the key has none, and all of them in an array of rows.
+-- Keywords: the value of a key, which is empty if the key has none, and all keys and values in an array of rows.
 SELECT keyword('ar-u-ca-islamic-civil-kn', 'CA') AS ca, keyword('de-u-kn', 'kn') = '' AS kn, keyword('de-u-kn', 'ca') AS absent, keyword('x-u-ca', 'ca') AS private;
 SELECT keywords('ar-u-attr-ca-islamic-civil-kn-nu-latn-ca-roc') AS k, keywords('de') AS none, (keywords('de-u-nu-latn'))[1][2] AS nu;

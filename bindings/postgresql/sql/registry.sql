@@ -1,13 +1,15 @@
 \pset null NULL
 SELECT t, is_valid(t), invalid_subtag(t), canonical(t)
 FROM unnest('{iw-HEBR,zh-yue,art-lojban,en-b-ccc-a-aaa,de-fq,de-1996-1996,fr-a-bb-A-cc,ja-heploc,sgn-DD,en-BU}'::langtag[]) AS t;
--- A form that is longer than its tag, by more than the first room for it
+-- The code that is meant by a code that is not registered
+SELECT t, suggestion(t), pg_typeof(suggestion(t)) FROM unnest('{ger-at,en-UK,en-840,fr-FQ,hbs,de,iw,de-1997}'::langtag[]) AS t;
+-- A form that is longer than its tag, and too long for the first buffer
 SELECT t, canonical(t) FROM (SELECT ('ja-Latn-hepburn-' || repeat('heploc-', 20) || 'heploc')::langtag AS t) s;
 SELECT is_valid(('de-x-' || repeat('abcdefgh-', 120000) || 'a')::langtag);
 SELECT langtag_registry_date() ~ '^\d{4}-\d\d-\d\d$' AS dated;
--- The module that has these functions is named by that date and CLDR's version, and no other function is in it.
+-- The name of the module with these functions has that date and CLDR's version, and the module has no other functions.
 SELECT proname, probin = '$libdir/langtag-' || langtag_registry_date() || '-cldr' || langtag_cldr_version() AS dated FROM pg_proc WHERE probin ~ 'langtag-' ORDER BY 1;
--- A generated column by the registry, and an index on it
+-- A generated column that uses the registry, and an index on it
 CREATE TABLE t (tag langtag, form langtag GENERATED ALWAYS AS (canonical(tag)) STORED CHECK (is_valid(form)));
 CREATE INDEX ON t (form); INSERT INTO t VALUES ('IW-hebr'); SELECT * FROM t WHERE form = 'he-Hebr';
 INSERT INTO t VALUES ('de-FQ');
@@ -16,7 +18,7 @@ DROP TABLE t;
 SELECT tag_for_header_lenient('{en,de-CH,fr}', 'fr;q=0.3, DE-ch-1996;q=0.9'), tag_for_header_lenient('{en,NULL}', 'ja, *;q=0.1'), tag_for_header_lenient('{}', 'de'),
     tag_for_header_lenient('{de,fr}', 'fr_FR, de;q=0.1'), tag_for_header_lenient('{de}', 'fr;q=2, DE'), tag_for_header_lenient('{NULL,DE,de}', 'de'), tag_for_header_lenient('{de}', ''),
     tag_for_header_lenient('{de,fr}', 'fr;q=0.5, de;q=0.5');
--- Texts in place of tags: the text is the answer, as it was given; a literal is an array of tags
+-- Texts in place of tags: the text is returned as it was given. A literal is read as an array of tags
 SELECT best_for_header(ARRAY['EN', 'zh-HANT', NULL], 'zh-TW'), pg_typeof(best_for_header(ARRAY['en'], 'en')), best_for_header('{EN,DE}', 'de'), pg_typeof(best_for_header('{en}', 'en')),
     best_for_header('{EN,DE}', t), best_for_header(a, 'de'), best_for_header(a::langtag[], t), best_for_header(NULL::text[], t) FROM (VALUES (text 'de-CH', '{EN,DE}'::text[])) AS v(t, a);
 SELECT tag_for_header_lenient(ARRAY['EN', 'DE', NULL], 'de-CH'), pg_typeof(tag_for_header_lenient(ARRAY['en'], 'en')), tag_for_header_lenient('{EN,DE}', t), pg_typeof(tag_for_header_lenient('{en}', 'en')) FROM (VALUES (text 'de-CH')) AS v(t);
@@ -26,15 +28,16 @@ SELECT best_for_header('{en,de_CH}', 'en');
 SELECT best_for_header('en', 'en');
 -- Likely subtags
 SELECT t, maximized(t), minimized(t), is_right_to_left(t), distance(t, 'zh-TW') FROM unnest('{zh-hk,az-Arab,zh-Hant,und-US,i-klingon,x-a,en-Latn-US-u-co-phonebk}'::langtag[]) AS t;
--- Names of locales
+-- Locale names
 SELECT n, from_posix(n) FROM unnest('{pt_BR.UTF-8,sr_RS@latin,C,POSIX,de,"",DE_ch}'::text[]) AS n;
+SELECT n, unknown_modifier(n), unknown_modifier(NULL) FROM unnest('{de_DE.UTF-8@Foo,sr_RS@latin,de@euro,de,""}'::text[]) AS n;
 -- The best tag for a reader
 SELECT best_for_header('{en,NULL,de-CH,zh-Hant}', 'gsw'), best_for_header('{en,zh-Hant}', 'zh-TW;q=0.5'), best_for_header('{}', 'de');
 SELECT match_for_header('{en,NULL,DE}', 'fi, de_AT;q=0.3'), (match_for_header(ARRAY['en', 'DE'], 'de')).*, match_for_header('{en}', 'fi') IS NULL AS none, (match_for_header('{en,de}', h)).index FROM (VALUES (text 'gsw')) AS v(h);
 SELECT match_for_header('{de}', repeat('a', 9000));
 SELECT best_for_header('{de}', repeat('a', 9000));
 SELECT best_for_header(array_agg(CASE k WHEN 3 THEN 'de-CH' WHEN 200 THEN 'fr' ELSE 'x-a' END::langtag ORDER BY k), 'de-CH, fr;q=0.5') FROM generate_series(1, 200) AS k;
--- A call ends soon after it is cancelled, of many tags and of long ones.
+-- A call with many tags, or with long tags, ends soon after it is cancelled.
 CREATE FUNCTION ends_soon(query text) RETURNS boolean LANGUAGE plpgsql AS $$ DECLARE begun timestamptz := clock_timestamp(); BEGIN
     EXECUTE query; RETURN clock_timestamp() < begun + '3 s'; EXCEPTION WHEN query_canceled THEN RETURN clock_timestamp() < begun + '3 s'; END $$;
 SET statement_timeout = '500ms';
@@ -44,6 +47,6 @@ SELECT ends_soon($$SELECT best_for_header((SELECT array_agg(('zh-x-' || repeat('
 SELECT ends_soon($$SELECT tag_for_header_lenient(array_agg(('x-' || k)::langtag), repeat('aa-', 60000) || 'de') FROM generate_series(1, 30000) AS k$$);
 RESET statement_timeout;
 DROP FUNCTION ends_soon;
--- A dropped extension leaves nothing.
+-- A dropped extension leaves nothing behind.
 DROP EXTENSION langtag CASCADE;
 SELECT count(*) FROM pg_proc WHERE proname ~ 'langtag';

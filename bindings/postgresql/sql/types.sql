@@ -1,6 +1,6 @@
 CREATE EXTENSION langtag;
 \pset null NULL
--- Input puts a tag into its recommended case; what is no tag is refused.
+-- Input changes a tag to its recommended case, and refuses a text that is not a tag.
 SELECT 'zh-hant-tw'::langtag, 'X-Mine'::langtag, 'I-KLINGON'::langtag, 'zh-MIN-nan'::langtag, 'EN-ca-X-CA'::langtag;
 \set VERBOSITY sqlstate
 SELECT 'de_CH'::langtag;
@@ -19,7 +19,7 @@ SELECT 'de-419-DE'::langtag;
 SELECT ('en-' || repeat('abcd-', 100) || 'ü')::langtag;
 SELECT (repeat('ü', 100))::langtag;
 SELECT ('a' || repeat('あ', 100))::langtag;
--- Ranges stay as they are given; a bad one is an error.
+-- Ranges stay as they are given, and a malformed range is an error.
 SELECT 'DE-*'::langtag_range, '*'::langtag_range, 'a'::langtag_range, '*-ch'::langtag_range;
 SELECT 'de_*'::langtag_range;
 SELECT ''::langtag_range;
@@ -28,11 +28,11 @@ SELECT 'DE'::langtag_part, '1996-rozaj'::langtag_part, ''::langtag_part, 'x-mine
 SELECT 'D_E'::langtag_part;
 SELECT 'DE-'::langtag_part;
 SELECT 'de*'::langtag_part;
--- Of texts
+-- Functions that take texts
 SELECT is_langtag('de-CH'), is_langtag('de_CH'), is_langtag(''), is_langtag(NULL), langtag_viable('de_CH'), langtag_viable('de-CH');
 -- The binary form is the text's bytes.
 SELECT encode(langtag_send('zh-HANT'), 'escape'), encode(langtag_range_send('*-CH'), 'escape'), encode(langtag_part_send('CH'), 'escape');
--- Casts: to text by assignment, from text where it is asked for.
+-- Casts: to text by assignment, from text only explicitly.
 CREATE TABLE casts (a text, b varchar(10), c langtag);
 INSERT INTO casts SELECT t, t, t FROM (VALUES ('DE-ch'::langtag)) AS v(t);
 SELECT * FROM casts;
@@ -46,17 +46,17 @@ SELECT 'de_CH'::text::langtag;
 SELECT castsource::regtype, casttarget::regtype, castcontext, castmethod FROM pg_cast
 WHERE castsource::regtype::text ~ 'langtag' OR casttarget::regtype::text ~ 'langtag' ORDER BY 1, 2;
 DROP TABLE casts;
--- Rows of others: what is no tag is NULL, and does not end the statement.
+-- Untrusted rows: a text that is not a tag gives NULL, and does not end the statement.
 SELECT t, try_langtag(t), is_langtag(t) FROM unnest('{DE-ch,de_CH,"",NULL,x-A,i-klingon,en-}'::text[]) AS t;
 -- Long tags
 SELECT length(('x-' || repeat('abcdefgh-', 120000) || 'a')::langtag::text);
 CREATE TABLE long (tag langtag); INSERT INTO long SELECT ('x-' || repeat('abcdefgh-', 120000) || x)::langtag FROM unnest('{a,b,a}'::text[]) AS x;
 SELECT count(*), count(DISTINCT tag), count(*) FILTER (WHERE tag = (SELECT max(tag) FROM long)) FROM long;
 SELECT a.tag = b.tag FROM long a, (SELECT 'x-a'::langtag AS tag) b;
--- An index has its limit, as that of any type.
+-- An index has a limit on the length of a value, as for any type.
 CREATE INDEX ON long (tag);
 DROP TABLE long;
--- Which functions are not IMMUTABLE STRICT PARALLEL SAFE; which are LEAKPROOF; that no type has a collation
+-- The functions that are not IMMUTABLE STRICT PARALLEL SAFE, the functions that are LEAKPROOF, and that no type has a collation
 SELECT proname FROM pg_proc JOIN pg_depend ON objid = pg_proc.oid AND deptype = 'e' JOIN pg_extension e ON refobjid = e.oid
 WHERE extname = 'langtag' AND prokind = 'f' AND pg_depend.classid = 'pg_proc'::regclass AND NOT (provolatile = 'i' AND proparallel = 's' AND proisstrict)
 ORDER BY 1;

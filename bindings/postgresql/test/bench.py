@@ -1,6 +1,6 @@
 #!/usr/bin/env python3
-"""Times statements over langtag, text, lower(text) and citext in turn, in sessions of one server, and prints the medians by
-langtag's: bench.py ROWS ROUNDS. `bench` starts the server for it."""
+"""Times statements over langtag, text, lower(text) and citext in turn, in sessions of one server. It prints the medians divided by
+those of langtag: bench.py ROWS ROUNDS. `bench` starts the server for it."""
 import os
 import random
 import re
@@ -21,7 +21,8 @@ LOOK_UP = ("SET enable_memoize = off; SET enable_hashjoin = off; SET enable_merg
 
 
 def look_ups(expression, table):
-    """Each frequent tag in turn, 20,000 times: how long one takes hangs on where in a page of the index it begins."""
+    """Looks up each frequent tag in turn, 20,000 times in total. The time of a look-up depends on where in a page of the index the
+    tag begins."""
     one = f"SELECT id FROM {table.replace('lower', 'tx')} WHERE {expression} = wanted LIMIT 1"
     return f"SELECT count(*) FROM wanted_{table} CROSS JOIN LATERAL ({one}) s"
 
@@ -75,7 +76,7 @@ STATEMENTS = [
 
 
 def write_tags(file, rows):
-    """Seven tenths of a few frequent tags, the rest of rare ones."""
+    """Writes the tags: seven tenths are a few frequent tags, and the others are rare tags."""
     chosen, letters = random.Random(7), "abcdefghijklmnopqrstuvwxyz"
     pieces = (letters, letters, ["", *letters], ["", "-Latn", "-Cyrl", "-latn"], ["", "-US", "-DE", "-419", "-Ca"],
               ["", "", "-1996", "-u-co-phonebk", "-x-a"])

@@ -1,10 +1,10 @@
-# Servers of PostgreSQL for tests, each in a folder of its own, on the loopback, and as another user than root:
+# Starts PostgreSQL servers for tests. Each has its own folder, listens on the loopback, and runs as a user other than root:
 #
 #     . cluster.sh
 #     place FOLDER          copies the server that pg_config names to FOLDER, so that nothing is installed in the system
-#     into_place make ..    runs make with what leads an installation there
+#     into_place make .. runs make with the variables that install to FOLDER
 #     begin NAME            makes a cluster and starts it; `port_of NAME` has its port
-#     end_all               ends what was started, each by its id, and removes FOLDER
+#     end_all               stops what was started, each process by its id, and removes FOLDER
 
 pg_config=$(command -v "${PG_CONFIG:-pg_config}")
 started=()
@@ -58,7 +58,8 @@ end_all() {
     [ -z "${pg_folder:-}" ] || rm -rf "$pg_folder"
 }
 
-# later HERE INCLUDE ARCHIVE: installs a release 0.2.0 beside the first, as if its registry preferred xx for de, and its CLDR had fr in BE.
+# later HERE INCLUDE ARCHIVE: installs a release 0.2.0 beside the first release. In it the registry replaces de by xx, and CLDR's
+# likely region of fr is BE.
 later() {
     local at=$pg_folder/server
     cc -O2 -fPIC -c -I"$2" "$1/test/later_registry.c" -o "$pg_folder/later_registry.o" || return 1

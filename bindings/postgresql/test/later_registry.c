@@ -1,5 +1,5 @@
-/* For a test of updates: the library as if a later registry preferred xx for de, and a later CLDR had fr in Belgium. langtag_pg.c
- * is built beside it with -Dlangtag_canonical=later_canonical and so on (cluster.sh). */
+/* Replaces some functions of the library, for a test of updates: a later registry replaces de by xx, and in a later CLDR the likely
+ * region of fr is BE. langtag_pg.c is built with -Dlangtag_canonical=later_canonical and so on (cluster.sh). */
 #include <langtag.h>
 #include <string.h>
 

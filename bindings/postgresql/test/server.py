@@ -1,12 +1,12 @@
-"""Statements for the servers that the tests started: PGHOST, PGPORT and PGUSER name the first of them, as for psql."""
+"""Runs statements on the servers that the tests started. PGHOST, PGPORT and PGUSER name the first server, as for psql."""
 import os
 import subprocess
 
-ENCODINGS = {}  # of databases whose texts cannot be turned into UTF-8: psql speaks theirs
+ENCODINGS = {}  # for databases whose texts cannot be converted to UTF-8: psql uses the database's encoding
 
 
 def run(script, database="postgres", port=None, stop=True):
-    """What psql says to a script: its lines, and what it complains of. Where it is to stop, an error ends the test."""
+    """Runs a script by psql. Returns the lines of its output, and its errors. If `stop` is true, an error ends the test."""
     command = ["psql", "-X", "-q", "-At", "-v", f"ON_ERROR_STOP={int(stop)}", "-d", database]
     environment = {**os.environ, "PGCLIENTENCODING": ENCODINGS.get(database, "UTF8")}
     if port:
@@ -23,7 +23,7 @@ def lines(script, database="postgres", port=None):
 
 
 def fresh(database, port=None, template="template0", encoding="UTF8"):
-    """A new database with the extension."""
+    """Makes a new database with the extension."""
     lines(f"DROP DATABASE IF EXISTS {database}", port=port)
     lines(f"CREATE DATABASE {database} TEMPLATE {template} ENCODING {encoding} LOCALE 'C'", port=port)
     ENCODINGS[database] = encoding if encoding == "MULE_INTERNAL" else "UTF8"

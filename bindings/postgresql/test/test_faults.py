@@ -1,6 +1,6 @@
 #!/usr/bin/env python3
-"""What is wrong, too long or too deep: each ends with the error that it should, and the server stands afterwards; and dump and
-restore. PGHOST.. name the server."""
+"""Tests wrong, long and deeply nested input: each statement ends with the expected error, and the server still runs. Also tests
+dump and restore. PGHOST and similar variables name the server."""
 import os
 import struct
 import subprocess
@@ -11,7 +11,7 @@ import unittest
 import server
 
 BIG = "('de-x-' || repeat('abcdefgh-', 120000) || 'a')"
-# 6,200 bytes that are not compressed to what an index takes.
+# 6,200 bytes that are too long for an index even after compression.
 RANDOM = "('x-' || (SELECT string_agg(substr(md5(k::text), 1, 8), '-') FROM generate_series(1, 700) AS k))"
 
 
@@ -78,7 +78,7 @@ class Faults(unittest.TestCase):
         self.refused("CREATE TABLE one AS SELECT * FROM long WHERE k = 4; CREATE INDEX ON one (tag)", "54000: index row size", "maximum 2704")
         self.says("CREATE INDEX ON long USING hash (tag); SET enable_seqscan = off; SELECT count(*) FROM long WHERE tag = "
                   "(SELECT tag FROM long WHERE k = 1)", "2")
-        # 9 MB of distinct variants: validity stops at the first that is not registered
+        # 9 MB of distinct variants: is_valid stops at the first variant that is not registered
         self.says("SET statement_timeout = '20s'; SELECT is_valid(t), length(canonical(t)::text), cardinality(variants(t)) "
                   "FROM (SELECT ('de-' || string_agg('v' || lpad(k::text, 7, '0'), '-'))::langtag AS t FROM generate_series(1, "
                   "1000000) AS k) s",
@@ -95,7 +95,7 @@ class Faults(unittest.TestCase):
                      "57014: canceling statement due to statement timeout")
 
     def test_best_of_many(self):
-        """A choice can be cancelled, also among long tags, and its best stands anywhere among many."""
+        """A choice can be cancelled, also among long tags, and the best tag may be anywhere among many."""
         self.refused("SELECT best_for_header('{de}', repeat('de,', 3000))", "54000: the header has 9000 bytes, and may have 8192")
         begun = time.monotonic()
         self.refused("SET statement_timeout = '1s'; SELECT best_for_header((SELECT array_agg(('zh-x-' || k)::text::langtag) FROM "
@@ -132,14 +132,14 @@ class Faults(unittest.TestCase):
         self.says("SET enable_seqscan = off; SELECT tag, variants(tag), kind(tag) FROM t WHERE tag <@ 'de'", "de-CH|{}|normal", database="apart")
 
     def test_who_may_create_it(self):
-        """A role that may create in a database, and nothing else; and one that owns nothing."""
+        """Tests a role that may only create objects in a database, and a role that owns nothing."""
         server.lines("DROP DATABASE IF EXISTS lent; DROP ROLE IF EXISTS plain; CREATE ROLE plain LOGIN; CREATE DATABASE lent; "
                      "GRANT CREATE ON DATABASE lent TO plain")
         server.lines("SET ROLE plain; CREATE SCHEMA mine; CREATE EXTENSION langtag SCHEMA mine; SELECT 'DE'::mine.langtag", "lent")
         server.lines("DROP DATABASE lent; DROP ROLE plain")
 
     def test_memory(self):
-        """Two million calls, or CALLS, of each function in one session: the memory of the process stays."""
+        """Makes two million calls, or CALLS, of each function in one session. The memory of the process must not grow."""
         count = int(os.environ.get("CALLS", "2000000"))
         calls = [
             "count(region(tag))", "count(canonical(tag))", "count(*) FILTER (WHERE is_valid(tag))", "count(variants(tag))",
@@ -160,7 +160,7 @@ class Faults(unittest.TestCase):
 
 
 def dumped(database):
-    """A dump as SQL, without the keys of psql's restricted mode, which differ each time."""
+    """Returns a dump as SQL, without the keys of psql's restricted mode, which differ each time."""
     said = subprocess.run(["pg_dump", database], capture_output=True, text=True, check=True).stdout
     return "".join(line for line in said.splitlines(True) if not line.startswith(("\\restrict", "\\unrestrict")))
 

@@ -1,7 +1,7 @@
 #!/usr/bin/env python3
-"""Filters by a sequential scan, an index scan, an index-only scan, a bitmap scan, and by the index for ranges of a table,
-beside each other and beside a plain reading of RFC 4647 section 3.3; and the order by a sort and by an index, beside
-Python's of the small letters."""
+"""Filters by a sequential scan, an index scan, an index-only scan, a bitmap scan, and by the index for ranges of a table. The
+results are compared with each other and with a second implementation of RFC 4647 section 3.3. The order of a sort and of an index
+is compared with Python's order of the lowercase texts."""
 import random
 import re
 import unittest
@@ -41,7 +41,7 @@ def extended(range, tag):
 
 
 def some_tags(random):
-    """Distinct tags: common ones, and those that are near to them."""
+    """Returns distinct tags: common tags, and tags that differ little from them."""
     found = set(COMMON)
     pieces = ["Latn", "Hant", "DE", "CH", "419", "1996", "rozaj", "a-bb", "u-co-de", "x-de", "x-a-b", "yue", "aa", "DE-x"]
     while len(found) < 3000:
@@ -100,7 +100,7 @@ class Ranges(unittest.TestCase):
         self.assertEqual(said, ["{}|{}|{}".format(it, *self.wanted[it]) for it in self.ranges])
 
     def test_which_tags(self):
-        """Not only how many."""
+        """Compares the tags themselves, and not only their number."""
         for range in self.ranges[::10]:
             wanted = sorted(tag for tag in self.tags if extended(range, tag))
             self.assertEqual(sorted(server.lines(f"SET enable_seqscan = off; SELECT tag FROM t WHERE tag ~ "

@@ -1,6 +1,6 @@
 #!/usr/bin/env python3
-"""Two shards and a hub, by postgres_fdw with `extensions 'langtag'`: the answers are those of one table with the same rows,
-and what is sent to the shards is what is expected. PGPORT names the hub, SHARDS the ports of two more servers."""
+"""Tests two shards and a hub, by postgres_fdw with `extensions 'langtag'`. The answers have to be those of one table with the same
+rows, and the shards have to get the expected statements. PGPORT names the hub, and SHARDS the ports of two more servers."""
 import os
 import random
 import unittest
@@ -9,7 +9,7 @@ import server
 from test_ranges import some_tags
 
 SHARDS = os.environ["SHARDS"].split()
-# Statements over `texts`, with what is sent to each shard: the words after FROM, or after SELECT where these matter.
+# Statements over `texts`, with the statement that each shard gets: the words after FROM, or after SELECT if these matter.
 SENT = [
     ("SELECT id FROM texts WHERE tag = 'ZH-hant' ORDER BY id", "WHERE ((tag OPERATOR(public.=) 'zh-Hant'))"),
     ("SELECT id FROM texts WHERE tag <@ 'DE' ORDER BY id", "WHERE ((tag OPERATOR(public.<@) 'DE'::public.langtag_range))"),
@@ -35,7 +35,7 @@ SENT = [
      "SELECT tag, count(*) FROM public.part WHERE ((tag OPERATOR(public.<@) 'de'::public.langtag_range)) GROUP BY 1 HAVING ((count(*) > 1))"),
     ("SELECT min(tag), max(tag), count(DISTINCT tag) FROM texts", "SELECT tag FROM public.part"),
 ]
-# One foreign table: grouped by what is no key of partitions.
+# One foreign table, grouped by an expression that is not a partition key.
 SENT_OF_ONE = [
     ("SELECT region(tag), count(*) FROM texts_1 GROUP BY region(tag) ORDER BY 1",
      "SELECT public.region(tag), count(*) FROM public.part GROUP BY 1"),
@@ -44,7 +44,7 @@ SENT_OF_ONE = [
     ("SELECT min(tag), max(tag), count(DISTINCT tag) FROM texts_1",
      "SELECT public.min(tag), public.max(tag), count(DISTINCT tag) FROM public.part"),
 ]
-# What is filtered at home, with the filter.
+# Statements that the hub filters itself, with the filter.
 AT_HOME = [
     ("SELECT count(*) FROM texts WHERE tag IN ('de', 'FR-ca')", "(texts_1.tag = ANY ('{de,fr-CA}'::langtag[]))"),
     ("SELECT count(*) FROM texts WHERE set_region(tag, '') = 'zh-hant' AND kind(tag) = 'normal'",
@@ -80,7 +80,7 @@ class Shards(unittest.TestCase):
         server.lines("ANALYZE whole; ANALYZE texts", "hub")
 
     def same(self, query):
-        """What the shards answer, which is what one table answers."""
+        """Returns the answer of the shards, after checking that one table has the same answer."""
         said = server.lines(query, "hub")
         table = query if " texts_1" not in query else None
         if table:
@@ -110,7 +110,7 @@ class Shards(unittest.TestCase):
             self.assertIn(words, " ".join(self.plan(query)))
 
     def test_index_of_a_shard(self):
-        """What is sent is answered by the shard's index."""
+        """A shard uses its index for the statement that it gets."""
         plan = server.lines("SET enable_seqscan = off; EXPLAIN SELECT id FROM part WHERE tag OPERATOR(public.<@) 'DE'::public.langtag_range", "shard", SHARDS[0])
         self.assertIn("Index Cond: ((tag >= 'de'::langtag) AND (tag < 'de.'::langtag))", " ".join(plan))
 

@@ -1,6 +1,6 @@
 #!/usr/bin/env python3
-"""The update to a release with another registry and another CLDR, which `later` of cluster.sh installed: what it warns of, what is old
-afterwards, and what renews it."""
+"""Tests the update to a release with another registry and another CLDR, which `later` of cluster.sh installed: its warnings, the
+objects with old values afterwards, and the commands that renew them."""
 import re
 import unittest
 
@@ -18,7 +18,7 @@ CREATE MATERIALIZED VIEW above AS SELECT count(*) AS n FROM v_of_m; CREATE INDEX
 CREATE FUNCTION form_of(tag langtag) RETURNS langtag IMMUTABLE BEGIN ATOMIC SELECT canonical(tag); END; CREATE INDEX t_by_function ON t (form_of(tag));
 CREATE TABLE parted (tag langtag) PARTITION BY HASH (canonical(tag));
 """
-# The same through a user's operators, and through operator classes of them.
+# The same through a user's operators, and through operator classes with these operators.
 OPERATORS = """
 CREATE OPERATOR @@@ (RIGHTARG = langtag, FUNCTION = canonical);
 CREATE FUNCTION same_form(langtag, langtag) RETURNS boolean IMMUTABLE STRICT BEGIN ATOMIC SELECT canonical($1) = canonical($2); END;
@@ -47,7 +47,7 @@ WARNINGS = [
     "REFRESH MATERIALIZED VIEW o_through", "REINDEX INDEX o_class", "REINDEX INDEX o_form", "REINDEX INDEX o_order", "REINDEX INDEX o_same",
     "UPDATE o SET tag = tag, for form",
 ]
-# What a scan finds, and an old index does not.
+# Rows that a scan finds, and an old index does not.
 LOST = ["@@@ tag = 'xx'", "tag === 'xx'"]
 LOST_BY_CLDR = "SELECT tag FROM t WHERE maximized(tag) = 'fr-Latn-BE'"
 BY_INDEX = "SET enable_seqscan = off; SET enable_bitmapscan = off; "
@@ -62,7 +62,7 @@ class Update(unittest.TestCase):
         server.fresh("updated")
         server.lines(TABLES + OPERATORS, "updated")
         self.says("SELECT canonical('de'), langtag_registry_date() > '2025'", "de|t")
-        # In one session, where the old module was loaded before.
+        # In one session in which the old module was loaded before.
         said, complaint = server.run("SELECT canonical('de'); ALTER EXTENSION langtag UPDATE TO '0.2.0'; SELECT "
                                      "canonical('de'), langtag_registry_date(), langtag_cldr_version(), maximized('fr'), is_valid('de'), 'DE'::langtag", "updated")
         self.assertEqual(said, ["de", "xx|2031-01-01|99|fr-Latn-BE|t|de"])
@@ -70,13 +70,13 @@ class Update(unittest.TestCase):
         self.assertEqual(warned, sorted(f"values by the older data: {what}" for what in WARNINGS))
         views = re.findall("MATERIALIZED VIEW (.*)", complaint)
         self.assertLess(views.index("m"), views.index("above"))
-        # The index is old, the generated column too, but it is what it says.
+        # The index on canonical(tag) is old. The generated column is old too, but its index agrees with it.
         self.says(BY_INDEX + "SELECT tag FROM t WHERE canonical(tag) = 'xx'")
         self.says(BY_SCAN + "SELECT tag FROM t WHERE canonical(tag) = 'xx'", "de")
         self.assertIn("lacks matching index tuple", server.run("SELECT bt_index_check('t_canonical', true)", "updated", stop=False)[1])
         self.says("SELECT bt_index_check('t_form', true); SELECT bt_index_check('t_tag', true)", "", "")
         self.says(BY_INDEX + "SELECT tag FROM t WHERE form = 'de'", "de")
-        # What the warnings say renews them.
+        # The commands in the warnings renew the objects.
         self.says("REINDEX INDEX t_canonical; REINDEX INDEX t_by_function; REFRESH MATERIALIZED VIEW m; UPDATE t SET tag = tag "
                   "WHERE form <> canonical(tag); "
                   "SELECT bt_index_check('t_canonical', true); SELECT bt_index_check('t_form', true); SELECT count(*) FROM t "

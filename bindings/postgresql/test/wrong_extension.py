@@ -1,92 +1,141 @@
 #!/usr/bin/env python3
-"""Faults that are planted in the C file and the SQL script: `make installcheck` has to fail for each. It runs in a copy of the
-folder, with a server that this copy may be installed for: wrong_extension.py MAKE_ARGUMENT.. ."""
+"""Plants faults in the C file and the SQL script: `make installcheck` has to fail for each. It runs in a copy of the folder, with a
+server that this copy may be installed for: wrong_extension.py MAKE_ARGUMENT.. .
+
+The module is built once with the faults in bodies of C functions, each behind a switch (switched.py, on the path), and installed
+again for each other fault."""
 import os
 import pathlib
+import re
 import subprocess
 import sys
+import time
+
+from switched import Change, switched
 
 HERE = pathlib.Path(__file__).resolve().parent.parent
 C, SQL = "langtag_pg.c", "langtag.sql.in"
 
-# A fault: the file, what stands there (the first time), and what is put in its place.
+# A fault: the file, the old text (its first occurrence), the new text, and the test that fails.
 FAULTS = [
-    (C, "(a_len > b_len) - (a_len < b_len)", "(a_len < b_len) - (a_len > b_len)"),
-    (C, "    langtag_fold(folded, len);\n", ""),
-    (C, "    langtag_fold(head, sizeof head);\n", ""),
-    (C, "'~' : '.'", "'~' : '-'"),
-    (C, "if (bytes[0] == '*') end = 0;\n    else if", "if"),
-    (C, "return BYTES(value)[0] != '*';", "return true;"),
-    (C, "if (tag == NULL) continue;", "if (tag == NULL) break;"),
-    (C, "        if (best >= 0) some[taken++] = tags[best];\n", ""),
-    (C, "(*places)[*count] = k;", "(*places)[*count] = *count;"),
-    (C, "    if (len > sizeof room) folded = palloc(len);\n", ""),
-    (C, "(int)len, (uint64)PG_GETARG_INT64(1))", "(int)len, 0)"),
-    (C, "(size_t)pg_mbcliplen(text, (int)len, 60)", "Min(len, 60)"),
-    (C, "request->lossy = lossy;", "request->lossy = false;"),
-    (C, "if (ARR_ELEMTYPE(array) == TEXTOID) check_tag(BYTES(tag), LEN(tag));", ""),
-    (C, "        CHECK_FOR_INTERRUPTS();\n        if (best", "        if (best"),
-    (C, "        memcpy(VARDATA(answer), bytes, end);\n".replace("        ", "    "), "    memcpy(VARDATA(answer), bytes, Min(end, 63));\n"),
-    (C, "return form(fcinfo, langtag_from_posix);", "return form(fcinfo, langtag_canonical);"),
-    (C, "== LANGTAG_NONE) PG_RETURN_NULL();", "== LANGTAG_NONE) refuse(\"langtag\", \"\", 0, \"\");"),
-    (SQL, "'byteane'", "'byteaeq'"),
-    (SQL, "OPERATOR 1 <, OPERATOR 2 <=", "OPERATOR 1 <=, OPERATOR 2 <"),
-    (SQL, "SORTOP = >", "SORTOP = <"),
-    (SQL, "'pg_langtag_script'", "'pg_langtag_region'"),
-    (SQL, ", HASHES, MERGES", ""),
-    (SQL, "IMMUTABLE STRICT PARALLEL SAFE COST 50", "STABLE STRICT COST 50"),
-    (C, "    langtag_recommend(VARDATA(tag), len);\n", ""),
-    (C, "    langtag_recommend(VARDATA(changed), len);\n", ""),
-    (C, "if (len > 0 && langtag_kind", "if (langtag_kind"),
-    (C, "PART(pg_langtag_region, region)", "PART(pg_langtag_region, script)"),
+    (C, "(a_len > b_len) - (a_len < b_len)", "(a_len < b_len) - (a_len > b_len)", "operators"),
+    (C, "    langtag_fold(folded, len);\n", "", "operators"),
+    (C, "    langtag_fold(head, sizeof head);\n", "", "operators"),
+    (C, "'~' : '.'", "'~' : '-'", "filters"),
+    (C, "if (bytes[0] == '*') end = 0;\n    else if", "if", "filters"),
+    (C, "return BYTES(value)[0] != '*';", "return true;", "filters"),
+    (C, "if (tag == NULL) continue;", "if (tag == NULL) break;", "registry"),
+    (C, "        if (best >= 0) some[taken++] = tags[best];\n", "", "registry"),
+    (C, "(*places)[*count] = k;", "(*places)[*count] = *count;", "registry"),
+    (C, "    if (len > sizeof room) folded = palloc(len);\n", "", "operators"),
+    (C, "(int)len, (uint64)PG_GETARG_INT64(1))", "(int)len, 0)", "operators"),
+    (C, "(size_t)pg_mbcliplen(text, (int)len, 60)", "Min(len, 60)", "types"),
+    (C, "request->lossy = lossy;", "request->lossy = false;", "filters"),
+    (C, "if (ARR_ELEMTYPE(array) == TEXTOID) check_tag(BYTES(tag), LEN(tag));", "", "registry"),
+    (C, "        CHECK_FOR_INTERRUPTS();\n        if (best", "        if (best", "registry"),
+    (C, "        memcpy(VARDATA(answer), bytes, end);\n".replace("        ", "    "), "    memcpy(VARDATA(answer), bytes, Min(end, 63));\n", "filters"),
+    (C, "return form(fcinfo, langtag_from_posix);", "return form(fcinfo, langtag_canonical);", "registry"),
+    (C, "== LANGTAG_NONE) PG_RETURN_NULL();", "== LANGTAG_NONE) refuse(\"langtag\", \"\", 0, \"\");", "types"),
+    (SQL, "'byteane'", "'byteaeq'", "operators"),
+    (SQL, "OPERATOR 1 <, OPERATOR 2 <=", "OPERATOR 1 <=, OPERATOR 2 <", "operators"),
+    (SQL, "SORTOP = >", "SORTOP = <", "operators"),
+    (SQL, "'pg_langtag_script'", "'pg_langtag_region'", "parts"),
+    (SQL, ", HASHES, MERGES", "", "operators"),
+    (SQL, "IMMUTABLE STRICT PARALLEL SAFE COST 50", "STABLE STRICT COST 50", "types"),
+    (C, "    langtag_recommend(VARDATA(tag), len);\n", "", "types"),
+    (C, "    langtag_recommend(VARDATA(changed), len);\n", "", "parts"),
+    (C, "if (len > 0 && langtag_kind", "if (langtag_kind", "types"),
+    (C, "PART(pg_langtag_region, region)", "PART(pg_langtag_region, script)", "operators"),
     (C, "    primary_of(tag, &rest);\n    return span_or_null(fcinfo, BYTES(tag), rest);", "    return span_or_null(fcinfo, "
                                                                                            "BYTES(tag), primary_of(tag, "
-                                                                                           "&rest));"),
-    (C, "parts.extensions, langtag_next_extension", "parts.extensions, langtag_next_subtag"),
-    (C, "langtag_keyword(BYTES(tag), LEN(tag), BYTES(key), LEN(key), &value)", "langtag_field(BYTES(tag), LEN(tag), BYTES(key), LEN(key), &value)"),
-    (C, "sizes[0] = (int)count, sizes[1] = 2;", "sizes[0] = 2, sizes[1] = (int)count;"),
-    (C, "    bool lossy = extended;", "    bool lossy = false;"),
-    (C, "if (!IsA(range, Const)) lossy = true;", "if (!IsA(range, Const)) lossy = false;"),
-    (C, "else if (extended) end", "else if (!extended) end"),
-    (C, "return DatumBigEndianToNative(number);", "return number;"),
-    (C, "BYTES(b), LEN(b)) >= 0 ? a : b", "BYTES(b), LEN(b)) <= 0 ? a : b"),
-    (C, "[LANGTAG_PRIVATE_USE] = \"private use\"", "[LANGTAG_PRIVATE_USE] = \"irregular\""),
-    (SQL, "'$libdir/@MODULE@', 'pg_langtag_canonical'", "'MODULE_PATHNAME', 'pg_langtag_canonical'"),
-    (SQL, ", FUNCTION 4 btequalimage(oid)", ""),
-    (SQL, "WITHOUT FUNCTION AS ASSIGNMENT", "WITHOUT FUNCTION AS IMPLICIT"),
-    (SQL, "'pg_langtag_matches_extended'", "'pg_langtag_matches_basic'"),
-    (SQL, "LANGUAGE internal IMMUTABLE STRICT LEAKPROOF", "LANGUAGE internal IMMUTABLE STRICT"),
-    (SQL, "'MODULE_PATHNAME', 'pg_langtag_hash_extended'", "'MODULE_PATHNAME', 'pg_langtag_hash'"),
-    (SQL, "RESTRICT = matchingsel", "RESTRICT = eqsel"),
-    (SQL, "langtag_basic_upper(langtag_range) RETURNS langtag_bound", "langtag_basic_upper(langtag_range) RETURNS langtag"),
+                                                                                           "&rest));", "parts"),
+    (C, "parts.extensions, langtag_next_extension", "parts.extensions, langtag_next_subtag", "parts"),
+    (C, "langtag_keyword(BYTES(tag), LEN(tag), BYTES(key), LEN(key), &value)", "langtag_field(BYTES(tag), LEN(tag), BYTES(key), LEN(key), &value)", "parts"),
+    (C, "sizes[0] = (int)count, sizes[1] = 2;", "sizes[0] = 2, sizes[1] = (int)count;", "parts"),
+    (C, "    bool lossy = extended;", "    bool lossy = false;", "filters"),
+    (C, "if (!IsA(range, Const)) lossy = true;", "if (!IsA(range, Const)) lossy = false;", "filters"),
+    (C, "else if (extended) end", "else if (!extended) end", "filters"),
+    (C, "return DatumBigEndianToNative(number);", "return number;", "operators"),
+    (C, "BYTES(b), LEN(b)) >= 0 ? a : b", "BYTES(b), LEN(b)) <= 0 ? a : b", "types"),
+    (C, "[LANGTAG_PRIVATE_USE] = \"private use\"", "[LANGTAG_PRIVATE_USE] = \"irregular\"", "parts"),
+    (SQL, "'$libdir/@MODULE@', 'pg_langtag_canonical'", "'MODULE_PATHNAME', 'pg_langtag_canonical'", "registry"),
+    (SQL, ", FUNCTION 4 btequalimage(oid)", "", "operators"),
+    (SQL, "WITHOUT FUNCTION AS ASSIGNMENT", "WITHOUT FUNCTION AS IMPLICIT", "types"),
+    (SQL, "'pg_langtag_matches_extended'", "'pg_langtag_matches_basic'", "filters"),
+    (SQL, "LANGUAGE internal IMMUTABLE STRICT LEAKPROOF", "LANGUAGE internal IMMUTABLE STRICT", "types"),
+    (SQL, "'MODULE_PATHNAME', 'pg_langtag_hash_extended'", "'MODULE_PATHNAME', 'pg_langtag_hash'", "operators"),
+    (SQL, "RESTRICT = matchingsel", "RESTRICT = eqsel", "filters"),
+    (SQL, "langtag_basic_upper(langtag_range) RETURNS langtag_bound", "langtag_basic_upper(langtag_range) RETURNS langtag", "filters"),
 ]
 
+# The switch of the module: an option of the session, which PGOPTIONS sets.
+SWITCH = """
+#include "utils/guc.h"
+static bool planted(int fault) {
+    const char *it = GetConfigOption("langtag.planted", true, false);
+    return it != NULL && atoi(it) == fault;
+}
+"""
 
-def made(goals, arguments):
-    """Runs make. A statement that a fault makes endless is ended by the server, so that the next run has its database."""
-    environment = {**os.environ, "PGOPTIONS": "-c statement_timeout=5s"}
+
+def made(goals, arguments, switch=0):
+    """Runs make. The server ends a statement that a fault makes endless, so that the next run has its database."""
+    environment = {**os.environ, "PGOPTIONS": f"-c statement_timeout=5s -c langtag.planted={switch}"}
     return subprocess.run(["timeout", "60", "make", "-s", *goals, *arguments], cwd=HERE, env=environment, capture_output=True, text=True, check=False)
 
 
+def built(sources, arguments):
+    """Writes and installs the sources if they are not there yet. Returns why they do not build, or None."""
+    changed = {name: text for name, text in sources.items() if (HERE / name).read_text() != text}
+    if not changed:
+        return None
+    for name, text in changed.items():
+        (HERE / name).write_text(text)
+    ran = made(["all", "install"], arguments)
+    return f"does not build:\n{ran.stderr}" if ran.returncode else None
+
+
+def wait_for_server():
+    """Waits until the server accepts connections: it starts again after a fault that ends a session by a signal."""
+    for _ in range(300):
+        if subprocess.run(["pg_isready", "-q"], check=False).returncode == 0:
+            return
+        time.sleep(0.1)
+
+
+def refused(test, arguments, switch=0):
+    """Runs the test that has to find a fault, after `types`, which creates the extension. Returns why it does not find it, or None."""
+    wait_for_server()
+    ran = made(["installcheck"], [*arguments, f"REGRESS={' '.join(dict.fromkeys(['types', test]))}"], switch)
+    if not ran.returncode:
+        return f"survives {test}"
+    return None if re.search(rf"test {test} .*FAILED", ran.stdout) else f"not refused by {test}\n{ran.stdout[-500:]}{ran.stderr[-500:]}"
+
+
+def accepted(sources, arguments):
+    """Runs all tests of sources without a fault that runs. Returns why they fail, or None."""
+    why = built(sources, arguments)
+    wait_for_server()
+    ran = made(["installcheck"], arguments)
+    return f"without a fault installcheck fails: {why or ran.stdout[-1000:]}" if why or ran.returncode else None
+
+
 def main(arguments):
-    survive, kept = [], {name: (HERE / name).read_text() for name in (C, SQL)}
-    for name, here, wrong in FAULTS:
+    kept = {name: (HERE / name).read_text() for name in (C, SQL)}
+    for name, here, _, _ in FAULTS:
         assert here in kept[name], f"no such code: {here}"
-        (HERE / name).write_text(kept[name].replace(here, wrong, 1))
-        built = made(["all", "install"], arguments)
-        if built.returncode:
-            survive.append(f"does not build: {wrong}\n{built.stderr}")
-        else:
-            run = made(["installcheck"], arguments)
-            if not run.returncode:
-                survive.append(f"survives: {here} -> {wrong}")
-            elif "FAILED" not in run.stdout:
-                survive.append(f"no test ran: {here} -> {wrong}\n{run.stdout[-500:]}{run.stderr[-500:]}")
-        (HERE / name).write_text(kept[name])
-    made(["all", "install"], arguments)
-    again = made(["installcheck"], arguments)
-    if again.returncode:
-        survive.append("without a fault installcheck fails: " + again.stdout[-1000:])
+    changes = [Change(number, kept[C].index(here), kept[C].index(here) + len(here), wrong)
+               for number, (name, here, wrong, _) in enumerate(FAULTS, 1) if name == C]
+    text, switches = switched(kept[C], ".c", changes)
+    after = text.index("PG_MODULE_MAGIC")
+    all_of_them = {**kept, C: text[:after] + SWITCH.lstrip() + text[after:]}
+    survive = list(filter(None, [accepted(all_of_them, arguments)]))
+    for number, (name, here, wrong, test) in sorted(enumerate(FAULTS, 1), key=lambda it: it[0] not in switches):
+        sources = all_of_them if number in switches else {**kept, name: kept[name].replace(here, wrong, 1)}
+        why = built(sources, arguments) or refused(test, arguments, number)
+        if why:
+            survive.append(f"{here} -> {wrong}: {why}")
+    survive += filter(None, [accepted(kept, arguments)])
     print(f"{len(FAULTS)} faults, {len(survive)} of them unseen", *survive, sep="\n")
     return bool(survive)
 

@@ -1,4 +1,4 @@
-"""python -m langtag: asks language tags (BCP 47) from a shell, in the words of the program `langtag` of the Rust crate."""
+"""python -m langtag: commands for language tags (BCP 47) in a shell, with the output of the program `langtag` of the Rust crate."""
 from __future__ import annotations
 
 import os
@@ -33,7 +33,7 @@ are arguments. The status is
   2  an argument is wrong
 """
 
-# The first argument of a command, if that is no tag.
+# The first argument of a command, if it is not a tag.
 COMMANDS = {"show": "", "check": "", "canonical": "", "maximize": "", "minimize": "", "best": "HEADER", "distance": "", "match": "RANGE"}
 FORMS: dict[str, Callable[[Tag], Tag]] = {"canonical": Tag.canonical, "maximize": Tag.maximized, "minimize": Tag.minimized}
 LONGEST = 120  # a longer text is not repeated
@@ -46,7 +46,7 @@ class Answer(NamedTuple):
 
 
 class Stopped(Exception):
-    """A run that ends: what is said of it, and the status."""
+    """Raised to end a run: its message, and the exit status."""
 
     def __init__(self, words: str, status: int):
         super().__init__(words)
@@ -94,7 +94,7 @@ class Options:
         raise Stopped("", 0)
 
     def answer(self, text: bytes, columns: List[str], between: str = "") -> Answer:
-        """The answer of some columns, before which the text stands if there are tabs."""
+        """Returns the answer for a line: its columns, after the text itself if they are separated by tabs."""
         column = text.replace(b"\t", b"\\t") + b"\t" if self.tsv else b""
         return Answer(column + ("\t" if self.tsv else between).join(columns).encode("utf-8", "surrogateescape"))
 
@@ -121,7 +121,7 @@ def tag_of(text: bytes) -> Tag | None:
 
 
 def show(tag: Tag, options: Options) -> Answer:
-    """The line of the proved program langtag_show."""
+    """Returns the line that the proved program langtag_show prints."""
     text = str(tag)
     if tag.kind is not Kind.NORMAL:
         kind, whole = ("private", text) if tag.kind is Kind.PRIVATE_USE else ("irregular", tag.grandfathered or "")
@@ -135,7 +135,7 @@ def show(tag: Tag, options: Options) -> Answer:
 
 
 def parts_of(tag: Tag) -> dict[str, str]:
-    """The parts of a normal tag by the names that they have in the answer."""
+    """Returns the parts of a normal tag by their names in the answer."""
     parts = {"language": tag.language or "", "script": tag.script or "", "region": tag.region or "", "variants": "-".join(tag.variants)}
     begin = len("-".join(filter(None, parts.values())))
     rest = str(tag)[begin + 1 :].split("-")
@@ -145,7 +145,7 @@ def parts_of(tag: Tag) -> dict[str, str]:
 
 
 def check(tag: Tag, options: Options) -> Answer:
-    """The line of the proved program langtag_check."""
+    """Returns the line that the proved program langtag_check prints."""
     text, form, invalid = str(tag).encode(), str(tag.canonical()), tag.invalid_subtag
     if invalid is None:
         return options.answer(text, ["valid", "", "", form] if options.tsv else ["valid", f"canonical={form}"], " ")
@@ -154,7 +154,7 @@ def check(tag: Tag, options: Options) -> Answer:
 
 
 class Asked:
-    """A command that answers each text by itself."""
+    """A command that answers each text on its own."""
 
     def __init__(self, options: Options):
         self.options, self.range = options, None
@@ -191,7 +191,7 @@ class Asked:
 
 
 def best(options: Options, texts: List[bytes]) -> Answer:
-    """The tag that a reader wants who sends the header."""
+    """Returns the best tag for a header."""
     for text in texts:
         if tag_of(text) is None:
             return Answer(options.answer(options.first, ["-"]).line, False, why_refused(text))
@@ -200,7 +200,7 @@ def best(options: Options, texts: List[bytes]) -> Answer:
 
 
 def distance_in(line: bytes, options: Options) -> Answer:
-    """The answer of `distance` to a line of two tags."""
+    """Returns the answer of `distance` to a line with two tags."""
     words = line.replace(b"\v", b"\x00").split()
     if len(words) == 2:
         return distance_of(words[0], words[1], options)
@@ -234,14 +234,14 @@ def why_invalid(text: bytes, invalid: InvalidSubtag) -> str:
 
 
 def shown(text: bytes) -> str:
-    """A text as a terminal may show it."""
+    """Returns a text in a form that is safe for a terminal."""
     readable = text.decode("utf-8", "replace")
     short = "".join("\ufffd" if ord(it) < 32 or 127 <= ord(it) < 160 else it for it in readable[:LONGEST])
     return short + (".." if len(readable) > LONGEST else "")
 
 
 def underlined(text: bytes, start: int, length: int) -> str:
-    """The text, and on the next line marks below some of its bytes; nothing for a long text."""
+    """Returns the text, and on the next line marks below some of its bytes; or nothing for a long text."""
     if len(text) > LONGEST:
         return ""
     before = len(text[:start].decode("utf-8", "replace"))
@@ -249,7 +249,7 @@ def underlined(text: bytes, start: int, length: int) -> str:
 
 
 def lines() -> Iterator[bytes | None]:
-    """The lines of standard input, and None before each read, which may wait. Only LF ends a line."""
+    """Yields the lines of standard input, and None before each read, since a read may wait. Only LF ends a line."""
     rest = b""
     while True:
         yield None
@@ -266,7 +266,7 @@ def lines() -> Iterator[bytes | None]:
 
 
 class Run:
-    """A run: the answers that are written, and whether they were good."""
+    """A run: writes the answers, and records whether all texts were accepted."""
 
     def __init__(self, options: Options):
         self.options, self.all, self.some, self.waiting = options, True, False, [b""]
@@ -281,7 +281,7 @@ class Run:
             sys.stderr.write(f"langtag: {answer.reason}\n")
 
     def write(self) -> None:
-        """Writes what was answered."""
+        """Writes the answers."""
         data, self.waiting = b"".join(self.waiting), []
         write(data)
 

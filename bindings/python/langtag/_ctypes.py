@@ -1,4 +1,5 @@
-"""The functions of langtag._native, over ctypes. Used if Python cannot load that module, or if LANGTAG_LIBRARY names a library."""
+"""The functions of langtag._native, implemented by ctypes. They are used if Python cannot load that module, or if LANGTAG_LIBRARY
+is set."""
 from __future__ import annotations
 
 import ctypes
@@ -42,12 +43,23 @@ def _changed(change: Callable[..., None], data: bytes) -> bytes:
     return buffer.raw
 
 
+def suggestion(fault: int, subtag: Text) -> str | None:
+    data, code = bytes_of(subtag), ctypes.create_string_buffer(3)
+    length = _c.langtag_suggestion(fault, data, len(data), code, len(code))
+    return str(code.raw[:length], "ascii") or None
+
+
 def from_posix(name: Text) -> bytes | None:
     return _written(_c.langtag_from_posix, name) or None
 
 
+def unknown_modifier(name: Text) -> bytes | None:
+    found = Span()
+    return bytes_of(name)[found.start :] if _ask(_c.langtag_unknown_modifier, name, found) else None
+
+
 def _taken(take: Callable[..., int], data: bytes, rest: Span, *out: Any) -> Iterator[int]:
-    """What a call answers that takes one piece after the other off `rest`, up to the first 0."""
+    """Yields the results of a call that removes one piece after another from `rest`, up to the first result 0."""
     return iter(lambda: take(data, len(data), rest, *out), 0)
 
 
@@ -63,7 +75,7 @@ def elements(text: Text) -> list[tuple[int, int, int, int]]:
 
 
 def _joined(texts: list[bytes]) -> tuple[bytes, int, Any, int]:
-    """Returns texts as one, its length, the spans of them in it, and their number."""
+    """Joins texts: returns the joined text, its length, the spans of the texts in it, and their number."""
     spans, start = (Span * max(len(texts), 1))(), 0
     for span, text in zip(spans, texts):
         span.start, span.len, start = start, len(text), start + len(text)
@@ -106,7 +118,8 @@ def match_for_header(header: Text, tags: Iterable[Any], tag_class: Any) -> tuple
 
 @functools.total_ordering
 class _Value:
-    """A text that ignores case, and does not change. A class has `_base`, Tag or Range, and `_error`, which refuses a text."""
+    """An immutable text that compares ignoring case. A subclass has `_base`, which is Tag or Range, and `_error`, which is raised
+    for a wrong text."""
 
     __slots__ = ("_text", "_kind", "_parts", "__weakref__")
     _base: Any
@@ -135,7 +148,7 @@ class _Value:
         return self._compared(lambda *texts: _c.langtag_cmp(*texts) < 0, other)
 
     def __hash__(self) -> int:
-        return hash(self._data.lower())  # of bytes, lower() is that of ASCII; the hash is keyed, as all of Python are
+        return hash(self._data.lower())  # lower() of bytes changes only ASCII letters; this hash is keyed, as all hashes of Python are
 
     def __str__(self) -> str:
         return str(self._data, "ascii")

@@ -1,4 +1,4 @@
-"""What langtag.h declares, and the library, for ctypes."""
+"""The declarations of langtag.h, and the library itself, for ctypes."""
 from __future__ import annotations
 
 import os
@@ -23,7 +23,7 @@ class BestMatch(Structure):
     _fields_ = [("range", Span), ("distance", c_uint32)]
 
 
-# The functions, without langtag_, by what they return and take.
+# The functions, without the prefix langtag_, grouped by the types of their result and arguments.
 _TEXT, _BUFFER, _SPANS = (c_char_p, c_size_t), (POINTER(c_char), c_size_t), (POINTER(Span), c_size_t)
 FUNCTIONS: dict[tuple[Any, ...], str] = {
     (c_uint32,): "registry_date cldr_version",
@@ -37,11 +37,12 @@ FUNCTIONS: dict[tuple[Any, ...], str] = {
     (None, *_BUFFER): "fold recommend",
     (c_size_t, *_TEXT, *_BUFFER): "canonical maximize minimize from_posix",
     (c_size_t, *_TEXT, c_uint32, *_TEXT, *_BUFFER): "with_part",
+    (c_size_t, c_uint32, *_TEXT, *_BUFFER): "suggestion",
     (c_uint32, *_TEXT, POINTER(Parts)): "parse",
     (c_uint32, *_TEXT, POINTER(Repeated)): "repeats",
     (c_uint32, *_TEXT, POINTER(Span)): "validity",
     (c_uint32, *_TEXT, POINTER(Span), POINTER(c_size_t)): "refused",
-    (c_bool, *_TEXT, POINTER(Span)): "next_fallback attributes transform",
+    (c_bool, *_TEXT, POINTER(Span)): "next_fallback attributes transform unknown_modifier",
     (c_bool, *_TEXT, *_TEXT, POINTER(Span)): "keyword field",
     (c_bool, *_TEXT, POINTER(c_size_t), POINTER(Span), POINTER(Span)): "next_keyword next_field",
     (c_bool, *_TEXT, POINTER(Span), POINTER(Span)): "next_subtag next_extension",
@@ -54,7 +55,8 @@ FUNCTIONS: dict[tuple[Any, ...], str] = {
 
 
 def opened() -> CDLL:
-    """Opens the library. LANGTAG_LIBRARY names the library; else it stands in the package, as in a wheel, or beside it, or where the system looks."""
+    """Opens the library that LANGTAG_LIBRARY names. If the variable is not set, opens the library in the package, as in a wheel, or
+    beside it, or in a folder that the system searches."""
     name, here = "liblangtag_verified.so.1", pathlib.Path(__file__).resolve().parent
     beside = [str(path) for path in (here / name, here.parent / name) if path.is_file()]
     try:
@@ -63,6 +65,6 @@ def opened() -> CDLL:
             for function in functions.split():
                 found = getattr(library, f"langtag_{function}")
                 found.restype, found.argtypes = result, parameters
-    except (OSError, AttributeError) as error:  # the latter where it is another library
+    except (OSError, AttributeError) as error:  # AttributeError if it is another library
         raise ImportError(f"{error}: install {name}, put it into {here}, or name it by LANGTAG_LIBRARY") from error
     return library

@@ -1,11 +1,11 @@
-"""What a text is, for both ways to the library."""
+"""The conversion of texts to bytes, for the C module and for ctypes."""
 from typing import Union
 
 Text = Union[str, bytes]
 
 
 def bytes_of(text: Text) -> bytes:
-    """Bytes of type bytes itself: a subclass of str or bytes may have an encode or a length of its own."""
+    """Returns the text as bytes of the type bytes itself, since a subclass of str or bytes may have its own `encode` or length."""
     if isinstance(text, str):
         return str.encode(text, "utf-8", "surrogatepass")  # a lone surrogate becomes bytes that no tag has
     if isinstance(text, bytes):

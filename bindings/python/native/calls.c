@@ -22,7 +22,7 @@ static PyObject *reach(PyObject *from, size_t (*how)(const char *, size_t)) {
     return PyLong_FromSize_t(found);
 }
 
-/* Why a text is no tag: (answer of the call, start, length, offset). */
+/* Returns why a text is not a tag: (answer of the call, start, length, offset). */
 static PyObject *refused(PyObject *module, PyObject *from) {
     (void)module;
     Text text;
@@ -46,7 +46,7 @@ static PyObject *stop(PyObject *module, PyObject *text) {
     return reach(text, langtag_stop);
 }
 
-/* The ends of the fallbacks of a range, itself first. */
+/* Returns the end of a range, and the ends of its fallbacks. */
 static PyObject *fallback_ends(PyObject *module, PyObject *from) {
     (void)module;
     Text text;
@@ -64,7 +64,7 @@ static PyObject *fallback_ends(PyObject *module, PyObject *from) {
     return list;
 }
 
-/* The elements of a header that are not empty: (answer of the call, start, length, weight). */
+/* Returns (answer of the call, start, length, weight) for each element of a header that is not empty. */
 static PyObject *elements(PyObject *module, PyObject *from) {
     (void)module;
     Text text;
@@ -106,7 +106,9 @@ PyMethodDef lt_functions[] = {
     {"tag_for_header", lt_tag_for_header, METH_VARARGS, NULL},
     {"distance", lt_distance, METH_VARARGS, NULL},
     {"is_right_to_left", lt_is_right_to_left, METH_O, NULL},
+    {"suggestion", lt_suggestion, METH_VARARGS, NULL},
     {"from_posix", lt_from_posix, METH_O, NULL},
+    {"unknown_modifier", lt_unknown_modifier, METH_O, NULL},
     {"best_for_header", lt_best_for_header, METH_VARARGS, NULL},
     {"best_for_ranges", lt_best_for_ranges, METH_VARARGS, NULL},
     {"match_for_header", lt_match_for_header, METH_VARARGS, NULL},

@@ -1,12 +1,13 @@
-/* The choice among tags for a header or for ranges: of Tags, or texts of tags, the item itself. */
+/* The choice among tags for a header or for ranges. The list has Tags or texts of tags, and the chosen item itself is returned. */
 #include "native.h"
 
-/* The texts of the tags to choose from, or of ranges, one behind the other, and their spans; in the room at the end where that is enough. */
+/* The joined texts of the tags to choose from, or of ranges, and their spans. They are in the arrays at the end if these are large
+ * enough. */
 typedef struct {
     langtag_span *spans;
     char *text;
     size_t count, len, room;
-    PyTypeObject *known; /* of the last tag, so that it need not be asked again */
+    PyTypeObject *known; /* the type of the last tag, so that it need not be checked again */
     langtag_span few[64];
     char little[1024];
 } Offered;
@@ -51,7 +52,7 @@ static int add(Offered *offered, const Text *tag) {
     return 0;
 }
 
-/* Adds a text, which the class that Python calls Tag refuses where it is no tag. */
+/* Adds a text. If it is not a tag, raises the exception of the Python class Tag. */
 static int add_text(Offered *offered, PyObject *from, PyObject *type) {
     Text text;
     if (lt_text(from, &text)) return -1;
@@ -72,13 +73,13 @@ static int add_item(Offered *offered, PyObject *item, PyObject *type) {
     return add(offered, &tag->text);
 }
 
-/* The item of a list or a tuple, borrowed. */
+/* Returns the item of a list or a tuple, as a borrowed reference. */
 static PyObject *item_at(PyObject *listed, size_t index) {
     return (PyList_Check(listed) ? PyList_GetItem : PyTuple_GetItem)(listed, (Py_ssize_t)index);
 }
 
-/* What a reader wants, and the call that chooses for it: for a header, with what is said of the tag if there is room for that, or
- * for ranges of which the first is wanted most. */
+/* What a reader wants: a header, with the call that chooses for it, or a list of ranges, the most wanted first. If `match` is not
+ * NULL, the range and the distance of the chosen tag are written to it. */
 typedef struct {
     Text header;
     Choose *choose;
@@ -98,7 +99,7 @@ static size_t choose(const Wanted *wanted, const Offered *tags) {
     return wanted->choose(header, len, tags->text, tags->len, tags->spans, tags->count);
 }
 
-/* The index of the tag that is chosen, or `count`: -1 with an exception. */
+/* Writes the index of the chosen tag, or `count` if none is chosen. Returns 0, or -1 with an exception. */
 static int choose_index(const Wanted *wanted, PyObject *listed, PyObject *type, size_t *index) {
     Offered offered;
     size_t count = (size_t)PySequence_Size(listed);
@@ -114,12 +115,12 @@ static int choose_index(const Wanted *wanted, PyObject *listed, PyObject *type, 
     return status;
 }
 
-/* The caller's own list, but where others may change it: those that run during a call on a long text. */
+/* Returns the caller's own list, or a copy if the text is long: other threads run during such a call, and may change the list. */
 static PyObject *listed_for(const Wanted *wanted, PyObject *all) {
     return length(wanted) < LONG_TEXT ? PySequence_Fast(all, "the tags are not iterable") : PySequence_Tuple(all);
 }
 
-/* The item of `all` that is chosen, or `otherwise`. */
+/* Returns the item of `all` that is chosen, or `otherwise`. */
 static PyObject *chosen(const Wanted *wanted, PyObject *all, PyObject *otherwise, PyObject *type) {
     PyObject *listed = listed_for(wanted, all), *found = NULL;
     size_t index;
@@ -139,7 +140,7 @@ static PyObject *for_header(PyObject *arguments, Choose *choose) {
     return found;
 }
 
-/* What is said of the best tag: (index, the tag as it was given, distance, range of the header); None where there is none. */
+/* Returns (index, the tag as it was given, distance, range of the header) for the best tag, or None if there is none. */
 static PyObject *matched(const Wanted *wanted, PyObject *listed, PyObject *type) {
     const langtag_best_match *match = wanted->match;
     size_t index;
@@ -180,7 +181,7 @@ static int add_range(Offered *ranges, PyObject *from) {
     return status;
 }
 
-/* Of a list of bytes, the tags, what stands for none, and the class of tags. */
+/* The arguments are a list of bytes, the tags, the default, and the class of tags. */
 PyObject *lt_best_for_ranges(PyObject *module, PyObject *arguments) {
     PyObject *from, *all, *otherwise, *type, *found = NULL;
     Offered ranges;

@@ -1,7 +1,7 @@
-/* What is made of a tag. */
+/* The calls that make another tag or text from a tag. */
 #include "native.h"
 
-/* Of the class that Python calls Tag, `_base`; NULL with an exception where a subclass says that it is another one. */
+/* Returns the Python class Tag, which is `_base`, or NULL with an exception if a subclass changed `_base` to another class. */
 static PyTypeObject *tag_class(const Value *self) {
     PyObject *type = PyObject_GetAttrString((PyObject *)self, "_base");
     if (!type) return NULL;
@@ -11,7 +11,7 @@ static PyTypeObject *tag_class(const Value *self) {
     return NULL;
 }
 
-/* A Tag of bytes, whose reference it takes over, with the parts of `like`, or parsed where that is NULL. */
+/* Returns a Tag of bytes, whose reference it takes over. The parts are those of `like`. If `like` is NULL, the bytes are parsed. */
 static PyObject *tag_of(const Value *self, PyObject *owner, const Value *like) {
     if (!owner) return NULL;
     PyTypeObject *type = tag_class(self);
@@ -29,7 +29,7 @@ static PyObject *tag_of(const Value *self, PyObject *owner, const Value *like) {
         made->kind = langtag_parse(made->text.data, (size_t)made->text.len, &made->parts);
     }
     if (made->kind) return (PyObject *)made;
-    Py_DECREF((PyObject *)made); /* can't be, by the contract of the call that wrote the bytes */
+    Py_DECREF((PyObject *)made); /* cannot happen, by the contract of the call that wrote the bytes */
     PyErr_SetString(PyExc_SystemError, "langtag: a form that is not a tag");
     return NULL;
 }
@@ -42,7 +42,7 @@ PyObject *lt_recommended(PyObject *object, PyObject *unused) {
 
 typedef size_t Form(const char *bytes, size_t len, char *buffer, size_t buffer_len);
 
-/* A form, as bytes. */
+/* Returns a form of a tag, as bytes. */
 static PyObject *form_of(const Value *self, Form *form) {
     char room[192];
     const char *data = self->text.data;
@@ -102,7 +102,7 @@ PyObject *lt_fnv1a(PyObject *object, PyObject *unused) {
     return PyLong_FromUnsignedLongLong(langtag_hash(LANGTAG_HASH, self->text.data, (size_t)self->text.len));
 }
 
-/* The tag with another part, or None where the library refuses. */
+/* Returns the tag with another part, or None if the library refuses the part. */
 static PyObject *with_part(const Value *self, uint32_t part, Text given) {
     char nothing[1];
     const char *data = self->text.data;

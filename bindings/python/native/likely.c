@@ -1,4 +1,4 @@
-/* Likely subtags, and locales' names, over texts. */
+/* Likely subtags and locale names. These calls take texts. */
 #include "native.h"
 
 PyObject *lt_distance(PyObject *module, PyObject *arguments) {
@@ -25,7 +25,20 @@ PyObject *lt_is_right_to_left(PyObject *module, PyObject *from) {
     return PyBool_FromLong(answer);
 }
 
-/* The tag of a locale's name, as bytes; None where it names none. */
+/* Returns the code that is meant by an invalid subtag, or None if there is none. The first argument is the number of the fault. */
+PyObject *lt_suggestion(PyObject *module, PyObject *arguments) {
+    (void)module;
+    unsigned fault;
+    PyObject *from;
+    Text subtag;
+    char code[3];
+    if (!PyArg_ParseTuple(arguments, "IO", &fault, &from) || lt_text(from, &subtag)) return NULL;
+    size_t len = langtag_suggestion(fault, subtag.data, (size_t)subtag.len, code, sizeof code);
+    Py_DECREF(subtag.owner);
+    return len > 0 && len <= sizeof code ? lt_str(code, len) : lt_none();
+}
+
+/* Returns the tag for a locale name, as bytes, or None if there is none. */
 PyObject *lt_from_posix(PyObject *module, PyObject *from) {
     (void)module;
     Text name;
@@ -34,6 +47,18 @@ PyObject *lt_from_posix(PyObject *module, PyObject *from) {
     size_t wanted = langtag_from_posix(name.data, (size_t)name.len, none, 0);
     PyObject *made = wanted ? PyBytes_FromStringAndSize(NULL, (Py_ssize_t)wanted) : lt_none();
     if (made && wanted) langtag_from_posix(name.data, (size_t)name.len, PyBytes_AsString(made), wanted);
+    Py_DECREF(name.owner);
+    return made;
+}
+
+/* Returns the modifier of a locale name that is not known, as bytes, or None if there is none. */
+PyObject *lt_unknown_modifier(PyObject *module, PyObject *from) {
+    (void)module;
+    Text name;
+    langtag_span found;
+    if (lt_text(from, &name)) return NULL;
+    bool is_unknown = langtag_unknown_modifier(name.data, (size_t)name.len, &found);
+    PyObject *made = is_unknown ? PyBytes_FromStringAndSize(name.data + found.start, (Py_ssize_t)found.len) : lt_none();
     Py_DECREF(name.owner);
     return made;
 }

@@ -3,7 +3,7 @@
 int lt_tag_init(PyObject *self, PyObject *arguments, PyObject *named) { return lt_init(self, arguments, named, 1); }
 static int range_init(PyObject *self, PyObject *arguments, PyObject *named) { return lt_init(self, arguments, named, 0); }
 
-/* Adds a class that has the slots of all values, and its own. */
+/* Adds a class to the module, with the slots that Tag and Range share and with its own slots. */
 static int add_class(PyObject *module, const char *name, const char *full, initproc init, PyMethodDef *methods,
                      PyGetSetDef *members) {
     PyType_Slot slots[16];
@@ -26,14 +26,14 @@ static int fill(PyObject *module) {
            add_class(module, "RangeBase", "langtag._native.RangeBase", range_init, lt_range_methods, lt_range_members) ? -1 : 0;
 }
 
-/* Py_mod_multiple_interpreters, of 3.12, which the headers of 3.8 lack; an older Python refuses its number. */
+/* Py_mod_multiple_interpreters of Python 3.12, which the headers of 3.8 lack. An older Python refuses this number. */
 #define MULTIPLE_INTERPRETERS 3
 #define OWN_GIL_SUPPORTED ((void *)2)
 static PyModuleDef_Slot slots[] = {{Py_mod_exec, fill}, {0, NULL}};
 static PyModuleDef_Slot slots_since_3_12[] = {{Py_mod_exec, fill}, {MULTIPLE_INTERPRETERS, OWN_GIL_SUPPORTED}, {0, NULL}};
 static PyModuleDef definition = {PyModuleDef_HEAD_INIT, "langtag._native", NULL, 0, lt_functions, slots, NULL, NULL, NULL};
 
-/* The headers of 3.8 do not say that it is seen from outside. */
+/* The headers of 3.8 do not export this function. */
 __attribute__((visibility("default"))) PyMODINIT_FUNC PyInit__native(void) {
     long minor = strtol(Py_GetVersion() + 2, NULL, 10); /* "3.11.2 (main, .." */
     if (minor >= 12) definition.m_slots = slots_since_3_12;

@@ -1,6 +1,6 @@
-/* langtag._native: what is hot of the Python package, by the limited API of 3.8. The classes are heap types and nothing is kept
- * in the process, so that interpreters are apart. The Python layer subclasses TagBase and RangeBase; each of its classes has
- * `_base`, itself, and `_error`, what refuses a text. */
+/* langtag._native: the parts of the Python package that have to be fast, by the limited API of 3.8. The classes are heap types, and
+ * there is no global state, so each interpreter has its own. The Python layer subclasses TagBase and RangeBase. Each subclass has
+ * `_base`, which is the subclass itself, and `_error`, which is raised for a wrong text. */
 #ifndef LANGTAG_NATIVE_H
 #define LANGTAG_NATIVE_H
 #ifndef Py_LIMITED_API
@@ -12,7 +12,7 @@
 #include <string.h>
 #include "langtag.h"
 
-/* A text: `owner`, a str or bytes itself, keeps the bytes. */
+/* A text. `owner`, which is a str or bytes object, keeps the bytes alive. */
 typedef struct {
     PyObject *owner;
     const char *data;
@@ -23,36 +23,36 @@ typedef struct {
 typedef struct {
     PyObject_HEAD
     PyObject *weak;
-    Text text; /* without an owner before __init__ */
-    Py_hash_t hash; /* -1: not yet asked for */
-    PyTypeObject *base; /* TagBase or RangeBase, borrowed: the object's own type keeps it */
+    Text text; /* has no owner before __init__ */
+    Py_hash_t hash; /* -1 if it was not computed yet */
+    PyTypeObject *base; /* TagBase or RangeBase; borrowed, since the object's own type keeps it alive */
     uint32_t kind;
-    langtag_parts parts; /* of a Tag alone */
+    langtag_parts parts; /* only of a Tag */
 } Value;
 
-/* Lets other threads run during a call on a long text: if a stranger sends megabytes, langtag_repeats may take seconds. */
+/* Lets other threads run during a call on a long text. For a text of megabytes, langtag_repeats may take seconds. */
 #define LONG_TEXT 4096
 #define LET_GO(len) PyThreadState *others = (len) >= LONG_TEXT ? PyEval_SaveThread() : NULL
 #define TAKE_BACK() do { if (others) PyEval_RestoreThread(others); } while (0)
 
-/* The bytes of a str or bytes: 0, or -1 with an exception. The caller lets go of the owner. */
+/* Reads the bytes of a str or bytes object. Returns 0, or -1 with an exception. The caller has to release the owner. */
 int lt_text(PyObject *from, Text *text);
 
 PyObject *lt_str(const char *data, size_t len);
 PyObject *lt_none(void);
 PyObject *lt_type_name(PyObject *of);
-PyObject *lt_span(const Value *self, langtag_span span); /* None where it is empty */
+PyObject *lt_span(const Value *self, langtag_span span); /* None if the span is empty */
 
-int lt_lacks(Value *self); /* whether it was made by __new__ alone; with an exception */
+int lt_lacks(Value *self); /* whether __init__ was not called; sets an exception in that case */
 PyTypeObject *lt_base(PyTypeObject *type); /* TagBase or RangeBase; NULL with an exception */
 PyObject *lt_new(PyTypeObject *type, PyObject *arguments, PyObject *named);
-PyObject *lt_changed(const Value *self, void (*change)(char *, size_t)); /* a copy that was changed in its place, as bytes */
+PyObject *lt_changed(const Value *self, void (*change)(char *, size_t)); /* a changed copy of the text, as bytes */
 int lt_init(PyObject *self, PyObject *arguments, PyObject *named, int is_tag);
 int lt_tag_init(PyObject *self, PyObject *arguments, PyObject *named);
-Value *lt_as_tag(PyObject *object, const char *message); /* NULL with the message where it is no Tag */
-void lt_refuse(PyObject *class, PyObject *from); /* a text that is no tag, with the exception of the class of tags */
+Value *lt_as_tag(PyObject *object, const char *message); /* NULL, and an exception with the message, if it is not a Tag */
+void lt_refuse(PyObject *class, PyObject *from); /* raises the exception of the class of tags for a text that is not a tag */
 
-/* A choice among tags for a header, as langtag_best_for_header. */
+/* A call that chooses among tags for a header, such as langtag_best_for_header. */
 typedef size_t Choose(const char *header, size_t header_len, const char *bytes, size_t len, const langtag_span *tags, size_t count);
 
 #define FUNCTION(name) (PyCFunction)(void (*)(void))(name)
@@ -63,7 +63,9 @@ extern PyMethodDef lt_tag_methods[], lt_range_methods[], lt_functions[];
 PyObject *lt_tag_for_header(PyObject *module, PyObject *arguments);
 PyObject *lt_distance(PyObject *module, PyObject *arguments);
 PyObject *lt_is_right_to_left(PyObject *module, PyObject *from);
+PyObject *lt_suggestion(PyObject *module, PyObject *arguments);
 PyObject *lt_from_posix(PyObject *module, PyObject *from);
+PyObject *lt_unknown_modifier(PyObject *module, PyObject *from);
 PyObject *lt_best_for_header(PyObject *module, PyObject *arguments);
 PyObject *lt_best_for_ranges(PyObject *module, PyObject *arguments);
 PyObject *lt_match_for_header(PyObject *module, PyObject *arguments);

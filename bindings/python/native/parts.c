@@ -1,6 +1,6 @@
 #include "native.h"
 
-/* The parts of a tag, and what is said of them. */
+/* The parts and properties of a tag. */
 PyObject *lt_span(const Value *self, langtag_span span) {
     return span.len ? lt_str(self->text.data + span.start, span.len) : lt_none();
 }
@@ -12,7 +12,7 @@ static PyObject *tag_part(PyObject *object, void *number) {
     return lt_span(self, ((const langtag_span *)&self->parts)[(intptr_t)number]);
 }
 
-/* The subtags behind the first `pass`. */
+/* Returns the subtags after the first `pass` ones. */
 static PyObject *subtags_from(const Value *self, langtag_span rest, size_t pass) {
     PyObject *list = PyList_New(0);
     langtag_span found;
@@ -54,7 +54,7 @@ static PyObject *tag_variants(PyObject *object, void *unused) {
     return self->parts.variants.len ? subtags_from(self, self->parts.variants, 0) : PyTuple_New(0);
 }
 
-/* Under its singleton in small letters, where there is none yet: 0, or -1 with an exception. */
+/* Adds an extension under its lowercase singleton, unless the key is there already. Returns 0, or -1 with an exception. */
 static int add_extension(const Value *self, langtag_span found, PyObject *dict) {
     char singleton = self->text.data[found.start];
     langtag_fold(&singleton, 1);

@@ -15,7 +15,7 @@ static PyObject *matches_text(const Value *self, const char *data, Py_ssize_t le
     return PyBool_FromLong(answer);
 }
 
-/* Refuses a text that is no tag as its class `_tag` does. */
+/* Raises the exception of the class `_tag` for a text that is not a tag. */
 static PyObject *refuse(const Value *self, PyObject *from) {
     PyObject *class = PyObject_GetAttrString((PyObject *)self, "_tag");
     if (class) lt_refuse(class, from);

@@ -1,7 +1,7 @@
 #include "native.h"
 
-/* Of a subclass, which may have an encode or a length of its own, the bytes that are there. A lone surrogate becomes bytes that
- * no tag has. */
+/* Returns the real bytes, even if a subclass of str or bytes has its own encode or length. A lone surrogate becomes bytes that no
+ * tag contains. */
 static PyObject *owned(PyObject *from) {
     if (PyUnicode_Check(from)) {
         PyObject *made = PyUnicode_AsUTF8String(from);

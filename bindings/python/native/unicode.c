@@ -1,6 +1,6 @@
 #include "native.h"
 
-/* What the extensions say: u where `which` is 0, and t where it is 1. */
+/* The extension u if `which` is 0, and the extension t if it is 1. */
 PyObject *lt_value_of(PyObject *object, PyObject *arguments) {
     Value *self = (Value *)object;
     unsigned int which;
@@ -15,7 +15,7 @@ PyObject *lt_value_of(PyObject *object, PyObject *arguments) {
     return is_there ? lt_str(self->text.data + found.start, found.len) : lt_none();
 }
 
-/* The next key and its value: 1 where there is one, 0 where there is none, -1 with an exception. */
+/* Finds the next key and its value. Returns 1, or 0 if there is no next key, or -1 with an exception. */
 static int add_pair(const Value *self, unsigned long which, size_t *passed, PyObject *list) {
     langtag_span key, value;
     LET_GO(self->text.len);

@@ -1,4 +1,4 @@
-/* What Tag and Range have both. */
+/* What Tag and Range share. */
 #include <stddef.h>
 #include "native.h"
 #include <structmember.h>
@@ -12,7 +12,7 @@ static void dealloc(PyObject *self) {
     Py_DECREF(type);
 }
 
-/* The first type whose tp_dealloc is ours; a Python class has its own. */
+/* Returns the first base type whose tp_dealloc is the function above. A class in Python has its own tp_dealloc. */
 PyTypeObject *lt_base(PyTypeObject *type) {
     while (type && (PyType_GetFlags(type) & Py_TPFLAGS_HEAPTYPE)) {
         if ((destructor)PyType_GetSlot(type, Py_tp_dealloc) == dealloc) return type;
@@ -68,7 +68,7 @@ static int refuse_change(int is_tag) {
     return -1;
 }
 
-/* Raises the error of the Python class. */
+/* Raises `_error` of the Python class. */
 static int refuse(PyObject *self, PyObject *from) {
     PyObject *error = PyObject_GetAttrString(self, "_error");
     PyObject *made = error ? PyObject_CallFunctionObjArgs(error, from, NULL) : NULL;
@@ -96,11 +96,11 @@ int lt_init(PyObject *object, PyObject *arguments, PyObject *named, int is_tag) 
     if (PyObject_TypeCheck(from, self->base)) return copy(self, (Value *)from);
     Text text;
     if (lt_text(from, &text)) return -1;
-    langtag_parts parts = {{0, 0}, {0, 0}, {0, 0}, {0, 0}, {0, 0}, {0, 0}}; /* not self's, which another thread may know */
+    langtag_parts parts = {{0, 0}, {0, 0}, {0, 0}, {0, 0}, {0, 0}, {0, 0}}; /* not those of self, which another thread may read */
     LET_GO(text.len);
     uint32_t kind = is_tag ? langtag_parse(text.data, (size_t)text.len, &parts) : langtag_range_kind(text.data, (size_t)text.len);
     TAKE_BACK();
-    if (!kind || self->text.owner) { /* in the latter case another thread was here meanwhile */
+    if (!kind || self->text.owner) { /* if self has an owner now, another thread called __init__ meanwhile */
         Py_DECREF(text.owner);
         return kind ? refuse_change(is_tag) : refuse(object, from);
     }
@@ -144,7 +144,7 @@ PyObject *lt_reduce(PyObject *self, PyObject *unused) {
 }
 
 PyObject *lt_changed(const Value *self, void (*change)(char *, size_t)) {
-    PyObject *copied = PyBytes_FromStringAndSize(NULL, self->text.len); /* nobody else has it yet, not even one of one byte */
+    PyObject *copied = PyBytes_FromStringAndSize(NULL, self->text.len); /* nobody else has it yet, not even if it has only one byte */
     if (!copied) return NULL;
     char *data = PyBytes_AsString(copied);
     memcpy(data, self->text.data, (size_t)self->text.len);
@@ -157,7 +157,7 @@ static Py_hash_t hash(PyObject *object) {
     if (self->hash != -1) return self->hash;
     PyObject *folded = lt_lacks(self) ? NULL : lt_changed(self, langtag_fold);
     if (!folded) return -1;
-    self->hash = PyObject_Hash(folded); /* keyed, as all hashes of Python are */
+    self->hash = PyObject_Hash(folded); /* this hash is keyed, as all hashes of Python are */
     Py_DECREF(folded);
     return self->hash;
 }
@@ -184,7 +184,7 @@ static PyObject *compare(PyObject *a, PyObject *b, int operator) {
     return PyBool_FromLong(ordered(operator, langtag_cmp(x->text.data, x_len, y->text.data, y_len)));
 }
 
-static PyMemberDef members[] = { /* read from 3.9 on; in 3.8 the Python class adds __weakref__ */
+static PyMemberDef members[] = { /* Python 3.9 and later read this; for 3.8 the Python class adds __weakref__ */
     {"__weaklistoffset__", T_PYSSIZET, offsetof(Value, weak), READONLY, NULL}, {NULL, 0, 0, 0, NULL}};
 
 PyType_Slot lt_value_slots[] = {

@@ -14,7 +14,7 @@ use Rattle.langtag_private.proofs.Rules.{IsPrivate-from_test}
 use Rattle.langtag.specs.Kinds.{IsOfKind, AreOfOneKind}
 use Rattle.langtag.specs.Recognised.{finding_of}
 use Rattle.langtag.specs.Registered.{index_of}
-use Rattle.langtag.specs.Typed.{IsTypedAs, kind_of}
+use Rattle.langtag.specs.Typed.{IsTypedAs, kind_of_tag}
 use Rattle.langtag.specs.declared.recognised.Recognised.{Recognised}
 use Rattle.langtag.specs.declared.typed_lang_tag.TypedLangTag.{TypedLangTag}
 use Rattle.langtag.specs.declared.typed_lang_tag.TypedLangTag.TheVariants.{Normal, PrivateUse, Grandfathered}
@@ -49,7 +49,7 @@ pub kept_as : (text : List ℕ) (kept same : Recognised) → ∥ IsFoundOf text 
 kept_as text kept same merely is = subst (λ found. IsFoundOf text (finding_of found)) is (found_had text (finding_of kept) merely)
 
 -- the variant of a typed tag says of which kind its text is
-pub typed_kind : (text : List ℕ) (typed : TypedLangTag) → IsTypedAs text typed → IsOfKind text (kind_of typed)
+pub typed_kind : (text : List ℕ) (typed : TypedLangTag) → IsTypedAs text typed → IsOfKind text (kind_of_tag typed)
 unfolding IsIrregular
 typed_kind text (Normal tag) same = rw (← same) (offsets_kept _ _ tag.kept_ends).normal
 typed_kind text (PrivateUse tag) same = rw (← same) (IsPrivate-from_test _ tag.in_class)

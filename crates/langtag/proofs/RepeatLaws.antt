@@ -127,10 +127,6 @@ pub next_extension : (es : List Extension) (text : List ℕ) (texts : List (List
 next_extension [] text texts is = absurd cc
 next_extension (e ∷ es) text texts is = record { first = e; rest = es; is = refl; spelled = cc; others = cc }
 
-pub no_extension : (es : List Extension) → map extension_spelling es ≡ [] → es ≡ []
-no_extension [] none = refl
-no_extension (e ∷ es) none = absurd cc
-
 abbrev pub singletons : List Extension → List ℕ
 singletons es = map (λ e. e.singleton) es
 

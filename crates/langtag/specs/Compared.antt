@@ -1,4 +1,4 @@
--- The tag types: their `==`, `cmp` and `hash` are those of their texts, folded. Typed tags have `==` alone.
+-- The tag types compare and hash by their texts, ignoring the case of ASCII letters. Typed tags have only `==`.
 use Rattle.std.specs.Prelude.{◌≡◌, ◌==◌, Bool, false}
 use Rattle.langtag_scan.specs.Case.{are_alike}
 use Rattle.langtag_scan.specs.Compare.{ComparesByCase}
@@ -37,7 +37,8 @@ abbrev pub NormalLangTagBufsCompareByCase : Type 0
 NormalLangTagBufsCompareByCase =
     ComparesByCase normal_lang_tag_buf_text normal_lang_tag_buf_equality.eq-value.it normal_lang_tag_buf_order.cmp-value.it normal_lang_tag_buf_hash.hash_input-value.it
 
--- typed tags are equal where they are of one kind and their texts are alike, or stand at one place of the table
+-- two typed tags are equal if they have the same kind and their texts are alike; for two irregular tags, their indices
+-- have to be equal
 abbrev pub are_equal_typed : TypedLangTag → TypedLangTag → Bool
 are_equal_typed (Normal a) (Normal b) = are_alike (normal_lang_tag_text a) (normal_lang_tag_text b)
 are_equal_typed (PrivateUse a) (PrivateUse b) = are_alike (private_use_text a) (private_use_text b)

@@ -10,7 +10,8 @@ IsOfKind text Normal = IsNormal text
 IsOfKind text PrivateUse = IsPrivate text
 IsOfKind text Grandfathered = IsIrregular text
 
--- two texts are of one kind: both normal or neither, both private or neither, and irregular at the same index
+-- two texts have the same kind: both are normal or neither is, both are private use or neither is, and both are the
+-- same irregular tag or neither is irregular
 pub record AreOfOneKind (t u : List ℕ) : Type 0 where
   pub normal : IsNormal t ↔ IsNormal u
   pub private_use : IsPrivate t ↔ IsPrivate u

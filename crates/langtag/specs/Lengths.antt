@@ -1,17 +1,17 @@
--- How many bytes each part of a tag's text takes, with the hyphen before it, and where parts of such lengths end.
--- Only contracts of private functions cite this page.
+-- The length of each part of a tag's text, with the hyphen before it, and where parts of such lengths end. Only
+-- contracts of private functions cite this page.
 use Rattle.std.specs.Prelude.{ℕ, ◌+◌, ◌-◌, List, [], ◌∷◌}
 use Rattle.langtag_scan.specs.declared.ends.Ends.{Ends}
 use Rattle.langtag.specs.declared.lengths.Lengths.{Lengths}
 use Rattle.langtag.specs.declared.part.Part.{Part}
 use Rattle.langtag.specs.declared.part.Part.TheVariants.{Language, Script, Region, Variants, Extensions, PrivateUse}
 
--- a part stands after a hyphen, and where it is absent there is nothing
+-- a part with a hyphen before it, or the empty text if the part is absent
 abbrev pub after_hyphen : List ℕ → List ℕ
 after_hyphen [] = []
 after_hyphen (b ∷ part) = 45 ∷ b ∷ part
 
--- each part takes what lies between the end of the part before and its own
+-- the length of each part: from the end of the previous part to its own end
 abbrev pub lengths_of : Ends → Lengths
 lengths_of ends = record {
   language = ends.language;
@@ -22,7 +22,7 @@ lengths_of ends = record {
   private_use = ends.whole - ends.extensions;
 }
 
--- each part ends where the lengths up to its own add up to
+-- the end of each part: the sum of its length and the lengths before it
 abbrev pub ends_from : Lengths → Ends
 ends_from lengths = record {
   language = lengths.language;
@@ -34,7 +34,7 @@ ends_from lengths = record {
       lengths.language + lengths.script + lengths.region + lengths.variants + lengths.extensions + lengths.private_use;
 }
 
--- with this length of a part
+-- the lengths with another length for one part
 abbrev pub with_length : Part → Lengths → ℕ → Lengths
 with_length (Language language) lengths n = record lengths { language = n }
 with_length (Script script) lengths n = record lengths { script = n }

@@ -14,7 +14,8 @@ pub mod Order
 pub mod Part
 pub mod Compared
 pub mod Refusal
--- what the clauses of this crate and of the types that it passes on cite, so that a caller names one crate
+-- the pages that are cited by the contracts of this crate and of the types that it exports. So callers need to name
+-- only this crate
 pub use Rattle.langtag_scan.specs.AlikeRecords
 pub use Rattle.langtag_scan.specs.Case
 pub use Rattle.langtag_scan.specs.CaseLaws

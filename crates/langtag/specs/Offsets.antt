@@ -1,11 +1,11 @@
--- Where the parts of a normal tag stand in its text (RFC 5646 section 2.1).
+-- Where the parts of a normal tag are in its text (RFC 5646 section 2.1).
 use Rattle.std.specs.Prelude.{◌≡◌, ℕ, List, [], take, unwrap_or}
 use Rattle.langtag_scan.specs.Ends.{ends_of}
 use Rattle.langtag_scan.specs.Parts.{language_part, variants_part, extensions_part, private_use_part, text_between}
 use Rattle.langtag_scan.specs.Record.{Record}
 
--- the language is the text up to its end, and each other part is what stands between the end of the part before and
--- its own, after the hyphen
+-- the language is the text up to the language's end. Each other part begins after the hyphen that follows the previous
+-- part, and goes up to its own end
 pub record PartsStandIn (text : List ℕ) (r : Record) : Type 0 where
   pub language : take (ends_of r).language text ≡ language_part r
   pub script : text_between text (ends_of r).language (ends_of r).script ≡ r.script

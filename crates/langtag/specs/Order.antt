@@ -1,5 +1,5 @@
--- How grandfathered tags and kinds compare and are hashed: by where they stand in their declarations. `equality`, `order`
--- and `fed` are what the derived `==`, `cmp` and `hash` of each compute.
+-- Grandfathered tags and kinds compare and hash by their index in the declaration of their enum. `equality`, `order`
+-- and `fed` are what the derived `==`, `cmp` and `hash` compute.
 use Rattle.std.specs.Prelude.{◌≡◌, ℕ, ◌==◌, Bool}
 use Rattle.std.specs.Hash.{HashWrites, usize}
 use Rattle.std.specs.Ordering.{nat_cmp}
@@ -14,23 +14,23 @@ use Rattle.langtag.specs.declared.kind.Kind.{Kind}
 use Rattle.langtag.specs.declared.kind.Kind.TheVariants.{Normal, PrivateUse, Grandfathered}
 use Rattle.langtag.specs.Registered.{index_of}
 
--- where a kind stands in the enum's declaration
+-- the index of a kind in the enum's declaration
 abbrev pub index_of_kind : Kind → ℕ
 index_of_kind Normal = 0
 index_of_kind PrivateUse = 1
 index_of_kind Grandfathered = 2
 
--- values compare as their indices do, and feed them to a hasher
+-- values compare by their indices, and feed a hasher their index
 pub record CompareAs {K : Type 0}
     (index : K → ℕ) (equality : K → K → Bool) (order : K → K → Ordering) (fed : K → HashWrites) : Type 0 where
   pub equal : (a b : K) → equality a b ≡ (index a == index b)
   pub ordered : (a b : K) → order a b ≡ nat_cmp (index a) (index b)
   pub hashed : (a : K) → fed a ≡ usize (index a)
 
--- grandfathered tags, by their order in RFC 5646 section 2.1
+-- grandfathered tags compare by their order in RFC 5646 section 2.1
 abbrev pub TagsCompareByIndex : Type 0
 TagsCompareByIndex = CompareAs index_of tag_equality.eq-value.it tag_order.cmp-value.it tag_hash.hash_input-value.it
 
--- kinds, by their order in the enum
+-- kinds compare by their order in the enum
 abbrev pub KindsCompareByIndex : Type 0
 KindsCompareByIndex = CompareAs index_of_kind kind_equality.eq-value.it kind_order.cmp-value.it kind_hash.hash_input-value.it

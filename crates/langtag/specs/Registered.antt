@@ -1,12 +1,12 @@
--- Which registered tag a variant of `GrandfatheredLangTag` stands for (RFC 5646 section 2.2.8): the one at the
--- variant's own index.
+-- Which registered tag a variant of `GrandfatheredLangTag` represents (RFC 5646 section 2.2.8): the tag at the
+-- variant's index.
 use Rattle.std.specs.Prelude.{◌≡◌, ℕ, List, [], map, slice_get, slice_index_or, Option, Some, None}
 use Rattle.langtag_scan.specs.Case.{Alike}
 use Rattle.langtag_scan.specs.Grandfathered.{Grandfathered, grandfathered_tags}
 use Rattle.langtag.specs.declared.grandfathered.GrandfatheredLangTag.{GrandfatheredLangTag}
 use Rattle.langtag.specs.declared.grandfathered.GrandfatheredLangTag.TheVariants.{EnGbOed, IAmi, IBnn, IDefault, IEnochian, IHak, IKlingon, ILux, IMingo, INavajo, IPwn, ITao, ITay, ITsu, SgnBeFr, SgnBeNl, SgnChDe, ArtLojban, CelGaulish, NoBok, NoNyn, ZhGuoyu, ZhHakka, ZhMin, ZhMinNan, ZhXiang}
 
--- where a variant stands in the enum's declaration
+-- the index of a variant in the enum's declaration
 abbrev pub index_of : GrandfatheredLangTag → ℕ
 index_of EnGbOed = 0
 index_of IAmi = 1
@@ -35,18 +35,18 @@ index_of ZhMin = 23
 index_of ZhMinNan = 24
 index_of ZhXiang = 25
 
--- the registered spelling, which stands at that index
+-- the registered spelling of the tag at that index
 abbrev pub text_of : GrandfatheredLangTag → List ℕ
 text_of tag = slice_index_or (map (λ entry. entry.text) grandfathered_tags) (index_of tag) []
 
--- the primary language subtag, of a regular one
+-- the primary language subtag of a regular tag, or none for an irregular tag
 abbrev pub language_of : GrandfatheredLangTag → Option (List ℕ)
 language_of tag = slice_index_or (map (λ entry. entry.language) grandfathered_tags) (index_of tag) None
 
--- a text is the registered one at an index but for the case of letters (section 2.1.1)
+-- the text equals the grandfathered tag at an index of the table, ignoring case (section 2.1.1)
 unfoldable pub IsGrandfatheredAt : ℕ → List ℕ → Type 0
 IsGrandfatheredAt k text = (entry : Grandfathered) × (slice_get grandfathered_tags k ≡ Some entry) × Alike entry.text text
 
--- at any of the 26
+-- the text equals one of the 26 grandfathered tags, ignoring case
 unfoldable pub IsGrandfathered : List ℕ → Type 0
 IsGrandfathered text = (k : ℕ) × IsGrandfatheredAt k text

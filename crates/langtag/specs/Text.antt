@@ -1,4 +1,4 @@
--- The text of each type: its bytes.
+-- The text of each type, as a list of bytes.
 use Rattle.std.specs.Prelude.{ℕ, List, [], String, unwrap_or}
 use Rattle.std.specs.Option.{option_map}
 use Rattle.std.specs.String.{string_bytes}
@@ -17,7 +17,7 @@ use Rattle.langtag.specs.declared.part.Part.TheVariants.{Language, Script, Regio
 abbrev pub normal_lang_tag_text : NormalLangTag → List ℕ
 normal_lang_tag_text tag = tag.text.0.now
 
--- the very String that is kept
+-- the `String` itself, which the value owns
 abbrev pub normal_lang_tag_buf_string : NormalLangTagBuf → String Global
 normal_lang_tag_buf_string tag = tag.text.0
 
@@ -27,14 +27,14 @@ normal_lang_tag_buf_text tag = string_bytes (normal_lang_tag_buf_string tag)
 abbrev pub lang_tag_text : LangTag → List ℕ
 lang_tag_text tag = tag.text.0.now
 
--- the very String that is kept
+-- the `String` itself, which the value owns
 abbrev pub lang_tag_buf_string : LangTagBuf → String Global
 lang_tag_buf_string tag = tag.text.0
 
 abbrev pub lang_tag_buf_text : LangTagBuf → List ℕ
 lang_tag_buf_text tag = string_bytes (lang_tag_buf_string tag)
 
--- the text of a part, empty where it is absent
+-- the text of a part, which is empty if the part is absent
 abbrev pub part_text : Part → List ℕ
 part_text (Language language) = language_text language
 part_text (Script script) = unwrap_or (option_map script_text script) []

@@ -1,4 +1,4 @@
--- Language tags as values of the types of their kinds (RFC 5646 section 2.1).
+-- Language tags as typed values, with one type for each kind (RFC 5646 section 2.1).
 use Rattle.std.specs.Prelude.{◌≡◌, ℕ, List, Option, Some, None}
 use Rattle.std.specs.Option.{option_map}
 use Rattle.langtag_scan.specs.Parts.{language_part}
@@ -17,17 +17,18 @@ use Rattle.langtag.specs.declared.typed_lang_tag.TypedLangTag.TheVariants.{Norma
 use Rattle.langtag.specs.Registered.{index_of, language_of}
 use Rattle.langtag.specs.Text.{normal_lang_tag_text}
 
--- a text as a value of the type of its kind: it has the same text, or is the irregular one at the variant's index
+-- the typed tag represents the text: it contains the same text, or the text equals the irregular tag at the variant's
+-- index, ignoring case
 abbrev pub IsTypedAs : List ℕ → TypedLangTag → Type 0
 IsTypedAs text (Normal tag) = normal_lang_tag_text tag ≡ text
 IsTypedAs text (PrivateUse tag) = private_use_text tag ≡ text
 IsTypedAs text (Grandfathered tag) = IsIrregularAt (index_of tag) text
 
 -- the kind of a typed tag
-abbrev pub kind_of : TypedLangTag → kind.Kind
-kind_of (Normal tag) = kinds.Normal
-kind_of (PrivateUse tag) = kinds.PrivateUse
-kind_of (Grandfathered tag) = kinds.Grandfathered
+abbrev pub kind_of_tag : TypedLangTag → kind.Kind
+kind_of_tag (Normal tag) = kinds.Normal
+kind_of_tag (PrivateUse tag) = kinds.PrivateUse
+kind_of_tag (Grandfathered tag) = kinds.Grandfathered
 
 -- the normal tag, or none
 abbrev pub normal_of : TypedLangTag → Option NormalLangTag
@@ -35,7 +36,7 @@ normal_of (Normal tag) = Some tag
 normal_of (PrivateUse tag) = None
 normal_of (Grandfathered tag) = None
 
--- the tag for private use as a whole, or none
+-- the private use tag, or none
 abbrev pub private_use_of : TypedLangTag → Option PrivateUsePart
 private_use_of (Normal tag) = None
 private_use_of (PrivateUse tag) = Some tag
@@ -47,7 +48,8 @@ grandfathered_of (Normal tag) = None
 grandfathered_of (PrivateUse tag) = None
 grandfathered_of (Grandfathered tag) = Some tag
 
--- the language of a normal tag, none of a private one, and of a grandfathered one that of the table
+-- the language of a typed tag: the tag's own language for a normal tag, none for a private use tag, and the language in
+-- the table for a grandfathered tag
 abbrev pub HasLanguage : TypedLangTag → Option Language → Type 0
 HasLanguage (Normal tag) language = EachRecord (normal_lang_tag_text tag) (λ r. option_map language_text language ≡ Some (language_part r))
 HasLanguage (PrivateUse tag) language = language ≡ None

@@ -1,4 +1,4 @@
-//! How a part of a tag's text is replaced, and where the parts end after that.
+//! How a part of a tag's text is replaced, and where the parts of the new text end.
 #![tactic(auto, using(langtag_scan::proofs::SpelledTexts::offsets_kept))]
 
 ghost use Rattle.std.specs.Prelude.{◌≡◌, ◌++◌, ◌≤◌, [], length, IfOk, OnOk, OnErr, IsOk};
@@ -14,8 +14,8 @@ use crate::part::{Part, Replacement};
 use langtag_scan::Ends;
 use std::alloc::{AllocError, Global};
 
-/// Sets or removes a part in the text of a normal tag whose parts end at these offsets. Returns where they end after
-/// that, without parsing the text again.
+/// Sets or removes a part in the text of a normal tag whose parts end at these offsets. Returns where the parts of the
+/// new text end, without parsing it.
 pub(crate) fn set_part(
     text: &mut String,
     ends: Ends,
@@ -34,10 +34,10 @@ pub(crate) fn set_part(
     Ok(Lengths::of(ends).with(&part, len).ends())
 }
 
-/// Replaces some bytes of a text.
+/// Replaces the bytes of a text from `new.start` up to `new.end`.
 ///
-/// With a part, the new text is complete before the old one is dropped. Without a part, the bytes are removed in place,
-/// without allocating.
+/// If there are new bytes, the new text is complete before the old text is dropped. If there are none, the old bytes
+/// are removed in place, without allocating.
 fn replace(text: &mut String, alloc: Global, new: Replacement<'_>) -> Result<(), AllocError>
     requires order { new.start ≤ new.end }
     requires within { new.end ≤ length (string_bytes text.old) }
@@ -55,7 +55,7 @@ fn replace(text: &mut String, alloc: Global, new: Replacement<'_>) -> Result<(),
     Ok(())
 }
 
-/// Returns a new text in which these bytes are replaced. It allocates once, exactly the length of the text.
+/// Returns a new text in which these bytes are replaced. It allocates once, exactly the length of the new text.
 fn join(alloc: Global, text: &str, new: Replacement<'_>) -> Result<String, AllocError>
     requires order { new.start ≤ new.end }
     requires within { new.end ≤ length text.now }

@@ -5,7 +5,7 @@ ghost use Rattle.langtag.specs.declared.edit_error.EditError.TheVariants.{Memory
 use std::alloc::AllocError;
 use thiserror::Error;
 
-/// The error of a setter: why a part was neither put into a tag nor removed from it. The tag is unchanged.
+/// The error of a setter: why the part was neither set nor removed. The tag is unchanged.
 ///
 /// ```
 /// use langtag::{EditError, LangTag};
@@ -15,7 +15,7 @@ use thiserror::Error;
 /// ```
 #[derive(Clone, Copy, Debug, PartialEq, Eq, Error)]
 pub enum EditError {
-    /// The tag is not a normal one, such as `x-a` or `i-klingon`, and so has no parts (RFC 5646 section 2.1).
+    /// The tag is not a normal tag, so it has no parts: `x-a` and `i-klingon`, for example (RFC 5646 section 2.1).
     #[error("not a normal language tag")]
     NotNormal,
     /// Allocation failed.

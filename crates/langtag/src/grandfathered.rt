@@ -26,9 +26,9 @@ use thiserror::Error;
 #[error_bound(T: Debug + Drop)]
 pub struct InvalidGrandfatheredTag<T>(pub T);
 
-/// A grandfathered tag: one of the 26 tags that were registered before the present grammar (RFC 5646 section 2.2.8), in
+/// A grandfathered tag: one of the 26 tags that were registered before the current grammar (RFC 5646 section 2.2.8), in
 /// the order of section 2.1. The first 17 are irregular: they do not follow the grammar of other tags. The nine regular
-/// ones, from `art-lojban` on, are normal tags too.
+/// tags, from `art-lojban` on, are normal tags, too.
 ///
 /// Comparisons and hashes use the position in this declaration.
 ///
@@ -40,13 +40,13 @@ pub struct InvalidGrandfatheredTag<T>(pub T);
 /// ```
 #[derive(Clone, Copy, Debug, PartialEq, Eq, PartialOrd, Ord, Hash)]
 pub enum GrandfatheredLangTag {
-    /// `en-GB-oed`, English, by the spelling of the Oxford English Dictionary.
+    /// `en-GB-oed`, English in the spelling of the Oxford English Dictionary.
     EnGbOed,
     /// `i-ami`, Amis.
     IAmi,
     /// `i-bnn`, Bunun.
     IBnn,
-    /// `i-default`, the language of messages if no language is known.
+    /// `i-default`, the default language of messages, for use when no language is known.
     IDefault,
     /// `i-enochian`, Enochian.
     IEnochian,
@@ -137,11 +137,12 @@ impl GrandfatheredLangTag {
     ghost use Rattle.langtag.specs.Order.{TagsCompareByIndex};
     ghost use Rattle.langtag.specs.Registered.{index_of, language_of, IsGrandfatheredAt, IsGrandfathered};
 
-    /// Returns the grandfathered tag with these bytes, ignoring case: `GrandfatheredLangTag::new(b"I-AMI")` is
+    /// Returns the grandfathered tag that equals these bytes, ignoring case: `GrandfatheredLangTag::new(b"I-AMI")` is
     /// `Ok(GrandfatheredLangTag::IAmi)`.
     ///
-    /// It is proved that no two of them are equal, ignoring case, that all are tags, that they compare and hash as
-    /// their indices do, that a clone is the same value, and that [`GRANDFATHERED`] has each at its index.
+    /// It is proved that no two grandfathered tags are equal, ignoring case, and that all are language tags. It is also
+    /// proved that they compare and hash by their indices, that a clone is the same value, and that [`GRANDFATHERED`]
+    /// has each tag at its index.
     ///
     /// # Errors
     ///
@@ -165,7 +166,7 @@ impl GrandfatheredLangTag {
         }
     }
 
-    /// The tag at an index of the table.
+    /// Returns the tag at an index of [`GRANDFATHERED`].
     pub(crate) fn at(index: usize) -> Self
         requires { index < 26 }
         ensures { index_of result ≡ index }
@@ -173,7 +174,7 @@ impl GrandfatheredLangTag {
         GRANDFATHERED[index]
     }
 
-    /// The registered spelling, and the primary language subtag of a regular tag.
+    /// Returns the registered spelling, and the primary language subtag if the tag is regular.
     #[tactic(auto, unfolding(langtag_scan::specs::Grandfathered::grandfathered_tags))]
     fn registered(&self) -> (&'static str, Option<&'static str>)
         ensures text { result.0.now ≡ text_of self.now }
@@ -247,7 +248,7 @@ impl GrandfatheredLangTag {
     }
 }
 
-/// The index of the first of some tags that is equal to these bytes but for the case of ASCII letters.
+/// Returns the index of the first tag that is equal to these bytes, ignoring the case of ASCII letters.
 fn first_alike(tags: &[GrandfatheredLangTag], bytes: &[u8]) -> Option<usize>
     ensures { result ≡ position (λ tag. are_alike (text_of tag) bytes.now) tags.now }
 {

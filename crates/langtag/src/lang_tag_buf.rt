@@ -81,7 +81,7 @@ impl LangTagBuf {
         Ok(LangTagBuf::with_found(text, found))
     }
 
-    /// Returns the tag with a text in which this was found, without parsing it again.
+    /// Makes a tag from a text and what the parser found in the text, without parsing the text again.
     pub(crate) fn with_found(text: String, found: Recognised) -> LangTagBuf
         requires { ∥ IsFoundOf (string_bytes text) (finding_of found) ∥₁ }
         ensures { lang_tag_buf_string result ≡ text }
@@ -149,7 +149,7 @@ impl LangTagBuf {
     /// `EN-ca-X-CA` becomes `en-CA-x-ca`.
     ///
     /// In a normal tag, the script becomes titlecase, the region uppercase, and everything else lowercase. The tag
-    /// still equals the old one, and its parts keep their offsets. It neither allocates nor parses. Equal tags become
+    /// still equals the old tag, and its parts keep their offsets. It neither allocates nor parses. Equal tags become
     /// the same bytes, so the text can be a key in a store that compares bytes.
     ///
     /// ```
@@ -181,7 +181,7 @@ impl LangTagBuf {
     ///
     /// # Errors
     ///
-    /// Returns `EditError::NotNormal` if the tag is not a normal one, such as `x-a`, and `EditError::Memory` if
+    /// Returns `EditError::NotNormal` if the tag is not a normal tag, such as `x-a`, and `EditError::Memory` if
     /// allocation fails. The tag is then unchanged.
     ///
     /// ```
@@ -206,7 +206,7 @@ impl LangTagBuf {
     ///
     /// # Errors
     ///
-    /// Returns `EditError::NotNormal` if the tag is not a normal one, such as `x-a`, and `EditError::Memory` if
+    /// Returns `EditError::NotNormal` if the tag is not a normal tag, such as `x-a`, and `EditError::Memory` if
     /// allocation fails. The tag is then unchanged.
     ///
     /// ```
@@ -230,7 +230,7 @@ impl LangTagBuf {
     ///
     /// # Errors
     ///
-    /// Returns `EditError::NotNormal` if the tag is not a normal one, such as `x-a`, and `EditError::Memory` if
+    /// Returns `EditError::NotNormal` if the tag is not a normal tag, such as `x-a`, and `EditError::Memory` if
     /// allocation fails. The tag is then unchanged.
     ///
     /// ```
@@ -254,7 +254,7 @@ impl LangTagBuf {
     ///
     /// # Errors
     ///
-    /// Returns `EditError::NotNormal` if the tag is not a normal one, such as `x-a`, and `EditError::Memory` if
+    /// Returns `EditError::NotNormal` if the tag is not a normal tag, such as `x-a`, and `EditError::Memory` if
     /// allocation fails. The tag is then unchanged.
     ///
     /// ```
@@ -278,7 +278,7 @@ impl LangTagBuf {
     ///
     /// # Errors
     ///
-    /// Returns `EditError::NotNormal` if the tag is not a normal one, such as `x-a`, and `EditError::Memory` if
+    /// Returns `EditError::NotNormal` if the tag is not a normal tag, such as `x-a`, and `EditError::Memory` if
     /// allocation fails. The tag is then unchanged.
     ///
     /// ```
@@ -306,7 +306,7 @@ impl LangTagBuf {
     ///
     /// # Errors
     ///
-    /// Returns `EditError::NotNormal` if the tag is not a normal one, such as `x-a`, and `EditError::Memory` if
+    /// Returns `EditError::NotNormal` if the tag is not a normal tag, such as `x-a`, and `EditError::Memory` if
     /// allocation fails. The tag is then unchanged.
     ///
     /// ```
@@ -335,7 +335,7 @@ impl LangTagBuf {
     ghost use Rattle.langtag.specs.Edit.{SetsPart};
     ghost use Rattle.langtag.specs.Text.{lang_tag_buf_text, part_text};
 
-    /// Puts a part into a normal tag, or takes it out.
+    /// Sets a part of a normal tag, or removes it.
     fn put(&mut self, alloc: Global, part: Part<'_>) -> Result<(), EditError>
         ensures set { OnOk result (SetsPart part.entry (lang_tag_buf_text self.old) (lang_tag_buf_text self.new)) }
         ensures not_normal { IsErrOf result EditError.NotNormal ↔ (IsNormal (lang_tag_buf_text self.old) → ⊥) }

@@ -26,7 +26,7 @@ pub(crate) fn length_with_hyphen(part: &str) -> usize
 }
 
 impl Lengths {
-    /// The lengths of parts that end at these offsets.
+    /// Returns the lengths of parts that end at these offsets.
     pub(crate) fn of(ends: Ends) -> Lengths
         requires { AreInOrder ends }
         ensures { result ≡ lengths_of ends }
@@ -41,7 +41,7 @@ impl Lengths {
         }
     }
 
-    /// Returns the same lengths except that of one part.
+    /// Returns these lengths with another length for one part.
     pub(crate) fn with(self, part: &Part<'_>, len: usize) -> Lengths
         ensures { result ≡ with_length part.now self len }
     {
@@ -73,7 +73,7 @@ impl Lengths {
         }
     }
 
-    /// Where parts of these lengths end.
+    /// Returns where parts of these lengths end.
     pub(crate) fn ends(self) -> Ends
         requires { (ends_from self).whole < 2 ^ 64 }
         ensures { result ≡ ends_from self }

@@ -13,7 +13,8 @@
 //! LangTag::new("zh_Hant").err().map(|error| error.0); // Some("zh_Hant")
 //! ```
 //!
-//! A [`NormalLangTag`] is a tag that is made of parts. It stores where they end, so each part is a slice of the text:
+//! A [`NormalLangTag`] is a tag that is made of parts. It stores where the parts end, so each part is a slice of the
+//! text:
 //!
 //! ```
 //! use langtag::{NormalLangTag, Script};
@@ -30,8 +31,8 @@
 //! owned.as_str();                                   // "sl-Latn-IT-rozaj-x-mine"
 //! ```
 //!
-//! Each part has a borrowed and an owned type, such as [`Script`] and [`ScriptBuf`]. This crate exports them all, and
-//! also the parser over bytes, [`recognise`].
+//! Each part has a borrowed and an owned type, such as [`Script`] and [`ScriptBuf`]. This crate exports all these
+//! types, and also the parser over bytes, [`recognise`].
 #![tactic(auto)]
 
 mod edit;
@@ -91,3 +92,6 @@ pub use private_use_lang_tag::{PrivateUseLangTag, PrivateUseLangTagBuf};
 pub use refusal::{Refusal, RefusalKind};
 pub use repeats::is_among_first;
 pub use typed_lang_tag::TypedLangTag;
+
+// For langtag_likely and langtag_c.
+pub use part::write_part;

@@ -124,7 +124,7 @@ impl NormalLangTagBuf {
         Ok(NormalLangTagBuf::with_ends(whole, ends))
     }
 
-    /// Returns the normal tag with a text whose parts are known to end at these offsets, without parsing it again.
+    /// Makes a normal tag from a text whose parts are known to end at these offsets, without parsing the text again.
     pub(crate) fn with_ends(text: String, ends: Ends) -> NormalLangTagBuf
         requires { ∥ HasEnds (string_bytes text) ends ∥₁ }
         ensures { normal_lang_tag_buf_string result ≡ text }
@@ -228,7 +228,7 @@ impl NormalLangTagBuf {
     /// Sets the script, or removes it if `None` is given (RFC 5646 section 2.2.3): with `Latn`, `sl-IT` becomes
     /// `sl-Latn-IT`.
     ///
-    /// The new text is complete before the old one is dropped. To remove the script does not allocate. The stored ends
+    /// The new text is complete before the old text is dropped. Removing the script does not allocate. The stored ends
     /// of the parts are adjusted, so nothing is parsed again.
     ///
     /// # Errors
@@ -373,7 +373,7 @@ impl NormalLangTagBuf {
     ghost use Rattle.langtag.specs.Edit.{SetsPart};
     ghost use Rattle.langtag.specs.Text.{normal_lang_tag_buf_text, part_text};
 
-    /// Puts a part into the tag, or takes it out.
+    /// Sets a part of the tag, or removes it.
     fn put(&mut self, alloc: Global, part: Part<'_>) -> Result<(), AllocError>
         ensures set { OnOk result (SetsPart part.entry (normal_lang_tag_buf_text self.old) (normal_lang_tag_buf_text self.new)) }
         ensures unchanged { OnErr result (self.new ≡ self.old) }

@@ -1,22 +1,24 @@
-//! The parts of a normal tag, and how one is put into its text (RFC 5646 section 2.1).
+//! The parts of a normal tag (RFC 5646 section 2.1), and how a new part is put into the text of a tag.
 ghost use Rattle.std.specs.Prelude.{◌≡◌, ◌++◌, ◌≤◌, length};
 ghost use Rattle.std.specs.List.{replace_range};
 ghost use Rattle.langtag_scan.specs.Tag.{IsNormal};
 ghost use Rattle.langtag.specs.Edit.{SetsPart};
 ghost use Rattle.langtag.specs.PartPlaces.{part_start, part_end, put_text};
 ghost use Rattle.langtag.specs.Text.{normal_lang_tag_text, part_text};
+ghost use Rattle.langtag_output.specs.Writes.{Writes};
 
 use crate::normal_lang_tag::NormalLangTag;
 use langtag_extension::Extensions;
 use langtag_language::Language;
+use langtag_output::write_pieces;
 use langtag_place::{Region, Script, Variants};
 use langtag_private::PrivateUse;
 use langtag_scan::Ends;
 
 /// A part of a normal tag (RFC 5646 section 2.1), as an argument of [`put_part`].
 ///
-/// `None`, [`Variants::EMPTY`] and [`Extensions::EMPTY`] mean that the part is absent, and remove the old one. Every
-/// tag has a language.
+/// `None`, [`Variants::EMPTY`] and [`Extensions::EMPTY`] mean that the part is absent, and remove the old part. A
+/// language is never absent.
 ///
 /// ```
 /// use langtag::{Part, Script};
@@ -40,7 +42,8 @@ pub enum Part<'a> {
     PrivateUse(Option<PrivateUse<'a>>),
 }
 
-/// A change of a tag's text, as [`put_part`] returns it: which bytes to replace, and by what. Offsets are in bytes.
+/// A change of a tag's text, which [`put_part`] returns: the bytes to replace, and the text that replaces them. Offsets
+/// are in bytes.
 ///
 /// ```
 /// use langtag::{NormalLangTag, Part, put_part};
@@ -60,8 +63,8 @@ pub struct Replacement<'a> {
     pub part: &'a str,
 }
 
-/// Returns which bytes of a normal tag's text to replace, and by what, to give it this part (RFC 5646 sections 2.2.1 to
-/// 2.2.7). It does not allocate: the caller joins the bytes before, the hyphen, the part and the bytes after.
+/// Returns the change of a normal tag's text that sets this part (RFC 5646 sections 2.2.1 to 2.2.7). It does not
+/// allocate. The caller joins the bytes before `start`, the hyphen, the part, and the bytes from `end` on.
 ///
 /// To put the region `AT` into `de-DE-1996`, replace the bytes from 2 to 5 by a hyphen and `AT`. It is proved that a
 /// clone of a part is the same part.
@@ -88,6 +91,20 @@ pub fn put_part<'a>(tag: NormalLangTag<'_>, part: Part<'a>) -> Replacement<'a>
     part.replacement(&tag.ends())
 }
 
+/// Writes the text of a normal tag, changed as [`put_part`] says, to a buffer, and returns the length of the text in
+/// bytes. If the buffer is too short, it stays unchanged, and the length says how much room is needed. The function
+/// does not allocate.
+pub fn write_part<'a>(tag: NormalLangTag<'a>, part: Part<'a>, buffer: &mut [u8]) -> usize
+    ensures { Writes (λ new. SetsPart part.entry (normal_lang_tag_text tag.entry) new × IsNormal new) buffer.old buffer.new result }
+{
+    let text = tag.as_str().as_bytes();
+    let new = put_part(tag, part);
+    let hyphen: &'a [u8] = new.hyphen.as_bytes();
+    let part = new.part.as_bytes();
+    let pieces = [&text[..new.start], hyphen, part, &text[new.end..]];
+    write_pieces(&pieces, buffer)
+}
+
 impl<'a> Part<'a> {
     /// Returns the text of the part: `Part::Script(Script::new("Latn").ok()).as_str()` is `"Latn"`. An absent part has
     /// the empty text.
@@ -106,7 +123,7 @@ impl<'a> Part<'a> {
         }
     }
 
-    /// Returns how the old part is replaced, if the parts end at these offsets.
+    /// Returns the change of a text whose parts end at these offsets.
     pub(crate) fn replacement(&self, ends: &Ends) -> Replacement<'a>
         ensures start { result.start ≡ part_start self.now ends.now }
         ensures end { result.end ≡ part_end self.now ends.now }
@@ -124,7 +141,7 @@ impl<'a> Part<'a> {
         }
     }
 
-    /// Returns where the part before this one ends, and where this one ends.
+    /// Returns where the previous part ends, and where this part ends.
     fn place(&self, ends: &Ends) -> (usize, usize)
         ensures start { result.0 ≡ part_start self.now ends.now }
         ensures end { result.1 ≡ part_end self.now ends.now }
@@ -139,7 +156,7 @@ impl<'a> Part<'a> {
         }
     }
 
-    /// Returns the hyphen before a text of this part, or nothing if it has none.
+    /// Returns the hyphen before the text of this part, or nothing for a language or an empty text.
     fn hyphen_before(&self, text: &str) -> &'static str
         requires { text.now ≡ part_text self.now }
         ensures one { length result.now ≤ 1 }

@@ -1,4 +1,4 @@
-//! The only place where this crate runs a recogniser.
+//! The only file in which this crate calls a recogniser.
 ghost use Rattle.std.specs.Prelude.{MatchOption};
 ghost use Rattle.langtag_scan.specs.Ends.{HasEnds};
 ghost use Rattle.langtag_scan.specs.Found.{IsFoundOf, finding};
@@ -11,7 +11,7 @@ use langtag_scan::{Ends, Found, Metered, recognise};
 
 /// Returns what the recogniser finds in bytes, or `None` if they are not a tag.
 ///
-/// Each constructor of the crate calls this function. It is inlined: the recogniser is one short loop.
+/// Every constructor that parses a tag calls this function. It is inlined, since the recogniser is only one short loop.
 #[inline(always)]
 pub(crate) fn recognise_bytes(bytes: &[u8]) -> Option<Recognised>
     ensures { MatchOption result (IsTag bytes.now → ⊥) (λ found. IsFoundOf bytes.now (finding_of found)) }
@@ -26,21 +26,21 @@ pub(crate) fn recognise_bytes(bytes: &[u8]) -> Option<Recognised>
     }
 }
 
-/// Returns what the recogniser finds in bytes, in its own form.
+/// Returns what the recogniser finds in bytes, as langtag_scan returns it.
 fn found_in(bytes: &[u8]) -> Option<Found>
     ensures { MatchOption result (IsTag bytes.now → ⊥) (λ found. IsFoundOf bytes.now (finding found)) }
 {
     recognise(&mut Metered::of_bytes(bytes))
 }
 
-/// The same of a text.
+/// Returns what the recogniser finds in a text, or `None` if it is not a tag.
 pub(crate) fn recognise_text(text: &str) -> Option<Recognised>
     ensures { MatchOption result (IsTag text.now → ⊥) (λ found. IsFoundOf text.now (finding_of found)) }
 {
     recognise_bytes(text.as_bytes())
 }
 
-/// Where the parts of a normal tag end; `None` if the text is not a normal tag.
+/// Returns where the parts of a normal tag end, or `None` if the text is not a normal tag.
 pub(crate) fn normal_ends(text: &str) -> Option<Ends>
     ensures { MatchOption result (IsNormal text.now → ⊥) (λ ends. HasEnds text.now ends) }
 {

@@ -6,7 +6,8 @@ ghost use Rattle.langtag.specs.Recognised.{finding_of};
 use crate::grandfathered::GrandfatheredLangTag;
 use langtag_scan::Ends;
 
-/// The kind of a tag (RFC 5646 section 2.1), with what was found in its text, so that the text is not parsed again.
+/// The kind of a tag (RFC 5646 section 2.1), with what was found in its text, so that no call has to parse the text
+/// again.
 #[derive(Clone, Copy)]
 pub(crate) enum Recognised {
     /// A normal tag, and where its parts end.
@@ -18,21 +19,21 @@ pub(crate) enum Recognised {
 }
 
 impl Recognised {
-    /// Whether this is a normal tag.
+    /// Returns whether this is a normal tag.
     pub(crate) fn is_normal(&self) -> bool
         ensures { result ≡ is_normal (finding_of self.now) }
     {
         matches!(self, Recognised::Normal(_))
     }
 
-    /// Whether this is a tag for private use as a whole.
+    /// Returns whether this is a private-use tag.
     pub(crate) fn is_private_use(&self) -> bool
         ensures { result ≡ is_private_use (finding_of self.now) }
     {
         matches!(self, Recognised::PrivateUse)
     }
 
-    /// Where the parts of a normal tag end.
+    /// Returns where the parts of a normal tag end, or `None` for a tag of another kind.
     pub(crate) fn ends(&self) -> Option<Ends>
         ensures { result ≡ normal_ends (finding_of self.now) }
     {

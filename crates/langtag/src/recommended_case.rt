@@ -8,7 +8,7 @@ ghost use Rattle.langtag_case.specs.RecommendedCase.{recommended_text};
 use langtag_case::make_recommended_case;
 use std::mem;
 
-/// Puts a text of ASCII into its recommended case, in place.
+/// Changes an ASCII text to its recommended case, in place.
 pub(crate) fn put_recommended_case(text: &mut String)
     requires { IsAscii (string_bytes text.old) }
     ensures case { string_bytes text.new ≡ recommended_text (string_bytes text.old) }
@@ -17,7 +17,6 @@ pub(crate) fn put_recommended_case(text: &mut String)
     let empty = String::new(*text.allocator());
     let mut bytes = mem::replace(text, empty).into_bytes();
     make_recommended_case(bytes.as_mut_slice());
-    // SAFETY: the bytes are ASCII, which is proved here. A `String` lends no bytes to be changed, and `from_utf8` would
-    // look at all of them again.
+    // SAFETY: the bytes are ASCII, which is proved here. The safe `from_utf8` would read all bytes again.
     *text = unsafe { String::from_utf8_unchecked(bytes) };
 }

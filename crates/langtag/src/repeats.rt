@@ -1,4 +1,5 @@
-//! Variants and singletons that a tag has twice. Such a tag is well formed but not valid (RFC 5646 section 2.2.9).
+//! Variants and singletons that occur twice in a tag. Such a tag is well formed but not valid (RFC 5646 section
+//! 2.2.9).
 ghost use Rattle.std.specs.Prelude.{◌≡◌, ◌≤◌, List, length, map, take};
 ghost use Rattle.std.specs.List.{list_any};
 ghost use Rattle.langtag_scan.specs.Case.{are_alike};
@@ -14,10 +15,11 @@ use langtag_extension::Extensions;
 use langtag_place::{Variant, Variants};
 use langtag_scan::into_smallcase;
 
-/// Up to this many bytes of variants, which are at most 28 variants, each variant is compared with those before it.
+/// If the text of the variants has at most this many bytes, and so at most 28 variants, each variant is compared with
+/// all variants before it.
 const FEW: usize = 143;
 
-/// Returns the index of the first of these variants that equals an earlier one, ignoring case.
+/// Returns the index of the first of these variants that equals an earlier variant, ignoring case.
 pub(crate) fn first_repeated_variant(variants: Variants<'_>) -> Option<usize>
     ensures { result ≡ repeat_index are_alike (subtags (variants_text variants.entry)) }
 {
@@ -27,7 +29,7 @@ pub(crate) fn first_repeated_variant(variants: Variants<'_>) -> Option<usize>
     first_repeated_of_few(variants)
 }
 
-/// Returns the same, by comparing each variant with those before it.
+/// Returns what [`first_repeated_variant`] returns, by comparing each variant with the variants before it.
 fn first_repeated_of_few(variants: Variants<'_>) -> Option<usize>
     requires few { length (variants_text variants) ≤ 143 }
     ensures { result ≡ repeat_index are_alike (subtags (variants_text variants.entry)) }
@@ -59,7 +61,8 @@ pub fn is_among_first(variants: Variants<'_>, count: usize, variant: Variant<'_>
         .any(|earlier| variant == earlier)
 }
 
-/// Returns the index of the first of these extensions whose singleton equals that of an earlier one, ignoring case.
+/// Returns the index of the first of these extensions whose singleton equals the singleton of an earlier extension,
+/// ignoring case.
 pub(crate) fn first_repeated_singleton(extensions: Extensions<'_>) -> Option<usize>
     ensures { (es : List model.Extension) → SpellsExtensions es (extensions_text extensions.entry) →
         result ≡ repeat_index are_alike_bytes (map (λ e. e.singleton) es) }

@@ -5,8 +5,8 @@ ghost use Rattle.langtag.specs.Lengths.{after_hyphen};
 
 use std::alloc::{AllocError, Global};
 
-/// Returns a new text with room for `len` bytes: a language, and a script and a region, each after a hyphen. An empty
-/// script or region is absent.
+/// Returns a new text that consists of a language, a script and a region, joined by hyphens. It first allocates `room`
+/// bytes. An empty script or region is left out.
 pub(crate) fn join_parts(
     alloc: Global,
     room: usize,

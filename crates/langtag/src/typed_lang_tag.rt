@@ -1,4 +1,4 @@
-//! Language tags by their kinds.
+//! Language tags as an enum with one variant for each kind.
 ghost use Rattle.std.specs.Prelude.{◌≡◌, ◌↔◌, IsTrue};
 
 use crate::grandfathered::GrandfatheredLangTag;
@@ -7,8 +7,8 @@ use crate::normal_lang_tag::NormalLangTag;
 use crate::private_use_lang_tag::PrivateUseLangTag;
 use langtag_language::Language;
 
-/// A language tag with one variant for each kind (RFC 5646 section 2.1), as
-/// [`LangTag::as_typed`](crate::LangTag::as_typed) returns it. No call reads the text.
+/// A language tag as an enum with one variant for each kind (RFC 5646 section 2.1), as
+/// [`LangTag::as_typed`](crate::LangTag::as_typed) returns it. No method reads the text.
 ///
 /// ```
 /// use langtag::{LangTag, TypedLangTag};
@@ -30,9 +30,9 @@ pub enum TypedLangTag<'a> {
 
 impl<'a> TypedLangTag<'a> {
     ghost use Rattle.langtag.specs.Compared.{TypedLangTagsCompareByKind};
-    ghost use Rattle.langtag.specs.Typed.{kind_of, normal_of, private_use_of, grandfathered_of, HasLanguage};
+    ghost use Rattle.langtag.specs.Typed.{kind_of_tag, normal_of, private_use_of, grandfathered_of, HasLanguage};
 
-    /// Returns the language of a normal tag, or the primary language of a regular grandfathered one: `zh` for `zh-TW`,
+    /// Returns the language of a normal tag, or the primary language of a regular grandfathered tag: `zh` for `zh-TW`,
     /// `None` for `x-a` and `i-lux`.
     ///
     /// ```
@@ -55,7 +55,7 @@ impl<'a> TypedLangTag<'a> {
     /// typed tags are equal if they have the same kind and their texts are equal, ignoring case, and that a clone is
     /// the same value.
     pub fn kind(&self) -> Kind
-        ensures kind { result ≡ kind_of self.now }
+        ensures kind { result ≡ kind_of_tag self.now }
         ensures compared { TypedLangTagsCompareByKind }
         ensures cloned { (copy : TypedLangTag) → ⟦<TypedLangTag<'a> as Clone>⟧.is_clone self.now copy → copy ≡ self.now }
         ensures clone_succeeds { ⟦<TypedLangTag<'a> as Clone>⟧.is_infallible self.now }
@@ -76,7 +76,7 @@ impl<'a> TypedLangTag<'a> {
     /// LangTag::new("x-a")?.as_typed().is_normal(); // false
     /// ```
     pub fn is_normal(&self) -> bool
-        ensures { IsTrue result ↔ (kind_of self.now ≡ Kind.Normal) }
+        ensures { IsTrue result ↔ (kind_of_tag self.now ≡ Kind.Normal) }
     {
         self.kind().is_normal()
     }
@@ -90,12 +90,12 @@ impl<'a> TypedLangTag<'a> {
     /// LangTag::new("fr-x-a")?.as_typed().is_private_use(); // false
     /// ```
     pub fn is_private_use(&self) -> bool
-        ensures { IsTrue result ↔ (kind_of self.now ≡ Kind.PrivateUse) }
+        ensures { IsTrue result ↔ (kind_of_tag self.now ≡ Kind.PrivateUse) }
     {
         self.kind().is_private_use()
     }
 
-    /// Returns whether this is a grandfathered tag by its kind: `true` for `i-lux`.
+    /// Returns whether the kind of this tag is grandfathered, which means irregular: `true` for `i-lux`.
     ///
     /// For `art-lojban`, a regular grandfathered tag, [`LangTag::as_typed`](crate::LangTag::as_typed) returns a normal
     /// tag, so this is `false`, while [`LangTag::is_grandfathered`](crate::LangTag::is_grandfathered) is `true`.
@@ -107,12 +107,12 @@ impl<'a> TypedLangTag<'a> {
     /// LangTag::new("art-lojban")?.as_typed().is_grandfathered(); // false
     /// ```
     pub fn is_grandfathered(&self) -> bool
-        ensures { IsTrue result ↔ (kind_of self.now ≡ Kind.Grandfathered) }
+        ensures { IsTrue result ↔ (kind_of_tag self.now ≡ Kind.Grandfathered) }
     {
         self.kind().is_grandfathered()
     }
 
-    /// Returns the normal tag if this is one: `Some` for `zh-TW`, `None` for `x-a`.
+    /// Returns the normal tag if this is a normal tag: `Some` for `zh-TW`, `None` for `x-a`.
     ///
     /// ```
     /// use langtag::LangTag;
@@ -129,7 +129,7 @@ impl<'a> TypedLangTag<'a> {
         }
     }
 
-    /// Returns the private-use tag if this is one: `Some` for `x-a`, `None` for `fr-x-a`.
+    /// Returns the private-use tag if this is a private-use tag: `Some` for `x-a`, `None` for `fr-x-a`.
     ///
     /// ```
     /// use langtag::LangTag;
@@ -146,7 +146,8 @@ impl<'a> TypedLangTag<'a> {
         }
     }
 
-    /// Returns the grandfathered tag if this is one: `Some` for `i-lux`, `None` for `art-lojban`, which is normal.
+    /// Returns the grandfathered tag if the kind of this tag is grandfathered: `Some` for `i-lux`, `None` for
+    /// `art-lojban`, which is normal.
     ///
     /// ```
     /// use langtag::LangTag;

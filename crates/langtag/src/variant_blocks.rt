@@ -1,4 +1,4 @@
-//! The first repeated variant among very many, found block by block.
+//! Finds the first repeated variant of a long list of variants, block by block.
 ghost use Rattle.std.specs.Prelude.{◌≡◌, ◌==◌, ◌&&◌, ◌+◌, ◌≤◌, ℕ, List, [], ◌∷◌, ◌++◌, length, take, drop, map};
 ghost use Rattle.std.specs.List.{list_any};
 ghost use Rattle.std.specs.List.Sorted.{IsNonDecreasing};
@@ -12,16 +12,18 @@ use langtag_place::{Variant, Variants, VariantsIter};
 use langtag_scan::folded_number;
 use std::mem;
 
-/// How many variants a block has, but for the last one. Each takes nine bytes of the stack, which are 72 kB together.
+/// The number of variants in a block; the last block may have fewer. Each variant takes nine bytes of stack, so a block
+/// takes 72 kB.
 const BLOCK: usize = 8192;
 
 const _: () = prove!(BLOCK == 8192);
 
-/// Returns the index of the first of these variants that equals an earlier one, ignoring case.
+/// Returns the index of the first of these variants that equals an earlier variant, ignoring case.
 ///
-/// All variants are read once for each block. A block stores its numbers in rising order, and which of them have
-/// occurred, so each variant is found in few steps, in whatever order they come.
-// Not inlined: the stack that it takes is not taken for a few variants.
+/// All variants are read once for each block. A block stores the numbers of its variants in ascending order, and a flag
+/// for each number that says whether it has occurred. So a binary search finds each variant in few steps, whatever the
+/// order of the variants is.
+// This function is not inlined, so that callers with few variants do not use its stack.
 #[inline(never)]
 pub(crate) fn first_repeated_of_many(variants: Variants<'_>) -> Option<usize>
     ensures { result ≡ repeat_index are_alike (subtags (variants_text variants.entry)) }
@@ -57,9 +59,9 @@ fn fill(block: &mut [u64], rest: &mut VariantsIter<'_>)
     }
 }
 
-/// Returns the index of the first variant up to the end of a block that equals an earlier one, ignoring case. The block
-/// has, in rising order, the numbers of the variants from the index `start` on. No variant before `start` equals an
-/// earlier one.
+/// Returns the index of the first variant up to the end of a block that equals an earlier variant, ignoring case. The
+/// block has, in ascending order, the numbers of the variants from the index `start` on. No variant before `start`
+/// equals an earlier variant.
 fn first_met_again(block: &[u64], variants: Variants<'_>, start: usize) -> Option<usize>
     requires room { length block.now ≤ BLOCK }
     requires within { start + length block.now ≤ length (subtags (variants_text variants)) }
@@ -80,8 +82,8 @@ fn first_met_again(block: &[u64], variants: Variants<'_>, start: usize) -> Optio
     None
 }
 
-/// Returns whether a number of a block has occurred before, and marks it as having occurred. If the block has it twice,
-/// its first place counts.
+/// Returns whether a number of a block has occurred before, and marks it as having occurred. If the block has the
+/// number twice, only its first index is marked.
 fn meet(block: &[u64], met: &mut [bool], number: u64) -> bool
     requires room { length block.now ≤ length met.old }
     requires rises { IsNonDecreasing block.now }
@@ -97,7 +99,7 @@ fn meet(block: &[u64], met: &mut [bool], number: u64) -> bool
     mem::replace(&mut met[place], true)
 }
 
-/// Returns the first place of a number in a block, or the place where it would be.
+/// Returns the first index of a number in a block, or the index at which it would have to be inserted.
 fn place_of(number: u64, block: &[u64]) -> usize
     requires { IsNonDecreasing block.now }
     ensures { IsPlaceOf block.now number result }
@@ -105,7 +107,7 @@ fn place_of(number: u64, block: &[u64]) -> usize
     block.partition_point(|other| *other < number)
 }
 
-/// Returns the number of a variant, which has at most eight bytes.
+/// Returns the number that [`folded_number`] gives for a variant, which has at most eight bytes.
 fn number_of(variant: Variant<'_>) -> u64
     ensures { result ≡ folded_number (variant_text variant.entry) }
 {

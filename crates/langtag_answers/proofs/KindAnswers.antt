@@ -9,7 +9,7 @@ use Rattle.langtag_scan.specs.Record.{Record, Spells}
 use Rattle.langtag_scan.specs.Tag.{IsPrivate, IsIrregularAt}
 use Rattle.langtag.specs.Registered.{index_of, text_of}
 use Rattle.langtag.specs.declared.grandfathered.GrandfatheredLangTag.{GrandfatheredLangTag}
-use Rattle.langtag_answers.specs.ShowAnswer.{part_or_nothing, has_repeats, yes_or_no, IsAnswer, normal, private_use, irregular}
+use Rattle.langtag_answers.specs.ShowAnswer.{part_or_nothing, has_repeats, yes_or_no, IsShowAnswer, normal, private_use, irregular}
 
 -- the pieces of an answer to a normal tag, joined from the right
 joined_pieces : (l s g v e p q : List ℕ) →
@@ -21,7 +21,7 @@ pub answer_normal :
     (line : List ℕ) (r : Record) (l s g v e p q : List ℕ) → Spells r line → l ≡ language_part r → s ≡ part_or_nothing r.script →
     g ≡ part_or_nothing r.region
     → v ≡ variants_part r → e ≡ extensions_part r → p ≡ part_or_nothing (private_use_part r) → q ≡ yes_or_no (has_repeats r)
-    → IsAnswer line (codes "normal language=" ++ (l ++ (codes " script=" ++ (s ++ (codes " region=" ++ (g ++ (codes " variants=" ++ (v ++ (codes " extensions=" ++ (e ++ (codes " private=" ++ (p ++ (codes " repeats=" ++ (q ++ []))))))))))))))
+    → IsShowAnswer line (codes "normal language=" ++ (l ++ (codes " script=" ++ (s ++ (codes " region=" ++ (g ++ (codes " variants=" ++ (v ++ (codes " extensions=" ++ (e ++ (codes " private=" ++ (p ++ (codes " repeats=" ++ (q ++ []))))))))))))))
 answer_normal line r l s g v e p q is language script region variants extensions private repeats =
     normal r is (joined_pieces l s g v e p q ∙ cc)
 
@@ -32,7 +32,7 @@ said_yes b c holds same = rw (sym same ∙ holds) refl
 pub said_no : (b c : Bool) → b ≡ false → b ≡ c → codes "no" ≡ yes_or_no c
 said_no b c fails same = rw (sym same ∙ fails) refl
 
-pub answer_private : (line text : List ℕ) → IsPrivate text → text ≡ line → IsAnswer line (codes "private " ++ (text ++ []))
+pub answer_private : (line text : List ℕ) → IsPrivate text → text ≡ line → IsShowAnswer line (codes "private " ++ (text ++ []))
 answer_private line text is same = private_use (subst IsPrivate same is) (ap (λ t. codes "private " ++ t) (append-nil text ∙ same))
 
 -- the irregular texts stand first among the registered ones
@@ -48,11 +48,11 @@ spelling_at tag name at =
 
 pub answer_irregular :
     (line text : List ℕ) (tag : GrandfatheredLangTag) → IsIrregularAt (index_of tag) line → text ≡ text_of tag →
-    IsAnswer line (codes "irregular " ++ (text ++ []))
+    IsShowAnswer line (codes "irregular " ++ (text ++ []))
 unfolding IsIrregularAt
 answer_irregular line text tag (name, at, alike) is =
     irregular (index_of tag) name (name, at, alike) at (ap (λ t. codes "irregular " ++ t) (append-nil text ∙ is ∙ spelling_at tag name at))
 
 -- a text that is the line has its answer
-pub answer_same : (line other text : List ℕ) → other ≡ line → IsAnswer other text → IsAnswer line text
-answer_same line other text same = subst (λ l. IsAnswer l text) same
+pub answer_same : (line other text : List ℕ) → other ≡ line → IsShowAnswer other text → IsShowAnswer line text
+answer_same line other text same = subst (λ l. IsShowAnswer l text) same

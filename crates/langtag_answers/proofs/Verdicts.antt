@@ -11,7 +11,7 @@ use Rattle.langtag_registry.specs.Canonical.{IsCanonicalForm}
 use Rattle.langtag_registry.specs.Fault.{Told, faults}
 use Rattle.langtag_registry.specs.Valid.{IsValid}
 use Rattle.langtag_registry.proofs.ValidLaws.{valid_of_other}
-use Rattle.langtag_answers.specs.CheckAnswer.{fault_text, IsAnswer, valid, invalid}
+use Rattle.langtag_answers.specs.CheckAnswer.{fault_text, IsCheckAnswer, valid, invalid}
 
 -- the pieces of the answer to a tag that is not valid
 pub Appends-fault : (a b : Option (List ℕ)) (what subtag form : List ℕ) →
@@ -29,7 +29,7 @@ Appends-same_fault a b fault other form same = subst (λ text. Appends a b (ende
 
 pub answer_valid :
     (line tag form text : List ℕ) → tag ≡ line → IsValid tag → IsCanonicalForm tag form → text ≡ form →
-    IsAnswer line (codes "valid canonical=" ++ (text ++ []))
+    IsCheckAnswer line (codes "valid canonical=" ++ (text ++ []))
 answer_valid line tag form text same is by spelled =
     valid form (subst IsValid same is) (subst (λ t. IsCanonicalForm t form) same by) (ap (λ f. codes "valid canonical=" ++ f) (append-nil text ∙ spelled))
 
@@ -45,9 +45,9 @@ normal_of_invalid tag (inr (inr irregular)) not =
 pub answer_invalid :
     (line tag form text : List ℕ) (fault : Told) → tag ≡ line → IsTag tag → ¬ (IsValid tag) →
     EachRecord tag (λ r. slice_get (faults r) 0 ≡ Some fault) → IsCanonicalForm tag form → text ≡ form →
-    IsAnswer line (codes "invalid " ++ fault_text fault ++ codes " canonical=" ++ text)
+    IsCheckAnswer line (codes "invalid " ++ fault_text fault ++ codes " canonical=" ++ text)
 unfolding IsNormal
 answer_invalid line tag form text fault same is not first by spelled =
     let (r, spells) = normal_of_invalid tag is not in
-    subst (λ l. IsAnswer l (codes "invalid " ++ fault_text fault ++ codes " canonical=" ++ text)) same
+    subst (λ l. IsCheckAnswer l (codes "invalid " ++ fault_text fault ++ codes " canonical=" ++ text)) same
     (invalid r fault form not spells (first r spells) by (ap (λ f. codes "invalid " ++ fault_text fault ++ codes " canonical=" ++ f) spelled))

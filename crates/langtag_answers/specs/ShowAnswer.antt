@@ -7,11 +7,11 @@ use Rattle.langtag_scan.specs.Record.{Record, Spells}
 use Rattle.langtag_scan.specs.Tag.{IsPrivate, IsIrregularAt, IsTag}
 use Rattle.langtag.specs.Repeat.{repeat, are_alike_bytes}
 
--- a part that is absent is printed as nothing
+-- the text of a part, which is empty if the part is absent
 abbrev pub part_or_nothing : Option (List ℕ) → List ℕ
 part_or_nothing part = unwrap_or part []
 
--- whether a variant or a singleton stands in the tag twice, but for case (RFC 5646 section 2.2.9)
+-- whether a variant or a singleton occurs twice in the tag, ignoring case (RFC 5646 section 2.2.9)
 abbrev pub has_repeats : Record → Bool
 has_repeats r = is_some (repeat are_alike r.variants) || is_some (repeat are_alike_bytes (map (λ e. e.singleton) r.extensions))
 
@@ -29,12 +29,12 @@ normal_answer r =
     ++ codes " private=" ++ part_or_nothing (private_use_part r)
     ++ codes " repeats=" ++ yes_or_no (has_repeats r)
 
--- the answer to a line, by the kind of tag that it is: normal with the record that spells it, private, irregular in its
--- registered spelling, or no tag
-pub data IsAnswer (line : List ℕ) (text : List ℕ) : Type 0 where
-  normal : (r : Record) → Spells r line → text ≡ normal_answer r → IsAnswer line text
-  private_use : IsPrivate line → text ≡ codes "private " ++ line → IsAnswer line text
+-- the answer to a line depends on its kind: a normal tag with the record that spells it, a private use tag, an
+-- irregular tag in its registered spelling, or no tag
+pub data IsShowAnswer (line : List ℕ) (text : List ℕ) : Type 0 where
+  normal : (r : Record) → Spells r line → text ≡ normal_answer r → IsShowAnswer line text
+  private_use : IsPrivate line → text ≡ codes "private " ++ line → IsShowAnswer line text
   irregular :
       (k : ℕ) (registered : List ℕ) → IsIrregularAt k line → slice_get irregular_texts k ≡ Some registered →
-      text ≡ codes "irregular " ++ registered → IsAnswer line text
-  refused : ¬ (IsTag line) → text ≡ codes "refused" → IsAnswer line text
+      text ≡ codes "irregular " ++ registered → IsShowAnswer line text
+  refused : ¬ (IsTag line) → text ≡ codes "refused" → IsShowAnswer line text

@@ -3,8 +3,8 @@ ghost use Rattle.std.specs.Prelude.{◌≡◌, ◌++◌, OnOk, IsOkUnless, codes
 ghost use Rattle.std.specs.Io.KnownBytes.{Appends, append_known};
 ghost use Rattle.langtag_registry.specs.Fault.{told};
 ghost use Rattle.langtag_lines.specs.Lines.{ended};
-ghost use Rattle.langtag_answers.specs.CheckLaws.{one_answer};
-ghost use Rattle.langtag_answers.specs.CheckAnswer.{IsAnswer, fault_text};
+ghost use Rattle.langtag_answers.specs.CheckLaws.{one_check_answer};
+ghost use Rattle.langtag_answers.specs.CheckAnswer.{IsCheckAnswer, fault_text};
 
 use langtag::LangTag;
 use langtag_lines::{Answerer, Page, RunError};
@@ -12,21 +12,21 @@ use langtag_registry::{InvalidSubtag, canonical, validate};
 use std::alloc::Global;
 use std::io::Write;
 
-/// Answers a line with whether it is a valid tag, what is wrong with it if not, and its canonical form:
+/// The answer to a line: whether it is a valid tag, its first fault if it is not, and its canonical form:
 ///
 /// - `valid canonical=TAG`, where TAG is the canonical form of the tag;
 /// - `invalid WHAT=TEXT canonical=TAG`, where TEXT is the first invalid subtag, in its original case. WHAT is
 ///   `language`, `extlang`, `script`, `region` or `variant` if it is not registered, `second-extlang` for a second
-///   extended language, and `repeated-variant` or `repeated-singleton` if it equals an earlier one, ignoring case;
-/// - `refused` for a line that is not a tag, also for one that is not UTF-8.
+///   extended language, and `repeated-variant` or `repeated-singleton` if it equals an earlier subtag, ignoring case;
+/// - `refused` for a line that is not a tag or not UTF-8.
 #[derive(Drop)]
 pub struct Check {
-    /// What the canonical forms are allocated by.
+    /// The allocator for the canonical forms.
     pub alloc: Global,
 }
 
 impl Answerer for Check {
-    ghost is_answer = { IsAnswer };
+    ghost is_answer = { IsCheckAnswer };
 
     fn put_answer<W: Write>(
         &self,
@@ -46,7 +46,7 @@ impl Answerer for Check {
         }
     }
 
-    ghost one_answer = { one_answer };
+    ghost one_answer = { one_check_answer };
 }
 
 /// Adds the answer to a tag that is not valid to the page: its fault, and its canonical form.
@@ -65,7 +65,7 @@ fn put_invalid<W: Write>(
     put_fault(what, subtag, form, page, output)
 }
 
-/// Returns what is wrong with a subtag, and the subtag, of which a singleton is written into this room.
+/// Returns the word for a fault, and its subtag. A singleton is written into `room` to make a text of it.
 fn fault_words<'a>(invalid: InvalidSubtag<'a>, room: &'a mut [u8; 4]) -> (&'static str, &'a str)
     ensures { result.0.now ++ result.1.now ≡ fault_text (told invalid.entry) }
 {
@@ -84,7 +84,7 @@ fn fault_words<'a>(invalid: InvalidSubtag<'a>, room: &'a mut [u8; 4]) -> (&'stat
     }
 }
 
-/// Adds the answer to a tag with a subtag that is wrong, after what is wrong with it, to the page.
+/// Adds the answer to an invalid tag to the page: the word for the fault, the subtag and the canonical form.
 fn put_fault<W: Write>(
     what: &str,
     subtag: &str,

@@ -1,6 +1,6 @@
-//! The answers of the programs `langtag_show` and `langtag_check` to a line. [`Show`] answers the kind and the parts of
-//! a tag (RFC 5646 section 2.1), and [`Check`] whether it is valid (section 2.2.9), with its canonical form (section
-//! 4.5).
+//! The answers of the programs `langtag_show` and `langtag_check` to a line. The answer of [`Show`] is the kind and
+//! the parts of a tag (RFC 5646 section 2.1). The answer of [`Check`] says whether a tag is valid (section 2.2.9),
+//! and has its canonical form (section 4.5).
 //!
 //! ```
 //! let mut input = b"fr-FR\n".as_slice();

@@ -1,13 +1,13 @@
 //! A run: reads the input, and writes the answer to each line.
 ghost use Rattle.langtag_lines.specs.Report.{HasRun};
-ghost use Rattle.langtag_answers.specs.ShowAnswer.{IsAnswer};
+ghost use Rattle.langtag_answers.specs.ShowAnswer.{IsShowAnswer};
 
 use crate::show::Show;
 use langtag_lines::answer_lines;
 use std::alloc::Global;
 use std::io::{Read, Write};
 
-/// What ends a run early.
+/// The error that ends a run early.
 pub use langtag_lines::RunError as ShowError;
 
 /// Writes the answer to each line of the input, each followed by LF, and flushes once at the end: [`answer_lines`] with
@@ -19,7 +19,7 @@ pub use langtag_lines::RunError as ShowError;
 /// interruption, and if the input has not ended after 2^64 - 1 reads. Returns `Write` if `write_all` or the flush
 /// fails.
 pub fn run<R: Read, W: Write>(alloc: Global, input: &mut R, output: &mut W) -> Result<(), ShowError>
-    ensures report { HasRun IsAnswer result (R.remaining input.old) (R.remaining input.new) (W.contents output.old) (W.contents output.new) }
+    ensures report { HasRun IsShowAnswer result (R.remaining input.old) (R.remaining input.new) (W.contents output.old) (W.contents output.new) }
 {
     answer_lines(alloc, &Show, input, output)
 }

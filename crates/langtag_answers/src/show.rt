@@ -6,24 +6,24 @@ ghost use Rattle.langtag_scan.specs.Record.{EachRecord};
 ghost use Rattle.langtag.specs.PlaceText.{script_text, region_text};
 ghost use Rattle.langtag.specs.PrivateText.{private_use_text};
 ghost use Rattle.langtag.specs.Text.{normal_lang_tag_text};
-ghost use Rattle.langtag_answers.specs.ShowAnswer.{IsAnswer, has_repeats};
-ghost use Rattle.langtag_answers.specs.ShowLaws.{one_answer};
+ghost use Rattle.langtag_answers.specs.ShowAnswer.{IsShowAnswer, has_repeats};
+ghost use Rattle.langtag_answers.specs.ShowLaws.{one_show_answer};
 
 use langtag::{LangTag, NormalLangTag, PrivateUse, Region, Script, TypedLangTag};
 use langtag_lines::{Answerer, Page, RunError};
 use std::io::Write;
 
-/// Answers a line with the kind and the parts of the tag that it is:
+/// The answer to a line: the kind and the parts of its tag:
 ///
 /// - `normal language=L script=S region=R variants=V extensions=E private=P repeats=Q`, where an absent part is empty, and
 ///   Q is `yes` if a variant or a singleton occurs twice in the tag (RFC 5646 section 2.2.9), and `no` otherwise;
 /// - `private` and the tag;
-/// - `irregular` and the tag as it is registered;
-/// - `refused` for a line that is not a tag, also for one that is not UTF-8.
+/// - `irregular` and the tag in its registered spelling;
+/// - `refused` for a line that is not a tag or not UTF-8.
 pub struct Show;
 
 impl Answerer for Show {
-    ghost is_answer = { IsAnswer };
+    ghost is_answer = { IsShowAnswer };
 
     fn put_answer<W: Write>(
         &self,
@@ -43,12 +43,12 @@ impl Answerer for Show {
         }
     }
 
-    ghost one_answer = { one_answer };
+    ghost one_answer = { one_show_answer };
 }
 
-/// The answer to a normal tag, in pieces: its parts, and whether it repeats a variant or a singleton.
+/// Returns the answer to a normal tag, in pieces: its parts, and whether a variant or a singleton is repeated.
 fn normal_answer<'a>(tag: &NormalLangTag<'a>) -> [&'a str; 14]
-    ensures { IsAnswer (normal_lang_tag_text tag.now) (flat_map (λ piece. piece.now) result) }
+    ensures { IsShowAnswer (normal_lang_tag_text tag.now) (flat_map (λ piece. piece.now) result) }
 {
     [
         "normal language=",
@@ -86,7 +86,7 @@ fn private_use_or_nothing(private_use: Option<PrivateUse<'_>>) -> &str
     private_use.map_or("", |private_use| private_use.as_str())
 }
 
-/// Returns `true` if a variant or a singleton occurs twice in a tag.
+/// Returns whether a variant or a singleton occurs twice in a tag.
 fn has_repeats(tag: &NormalLangTag<'_>) -> bool
     ensures { EachRecord (normal_lang_tag_text tag.now) (λ r. result ≡ has_repeats r) }
 {

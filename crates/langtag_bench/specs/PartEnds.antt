@@ -1,8 +1,8 @@
--- What a recogniser's entries leave in the array of the caller.
+-- What the functions that call the recogniser write into the caller's struct.
 use Rattle.langtag_scan.specs.declared.ends.Ends.{Ends}
 use Rattle.langtag_bench.specs.declared.recognise.PartEnds.{PartEnds}
 
--- the same ends
+-- the ends in the caller's struct, as a value of langtag_scan
 abbrev pub ends_left : PartEnds → Ends
 ends_left ends = record {
   language = ends.language;

@@ -1,11 +1,11 @@
--- What `langtag_bench_lang_tag` leaves of a normal tag.
+-- What `langtag_bench_lang_tag` writes for a normal tag.
 use Rattle.std.specs.Prelude.{length}
 use Rattle.std.specs.Option.{option_map_or}
 use Rattle.langtag_scan.specs.Parts.{language_part, variants_part, extensions_part, private_use_part}
 use Rattle.langtag_scan.specs.Record.{Record}
 use Rattle.langtag_bench.specs.declared.lang_tag.PartLengths.{PartLengths}
 
--- how long each part is, 0 where it is absent
+-- the length of each part, which is 0 if the part is absent
 abbrev pub part_lengths : Record → PartLengths
 part_lengths r = record {
   language = length (language_part r);

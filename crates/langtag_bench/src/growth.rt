@@ -116,8 +116,8 @@ pub extern "C" fn langtag_bench_fallbacks(bytes: &[u8]) -> usize
     }
 }
 
-/// Returns whether basic filtering finds one of the twenty tags for the ranges in a text, which commas separate.
-/// Returns `false` if allocation fails.
+/// Returns whether basic filtering finds one of the twenty tags for the comma-separated ranges in a text. Returns
+/// `false` if allocation fails.
 #[unsafe(no_mangle)]
 pub extern "C" fn langtag_bench_filter_basic(alloc: Global, bytes: &[u8]) -> bool
     ensures { IsTrue result → IsUtf8 bytes.now }
@@ -133,8 +133,8 @@ pub extern "C" fn langtag_bench_filter_basic(alloc: Global, bytes: &[u8]) -> boo
     }
 }
 
-/// Returns whether extended filtering finds one of the twenty tags for the ranges in a text, which commas separate.
-/// Returns `false` if allocation fails.
+/// Returns whether extended filtering finds one of the twenty tags for the comma-separated ranges in a text. Returns
+/// `false` if allocation fails.
 #[unsafe(no_mangle)]
 pub extern "C" fn langtag_bench_filter_extended(alloc: Global, bytes: &[u8]) -> bool
     ensures { IsTrue result → IsUtf8 bytes.now }
@@ -150,8 +150,8 @@ pub extern "C" fn langtag_bench_filter_extended(alloc: Global, bytes: &[u8]) -> 
     }
 }
 
-/// Looks up a tag among the twenty tags for the ranges in a text, which commas separate. Returns whether it is another
-/// tag than the default. Returns `false` if allocation fails.
+/// Looks up a tag among the twenty tags for the comma-separated ranges in a text. Returns whether it is a tag other
+/// than the default. Returns `false` if allocation fails.
 #[unsafe(no_mangle)]
 pub extern "C" fn langtag_bench_look_up(alloc: Global, bytes: &[u8]) -> bool
     ensures { IsTrue result → IsUtf8 bytes.now }
@@ -167,7 +167,7 @@ pub extern "C" fn langtag_bench_look_up(alloc: Global, bytes: &[u8]) -> bool
     }
 }
 
-/// Returns the ranges in a text, which commas separate.
+/// Returns the comma-separated ranges in a text.
 fn ranges_of(alloc: Global, text: &str) -> Result<Vec<LanguageRange<'_>>, AllocError> {
     let mut ranges = Vec::new(alloc);
     for item in text.split(',') {

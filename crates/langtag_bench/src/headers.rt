@@ -1,11 +1,10 @@
-//! Headers, and tags for them; `bench/growth.sh` compares what is found with what it expects.
+//! Headers, and tags for them. `bench/growth.sh` compares the results with the expected results.
 ghost use Rattle.std.specs.Prelude.{◌≡◌, ◌≤◌, length};
 ghost use Rattle.std.specs.Str.{IsUtf8};
 
 use crate::written::count;
 use langtag::LangTag;
-use langtag_examples::tag_for_request;
-use langtag_match::AcceptLanguage;
+use langtag_match::{AcceptLanguage, AcceptLanguageError, tag_for_header};
 use std::alloc::{AllocError, Global};
 
 /// Reads a header, skips malformed elements, and returns the number of ranges. Returns 0 if the bytes are not UTF-8, or
@@ -51,12 +50,15 @@ fn chosen_index(alloc: Global, header: &str, tags: &str) -> Result<usize, AllocE
     let Ok(none) = LangTag::new("x-none") else {
         return Ok(tags.len());
     };
-    let chosen = tag_for_request(alloc, Some(header), tags, none)?;
-    let index = tags.iter().position(|tag| *tag == chosen);
+    let index = match tag_for_header(alloc, header, tags, none) {
+        Ok(chosen) => tags.iter().position(|tag| *tag == chosen),
+        Err(AcceptLanguageError::BadElement { .. }) => None,
+        Err(AcceptLanguageError::Memory(error)) => return Err(error),
+    };
     Ok(index.unwrap_or(tags.len()))
 }
 
-/// Returns the tags in a text, which commas separate.
+/// Returns the comma-separated tags in a text.
 fn tags_of(alloc: Global, text: &str) -> Result<Vec<LangTag<'_>>, AllocError> {
     let mut tags = Vec::new(alloc);
     for item in text.split(',') {

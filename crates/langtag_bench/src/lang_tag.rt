@@ -34,7 +34,8 @@ pub extern "C" fn langtag_bench_lang_tag(bytes: &[u8], lengths: &mut PartLengths
     }
 }
 
-/// Returns whether the bytes are UTF-8. A caller has this cost if it makes a text of the bytes before `LangTag::new`.
+/// Returns whether the bytes are UTF-8. Its time is the cost for a caller that converts the bytes to a text before it
+/// calls `LangTag::new`.
 #[unsafe(no_mangle)]
 pub extern "C" fn langtag_bench_is_utf8(bytes: &[u8]) -> bool
     ensures { IsTrue result ↔ IsUtf8 bytes.now }

@@ -1,4 +1,4 @@
-//! Entries for the benchmark of `bench/`: what it times, callable from Rust and C over plain bytes.
+//! The functions whose time the benchmark in `bench/` measures. Rust and C call them with plain bytes.
 #![tactic(auto)]
 
 mod growth;
@@ -6,7 +6,6 @@ mod headers;
 mod lang_tag;
 mod likely;
 mod loops;
-mod maps;
 mod matching;
 mod memory;
 mod recognise;

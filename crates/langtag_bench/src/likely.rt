@@ -27,7 +27,7 @@ pub extern "C" fn langtag_bench_maximized(
     }
 }
 
-/// Does the same as [`langtag_bench_maximized`], but with the minimal form.
+/// Does what [`langtag_bench_maximized`] does, but with the minimal form.
 #[unsafe(no_mangle)]
 pub extern "C" fn langtag_bench_minimized(
     alloc: Global,
@@ -46,7 +46,7 @@ pub extern "C" fn langtag_bench_minimized(
     }
 }
 
-/// Writes the tag of a POSIX locale's name into a buffer, if there is room, and returns its length. Returns 0 if the
+/// Writes the tag for a POSIX locale name into a buffer, if there is room, and returns its length. Returns 0 if the
 /// name has no tag, or if an allocation fails. A failed allocation is counted in `refused`.
 #[unsafe(no_mangle)]
 pub extern "C" fn langtag_bench_from_posix(

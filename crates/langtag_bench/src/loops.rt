@@ -1,4 +1,4 @@
-//! Plain loops over the bytes of a tag. The recogniser is compared with them.
+//! Plain loops over the bytes of a tag, whose time is compared with the time of the recogniser.
 ghost use Rattle.std.specs.Prelude.{◌≡◌, ◌≤◌, ◌+◌, ◌%◌, length, take, fold};
 ghost use Rattle.langtag_scan.specs.Case.{fold_byte};
 

@@ -1,4 +1,4 @@
-//! Ranges, tags that they match, and the tag for a header.
+//! Matching ranges with tags, and choosing the tag for a header.
 ghost use Rattle.std.specs.Prelude.{◌≡◌, ◌≤◌, ◌↔◌, List, length, IsTrue, false, MatchOption};
 ghost use Rattle.langtag.specs.Tag.{IsTag};
 ghost use Rattle.langtag.specs.Text.{lang_tag_text};
@@ -60,13 +60,13 @@ pub(crate) fn tag_of<'a>(bytes: &'a [u8]) -> Option<LangTag<'a>>
     LangTag::from_bytes(bytes).ok()
 }
 
-/// The tags of a site in twenty languages.
+/// The tags of a web site in twenty languages.
 const TAGS: [&str; 20] = [
     "en", "en-GB", "fr", "fr-CA", "de", "de-CH", "es", "es-419", "pt-BR", "pt-PT", "it", "nl",
     "sv", "pl", "ru", "ja", "ko", "zh-Hans", "zh-Hant", "ar",
 ];
 
-/// Reads the twenty tags and counts those other than `en`. Reading them is all the work that precedes a header.
+/// Reads the twenty tags and counts the tags other than `en`. Reading them is all the work that precedes a header.
 #[unsafe(no_mangle)]
 pub extern "C" fn langtag_bench_tags() -> usize
     ensures { result ≤ 20 }

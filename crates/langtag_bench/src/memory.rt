@@ -1,52 +1,22 @@
 //! Calls of langtag and langtag_match that allocate. `bench/growth.sh` refuses each of their allocations in turn.
 //!
-//! Each function counts the calls whose allocation failed. At most one allocation is refused, so a setter is called
-//! again after it.
+//! Each function counts the calls whose allocation failed. At most one allocation is refused, so a setter that failed
+//! is called again.
 ghost use Rattle.std.specs.Prelude.{IsTrue, IfSome};
 ghost use Rattle.std.specs.Str.{IsUtf8};
 ghost use Rattle.langtag_scan.specs.Tag.{IsNormal, IsTag};
 
 use crate::matching::{range_of, tag_of};
 use langtag::{
-    ExtendedLangTagBuf, Extension, ExtensionBuf, ExtensionSubtagBuf, Extensions, ExtensionsBuf,
-    LangTag, LangTagBuf, Language, LanguageBuf, LanguageExtensionBuf, NormalLangTag,
-    NormalLangTagBuf, PrimaryLanguageBuf, PrivateUse, PrivateUseBuf, PrivateUseSubtagBuf,
-    RegionBuf, ScriptBuf, VariantBuf, Variants, VariantsBuf,
+    Extension, Extensions, LangTag, LangTagBuf, Language, NormalLangTag, NormalLangTagBuf,
+    PrivateUse, Variants,
 };
-use langtag_match::{AcceptLanguage, AcceptLanguageError, LanguageRangeBuf, tag_for_header};
-use std::alloc::Global;
+use langtag_match::{AcceptLanguage, AcceptLanguageError, tag_for_header};
+use std::alloc::{AllocError, Global};
 use std::fmt;
 
-/// Whether a copy is equal to the part after it is read as an owned value, and both are displayed as their texts. A
-/// failed allocation is counted, and the result is then `true`.
-macro_rules! is_right {
-    ($alloc:ident, $copy:expr, $part:expr, $owned:ident, $refused:ident) => {
-        match $copy {
-            Ok(copy) => match $owned::new(copy.into_string()) {
-                Ok(read) => {
-                    $part.eq_str(read.as_str())
-                        && is_shown($alloc, &$part, $part.as_str(), $refused)
-                        && is_shown($alloc, &read, read.as_str(), $refused)
-                }
-                Err(_) => false,
-            },
-            Err(_) => {
-                *$refused = $refused.saturating_add(1);
-                true
-            }
-        }
-    };
-}
-
-/// Whether a copy of a part is right.
-macro_rules! is_copied {
-    ($alloc:ident, $part:expr, $owned:ident, $refused:ident) => {
-        is_right!($alloc, $part.try_to_owned($alloc), $part, $owned, $refused)
-    };
-}
-
-/// Copies and displays a tag and each part of it, by all types. The tag is also copied in its recommended case. Returns
-/// whether the bytes are a tag and each copy is right.
+/// Copies and displays a tag and each part of it, by all types. The tag is also copied in its recommended case.
+/// Returns whether the bytes are a tag and each copy is correct.
 #[unsafe(no_mangle)]
 pub extern "C" fn langtag_bench_copies(alloc: Global, bytes: &[u8], refused: &mut usize) -> bool
     ensures { IsTrue result → IsTag bytes.now }
@@ -54,15 +24,16 @@ pub extern "C" fn langtag_bench_copies(alloc: Global, bytes: &[u8], refused: &mu
     let (Some(tag), Some(range)) = (tag_of(bytes), range_of(bytes)) else {
         return false;
     };
-    let are_copied = is_copied!(alloc, tag, LangTagBuf, refused)
-        && is_right!(
+    let [copy, recased] = [tag.try_to_owned(alloc), tag.try_to_recommended_case(alloc)];
+    let are_copied = is_copied(alloc, &tag, tag.as_str(), copy, refused)
+        && is_recased(alloc, tag.as_str(), recased, refused)
+        && is_copied(
             alloc,
-            tag.try_to_recommended_case(alloc),
-            tag,
-            LangTagBuf,
-            refused
-        )
-        && is_copied!(alloc, range, LanguageRangeBuf, refused);
+            &range,
+            range.as_str(),
+            range.try_to_owned(alloc),
+            refused,
+        );
     let are_parts_copied = match (tag.as_normal(), tag.as_private_use()) {
         (Some(normal), _) => is_normal_copied(alloc, normal, refused),
         (_, Some(private_use)) => is_private_use_copied(alloc, private_use, refused),
@@ -73,13 +44,12 @@ pub extern "C" fn langtag_bench_copies(alloc: Global, bytes: &[u8], refused: &mu
 
 /// Copies a normal tag and its parts.
 fn is_normal_copied(alloc: Global, tag: NormalLangTag<'_>, refused: &mut usize) -> bool {
-    is_copied!(alloc, tag, NormalLangTagBuf, refused)
-        && is_right!(
+    is_copied(alloc, &tag, tag.as_str(), tag.try_to_owned(alloc), refused)
+        && is_recased(
             alloc,
+            tag.as_str(),
             tag.try_to_recommended_case(alloc),
-            tag,
-            NormalLangTagBuf,
-            refused
+            refused,
         )
         && is_language_copied(alloc, tag.language(), refused)
         && is_place_copied(alloc, tag, refused)
@@ -94,42 +64,50 @@ fn is_normal_copied(alloc: Global, tag: NormalLangTag<'_>, refused: &mut usize) 
 /// Copies a language and its subtags.
 fn is_language_copied(alloc: Global, language: Language<'_>, refused: &mut usize) -> bool {
     let primary = language.primary();
-    let mut are_copied = is_copied!(alloc, language, LanguageBuf, refused)
-        && is_copied!(alloc, primary, PrimaryLanguageBuf, refused);
+    let copy = primary.try_to_owned(alloc);
+    let mut are_copied = is_copied(alloc, &primary, primary.as_str(), copy, refused);
+    let copy = language.try_to_owned(alloc);
+    are_copied &= is_copied(alloc, &language, language.as_str(), copy, refused);
     if let Some(extension) = language.extension() {
-        are_copied &= is_copied!(alloc, extension, LanguageExtensionBuf, refused);
+        let copy = extension.try_to_owned(alloc);
+        are_copied &= is_copied(alloc, &extension, extension.as_str(), copy, refused);
     }
     for subtag in language.extension_subtags() {
-        are_copied &= is_copied!(alloc, subtag, ExtendedLangTagBuf, refused);
+        let copy = subtag.try_to_owned(alloc);
+        are_copied &= is_copied(alloc, &subtag, subtag.as_str(), copy, refused);
     }
     are_copied
 }
 
 /// Copies the script and the region of a tag.
 fn is_place_copied(alloc: Global, tag: NormalLangTag<'_>, refused: &mut usize) -> bool {
-    let is_script_copied = match tag.script() {
-        Some(script) => is_copied!(alloc, script, ScriptBuf, refused),
-        None => true,
-    };
-    let is_region_copied = match tag.region() {
-        Some(region) => is_copied!(alloc, region, RegionBuf, refused),
-        None => true,
-    };
-    is_script_copied && is_region_copied
+    let mut are_copied = true;
+    if let Some(script) = tag.script() {
+        let copy = script.try_to_owned(alloc);
+        are_copied &= is_copied(alloc, &script, script.as_str(), copy, refused);
+    }
+    if let Some(region) = tag.region() {
+        let copy = region.try_to_owned(alloc);
+        are_copied &= is_copied(alloc, &region, region.as_str(), copy, refused);
+    }
+    are_copied
 }
 
 /// Copies variants, together and one by one.
 fn are_variants_copied(alloc: Global, variants: Variants<'_>, refused: &mut usize) -> bool {
-    let mut are_copied = is_copied!(alloc, variants, VariantsBuf, refused);
+    let copy = variants.try_to_owned(alloc);
+    let mut are_copied = is_copied(alloc, &variants, variants.as_str(), copy, refused);
     for variant in variants.iter() {
-        are_copied &= is_copied!(alloc, variant, VariantBuf, refused);
+        let copy = variant.try_to_owned(alloc);
+        are_copied &= is_copied(alloc, &variant, variant.as_str(), copy, refused);
     }
     are_copied
 }
 
 /// Copies extensions, together and one by one.
 fn are_extensions_copied(alloc: Global, extensions: Extensions<'_>, refused: &mut usize) -> bool {
-    let mut are_copied = is_copied!(alloc, extensions, ExtensionsBuf, refused);
+    let copy = extensions.try_to_owned(alloc);
+    let mut are_copied = is_copied(alloc, &extensions, extensions.as_str(), copy, refused);
     for extension in extensions.iter() {
         are_copied &= is_extension_copied(alloc, extension, refused);
     }
@@ -138,20 +116,61 @@ fn are_extensions_copied(alloc: Global, extensions: Extensions<'_>, refused: &mu
 
 /// Copies an extension and its subtags.
 fn is_extension_copied(alloc: Global, extension: Extension<'_>, refused: &mut usize) -> bool {
-    let mut is_copied = is_copied!(alloc, extension, ExtensionBuf, refused);
+    let copy = extension.try_to_owned(alloc);
+    let mut are_copied = is_copied(alloc, &extension, extension.as_str(), copy, refused);
     for subtag in extension.iter() {
-        is_copied &= is_copied!(alloc, subtag, ExtensionSubtagBuf, refused);
+        let copy = subtag.try_to_owned(alloc);
+        are_copied &= is_copied(alloc, &subtag, subtag.as_str(), copy, refused);
     }
-    is_copied
+    are_copied
 }
 
 /// Copies a private use part and its subtags.
 fn is_private_use_copied(alloc: Global, part: PrivateUse<'_>, refused: &mut usize) -> bool {
-    let mut is_copied = is_copied!(alloc, part, PrivateUseBuf, refused);
+    let copy = part.try_to_owned(alloc);
+    let mut are_copied = is_copied(alloc, &part, part.as_str(), copy, refused);
     for subtag in part.iter() {
-        is_copied &= is_copied!(alloc, subtag, PrivateUseSubtagBuf, refused);
+        let copy = subtag.try_to_owned(alloc);
+        are_copied &= is_copied(alloc, &subtag, subtag.as_str(), copy, refused);
     }
-    is_copied
+    are_copied
+}
+
+/// Returns whether a part and its copy are displayed as the text of the part. A failed allocation is counted, and the
+/// result is then `true`.
+fn is_copied<P: fmt::Display, C: fmt::Display + Drop>(
+    alloc: Global,
+    part: &P,
+    text: &str,
+    copy: Result<C, AllocError>,
+    refused: &mut usize,
+) -> bool {
+    match copy {
+        Ok(copy) => {
+            is_shown(alloc, part, text, refused) && is_shown(alloc, &copy, text, refused)
+        }
+        Err(_) => {
+            *refused = refused.saturating_add(1);
+            true
+        }
+    }
+}
+
+/// Returns whether a copy in the recommended case is displayed as the text, ignoring case. A failed allocation is
+/// counted, and the result is then `true`.
+fn is_recased<C: fmt::Display + Drop>(
+    alloc: Global,
+    text: &str,
+    copy: Result<C, AllocError>,
+    refused: &mut usize,
+) -> bool {
+    match copy.and_then(|copy| format!(in alloc; "{}", copy)) {
+        Ok(shown) => shown.as_str().eq_ignore_ascii_case(text),
+        Err(_) => {
+            *refused = refused.saturating_add(1);
+            true
+        }
+    }
 }
 
 /// Returns whether a value is displayed as a text. A failed allocation is counted, and the result is then `true`.
@@ -165,7 +184,7 @@ fn is_shown<T: fmt::Display>(alloc: Global, value: &T, text: &str, refused: &mut
     }
 }
 
-/// Returns the bytes as a normal tag, or `None` if they are not one.
+/// Returns the bytes as a normal tag, or `None` if they are not a normal tag.
 pub(crate) fn normal_of(bytes: &[u8]) -> Option<NormalLangTag<'_>>
     ensures { IfSome result (λ tag. IsNormal bytes.now) }
 {
@@ -190,7 +209,7 @@ trait PartByPart {
     /// Returns the tag if it is normal.
     fn normal(&self) -> Option<NormalLangTag<'_>>;
 
-    /// Replaces a part by that of another tag. Returns whether the call succeeded.
+    /// Replaces a part by the same part of another tag. Returns whether the call succeeded.
     fn set(&mut self, alloc: Global, other: NormalLangTag<'_>, index: usize) -> bool;
 }
 
@@ -236,8 +255,8 @@ fn has_parts<T: PartByPart>(owned: &T, parts: [&str; 6]) -> bool {
     }
 }
 
-/// Replaces the parts of a copy of a tag by those of another tag, one after the other. Returns whether the parts are
-/// right after each step. If an allocation fails, the parts must be unchanged.
+/// Replaces the parts of a copy of a tag by the parts of another tag, one after the other. Returns whether the parts
+/// are right after each step. If an allocation fails, the parts must be unchanged.
 fn is_set<'a, T: PartByPart + Drop>(
     alloc: Global,
     copy: T,
@@ -262,8 +281,8 @@ fn is_set<'a, T: PartByPart + Drop>(
     true
 }
 
-/// Replaces the parts of a copy of a normal tag by those of another normal tag, one after the other. Returns whether
-/// both are normal tags, and the copy is right after each step.
+/// Replaces the parts of a copy of a normal tag by the parts of another normal tag, one after the other. Returns
+/// whether both are normal tags, and the copy is right after each step.
 #[unsafe(no_mangle)]
 pub extern "C" fn langtag_bench_set_normal(
     alloc: Global,
@@ -308,7 +327,7 @@ pub extern "C" fn langtag_bench_set_of_any(
 }
 
 /// Makes a tag from the language, the script and the region of another tag. Returns whether the bytes are a normal tag,
-/// and the new tag has these parts and no other.
+/// and the new tag has exactly these parts.
 #[unsafe(no_mangle)]
 pub extern "C" fn langtag_bench_from_parts(alloc: Global, bytes: &[u8], refused: &mut usize) -> bool
     ensures { IsTrue result → IsNormal bytes.now }
@@ -326,8 +345,8 @@ pub extern "C" fn langtag_bench_from_parts(alloc: Global, bytes: &[u8], refused:
     }
 }
 
-/// Reads a header in each of three ways. Returns whether no element of the header is malformed, and all three ways find
-/// the same.
+/// Reads a header in each of three ways. Returns whether no element of the header is malformed, and all three ways give
+/// the same result.
 #[unsafe(no_mangle)]
 pub extern "C" fn langtag_bench_header(alloc: Global, bytes: &[u8], refused: &mut usize) -> bool
     ensures { IsTrue result → IsUtf8 bytes.now }
@@ -349,7 +368,7 @@ pub extern "C" fn langtag_bench_header(alloc: Global, bytes: &[u8], refused: &mu
     }
 }
 
-/// Returns whether the ways to read a header find the same ranges, and choose the same of two tags.
+/// Returns whether the ways to read a header find the same ranges, and choose the same tag of two tags.
 fn is_read_in_one_way<'a>(
     alloc: Global,
     header: &'a str,

@@ -1,7 +1,6 @@
 //! Calls of langtag_registry over one tag.
-ghost use Rattle.std.specs.Prelude.{◌≡◌, ◌↔◌, IsTrue};
+ghost use Rattle.std.specs.Prelude.{◌≡◌, IsTrue};
 ghost use Rattle.langtag_scan.specs.Tag.{IsTag, IsNormal};
-ghost use Rattle.langtag_registry.specs.Valid.{IsValid};
 
 use crate::matching::tag_of;
 use crate::memory::normal_of;
@@ -12,7 +11,7 @@ use langtag_registry::{
     is_deprecated_region, is_deprecated_tag, is_deprecated_variant, is_registered_extlang,
     is_registered_language, is_registered_region, is_registered_script, is_registered_variant,
     macrolanguage, misplaced_extlang, misplaced_variant, preferred_language, preferred_region,
-    preferred_tag, preferred_variant, suppress_script, validate,
+    preferred_tag, preferred_variant, suppress_script,
 };
 use std::alloc::Global;
 
@@ -36,7 +35,7 @@ pub extern "C" fn langtag_bench_canonical(
     }
 }
 
-/// Does the same as [`langtag_bench_canonical`], but with the extlang form.
+/// Does what [`langtag_bench_canonical`] does, but with the extlang form.
 #[unsafe(no_mangle)]
 pub extern "C" fn langtag_bench_extlang_form(
     alloc: Global,
@@ -55,17 +54,6 @@ pub extern "C" fn langtag_bench_extlang_form(
     }
 }
 
-/// Returns whether the bytes are a valid tag.
-#[unsafe(no_mangle)]
-pub extern "C" fn langtag_bench_is_valid(bytes: &[u8]) -> bool
-    ensures { IsTrue result ↔ (IsTag bytes.now × IsValid bytes.now) }
-{
-    match tag_of(bytes) {
-        Some(tag) => validate(tag).is_ok(),
-        None => false,
-    }
-}
-
 /// Returns the length of the first variant of a normal tag that follows none of its prefixes, or 0 if there is none.
 #[unsafe(no_mangle)]
 pub extern "C" fn langtag_bench_misplaced_variant(bytes: &[u8]) -> usize
@@ -77,7 +65,7 @@ pub extern "C" fn langtag_bench_misplaced_variant(bytes: &[u8]) -> usize
     misplaced_variant(tag).map_or(0, |variant| variant.as_str().len())
 }
 
-/// Returns the length of the extended language of a normal tag if it follows another language than its prefix, or 0
+/// Returns the length of the extended language of a normal tag if it follows a language other than its prefix, or 0
 /// otherwise.
 #[unsafe(no_mangle)]
 pub extern "C" fn langtag_bench_misplaced_extlang(bytes: &[u8]) -> usize
@@ -89,7 +77,7 @@ pub extern "C" fn langtag_bench_misplaced_extlang(bytes: &[u8]) -> usize
     misplaced_extlang(tag).map_or(0, |extlang| extlang.as_str().len())
 }
 
-/// Reads all fields of the registry for the subtags of a normal tag. Returns whether one of the fields is there.
+/// Reads all fields of the registry for the subtags of a normal tag. Returns whether one of the fields is present.
 #[unsafe(no_mangle)]
 pub extern "C" fn langtag_bench_fields(bytes: &[u8]) -> bool
     ensures { IsTrue result → IsNormal bytes.now }
@@ -151,7 +139,7 @@ fn is_known_region(region: Region<'_>) -> bool {
     is_registered_region(region) | is_deprecated_region(region) | preferred_region(region).is_some()
 }
 
-/// Returns whether the registry has a field for one of the variants of a tag. It reads the fields of all of them.
+/// Returns whether the registry has a field for one of the variants of a tag. It reads the fields of all variants.
 fn has_known_variant(tag: NormalLangTag<'_>) -> bool {
     let mut is_known = false;
     for variant in tag.variants().iter() {

@@ -36,18 +36,3 @@ pub extern "C" fn langtag_bench_repeated_variant(bytes: &[u8]) -> usize
         None => 0,
     }
 }
-
-/// Returns the byte of the first singleton of a normal tag that repeats an earlier singleton, or 0 if there is none.
-#[unsafe(no_mangle)]
-pub extern "C" fn langtag_bench_repeated_singleton(bytes: &[u8]) -> usize
-    ensures { (IsNormal bytes.now → ⊥) → result ≡ 0 }
-{
-    let Ok(text) = str::from_utf8(bytes) else {
-        return 0;
-    };
-    let Ok(tag) = NormalLangTag::new(text) else {
-        return 0;
-    };
-    tag.repeated_singleton()
-        .map_or(0, |singleton| singleton.unwrap() as usize)
-}

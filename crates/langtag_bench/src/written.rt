@@ -1,4 +1,5 @@
-//! Texts that calls of langtag return, written into the caller's buffer. `bench/growth.sh` compares them with its own.
+//! Texts that calls of langtag return, written into the caller's buffer. `bench/growth.sh` compares them with the texts
+//! that it expects.
 ghost use Rattle.std.specs.Prelude.{◌≡◌, ◌≤◌, length};
 ghost use Rattle.langtag_scan.specs.Tag.{IsTag};
 

@@ -17,3 +17,4 @@ mod TagsAt
 mod LookUps
 mod SubtagSpans
 mod FoundExtension
+mod Suggested

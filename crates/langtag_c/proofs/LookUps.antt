@@ -19,7 +19,7 @@ use Rattle.langtag_match.specs.declared.accept_language_error.ElementPart.{Eleme
 use Rattle.langtag_match.proofs.Offsets.{item_stands, sum_by-slice_split, width}
 use Rattle.langtag_c.specs.Choice.{IsTagAt}
 use Rattle.langtag_c.specs.Heaviest.{heaviest}
-use Rattle.langtag_c.specs.LookUp.{IsBadAt, IsLookedUp, first_alike, first_found, index_alike}
+use Rattle.langtag_c.specs.LookUp.{IsBadAt, IsLookedUp, first_index_alike, first_found, index_alike}
 use Rattle.langtag_c.specs.Spans.{HasBytes, span_text}
 use Rattle.langtag_c.specs.TagsAt.{tag_at, tags_at}
 use Rattle.langtag_c.specs.declared.span.Span.{Span}
@@ -175,7 +175,7 @@ above-put n e (f ∷ fs) low = by_test (nat_lt e.weight f.weight) refl (above-pu
 
 module _ (tags : List (Option (List ℕ))) where
   abbrev found_by : Element → Option ℕ
-  found_by e = first_alike tags (fallbacks e.range)
+  found_by e = first_index_alike tags (fallbacks e.range)
 
   -- an element that finds nothing is of no account
   found-put : (n : ℕ) (e : Element) (fs : List Element) → found_by e ≡ None → first_found tags (above n (put e fs)) ≡ first_found tags (above n fs)
@@ -273,9 +273,9 @@ module _ (tags : List (Option (List ℕ))) where
       by_place None is = tt
       by_place (Some index) is = (position-Some (λ tag. option_map_or (λ t. are_alike t text) tag false) tags index None is).0
 
-  index-first : (texts : List (List ℕ)) → IsIndex (first_alike tags texts)
+  index-first : (texts : List (List ℕ)) → IsIndex (first_index_alike tags texts)
   index-first [] = tt
-  index-first (text ∷ texts) = or-index (index_alike tags text) (first_alike tags texts) (index-alike text) (index-first texts)
+  index-first (text ∷ texts) = or-index (index_alike tags text) (first_index_alike tags texts) (index-alike text) (index-first texts)
 
   index-found : (es : List Element) → IsIndex (first_found tags es)
   index-found [] = tt
@@ -379,7 +379,7 @@ module _ {X : Type 0} (all : List (List ℕ)) (yielded : List X) (x : X) (item :
       after_light light =
           rw (elements-some e is) (rw (is_not_lighter weight e.weight light) refl)
 
-      pub after_lost : first_alike tags (fallbacks e.range) ≡ None → Goes found weight
+      pub after_lost : first_index_alike tags (fallbacks e.range) ≡ None → Goes found weight
       after_lost none = rw (elements-some e is) (by_test (nat_lt weight e.weight) refl)
         where
           by_test :
@@ -389,7 +389,7 @@ module _ {X : Type 0} (all : List (List ℕ)) (yielded : List X) (x : X) (item :
           by_test true is = rw (is, none) refl
           by_test false is = rw is refl
 
-      pub after_found : (index : ℕ) → weight < e.weight → first_alike tags (fallbacks e.range) ≡ Some index → Goes (Some index) e.weight
+      pub after_found : (index : ℕ) → weight < e.weight → first_index_alike tags (fallbacks e.range) ≡ Some index → Goes (Some index) e.weight
       after_found index heavy some = rw (elements-some e is) (rw (is_lighter weight e.weight heavy, some) refl)
 
 -- ---- a bad item, by what stands before it

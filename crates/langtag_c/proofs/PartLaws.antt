@@ -20,7 +20,8 @@ use Rattle.langtag.specs.Edit as typed
 use Rattle.langtag.specs.Text.{part_text}
 use Rattle.langtag.specs.declared.part.Part.{Part}
 use Rattle.langtag.specs.declared.part.Part.TheVariants.{Language, Script, Region, Variants, Extensions, PrivateUse}
-use Rattle.langtag_c.specs.Setting.{PartName, language, script, region, variants, extensions, private_use, IsPartText, IsTextOf, SetsPart, name_of, part_numbered, some_text}
+use Rattle.langtag_c.specs.Setting.{PartName, language, script, region, variants, extensions, private_use, IsPartText, IsTextOf, SetsNamedPart, name_of, part_numbered}
+use Rattle.langtag_unicode.specs.Transform.{some_text}
 use Rattle.langtag_c.proofs.TagLengths.{some_tag}
 
 -- ---- what a part does
@@ -36,7 +37,7 @@ same_part :
 same_part text_of some None text is = ap some_text is
 same_part text_of some (Some x) text is = sym (filled (text_of x) (some x)) ∙ ap some_text is
 
-pub part_sets : (p : Part) (text old new : List ℕ) → part_text p ≡ text → typed.SetsPart p old new → SetsPart (name_of p) text old new
+pub part_sets : (p : Part) (text old new : List ℕ) → part_text p ≡ text → typed.SetsPart p old new → SetsNamedPart (name_of p) text old new
 part_sets (Language part) text old new is set = subst (λ t. SetsLanguage t old new) is set
 part_sets (Script part) text old new is set =
     subst (λ t. SetsScript t old new) (same_part script_text (λ s. (of_script _ s.in_class).some) part text is) set

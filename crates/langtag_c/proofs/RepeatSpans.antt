@@ -5,21 +5,14 @@ use Rattle.std.specs.Option.{option_and_then, option_map}
 use Rattle.std.proofs.lemmas.List.{length-append}
 use Rattle.std.proofs.lemmas.List.Concat.{length-flat_map}
 use Rattle.std.proofs.lemmas.Option.{slice_get-map}
-use Rattle.langtag_scan.specs.Class.{is_variant}
 use Rattle.langtag_scan.specs.Ends.{ends_of, to_region, to_variants}
 use Rattle.langtag_scan.specs.Record.{Record, Extension, IsWellFormed, extension_flat}
-use Rattle.langtag_scan.specs.Parts.{extensions_part, variants_part}
+use Rattle.langtag_scan.specs.Parts.{extensions_part}
 use Rattle.langtag_scan.specs.Subtags.{join, subtags}
 use Rattle.langtag_scan.proofs.Joins.{hyphenated, hyphenated-append, join-hyphenated, length-join-append}
-use Rattle.langtag_scan.proofs.SubtagFacts.{of_variant}
-use Rattle.langtag_scan.proofs.SubtagLists.{each_subtag, subtags-joined}
 use Rattle.langtag_extension.specs.Spelling.{SpellsExtensions, extension_spelling}
 use Rattle.langtag_c.specs.Repeats.{member_span}
 use Rattle.langtag_c.specs.declared.span.Span.{Span}
-
--- the variants of a record are the subtags of their join
-pub variants_listed : (r : Record) (text : List ℕ) → IsWellFormed r → text ≡ variants_part r → subtags text ≡ r.variants
-variants_listed r text well is = ap subtags is ∙ subtags-joined r.variants (each_subtag is_variant of_variant r.variants well.variants)
 
 pub extensions_spelled : (r : Record) (text : List ℕ) → IsWellFormed r → text ≡ extensions_part r → SpellsExtensions r.extensions text
 extensions_spelled r text well is = record { members = well.extensions; joined = sym is }

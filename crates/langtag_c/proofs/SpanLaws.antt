@@ -1,6 +1,8 @@
 -- What the spans that are kept say of the text.
-use Rattle.std.proofs.Common.{◌≡◌, ◌+◌, ◌-◌, ◌≤◌, ℕ, List, [], take, drop, unwrap_or, ap, ◌∙◌, arith, inl, inr}
+use Rattle.std.proofs.Common.{◌≡◌, ◌+◌, ◌-◌, ◌≤◌, ℕ, Bool, List, [], length, min, take, drop, unwrap_or, ap, sym, ◌∙◌, arith, inl, inr}
+use Rattle.std.specs.List.{after_first, position_or_len}
 use Rattle.std.proofs.lemmas.Bool.Decides.{eqb_tells}
+use Rattle.std.proofs.lemmas.List.{drop_min, length-drop, take_all}
 use Rattle.langtag_scan.specs.Ends.{HasEnds}
 use Rattle.langtag_scan.specs.Parts.{text_between}
 use Rattle.langtag_scan.specs.Record.{EachRecord}
@@ -27,3 +29,19 @@ spans_parts text ends h r spells =
       extensions = between_text text ends.variants ends.extensions order.extensions ∙ extensions_found text ends h r spells;
       private_use = between_text text ends.extensions ends.whole order.private_use ∙ ap (λ o. unwrap_or o []) (private_use_found text ends h r spells);
     }
+
+-- what stands after the first byte that passes a test is the end of the text
+pub end_after_first :
+    (p : ℕ → Bool) (text end : List ℕ) → end ≡ after_first p text →
+    (length end ≤ length text) × (span_text text (record { start = length text - length end; len = length end }) ≡ after_first p text)
+end_after_first p text end is =
+    let at = min (position_or_len p text + 1) (length text) in
+    let few : at ≤ length text = omega arith in
+    let whole : drop at text ≡ after_first p text = drop_min (position_or_len p text + 1) text in
+    let size : length end ≡ length text - at = ap length (is ∙ sym whole) ∙ length-drop at text in
+    let start : length text - length end ≡ at = omega (arith, size, few) in
+    let count : length text - length end + length end - (length text - length end) ≡ length (drop at text) = omega (arith, size, length-drop at text) in (
+      omega (arith, size),
+      ap (λ n. take n (drop (length text - length end) text)) count ∙ ap (λ n. take (length (drop at text)) (drop n text)) start
+          ∙ take_all (length (drop at text)) (drop at text) (omega arith) ∙ whole,
+    )

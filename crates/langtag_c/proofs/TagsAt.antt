@@ -10,20 +10,20 @@ use Rattle.langtag_scan.proofs.NormalTexts.{normal_from_runs, runs_from_normal}
 use Rattle.langtag_scan.proofs.TagLaws.{tag_normal, tag_private, tag_of_irregular}
 use Rattle.langtag_match.specs.AcceptLanguage.{Element}
 use Rattle.langtag_choice.specs.Best.{IsChoice}
-use Rattle.langtag_private.specs.Decided.{is_private_use}
+use Rattle.langtag_private.specs.Decided.{is_private_use_text}
 use Rattle.langtag_private.proofs.Rules.{IsPrivate-from_test, is_private_use-from_rule}
 use Rattle.langtag_c.specs.Choice.{AreTagsAt, HasTag, IsBest, IsTagAt}
 use Rattle.langtag_c.specs.Spans.{HasBytes, empty_at, end_of, has_bytes, span_text}
-use Rattle.langtag_c.specs.TagsAt.{is_irregular, is_normal, is_tag, tag_at, tags_at}
+use Rattle.langtag_c.specs.TagsAt.{is_irregular, is_normal_text, is_tag, tag_at, tags_at}
 use Rattle.langtag.proofs.IrregularTests.{alike_some}
 use Rattle.langtag_c.specs.declared.span.Span.{Span}
 
 -- ---- a text
 
 tag_from_test : (text : List ℕ) → is_tag text ≡ true → IsTag text
-tag_from_test text test = elim (or_cases (is_normal text) (is_private_use text || is_irregular text) test) [
+tag_from_test text test = elim (or_cases (is_normal_text text) (is_private_use_text text || is_irregular text) test) [
   | inl normal ↦ tag_normal text (normal_from_runs text normal)
-  | inr other ↦ elim (or_cases (is_private_use text) (is_irregular text) other) [
+  | inr other ↦ elim (or_cases (is_private_use_text text) (is_irregular text) other) [
     | inl private ↦ tag_private text (IsPrivate-from_test text private)
     | inr irregular ↦ tag_of_irregular text ((alike_some text).0 irregular)
   ]
@@ -31,13 +31,13 @@ tag_from_test text test = elim (or_cases (is_normal text) (is_private_use text |
 
 pub test_from_tag : (text : List ℕ) → IsTag text → is_tag text ≡ true
 unfolding IsTag
-test_from_tag text (inl normal) = or_left (is_normal text) (is_private_use text || is_irregular text) (runs_from_normal text normal)
+test_from_tag text (inl normal) = or_left (is_normal_text text) (is_private_use_text text || is_irregular text) (runs_from_normal text normal)
 test_from_tag text (inr (inl private)) =
-    or_right (is_normal text) (is_private_use text || is_irregular text)
-    (or_left (is_private_use text) (is_irregular text) (is_private_use-from_rule text private))
+    or_right (is_normal_text text) (is_private_use_text text || is_irregular text)
+    (or_left (is_private_use_text text) (is_irregular text) (is_private_use-from_rule text private))
 test_from_tag text (inr (inr irregular)) =
-    or_right (is_normal text) (is_private_use text || is_irregular text)
-    (or_right (is_private_use text) (is_irregular text) ((alike_some text).1 irregular))
+    or_right (is_normal_text text) (is_private_use_text text || is_irregular text)
+    (or_right (is_private_use_text text) (is_irregular text) ((alike_some text).1 irregular))
 
 -- ---- a span
 

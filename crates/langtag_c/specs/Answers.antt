@@ -1,4 +1,4 @@
--- What the functions answer, in numbers.
+-- The numbers that the functions return.
 use Rattle.std.specs.Prelude.{◌≡◌, ◌↔◌, ℕ, ℤ, pos, negsuc, ◌≤◌, ◌*◌, ◌%◌, ◌^◌, List, fold, filter, ◌+◌, ◌-◌, Bool, false, IsTrue, if◌then◌else◌}
 use Rattle.std.specs.Int.Bits.{bit_xor}
 use Rattle.std.specs.declared.cmp.Ordering.{Ordering}
@@ -8,7 +8,8 @@ use Rattle.langtag_scan.specs.Class.{is_digit}
 use Rattle.langtag_scan.specs.Tag.{IsNormal, IsPrivate, IsIrregular, IsTag}
 use Rattle.langtag_match.specs.Range.{is_language_range, is_basic_range}
 
--- 1 to 3 for a tag of each kind, and 0 for a text that is none
+-- the number for the kind of a text: 1 for a normal tag, 2 for private use, 3 for an irregular tag, and 0 for a text
+-- that is not a tag
 pub record IsKind (text : List ℕ) (kind : ℕ) : Type 0 where
   pub few : kind ≤ 3
   pub none : kind ≡ 0 ↔ (IsTag text → ⊥)
@@ -16,13 +17,13 @@ pub record IsKind (text : List ℕ) (kind : ℕ) : Type 0 where
   pub private_use : kind ≡ 2 ↔ IsPrivate text
   pub irregular : kind ≡ 3 ↔ IsIrregular text
 
--- -1, 0 and 1
+-- the number for an order: -1, 0 or 1
 abbrev pub sign : Ordering → ℤ
 sign Less = negsuc 0
 sign Equal = pos 0
 sign Greater = pos 1
 
--- FNV-1a of 64 bits over the folded bytes, from a state on
+-- the 64-bit FNV-1a hash of the folded bytes, which starts from a state
 abbrev pub fnv : ℕ → List ℕ → ℕ
 fnv state text = fold (λ h b. (bit_xor h (fold_byte b) * 1099511628211) % 2 ^ 64) state text
 
@@ -30,14 +31,15 @@ fnv state text = fold (λ h b. (bit_xor h (fold_byte b) * 1099511628211) % 2 ^ 6
 abbrev pub repeat_flags : Bool → Bool → ℕ
 repeat_flags variant singleton = (if variant then 1 else 0) + (if singleton then 2 else 0)
 
--- 1 for a basic language range, 2 for an extended one that is not basic, and 0 for a text that is not a range
+-- the number for a text: 1 for a basic language range, 2 for an extended range that is not basic, and 0 for a text that
+-- is not a range
 pub record IsRangeKind (text : List ℕ) (kind : ℕ) : Type 0 where
   pub few : kind ≤ 2
   pub none : kind ≡ 0 ↔ (is_language_range text ≡ false)
   pub basic : kind ≡ 1 ↔ IsTrue (is_basic_range text)
 
--- the first text is a range, the second a tag, and they match
-pub record IsMatch (Matches : List ℕ → List ℕ → Type 0) (range tag : List ℕ) : Type 0 where
+-- the first text is a range, the second text is a tag, and the range matches the tag
+pub record IsRangeMatch (Matches : List ℕ → List ℕ → Type 0) (range tag : List ℕ) : Type 0 where
   pub of_range : IsTrue (is_language_range range)
   pub of_tag : IsTag tag
   pub matches : Matches range tag

@@ -1,4 +1,4 @@
--- The tags and the language ranges that spans of a text are, and which of the tags a reader wants.
+-- The tags and the language ranges in spans of a text, and the best of the tags for a reader.
 use Rattle.std.specs.Prelude.{◌≡◌, ◌+◌, ◌-◌, ◌^◌, ◌<◌, ℕ, Bool, not, if◌then◌else◌, List, [], ◌∷◌, Option, None, Some, MatchOption, count_by, is_some, length, slice_get, slice_index_or, take, unwrap_or}
 use Rattle.std.specs.List.{cons_option, position}
 use Rattle.langtag_scan.specs.Tag.{IsTag}
@@ -11,29 +11,29 @@ use Rattle.langtag_c.specs.Spans.{HasBytes, empty_at, has_bytes, span_text}
 use Rattle.langtag_c.specs.declared.best_match.BestMatch.{BestMatch}
 use Rattle.langtag_c.specs.declared.span.Span.{Span}
 
--- a span has bytes, which lie within the text and are a tag
+-- a span is within the text, and its bytes are a tag
 abbrev pub HasTag : List ℕ → Span → Type 0
 HasTag text span = HasBytes text span × IsTag (span_text text span)
 
--- what a span is: its tag, or none where it has none
+-- the entry for a span: its tag, or `None` if the span is not a tag
 abbrev pub IsTagAt : List ℕ → Span → Option (List ℕ) → Type 0
 IsTagAt text span tag = MatchOption tag (HasTag text span → ⊥) (λ t. HasTag text span × (t ≡ span_text text span))
 
--- what each of some spans is
+-- the entries for a list of spans
 pub record AreTagsAt (text : List ℕ) (spans : List Span) (tags : List (Option (List ℕ))) : Type 0 where
   pub same_len : length tags ≡ length spans
   pub each : (index : ℕ) → index < length spans → IsTagAt text (slice_index_or spans index (empty_at 0)) (slice_index_or tags index None)
 
--- the language range that a span is, with the weight 1: none where it has none
+-- the language range in a span, with the weight 1, or `None` if the span is not a range
 abbrev pub range_at : List ℕ → Span → Option Element
 range_at text span = if has_bytes text span then listed (span_text text span) else None
 
--- those of some spans, in order
+-- the language ranges in a list of spans, in order
 abbrev pub ranges_at : List ℕ → List Span → List Element
 ranges_at text [] = []
 ranges_at text (span ∷ spans) = cons_option (range_at text span) (ranges_at text spans)
 
--- the index of the tag that a reader wants by some elements, or the number of the spans where none of them is wanted
+-- the answer is the index of the best tag for these elements, or the number of spans if no tag is suitable
 pub record IsBest (elements : List Element) (text : List ℕ) (spans : List Span) (answer : ℕ) : Type 0 where
   pub tags : List (Option (List ℕ))
   pub are : AreTagsAt text spans tags
@@ -43,18 +43,18 @@ pub record IsBest (elements : List Element) (text : List ℕ) (spans : List Span
 
 -- ---- which range a tag serves
 
--- an item of a header has a range
+-- whether an item of a header has a range
 abbrev pub has_range : List ℕ → Bool
 has_range item = is_some (wanted item [])
 
 abbrev pub range_count : List (List ℕ) → ℕ
 range_count items = count_by has_range items
 
--- how many spaces and tabs an item begins with
+-- the number of spaces and tabs at the start of an item
 abbrev pub spaces_before : List ℕ → ℕ
 spaces_before item = unwrap_or (position (λ b. not (is_space b)) item) (length item)
 
--- a span is the range of a header before which so many others stand: that of an item, after its spaces
+-- the span is the range of a header that has `place` ranges before it; it begins after the spaces of its item
 pub record IsRangeAt (header : List ℕ) (place : ℕ) (span : Span) : Type 0 where
   pub index : ℕ
   pub item : List ℕ
@@ -67,11 +67,12 @@ pub record IsRangeAt (header : List ℕ) (place : ℕ) (span : Span) : Type 0 wh
   pub begins : span.start ≡ start + spaces_before item
   pub size : span.len ≡ length element.range
 
--- what is written where no tag is wanted
+-- the match that is written if no tag is suitable
 abbrev pub no_match : List ℕ → BestMatch
 no_match header = record { range = empty_at (length header); distance = 2 ^ 32 - 1 }
 
--- the index of the tag that the reader wants who sent a header, its range, and how far it is from that
+-- the answer and the match for a header: the index of the best tag, the range that it serves, and the distance from
+-- that range
 pub record IsMatchAt (header text : List ℕ) (spans : List Span) (answer : ℕ) (found : BestMatch) : Type 0 where
   pub tags : List (Option (List ℕ))
   pub are : AreTagsAt text spans tags

@@ -1,4 +1,5 @@
--- What the extensions `u` and `t` say (RFC 6067 section 2.1, RFC 6497 section 2.2), by how many subtags a walk has passed.
+-- The keywords of `u` and the fields of `t` (RFC 6067 section 2.1, RFC 6497 section 2.2) that are left after a walk has
+-- passed some subtags.
 use Rattle.std.specs.Prelude.{◌≤◌, ℕ, Bool, if◌then◌else◌, List, Option, None, Some, drop, length, take}
 use Rattle.std.specs.List.{AllByRecursion}
 use Rattle.langtag_scan.specs.Subtags.{subtags}
@@ -6,7 +7,7 @@ use Rattle.langtag_unicode.specs.Keywords.{Keyword, keywords_after}
 use Rattle.langtag_c.specs.Spans.{IsWithin, span_text}
 use Rattle.langtag_c.specs.declared.span.Span.{Span}
 
--- a text where the answer is true, and none where it is false
+-- the text if the answer is true, or `None` if it is false
 abbrev pub answered : Bool → List ℕ → Option (List ℕ)
 answered answer text = if answer then Some text else None
 
@@ -14,11 +15,11 @@ answered answer text = if answer then Some text else None
 abbrev pub subtags_in : List ℕ → Span → List (List ℕ)
 subtags_in text span = subtags (span_text text span)
 
--- the keywords among subtags of which so many are passed: each key that none of those before it equals, with its value
+-- the keywords after the first `passed` subtags: each key that equals no subtag before it, with its value
 abbrev pub keywords_from : (List ℕ → Bool) → List (List ℕ) → ℕ → List Keyword
 keywords_from opens subtags passed = keywords_after opens (take passed subtags) (drop passed subtags)
 
--- the span lies within the text, and none of its subtags is empty
+-- the span is within the text, and none of its subtags is empty
 pub record HasSubtags (text : List ℕ) (span : Span) : Type 0 where
   pub within : IsWithin text span
   pub some : AllByRecursion (λ s. 1 ≤ length s) (subtags_in text span)

@@ -1,4 +1,4 @@
--- Where variants and singletons stand that are in a tag twice (RFC 5646 section 2.2.9).
+-- The spans of the variants and singletons that occur twice in a tag (RFC 5646 section 2.2.9).
 use Rattle.std.specs.Prelude.{ℕ, ◌+◌, List, ◌++◌, length, slice_get, take, Option}
 use Rattle.std.specs.List.{flat_map}
 use Rattle.std.specs.Option.{option_and_then, option_map}
@@ -9,22 +9,23 @@ use Rattle.langtag_c.specs.Spans.{empty_at}
 use Rattle.langtag_c.specs.declared.span.Span.{Span}
 use Rattle.langtag_c.specs.declared.repeats.Repeated.{Repeated}
 
--- where the member at an index stands, by the members before it and itself; None where there is no such member
+-- the span of the element at an index, which depends on the elements before it and on the element itself; or `None` if
+-- there is no such element
 abbrev pub member_span : {A : Type 0} → (List A → A → Span) → List A → Option ℕ → Option Span
 member_span place xs index = option_and_then (λ k. option_map (place (take k xs)) (slice_get xs k)) index
 
--- `len` bytes after some subtags and a hyphen
+-- the span of `len` bytes that follows some subtags and a hyphen
 abbrev pub span_after : List (List ℕ) → ℕ → Span
 span_after subtags len = record { start = length (join subtags) + 1; len = len }
 
--- a variant of a tag that stands after others
+-- the span of a variant that follows other variants of a tag
 abbrev pub variant_place : Record → List (List ℕ) → List ℕ → Span
 variant_place r before variant = span_after (to_region r ++ before) (length variant)
 
--- the singleton of an extension of a tag that stands after others
+-- the span of the singleton of an extension that follows other extensions of a tag
 abbrev pub singleton_place : Record → List Extension → Extension → Span
 singleton_place r before extension = span_after (to_variants r ++ flat_map extension_flat before) 1
 
--- nothing is repeated: two spans without bytes
+-- what is written if nothing is repeated: two empty spans
 abbrev pub none_repeated : Repeated
 none_repeated = record { variant = empty_at 0; singleton = empty_at 0 }

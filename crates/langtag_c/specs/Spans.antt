@@ -1,4 +1,4 @@
--- Where the parts of a tag stand in its text (RFC 5646 section 2.1): an offset and a length.
+-- Where the parts of a tag are in its text (RFC 5646 section 2.1): each by an offset and a length.
 use Rattle.std.specs.Prelude.{◌≡◌, ℕ, ◌+◌, ◌-◌, ◌<◌, ◌≤◌, ◌==◌, ◌&&◌, Bool, if◌then◌else◌, List, [], length, nat_lt, unwrap_or}
 use Rattle.std.specs.List.{slice_range}
 use Rattle.langtag_scan.specs.Parts.{language_part, variants_part, extensions_part, private_use_part}
@@ -11,32 +11,32 @@ use Rattle.langtag_c.specs.declared.parse.Parts.{Parts}
 abbrev pub span_text : List ℕ → Span → List ℕ
 span_text text span = slice_range text span.start (span.start + span.len)
 
--- one past the last byte
+-- the index after the last byte of a span
 abbrev pub end_of : Span → ℕ
 end_of span = span.start + span.len
 
--- a span lies within a text
+-- a span is within a text
 abbrev pub IsWithin : List ℕ → Span → Type 0
 IsWithin text span = end_of span ≤ length text
 
--- it has bytes, which lie within the text
+-- a span has bytes, and is within the text
 abbrev pub HasBytes : List ℕ → Span → Type 0
 HasBytes text span = (0 < span.len) × IsWithin text span
 
--- the same as a test
+-- whether a span has bytes and is within the text, as a Boolean
 abbrev pub has_bytes : List ℕ → Span → Bool
 has_bytes text span = nat_lt 0 span.len && nat_lt (end_of span) (length text + 1)
 
--- no byte from an index on
+-- the empty span at an index
 abbrev pub empty_at : ℕ → Span
 empty_at index = record { start = index; len = 0 }
 
--- what stands between the end of one part and the end of the next, after the hyphen: nothing, at that end, where the next
--- one is absent
+-- the span of a part between two ends: it begins after the hyphen that follows the previous part, and goes up to the
+-- part's own end. An absent part has an empty span
 abbrev pub span_between : ℕ → ℕ → Span
 span_between before end = if before == end then empty_at end else record { start = before + 1; len = end - before - 1 }
 
--- the parts of a normal tag, by where they end
+-- the spans of the parts of a normal tag, by the ends of the parts
 abbrev pub spans_at : Ends → Parts
 spans_at ends = record {
   language = record { start = 0; len = ends.language };
@@ -47,7 +47,7 @@ spans_at ends = record {
   private_use = span_between ends.extensions ends.whole;
 }
 
--- no part but a private use part of this length, which begins at 0
+-- the spans of a private use tag of this length: the private use part is the whole text, and all other parts are empty
 abbrev pub private_alone : ℕ → Parts
 private_alone len = record {
   language = empty_at 0;
@@ -58,11 +58,11 @@ private_alone len = record {
   private_use = record { start = 0; len = len };
 }
 
--- no part at all
+-- the spans of a text that is not a tag, or an irregular tag: all parts are empty
 abbrev pub no_parts : Parts
 no_parts = private_alone 0
 
--- the spans have the parts of a record; one that is absent has no byte
+-- the spans have the texts of the parts of a record; an absent part has an empty span
 pub record ArePartsOf (text : List ℕ) (r : Record) (parts : Parts) : Type 0 where
   pub language : span_text text parts.language ≡ language_part r
   pub script : span_text text parts.script ≡ unwrap_or r.script []
@@ -71,7 +71,7 @@ pub record ArePartsOf (text : List ℕ) (r : Record) (parts : Parts) : Type 0 wh
   pub extensions : span_text text parts.extensions ≡ extensions_part r
   pub private_use : span_text text parts.private_use ≡ unwrap_or (private_use_part r) []
 
--- each span lies within the text
+-- each span is within the text
 pub record AreWithin (text : List ℕ) (parts : Parts) : Type 0 where
   pub language : IsWithin text parts.language
   pub script : IsWithin text parts.script

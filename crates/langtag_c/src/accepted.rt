@@ -1,4 +1,4 @@
-//! A walk over the elements of an Accept-Language header (RFC 9110 section 12.5.4), without memory.
+//! A walk over the elements of an Accept-Language header (RFC 9110 section 12.5.4), without allocating.
 ghost use Rattle.std.specs.Prelude.{◌≡◌, ◌↔◌, ◌≤◌, [], IfSome, None, is_some, length};
 ghost use Rattle.std.specs.List.{filter_map, list_all};
 ghost use Rattle.langtag_match.specs.AcceptLanguage as spec;
@@ -10,10 +10,10 @@ use crate::span::Span;
 use langtag_match::{ElementPart, element_at, is_empty_element};
 use langtag_scan::len_before;
 
-/// Takes the first element that is not empty off a header, with the comma after it. Returns 1 for a language range with
-/// its weight in thousandths, 2 for an element with a malformed language range, and 3 for one with a malformed weight.
-/// For a malformed element, the range is the whole element and the weight is 0. Returns 0 and changes nothing if no
-/// element is left, or if the span reaches beyond the bytes.
+/// Removes the first element that is not empty from a header, with the comma after it. Returns 1 for a language range
+/// with its weight in thousandths, 2 for an element with a malformed language range, and 3 for an element with a
+/// malformed weight. For a malformed element, the range is the whole element and the weight is 0. Returns 0 and changes
+/// nothing if no element is left, or if the span reaches beyond the bytes.
 #[tactic(auto, using(crate::proofs::ReadingLaws::same_elements, crate::proofs::ReadingLaws::same_good))]
 #[unsafe(no_mangle)]
 pub extern "C" fn langtag_next_accepted(

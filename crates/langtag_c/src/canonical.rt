@@ -7,9 +7,10 @@ ghost use Rattle.langtag_output.specs.Writes.{Writes};
 use crate::tag::tag_of;
 use langtag_registry::{is_canonical, write_canonical};
 
-/// Writes the canonical form of a tag, and returns its length in bytes: `he` for `iw`, `yue` for `zh-yue`. Replacements
-/// have the case of the registry, and everything else keeps its case. If the buffer is too short, it stays unchanged,
-/// and the length says how much room is needed. It is at most twice the length of the tag plus 14.
+/// Writes the canonical form of a tag, and returns its length in bytes: `he` for `iw`, `yue` for `zh-yue`.
+/// Replacements are in the case of the registry, and everything else keeps its case. If the buffer is too short, it
+/// stays unchanged, and the length says how long a buffer must be. The length is at most twice the length of the tag
+/// plus 14.
 ///
 /// Returns 0 and writes nothing if the bytes are not a tag.
 #[tactic(auto, using(crate::proofs::LikelyForms::some_canonical))]

@@ -11,12 +11,12 @@ use crate::spanned_tags::SpannedTags;
 use crate::tag::tag_of;
 use langtag_choice::{best_among, distance};
 
-/// The distance if one of two texts is not a tag.
+/// The result if one of the two texts is not a tag.
 const NO_DISTANCE: u32 = u32::MAX;
 
 /// Returns the distance from a desired tag to a supported tag (UTS #35, Language Matching): 0 from `zh-TW` to
-/// `zh-Hant`, 4 from `de-AT` to `de`, and at most 134. It is 255 if one of two different tags has no known language,
-/// and [`NO_DISTANCE`] if one of the texts is not a tag.
+/// `zh-Hant`, 4 from `de-AT` to `de`, and at most 134. It is 255 if the tags differ and one of them has no known
+/// language, and [`NO_DISTANCE`] if one of the texts is not a tag.
 #[unsafe(no_mangle)]
 pub extern "C" fn langtag_distance(desired: &[u8], supported: &[u8]) -> u32
     ensures distance { IsTag desired.now → IsTag supported.now → result ≡ distance_of_texts desired.now supported.now }
@@ -44,10 +44,11 @@ pub extern "C" fn langtag_best_for_header(header: &[u8], bytes: &[u8], tags: &[S
 }
 
 /// Returns the index of the best tag for a list of language ranges, the most wanted first, or the number of tags if
-/// none is suitable: 1 for the ranges `nn` and `de`, and the tags `en` and `nb`. Ranges and tags are spans of texts.
+/// none is suitable. For the ranges `nn` and `de`, and the tags `en` and `nb`, it is 1. Ranges and tags are spans of
+/// texts.
 ///
-/// A range is read like that of an element of a header: `zh_TW.UTF-8` as `zh-TW`. An extended range counts without its
-/// `*`. A span that is not a range or a tag, or reaches beyond its text, is skipped.
+/// A range is read as in a header: `zh_TW.UTF-8` is read as `zh-TW`. An extended range is read without its `*`. A
+/// span that is not a range or a tag, or reaches beyond its text, is skipped.
 #[unsafe(no_mangle)]
 pub extern "C" fn langtag_best_for_ranges(
     text: &[u8],

@@ -1,4 +1,4 @@
-//! Equality, order and hash of bytes, without regard to the case of ASCII letters (RFC 5646 section 2.1.1).
+//! Equality, order and hash of bytes, ignoring the case of ASCII letters (RFC 5646 section 2.1.1).
 ghost use Rattle.std.specs.Prelude.{◌≡◌};
 ghost use Rattle.langtag_scan.specs.Case.{are_alike, case_cmp, fold_text};
 ghost use Rattle.langtag_c.specs.Answers.{sign, fnv};
@@ -14,8 +14,8 @@ pub extern "C" fn langtag_eq(a: &[u8], b: &[u8]) -> bool
     case_insensitive_eq(a, b)
 }
 
-/// Compares two texts by their lowercase bytes, and returns -1, 0 or 1. If one begins the other, the shorter is
-/// greater.
+/// Compares two texts by their lowercase bytes, and returns -1, 0 or 1. If one text begins with the other, the shorter
+/// text is greater.
 #[unsafe(no_mangle)]
 pub extern "C" fn langtag_cmp(a: &[u8], b: &[u8]) -> i32
     ensures { result ≡ sign (case_cmp a.now b.now) }

@@ -9,7 +9,7 @@ ghost use Rattle.langtag_scan.specs.Parts.{extensions_part};
 ghost use Rattle.langtag_scan.specs.Record.{EachRecord, Extension};
 ghost use Rattle.langtag_scan.specs.Subtags.{join};
 ghost use Rattle.langtag_scan.specs.Tag.{IsNormal};
-ghost use Rattle.langtag_unicode.specs.Keys.{length_with_hyphens, opens};
+ghost use Rattle.langtag_unicode.specs.Keys.{length_with_hyphens, opens_keyword};
 ghost use Rattle.langtag_unicode.specs.Keywords as spec;
 ghost use Rattle.langtag_c.specs.Keywords.{HasSubtags, keywords_from, subtags_in};
 ghost use Rattle.langtag_c.specs.Spans.{IsWithin, span_text};
@@ -20,7 +20,7 @@ use langtag_extension::first_extension_end;
 use langtag_scan::{case_insensitive_eq, into_smallcase, segment_end};
 use langtag_unicode::Keys;
 
-/// Where a key is, and its value.
+/// Where a key and its value are.
 #[derive(Drop)]
 pub(crate) struct KeyPlace {
     pub key: Span,
@@ -49,7 +49,8 @@ fn extensions_of(bytes: &[u8]) -> Option<Span>
     Some(Span::between(ends.variants, ends.extensions))
 }
 
-/// Returns the subtags of the first of several extensions that has a singleton, or an empty span if none has.
+/// Returns the subtags of the first of several extensions that has the given singleton, or an empty span if none has
+/// it.
 fn find_extension(bytes: &[u8], extensions: Span, singleton: u8) -> Span
     requires within { IsWithin bytes.now extensions }
     requires extensions { IsExtensions (span_text bytes.now extensions) }
@@ -70,7 +71,7 @@ fn find_extension(bytes: &[u8], extensions: Span, singleton: u8) -> Span
 /// Returns the subtags before the first key.
 pub(crate) fn before_key(bytes: &[u8], subtags: Span, keys: Keys) -> Span
     requires { HasSubtags bytes.now subtags }
-    ensures text { span_text bytes.now result ≡ join (spec.before_key (opens keys) (subtags_in bytes.now subtags)) }
+    ensures text { span_text bytes.now result ≡ join (spec.before_key (opens_keyword keys) (subtags_in bytes.now subtags)) }
     ensures within { IsWithin bytes.now result }
 {
     Span {
@@ -82,7 +83,7 @@ pub(crate) fn before_key(bytes: &[u8], subtags: Span, keys: Keys) -> Span
 /// Returns the number of bytes of the subtags before the first key, each with a hyphen after it.
 fn len_before_key(bytes: &[u8], subtags: Span, keys: Keys) -> usize
     requires { HasSubtags bytes.now subtags }
-    ensures { result ≡ length_with_hyphens (spec.before_key (opens keys) (subtags_in bytes.now subtags)) }
+    ensures { result ≡ length_with_hyphens (spec.before_key (opens_keyword keys) (subtags_in bytes.now subtags)) }
 {
     let mut rest = subtags;
     let mut len = 0;
@@ -100,7 +101,7 @@ fn len_before_key(bytes: &[u8], subtags: Span, keys: Keys) -> usize
 /// Returns the value of the first key that equals a text, ignoring case.
 pub(crate) fn value_of(bytes: &[u8], subtags: Span, keys: Keys, key: &[u8]) -> Option<Span>
     requires { HasSubtags bytes.now subtags }
-    ensures value { option_map (span_text bytes.now) result ≡ option_map join (spec.value_of (opens keys) key.now (subtags_in bytes.now subtags)) }
+    ensures value { option_map (span_text bytes.now) result ≡ option_map join (spec.value_of (opens_keyword keys) key.now (subtags_in bytes.now subtags)) }
     ensures within { IfSome result (IsWithin bytes.now) }
 {
     let mut rest = subtags;
@@ -136,7 +137,7 @@ fn is_among_first(bytes: &[u8], subtags: Span, count: usize, subtag: &[u8]) -> b
     false
 }
 
-/// Returns what is left after the first `count` subtags.
+/// Returns the rest of the subtags after the first `count`.
 fn after_first(bytes: &[u8], subtags: Span, count: usize) -> Span
     requires { HasSubtags bytes.now subtags }
     ensures left { subtags_in bytes.now result ≡ drop count (subtags_in bytes.now subtags) }
@@ -157,13 +158,13 @@ fn after_first(bytes: &[u8], subtags: Span, count: usize) -> Span
 /// Returns whether a subtag is a key that equals none of the first `count` subtags, ignoring case.
 fn is_new_key(bytes: &[u8], subtags: Span, keys: Keys, count: usize, subtag: &[u8]) -> bool
     requires { HasSubtags bytes.now subtags }
-    ensures { result ≡ spec.is_new_key (opens keys) (take count (subtags_in bytes.now subtags)) subtag.now }
+    ensures { result ≡ spec.is_new_key (opens_keyword keys) (take count (subtags_in bytes.now subtags)) subtag.now }
 {
     keys.has(subtag) && !is_among_first(bytes, subtags, count, subtag)
 }
 
-/// Returns the first key after the first `passed` subtags that equals none before it, with its value. `passed` then counts
-/// the subtags up to that key.
+/// Returns the first key after the first `passed` subtags that equals no subtag before it, with its value. `passed`
+/// then counts the subtags up to and including that key.
 pub(crate) fn next_key(
     bytes: &[u8],
     subtags: Span,
@@ -171,10 +172,10 @@ pub(crate) fn next_key(
     passed: &mut usize,
 ) -> Option<KeyPlace>
     requires { HasSubtags bytes.now subtags }
-    ensures some { IfSome result (λ place. keywords_from (opens keys) (subtags_in bytes.now subtags) passed.old
-        ≡ record { key = span_text bytes.now place.key; value = span_text bytes.now place.value } ∷ keywords_from (opens keys) (subtags_in bytes.now subtags) passed.new) }
+    ensures some { IfSome result (λ place. keywords_from (opens_keyword keys) (subtags_in bytes.now subtags) passed.old
+        ≡ record { key = span_text bytes.now place.key; value = span_text bytes.now place.value } ∷ keywords_from (opens_keyword keys) (subtags_in bytes.now subtags) passed.new) }
     ensures within { IfSome result (λ place. IsWithin bytes.now place.key × IsWithin bytes.now place.value) }
-    ensures none { result ≡ None → keywords_from (opens keys) (subtags_in bytes.now subtags) passed.old ≡ [] }
+    ensures none { result ≡ None → keywords_from (opens_keyword keys) (subtags_in bytes.now subtags) passed.old ≡ [] }
     ensures nothing { result ≡ None → passed.new ≡ passed.old }
 {
     let mut rest = after_first(bytes, subtags, *passed);

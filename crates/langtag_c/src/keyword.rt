@@ -13,9 +13,9 @@ use crate::extension_subtags::{before_key, extension_subtags, next_key, value_of
 use crate::span::Span;
 use langtag_unicode::Keys;
 
-/// Returns whether the extension `u` has a key (RFC 6067 section 2.1), ignoring case, and writes its value: `islamic-civil` for
-/// `ca` in `ar-u-ca-islamic-civil`. The value is empty if the key has none, which means `true`. If a key is repeated, the first
-/// one counts.
+/// Returns whether the extension `u` has a key (RFC 6067 section 2.1), ignoring case, and writes its value:
+/// `islamic-civil` for `ca` in `ar-u-ca-islamic-civil`. The value is empty if the key has none, which means `true`. If
+/// a key is repeated, its first value counts.
 ///
 /// If it returns `false`, `value` is unchanged.
 #[unsafe(no_mangle)]
@@ -32,8 +32,9 @@ pub extern "C" fn langtag_keyword(bytes: &[u8], key: &[u8], value: &mut Span) ->
     true
 }
 
-/// Writes the next keyword of the extension `u` (RFC 6067 section 2.1). `passed` counts the subtags of `u` that a walk has passed,
-/// and is 0 at the start. Each key comes once, with its first value. The value is empty if the key has none.
+/// Writes the next keyword of the extension `u` (RFC 6067 section 2.1). `passed` counts the subtags of `u` that a
+/// walk has passed, and is 0 at the start. Each key is returned once, with its first value. The value is empty if the
+/// key has none.
 ///
 /// Returns `false` and changes nothing if no keyword is left.
 #[unsafe(no_mangle)]
@@ -59,10 +60,10 @@ pub extern "C" fn langtag_next_keyword(
     true
 }
 
-/// Writes where the attributes of the extension `u` are (RFC 6067 section 2.1), before its first key: `attr-foo` in
-/// `de-u-attr-foo-ca-buddhist`. A repeated attribute is there twice.
+/// Writes the span of the attributes of the extension `u` (RFC 6067 section 2.1), which precede its first key:
+/// `attr-foo` in `de-u-attr-foo-ca-buddhist`. A repeated attribute is included twice.
 ///
-/// Returns `false`, and writes an empty span, if there are none.
+/// Returns `false`, and writes an empty span, if there are no attributes.
 #[unsafe(no_mangle)]
 pub extern "C" fn langtag_attributes(bytes: &[u8], attributes: &mut Span) -> bool
     ensures text { PartOf bytes.now (λ r. join (spec.before_key spec.is_key (spec.subtags_of 117 r))) [] (span_text bytes.now attributes.new) }

@@ -1,8 +1,8 @@
 //! Language tags for C, and for languages that call C: a static library over plain bytes. It does not allocate, keeps
-//! no state, and calls nothing of the program. `bindings/include/langtag.h` declares its functions.
+//! no state, and calls no function of the program. `bindings/include/langtag.h` declares its functions.
 //!
 //! A slice is passed as a pointer and a length. Bytes need not be UTF-8. No function requires more of its arguments
-//! than their types say.
+//! than their types do.
 #![tactic(auto)]
 
 mod accepted;
@@ -28,6 +28,7 @@ mod repeats;
 mod span;
 mod spanned_ranges;
 mod spanned_tags;
+mod suggestion;
 mod tag;
 mod transform;
 mod validity;

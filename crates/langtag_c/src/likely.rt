@@ -1,4 +1,4 @@
-//! The maximal and the minimal form of a tag, in the caller's buffer (UTS #35, part 1, section 'Likely Subtags').
+//! The maximal and minimal forms of a tag, in the caller's buffer (UTS #35, part 1, section 'Likely Subtags').
 ghost use Rattle.std.specs.Prelude.{◌≡◌, ◌↔◌};
 ghost use Rattle.langtag_scan.specs.Tag.{IsTag};
 ghost use Rattle.langtag_output.specs.Writes.{Writes};
@@ -10,8 +10,9 @@ use crate::registry_date::number_of;
 use crate::tag::tag_of;
 use langtag_likely::{CLDR_VERSION, write_maximized, write_minimized};
 
-/// Writes a tag with its likely subtags (UTS #35, Add Likely Subtags), and returns its length in bytes: `zh-TW` becomes
-/// `zh-Hant-TW`. If the buffer is too short, it stays unchanged, and the length says how much room is needed.
+/// Writes a tag with its likely subtags (UTS #35, Add Likely Subtags), and returns its length in bytes: `zh-TW`
+/// becomes `zh-Hant-TW`. If the buffer is too short, it stays unchanged, and the length says how long a buffer must
+/// be.
 ///
 /// Returns 0 and writes nothing if the bytes are not a tag.
 #[tactic(auto, using(crate::proofs::LikelyForms::some_maximal))]
@@ -28,8 +29,8 @@ pub extern "C" fn langtag_maximize(bytes: &[u8], buffer: &mut [u8]) -> usize
 }
 
 /// Writes a tag without its likely subtags (UTS #35, Remove Likely Subtags), and returns its length in bytes:
-/// `zh-Hant-TW` becomes `zh-TW`. If the buffer is too short, it stays unchanged, and the length says how much room is
-/// needed.
+/// `zh-Hant-TW` becomes `zh-TW`. If the buffer is too short, it stays unchanged, and the length says how long a
+/// buffer must be.
 ///
 /// Returns 0 and writes nothing if the bytes are not a tag.
 #[tactic(auto, using(crate::proofs::LikelyForms::some_minimal))]
@@ -45,7 +46,7 @@ pub extern "C" fn langtag_minimize(bytes: &[u8], buffer: &mut [u8]) -> usize
     }
 }
 
-/// Returns the major version of the Unicode CLDR whose likely subtags these are, such as 48 for CLDR 48.2.
+/// Returns the major version of Unicode's CLDR from which the likely subtags come, such as 48 for CLDR 48.2.
 #[tactic(auto, using(crate::proofs::DateLaws::version_fits))]
 #[unsafe(no_mangle)]
 pub extern "C" fn langtag_cldr_version() -> u32

@@ -8,7 +8,7 @@ ghost use Rattle.langtag_match.specs.AcceptLanguage.{are_good, bad_part, element
 ghost use Rattle.langtag_match.specs.Fallback.{fallbacks};
 ghost use Rattle.langtag_match.specs.Text.{language_range_text};
 ghost use Rattle.langtag_match.specs.declared.accept_language_error.ElementPart.TheVariants.{Range, Weight};
-ghost use Rattle.langtag_c.specs.LookUp.{IsBadAt, IsLookedUp, first_alike, index_alike};
+ghost use Rattle.langtag_c.specs.LookUp.{IsBadAt, IsLookedUp, first_index_alike, index_alike};
 ghost use Rattle.langtag_c.specs.Spans.{empty_at};
 ghost use Rattle.langtag_c.specs.TagsAt.{tag_at, tags_at};
 ghost use Rattle.langtag_c.specs.Heaviest.{heaviest};
@@ -20,9 +20,9 @@ use langtag_match::{ElementPart, LanguageRange, element_at, is_empty_element};
 use langtag_scan::case_insensitive_eq;
 
 /// Looks up a tag for an Accept-Language header, and refuses a header with a malformed element. The tags are spans of a
-/// text. Returns 0 if no element is malformed: `index` is then that of the tag, or the number of spans if look-up finds
-/// none. Returns 2 if the language range of the first malformed element is malformed, and 3 if its weight is: `bad` is
-/// then the text between its commas.
+/// text. Returns 0 if no element is malformed: `index` is then the index of the tag, or the number of spans if look-up
+/// finds none. Returns 2 if the first malformed element has a malformed language range, and 3 if only its weight is
+/// malformed. `bad` is then the span between the commas around that element.
 #[unsafe(no_mangle)]
 pub extern "C" fn langtag_tag_for_header(
     header: &[u8],
@@ -72,8 +72,8 @@ pub extern "C" fn langtag_tag_for_header_lenient(
     heaviest_found(header, &spanned).unwrap_or(tags.len())
 }
 
-/// Returns the index of the tag for the heaviest element that finds a tag. If several are equally heavy, the first
-/// counts.
+/// Returns the index of the tag for the element of the greatest weight that finds a tag. If several elements have
+/// this weight, the first counts.
 fn heaviest_found(header: &[u8], tags: &SpannedTags<'_>) -> Option<usize>
     ensures { result ≡ heaviest (tags_at tags.now.text.now tags.now.spans.now) (elements (items header.now)) None 0 }
 {
@@ -96,7 +96,7 @@ fn heaviest_found(header: &[u8], tags: &SpannedTags<'_>) -> Option<usize>
 
 /// Returns the index of the tag that look-up finds for a range.
 fn tag_for(range: LanguageRange<'_>, tags: &SpannedTags<'_>) -> Option<usize>
-    ensures { result ≡ first_alike (tags_at tags.now.text.now tags.now.spans.now) (fallbacks (language_range_text range.entry)) }
+    ensures { result ≡ first_index_alike (tags_at tags.now.text.now tags.now.spans.now) (fallbacks (language_range_text range.entry)) }
 {
     for fallback in range.fallbacks() {
         if let Some(index) = index_alike(fallback.as_str().as_bytes(), tags) {

@@ -1,4 +1,6 @@
 //! Whether bytes are a tag, of which kind, and where its parts are.
+#![tactic(auto, using(crate::proofs::KindLaws::kind_none, crate::proofs::KindLaws::kind_normal, crate::proofs::KindLaws::kind_private, crate::proofs::KindLaws::kind_irregular, crate::proofs::KindLaws::irregular_left, crate::proofs::SpanLaws::spans_parts, langtag_scan::proofs::FoundLaws::tag_found, langtag_scan::proofs::FoundLaws::normal_found, langtag_scan::proofs::FoundLaws::private_found, langtag_scan::proofs::TagLaws::tag_normal, langtag_scan::proofs::TagLaws::tag_private, langtag_scan::proofs::SpelledTexts::normal_spelled, langtag_scan::proofs::SpelledTexts::normal_from_ends, langtag_scan::proofs::SpelledTexts::ends_ordered, langtag_scan::proofs::OneKind::normal_no_private, langtag_scan::proofs::SpelledTexts::ends_each, langtag_scan::proofs::SpelledTexts::ends_whole))]
+
 ghost use Rattle.std.specs.Prelude.{◌≡◌, ◌≤◌, ℕ, List, length, IfSome, MatchOption};
 ghost use Rattle.langtag_scan.specs.Ends.{HasEnds, ends_of};
 ghost use Rattle.langtag_scan.specs.Found.{IsFoundOf, finding, normal_ends};
@@ -75,9 +77,8 @@ fn found_of(bytes: &[u8]) -> Option<Found>
     recognise(&mut Metered::of_bytes(bytes))
 }
 
-/// Returns the kind of a tag: 1 for a normal one, 2 for private use, 3 for an irregular one, and 0 if the bytes are not
-/// a tag.
-#[tactic(auto, using(crate::proofs::KindLaws::kind_none, crate::proofs::KindLaws::kind_normal, crate::proofs::KindLaws::kind_private, crate::proofs::KindLaws::kind_irregular, crate::proofs::KindLaws::irregular_left, langtag_scan::proofs::FoundLaws::tag_found, langtag_scan::proofs::FoundLaws::normal_found, langtag_scan::proofs::FoundLaws::private_found))]
+/// Returns the kind of a tag: 1 for a normal tag, 2 for private use, 3 for an irregular tag, and 0 if the bytes are
+/// not a tag.
 #[unsafe(no_mangle)]
 pub extern "C" fn langtag_kind(bytes: &[u8]) -> u32
     ensures { IsKind bytes.now result }
@@ -96,7 +97,6 @@ pub extern "C" fn langtag_kind(bytes: &[u8]) -> u32
 
 /// Returns the kind, as [`langtag_kind`] returns it, and writes where the parts are. A private-use tag is its own
 /// private use part, and an irregular tag has no parts. All of `parts` is written, even if the result is 0.
-#[tactic(auto, using(crate::proofs::KindLaws::kind_none, crate::proofs::KindLaws::kind_normal, crate::proofs::KindLaws::kind_private, crate::proofs::KindLaws::kind_irregular, crate::proofs::KindLaws::irregular_left, langtag_scan::proofs::FoundLaws::tag_found, langtag_scan::proofs::FoundLaws::private_found, langtag_scan::proofs::TagLaws::tag_normal, langtag_scan::proofs::TagLaws::tag_private, langtag_scan::proofs::SpelledTexts::normal_spelled, langtag_scan::proofs::SpelledTexts::normal_from_ends, langtag_scan::proofs::SpelledTexts::ends_ordered, langtag_scan::proofs::OneKind::normal_no_private, crate::proofs::SpanLaws::spans_parts, langtag_scan::proofs::SpelledTexts::ends_each, langtag_scan::proofs::SpelledTexts::ends_whole))]
 #[unsafe(no_mangle)]
 pub extern "C" fn langtag_parse(bytes: &[u8], parts: &mut Parts) -> u32
     ensures kind { IsKind bytes.now result }

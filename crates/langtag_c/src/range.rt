@@ -4,13 +4,13 @@ ghost use Rattle.langtag_match.specs.Basic.{MatchesBasic};
 ghost use Rattle.langtag_match.specs.Extended.{MatchesExtended};
 ghost use Rattle.langtag_match.specs.Range.{is_language_range};
 ghost use Rattle.langtag_match.specs.Text.{language_range_text};
-ghost use Rattle.langtag_c.specs.Answers.{IsRangeKind, IsMatch};
+ghost use Rattle.langtag_c.specs.Answers.{IsRangeKind, IsRangeMatch};
 
 use crate::tag::tag_of;
 use langtag_match::LanguageRange;
 
-/// Returns 1 for a basic language range (RFC 4647 section 2.1), such as `de-CH` and `*`, 2 for an extended range that
-/// is not basic (section 2.2), such as `de-*-DE`, and 0 if the bytes are not a range.
+/// Returns 1 for a basic language range (RFC 4647 section 2.1), such as `de-CH` and `*`. Returns 2 for an extended
+/// range that is not basic (section 2.2), such as `de-*-DE`, and 0 if the bytes are not a range.
 #[tactic(auto, using(crate::proofs::RangeLaws::range_kinds))]
 #[unsafe(no_mangle)]
 pub extern "C" fn langtag_range_kind(bytes: &[u8]) -> u32
@@ -27,7 +27,7 @@ pub extern "C" fn langtag_range_kind(bytes: &[u8]) -> u32
 /// not `de-Latn-DE`. Returns `false` if the first text is not a range, or the second is not a tag.
 #[unsafe(no_mangle)]
 pub extern "C" fn langtag_matches_basic(range: &[u8], tag: &[u8]) -> bool
-    ensures { IsTrue result ↔ IsMatch MatchesBasic range.now tag.now }
+    ensures { IsTrue result ↔ IsRangeMatch MatchesBasic range.now tag.now }
 {
     match (range_of(range), tag_of(tag)) {
         (Some(range), Some(tag)) => range.matches_basic(&tag),
@@ -39,7 +39,7 @@ pub extern "C" fn langtag_matches_basic(range: &[u8], tag: &[u8]) -> bool
 /// `de-Latn-DE`. Returns `false` if the first text is not a range, or the second is not a tag.
 #[unsafe(no_mangle)]
 pub extern "C" fn langtag_matches_extended(range: &[u8], tag: &[u8]) -> bool
-    ensures { IsTrue result ↔ IsMatch MatchesExtended range.now tag.now }
+    ensures { IsTrue result ↔ IsRangeMatch MatchesExtended range.now tag.now }
 {
     match (range_of(range), tag_of(tag)) {
         (Some(range), Some(tag)) => range.matches_extended(&tag),

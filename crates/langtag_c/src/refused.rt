@@ -7,11 +7,12 @@ ghost use Rattle.langtag_c.specs.Spans.{empty_at, end_of};
 use crate::span::Span;
 use langtag::{Refusal, RefusalKind};
 
-/// Returns 0 if the bytes are a tag, and otherwise what is wrong. It is 1 for an unexpected subtag, such as `DE` in
-/// `de-419-DE`, 2 for a subtag with a byte that is neither a letter nor a digit, such as `_` in `de_CH`, and 3 if the
-/// bytes end too soon, as `en-` and `en-a` do. `subtag` is the first subtag at whose end the text so far is neither a
-/// tag nor, before a hyphen, the beginning of one. `offset` is its first byte, or its first byte that is neither a
-/// letter nor a digit. If the result is 0 or 3, both are at the end of the bytes.
+/// Returns 0 if the bytes are a tag, and otherwise what is wrong. The result is 1 for a subtag that is not allowed at
+/// its position, such as `DE` in `de-419-DE`. It is 2 for a subtag with a byte that is neither a letter nor a digit,
+/// such as `_` in `de_CH`. It is 3 if the bytes end too soon, as `en-` and `en-a` do. `subtag` is the first wrong
+/// subtag: no tag begins with all subtags up to and including this subtag. `offset` is the offset of its first byte, or
+/// of its first byte that is neither a letter nor a digit. If the result is 0 or 3, `subtag` is empty, and `subtag` and
+/// `offset` are at the end of the bytes.
 #[unsafe(no_mangle)]
 pub extern "C" fn langtag_refused(bytes: &[u8], subtag: &mut Span, offset: &mut usize) -> u32
     ensures few { result ≤ 3 }

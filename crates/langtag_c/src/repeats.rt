@@ -1,4 +1,4 @@
-//! Variants and singletons that a tag has twice (RFC 5646 section 2.2.9).
+//! Variants and singletons that occur twice in a tag (RFC 5646 section 2.2.9).
 ghost use Rattle.std.specs.Prelude.{◌≡◌, Some, is_some, map, unwrap_or};
 ghost use Rattle.langtag_scan.specs.Case.{are_alike};
 ghost use Rattle.langtag_scan.specs.Record.{EachRecord};
@@ -13,8 +13,8 @@ use crate::span::Span;
 use crate::tag::normal_tag_of;
 use langtag::NormalLangTag;
 
-/// Where the first variant and the first singleton are that equal an earlier one, ignoring case. An absent one has no
-/// bytes.
+/// The spans of the first repeated variant and of the first repeated singleton, ignoring case. A span is empty if
+/// nothing is repeated.
 #[repr(C)]
 #[derive(Clone, Copy)]
 pub struct Repeated {
@@ -23,8 +23,8 @@ pub struct Repeated {
 }
 
 /// Returns 1 if a variant of a normal tag equals an earlier one, ignoring case, 2 if a singleton does, and 3 if both
-/// do. Writes where the first of each is, such as the second `1996` in `de-1996-1996`. Such a tag is well formed but
-/// not valid. Returns 0 for any other text. All of `repeated` is written.
+/// do. Writes where the first repeated variant and singleton are, such as the second `1996` in `de-1996-1996`. Such a
+/// tag is well formed but not valid. Returns 0 for any other text. All of `repeated` is written.
 #[tactic(auto, using(langtag_scan::proofs::SpelledTexts::normal_spelled))]
 #[unsafe(no_mangle)]
 pub extern "C" fn langtag_repeats(bytes: &[u8], repeated: &mut Repeated) -> u32

@@ -2,7 +2,7 @@
 ghost use Rattle.std.specs.Prelude.{◌≡◌, ◌≤◌, ◌+◌, ◌-◌, ◌<◌, ◌^◌, MatchOption};
 ghost use Rattle.langtag_c.specs.Spans.{HasBytes, end_of, span_between, span_text};
 
-/// Some bytes of a text: where they start, and how many they are. An absent part has none.
+/// A span of a text: the offset of its first byte, and its number of bytes. An absent part has no bytes.
 #[repr(C)]
 #[derive(Clone, Copy)]
 pub struct Span {
@@ -17,10 +17,11 @@ impl Span {
         ensures begins { before ≤ end → before ≤ result.start }
         ensures ends { before ≤ end → end_of result ≡ end }
     {
-        let start = if before < end { before + 1 } else { end };
+        // If the part is absent, `before` equals `end`, and taking `before` saves a comparison. No caller has a greater `before`, so nothing wraps.
+        let start = if before < end { before + 1 } else { before };
         Span {
             start,
-            len: end - start,
+            len: end.wrapping_sub(start),
         }
     }
 
@@ -53,7 +54,7 @@ impl Span {
         first
     }
 
-    /// Returns what comes after a singleton and a hyphen.
+    /// Returns the rest of the span after a singleton and a hyphen.
     pub(crate) fn without_singleton(&self) -> Span
         requires within { end_of self.now < 2 ^ 64 }
         requires some { 2 ≤ self.now.len }

@@ -10,7 +10,7 @@ use crate::span::Span;
 use langtag_choice::RangeList;
 use langtag_match::{WantedRange, listed_range};
 
-/// A text, and spans of it, the most wanted first.
+/// A text, and spans of it that are language ranges, the most wanted first.
 #[derive(Clone, Copy)]
 pub(crate) struct SpannedRanges<'a> {
     pub(crate) text: &'a [u8],
@@ -37,7 +37,7 @@ impl<'a> RangeList<'a> for SpannedRanges<'a> {
     }
 }
 
-/// Returns the language range that a span of a text is.
+/// Returns a span of a text as a language range, or `None` if it is not one.
 #[tactic(auto, using(crate::proofs::RangesAt::range_there, crate::proofs::RangesAt::no_range))]
 fn range_in<'a>(text: &'a [u8], span: Span) -> Option<WantedRange<'a>>
     ensures range { option_map listed_element result ≡ range_at text.now span }

@@ -11,7 +11,7 @@ use crate::tag::tag_of;
 use langtag::LangTag;
 use langtag_choice::TagList;
 
-/// A text, and spans of it.
+/// A text, and spans of it that are tags.
 #[derive(Clone, Copy)]
 pub(crate) struct SpannedTags<'a> {
     pub(crate) text: &'a [u8],
@@ -35,14 +35,14 @@ impl TagList for SpannedTags<'_> {
     }
 }
 
-/// Returns the tag that a span of a text is.
+/// Returns a span of a text as a tag, or `None` if it is not one.
 pub(crate) fn tag_in<'a>(text: &'a [u8], span: Span) -> Option<LangTag<'a>>
     ensures { IsTagAt text.now span (option_map lang_tag_text result) }
 {
     tag_of(span.of(text)?)
 }
 
-/// Returns the bytes of a span of a text, or none if it reaches beyond the text.
+/// Returns the bytes of a span of a text, or no bytes if the span reaches beyond the text.
 pub(crate) fn bytes_in<'a>(text: &'a [u8], span: Span) -> &'a [u8]
     ensures { HasBytes text.now span → result.now ≡ span_text text.now span }
 {

@@ -1,4 +1,4 @@
-//! The tags that bytes are.
+//! Reading bytes as tags.
 ghost use Rattle.std.specs.Prelude.{◌≡◌, MatchOption};
 ghost use Rattle.langtag_scan.specs.Tag.{IsNormal, IsTag};
 ghost use Rattle.langtag.specs.Text.{lang_tag_text, normal_lang_tag_text};

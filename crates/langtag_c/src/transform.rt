@@ -15,8 +15,9 @@ use crate::extension_subtags::{before_key, extension_subtags, next_key, value_of
 use crate::span::Span;
 use langtag_unicode::Keys;
 
-/// Returns whether a tag has the extension `t` (RFC 6497 section 2.2), and writes where its language is, before its first field:
-/// `ja-latn` in `und-t-ja-latn-m0-hepburn`. The language is empty if there is none, as in `und-t-m0-hepburn`.
+/// Returns whether a tag has the extension `t` (RFC 6497 section 2.2), and writes the span of its language, which
+/// precedes its first field: `ja-latn` in `und-t-ja-latn-m0-hepburn`. The language is empty if there is none, as in
+/// `und-t-m0-hepburn`.
 ///
 /// If it returns `false`, `language` is unchanged.
 #[unsafe(no_mangle)]
@@ -33,8 +34,8 @@ pub extern "C" fn langtag_transform(bytes: &[u8], language: &mut Span) -> bool
     true
 }
 
-/// Returns whether the extension `t` has a field (RFC 6497 section 2.2), ignoring case, and writes its value: `hepburn` for `m0` in
-/// `und-t-ja-m0-hepburn`. If a field is repeated, the first one counts.
+/// Returns whether the extension `t` has a field (RFC 6497 section 2.2), ignoring case, and writes its value: `hepburn`
+/// for `m0` in `und-t-ja-m0-hepburn`. If a field is repeated, its first value counts.
 ///
 /// If it returns `false`, `value` is unchanged.
 #[unsafe(no_mangle)]
@@ -51,8 +52,8 @@ pub extern "C" fn langtag_field(bytes: &[u8], key: &[u8], value: &mut Span) -> b
     true
 }
 
-/// Writes the next field of the extension `t` (RFC 6497 section 2.2). `passed` counts the subtags of `t` that a walk has passed, and
-/// is 0 at the start. Each key comes once, with its first value.
+/// Writes the next field of the extension `t` (RFC 6497 section 2.2). `passed` counts the subtags of `t` that a walk
+/// has passed, and is 0 at the start. Each key is returned once, with its first value.
 ///
 /// Returns `false` and changes nothing if no field is left.
 #[unsafe(no_mangle)]

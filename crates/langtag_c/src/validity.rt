@@ -6,7 +6,7 @@ ghost use Rattle.langtag.specs.Text.{normal_lang_tag_text};
 ghost use Rattle.langtag_registry.specs.Fault.{Told, faults, fault_index, told};
 ghost use Rattle.langtag_registry.specs.Valid.{IsValid};
 ghost use Rattle.langtag_c.specs.Spans.{empty_at};
-ghost use Rattle.langtag_c.specs.Validity.{number_of, place_of};
+ghost use Rattle.langtag_c.specs.Validity.{number_of, fault_span};
 
 use crate::repeats::{singleton_at, variant_at};
 use crate::span::Span;
@@ -14,17 +14,17 @@ use crate::tag::tag_of;
 use langtag::NormalLangTag;
 use langtag_registry::{InvalidSubtag, fault_at};
 
-/// Returns 1 for a valid tag, 0 if the bytes are not a tag, and otherwise what is wrong first. It is 2 for a language,
-/// 3 for an extended language, 5 for a script, 6 for a region and 7 for a variant that is not registered. It is 4 for a
-/// second extended language, 8 for a repeated variant and 9 for a repeated singleton. `invalid` is where that subtag
-/// is, or empty if the result is 0 or 1.
+/// Returns 1 for a valid tag, 0 if the bytes are not a tag, and otherwise the first fault. The result is 2 for a
+/// language, 3 for an extended language, 5 for a script, 6 for a region and 7 for a variant that is not registered. It
+/// is 4 for a second extended language, 8 for a repeated variant and 9 for a repeated singleton. `invalid` is the span
+/// of that subtag, or empty if the result is 0 or 1.
 #[tactic(auto, using(langtag_scan::proofs::SpelledTexts::normal_spelled, langtag_scan::proofs::TagLaws::tag_normal, langtag_registry::proofs::ValidLaws::valid_of_other, langtag_registry::proofs::ValidLaws::valid_of_none))]
 #[unsafe(no_mangle)]
 pub extern "C" fn langtag_validity(bytes: &[u8], invalid: &mut Span) -> u32
     ensures no_tag { result ≡ 0 ↔ (IsTag bytes.now → ⊥) }
     ensures valid { result ≡ 1 ↔ IsValid bytes.now }
     ensures first { EachRecord bytes.now (λ r. (fault : Told) → (IsValid bytes.now → ⊥) → slice_get (faults r) 0 ≡ Some fault →
-        (result ≡ number_of fault) × (invalid.new ≡ place_of r fault)) }
+        (result ≡ number_of fault) × (invalid.new ≡ fault_span r fault)) }
     ensures nothing { result ≤ 1 → invalid.new ≡ empty_at 0 }
 {
     *invalid = Span { start: 0, len: 0 };
@@ -54,11 +54,12 @@ fn number(fault: InvalidSubtag<'_>) -> u32
     }
 }
 
-/// Returns where the invalid subtag is in its tag. The index counts among the variants or the extensions.
+/// Returns where the invalid subtag is in its tag. `index` is the index of the subtag among the variants, or of its
+/// extension among the extensions.
 #[tactic(auto, using(langtag_scan::proofs::PartOffsets::ends_in_order))]
 fn place(tag: &NormalLangTag<'_>, fault: InvalidSubtag<'_>, index: usize) -> Span
     ensures { EachRecord (normal_lang_tag_text tag.now) (λ r. fault_index r (told fault.entry) ≡ Some index
-        → result ≡ place_of r (told fault.entry)) }
+        → result ≡ fault_span r (told fault.entry)) }
 {
     let ends = tag.ends();
     let none = Span { start: 0, len: 0 };

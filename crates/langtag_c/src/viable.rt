@@ -1,4 +1,4 @@
-//! How much of a text begins a tag.
+//! How many bytes of a text can begin a tag.
 ghost use Rattle.langtag_scan.specs.Viable.{IsStop, IsViableLength};
 
 use langtag_scan::viable_len;
@@ -13,7 +13,7 @@ pub extern "C" fn langtag_viable(bytes: &[u8]) -> usize
 }
 
 /// Returns the length in bytes of the shortest prefix with which no tag begins, or the whole length if there is none: 3
-/// for `zh_Hant` and `zh-`. A reader can stop there.
+/// for `zh_Hant` and `zh-`. A program that reads the text byte by byte can stop after this prefix.
 #[tactic(auto, using(crate::proofs::StopLaws::stop_after_viable))]
 #[unsafe(no_mangle)]
 pub extern "C" fn langtag_stop(bytes: &[u8]) -> usize

@@ -9,8 +9,8 @@ use crate::span::Span;
 use langtag_extension::first_extension_end;
 use langtag_scan::segment_end;
 
-/// Takes the first subtag off a span, with the hyphen after it. Returns `false` and changes nothing if nothing is left,
-/// or if the span reaches beyond the bytes.
+/// Removes the first subtag from a span, with the hyphen after it. Returns `false` and changes nothing if nothing is
+/// left, or if the span reaches beyond the bytes.
 #[unsafe(no_mangle)]
 pub extern "C" fn langtag_next_subtag(bytes: &[u8], rest: &mut Span, subtag: &mut Span) -> bool
     ensures some { IsTrue result ↔ HasBytes bytes.now rest.old }
@@ -24,8 +24,8 @@ pub extern "C" fn langtag_next_subtag(bytes: &[u8], rest: &mut Span, subtag: &mu
     true
 }
 
-/// Takes the first extension off a span (RFC 5646 section 2.2.6), which is its singleton and the subtags after it, with
-/// the hyphen after them. Returns `false` as [`langtag_next_subtag`] does.
+/// Removes the first extension from a span (RFC 5646 section 2.2.6), with the hyphen after it. An extension is a
+/// singleton and the subtags after it. Returns `false` when [`langtag_next_subtag`] would return `false`.
 #[unsafe(no_mangle)]
 pub extern "C" fn langtag_next_extension(
     bytes: &[u8],

@@ -9,9 +9,10 @@ use borrow.Rule.Slice.PartMut.{put_mid}
 use Rattle.std.proofs.lemmas.List.Elements.{All-from_get_or}
 use Rattle.std.proofs.lemmas.List.Splits.{slice_split_none, slice_split_at, length-slice_split, join_with_byte-slice_split}
 use Rattle.langtag_scan.specs.Case.{fold_byte, fold_text}
+use Rattle.langtag_scan.specs.Class.{is_single}
 use Rattle.langtag_scan.specs.Subtags.{is_hyphen, IsHyphenFree, NoHyphenWithin, join, segments}
 use Rattle.langtag_scan.proofs.CaseLaw.{join-fold}
-use Rattle.langtag_case.specs.RecommendedCase.{capital_text, title_text, is_single, by_length, recommended_after, recommended_text}
+use Rattle.langtag_case.specs.RecommendedCase.{capital_text, title_text, by_length, recommended_after, recommended_text}
 use Rattle.langtag_case.specs.Walk.{BeginsWith, after_piece, cased, later, later_text}
 use Rattle.langtag_case.proofs.RecommendedLaws.{after_first}
 

@@ -15,12 +15,13 @@ use Rattle.std.proofs.Math.ListN.{get_or-map}
 use Rattle.std.proofs.lemmas.Str.Ascii.{IsAscii-map, lowercase_ascii}
 use Rattle.std.specs.Str.{IsAscii}
 use Rattle.langtag_scan.specs.Case.{fold_byte, fold_text, Alike}
+use Rattle.langtag_scan.specs.Class.{is_single}
 use Rattle.langtag_scan.specs.Subtags.{is_hyphen, IsHyphenFree, join, segments}
 use Rattle.langtag_scan.proofs.CaseLaw.{hyphen-fold, length-fold, segments-fold, join-fold}
 use Rattle.langtag_scan.proofs.SubtagLists.{segments-join, segments-hyphen_free}
 use Rattle.std.proofs.lemmas.List.Elements.{All-nil, All-cons, All-head, All-tail}
 use Rattle.langtag_case.specs.Walk.{later}
-use Rattle.langtag_case.specs.RecommendedCase.{title_text, is_single, by_length, recommended_subtag, recommended_after, recommended_text}
+use Rattle.langtag_case.specs.RecommendedCase.{title_text, by_length, recommended_subtag, recommended_after, recommended_text}
 
 -- ---- bytes
 

@@ -9,14 +9,14 @@ use Rattle.std.proofs.lemmas.Bool.Decides.{nat_tests}
 use Rattle.std.proofs.lemmas.List.{map-append}
 use Rattle.langtag_scan.specs.AlikeRecords.{fold_extension, fold_private_use}
 use Rattle.langtag_scan.specs.Case.{fold_byte, fold_text}
-use Rattle.langtag_scan.specs.Class.{is_digit, are_letters, are_digits, are_alphanumeric, has_length, starts_with_digit, is_primary, is_extended, is_script, is_region, is_variant}
+use Rattle.langtag_scan.specs.Class.{is_digit, are_letters, are_digits, are_alphanumeric, has_length, starts_with_digit, is_single, is_primary, is_extended, is_script, is_region, is_variant}
 use Rattle.langtag_scan.specs.Record.{EachRecord, Extension, PrivateUse, Record, IsWellFormed, extension_flat, one_flat, private_part_flat, spell}
 use Rattle.langtag_scan.specs.Subtags.{join}
 use Rattle.langtag_scan.proofs.BoolFacts.{between_true}
 use Rattle.langtag_scan.proofs.CaseLaw.{extensions-fold, private_part-fold}
 use Rattle.langtag_scan.proofs.NormalTexts.{spelled_segments}
 use Rattle.langtag_case.specs.Walk.{later}
-use Rattle.langtag_case.specs.RecommendedCase.{capital_text, title_text, is_single, by_length, recommended_after, recommended_text, recommended_record}
+use Rattle.langtag_case.specs.RecommendedCase.{capital_text, title_text, by_length, recommended_after, recommended_text, recommended_record}
 use Rattle.langtag_case.proofs.RecommendedLaws.{after_first}
 
 -- ---- digits have no case

@@ -1,44 +1,43 @@
--- The case that is recommended for the letters of a tag (RFC 5646 section 2.1.1). It changes no meaning.
-use Rattle.std.specs.Prelude.{◌==◌, ℕ, Bool, ◌||◌, List, [], ◌∷◌, ◌++◌, if◌then◌else◌, length, map}
+-- The case that RFC 5646 section 2.1.1 recommends for the letters of a tag. Case does not change what a tag means.
+use Rattle.std.specs.Prelude.{◌==◌, ℕ, ◌||◌, List, [], ◌∷◌, ◌++◌, if◌then◌else◌, length, map}
 use Rattle.std.specs.Char.{to_ascii_uppercase}
 use Rattle.std.specs.List.{list_any}
 use Rattle.std.specs.Option.{option_map}
 use Rattle.langtag_scan.specs.Case.{fold_text}
 use Rattle.langtag_scan.specs.AlikeRecords.{fold_extension, fold_private_use}
+use Rattle.langtag_scan.specs.Class.{is_single}
 use Rattle.langtag_scan.specs.Record.{Record}
 use Rattle.langtag_scan.specs.Subtags.{join, segments}
 
--- all letters are capitals
+-- the text in uppercase
 abbrev pub capital_text : List ℕ → List ℕ
 capital_text subtag = map to_ascii_uppercase subtag
 
--- titlecase: the first letter is a capital, the others are small
+-- the text in titlecase: the first letter in uppercase, and the other letters in lowercase
 abbrev pub title_text : List ℕ → List ℕ
 title_text [] = []
 title_text (b ∷ subtag) = to_ascii_uppercase b ∷ fold_text subtag
 
--- a singleton, or the mark of a private use part
-abbrev pub is_single : List ℕ → Bool
-is_single subtag = length subtag == 1
-
--- "two-letter subtags are all uppercase .. and four-letter subtags are titlecase"; all others are small
+-- "two-letter subtags are all uppercase .. and four-letter subtags are titlecase"; all other subtags are in lowercase
 abbrev pub by_length : List ℕ → List ℕ
 by_length subtag = if length subtag == 2 then capital_text subtag else if length subtag == 4 then title_text subtag else fold_text subtag
 
--- a subtag is small where it appears at the start of the tag or occurs after a singleton; `before` are those before it
+-- a subtag in its recommended case: lowercase at the start of the tag and anywhere after a singleton, and otherwise by
+-- its length. `before` lists the subtags before it
 abbrev pub recommended_subtag : List (List ℕ) → List ℕ → List ℕ
 recommended_subtag before subtag = if (length before == 0) || list_any is_single before then fold_text subtag else by_length subtag
 
--- the subtags that stand after some others
+-- the given subtags in their recommended case, if they come after the subtags in `before`
 abbrev pub recommended_after : List (List ℕ) → List (List ℕ) → List (List ℕ)
 recommended_after before [] = []
 recommended_after before (subtag ∷ subtags) = recommended_subtag before subtag ∷ recommended_after (before ++ subtag ∷ []) subtags
 
--- a text with each subtag in its recommended case
+-- the text with each of its subtags in the recommended case
 abbrev pub recommended_text : List ℕ → List ℕ
 recommended_text text = join (recommended_after [] (segments text))
 
--- the record of a tag: its script is titlecase, its region in capitals, and all else small
+-- the record in the recommended case: the script is in titlecase, the region in uppercase, and all other subtags in
+-- lowercase
 abbrev pub recommended_record : Record → Record
 recommended_record r = record {
   primary = fold_text r.primary;

@@ -1,4 +1,4 @@
--- The text that a value shows.
+-- The text that an `InRecommendedCase` displays.
 use Rattle.std.specs.Prelude.{ℕ, List}
 use Rattle.langtag_case.specs.RecommendedCase.{recommended_text}
 use Rattle.langtag_case.specs.declared.in_recommended_case.InRecommendedCase.{InRecommendedCase}

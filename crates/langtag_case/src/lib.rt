@@ -1,4 +1,4 @@
-//! The case that RFC 5646 section 2.1.1 recommends for the letters of a language tag, over bytes.
+//! Functions over byte slices for the case that RFC 5646 section 2.1.1 recommends for the letters of a language tag.
 //!
 //! ```
 //! use langtag_case::{is_in_recommended_case, make_recommended_case};

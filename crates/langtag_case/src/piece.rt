@@ -1,22 +1,24 @@
-//! The pieces of a text: each has some capitals first, and then lowercase letters.
+//! The pieces of a text in its recommended case. In each piece, the uppercase letters come before the lowercase
+//! letters.
 ghost use Rattle.std.specs.Prelude.{◌≡◌};
 ghost use Rattle.langtag_case.specs.RecommendedCase.{recommended_text};
 ghost use Rattle.langtag_case.specs.Walk.{BeginsWith, later_text};
 
 use langtag_scan::segment_end;
 
-/// A piece of a text in its recommended case (RFC 5646 section 2.1.1): a subtag, or all that is left of the text from the
-/// first subtag of a single byte on, which is lowercase.
+/// A piece of a text in its recommended case (RFC 5646 section 2.1.1). Each subtag before the first single-byte subtag
+/// is a piece. The rest of the text is one more piece, which is all lowercase.
 #[derive(Clone, Copy, Debug)]
 pub(crate) struct Piece {
-    /// Its length in bytes.
+    /// The length of the piece in bytes.
     pub(crate) len: usize,
-    /// The number of bytes at its start whose letters are capitals. The letters after them are lowercase.
+    /// The number of bytes at the start of the piece whose letters are uppercase. All letters after these bytes are
+    /// lowercase.
     pub(crate) capitals: usize,
 }
 
 impl Piece {
-    /// The piece at the start of a text. Its first subtag is lowercase whatever its length.
+    /// Returns the piece at the start of a text. The first subtag is lowercase, whatever its length is.
     pub(crate) fn first(text: &[u8]) -> Piece
         ensures capitals { result.capitals ≡ 0 }
         ensures begins { BeginsWith text.now result.len 0 (recommended_text text.now) }
@@ -27,7 +29,8 @@ impl Piece {
         }
     }
 
-    /// Returns the piece at the start of the rest of a text after a hyphen, if no subtag before it has a single byte.
+    /// Returns the piece at the start of `text`, which is the rest of a longer text after a hyphen. No subtag before
+    /// that hyphen may have a single byte.
     pub(crate) fn later(text: &[u8]) -> Piece
         ensures { BeginsWith text.now result.len result.capitals (later_text text.now) × BeginsWith text.now result.len 0 (recommended_text text.now) }
     {

@@ -13,7 +13,7 @@ use std::marker::Model;
 pub(crate) struct RecommendedBytes<'a> {
     /// What is left of the current piece.
     piece: &'a [u8],
-    /// The number of bytes at its start whose letters are capitals.
+    /// The number of bytes at the start of `piece` whose letters are uppercase.
     capitals: usize,
     /// What follows the piece: nothing, or a hyphen and the next pieces.
     rest: &'a [u8],
@@ -26,7 +26,7 @@ impl<'a> Model for RecommendedBytes<'a> {
 }
 
 impl<'a> RecommendedBytes<'a> {
-    /// Iterates over all bytes of a text.
+    /// Returns an iterator over all bytes of a text in its recommended case.
     pub(crate) fn new(text: &'a [u8]) -> Self
         ensures { result ≡ recommended_text text.now }
     {

@@ -6,17 +6,16 @@ use Rattle.langtag_scan.specs.Case.{Alike, are_alike, fold_text}
 use Rattle.langtag_scan.specs.CaseLaws.{are_alike-decides}
 use Rattle.langtag_scan.specs.Class.{is_letter, is_digit, is_primary, is_extended, is_script, is_region}
 use Rattle.langtag_scan.specs.Subtags.{subtags}
-use Rattle.langtag_scan.proofs.CaseLaw.{all-fold, is_letter-fold, length-fold}
+use Rattle.langtag_scan.proofs.CaseLaw.{all-fold, fold_text-twice, is_digit-fold, is_letter-fold, length-fold}
 use Rattle.langtag_match.specs.Listed.{basic_text}
 use Rattle.langtag_match.specs.Wanted.{hyphened}
-use Rattle.langtag_match.proofs.AlikeTexts.{hyphened-fold, is_digit-fold, is_star-fold, subtags-fold}
+use Rattle.langtag_match.proofs.AlikeTexts.{hyphened-fold, is_star-fold, subtags-fold}
 use Rattle.langtag_match.proofs.BasicForms.{basic_text-alike}
-use Rattle.langtag_tables.proofs.AlikeTexts.{fold_text-twice}
-use Rattle.langtag_choice.specs.Distance.{IgnoresCase, distance_of_forms, distance_of_texts, language_distance, script_distance, region_distance}
+use Rattle.langtag_choice.specs.Distance.{DistanceIgnoresCase, distance_of_forms, distance_of_texts, language_distance, script_distance, region_distance}
 use Rattle.langtag_likely.specs.Likely.{Fields, known, without_region}
 use Rattle.langtag_likely.specs.Matching.{matching_fields, matching_form}
 use Rattle.langtag_choice.specs.Nearness.{is_form, unlikely, unlikely_form}
-use Rattle.langtag_likely.specs.TextFields.{text_fields, fields_of_subtags, counted, counts, language_of, after_language, script_of, after_script, region_of}
+use Rattle.langtag_likely.specs.TextFields.{text_fields, fields_of_subtags, counted, counts, last_language, after_language, script_of, after_script, region_of}
 use Rattle.langtag_likely.proofs.AlikeFields.{AlikeFields, AlikeOptions, are_alike-right, suffices-alike, by_options, by_same, are_alike-left}
 use Rattle.langtag_choice.proofs.DistanceCase.{forms-alike, matching-alike}
 
@@ -47,9 +46,9 @@ pub cond-map : {A B : Type 0} (f : A → B) (b : Bool) (x y : A) → cond b (f x
 cond-map f true x y = refl
 cond-map f false x y = refl
 
-language_of-fold : (language : List ℕ) (subtags : List (List ℕ)) → language_of (fold_text language) (map fold_text subtags) ≡ fold_text (language_of language subtags)
-language_of-fold language [] = refl
-language_of-fold language (s ∷ others) = rw (is_extended-fold s, language_of-fold s others) (cond-map fold_text (is_extended s) (language_of s others) language)
+last_language-fold : (language : List ℕ) (subtags : List (List ℕ)) → last_language (fold_text language) (map fold_text subtags) ≡ fold_text (last_language language subtags)
+last_language-fold language [] = refl
+last_language-fold language (s ∷ others) = rw (is_extended-fold s, last_language-fold s others) (cond-map fold_text (is_extended s) (last_language s others) language)
 
 after_language-fold : (subtags : List (List ℕ)) → after_language (map fold_text subtags) ≡ map fold_text (after_language subtags)
 after_language-fold [] = refl
@@ -89,8 +88,8 @@ fields_of_subtags-fold (s ∷ others) =
     let n = counted others in
     let all = counted-fold others in
     let language =
-    ap (language_of (known (codes "und") (fold_text s))) all
-    ∙ ap (λ l. language_of l (map fold_text n)) (known-fold (codes "und") s) ∙ language_of-fold (known (codes "und") s) n in
+    ap (last_language (known (codes "und") (fold_text s))) all
+    ∙ ap (λ l. last_language l (map fold_text n)) (known-fold (codes "und") s) ∙ last_language-fold (known (codes "und") s) n in
     let script =
     ap (λ t. known (codes "Zzzz") (script_of (after_language t))) all
     ∙ ap (λ t. known (codes "Zzzz") (script_of t)) (after_language-fold n) ∙ ap (known (codes "Zzzz")) (script_of-fold (after_language n)) ∙ known-fold (codes "Zzzz") (script_of (after_language n)) in
@@ -136,7 +135,7 @@ pub distance-alike : (a b c d : List ℕ) → Alike a b → Alike c d → distan
 unfolding distance_of_texts
 distance-alike a b c d h k = forms-alike a b c d h k (matching_form a) (matching_form b) (matching_form c) (matching_form d) (matching_form-alike a b h) (matching_form-alike c d k)
 
-pub ignores_case : (desired supported : List ℕ) (distance : ℕ) → distance ≡ distance_of_texts desired supported → IgnoresCase desired supported distance
+pub ignores_case : (desired supported : List ℕ) (distance : ℕ) → distance ≡ distance_of_texts desired supported → DistanceIgnoresCase desired supported distance
 ignores_case desired supported distance is = λ d s h k. sym (is ∙ distance-alike desired d supported s h k)
 
 no_distance : (a b : Fields) → AlikeFields a b → language_distance a b + (script_distance a b + region_distance a b) ≡ 0

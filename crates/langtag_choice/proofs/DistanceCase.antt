@@ -5,7 +5,7 @@ use Rattle.std.specs.Option.{option_map_or}
 use Rattle.langtag_scan.specs.Case.{Alike, are_alike}
 use Rattle.langtag_choice.specs.Distance as Distance
 use Rattle.langtag_likely.specs.Likely.{Fields, are_alike_fields, language_alone, without_region}
-use Rattle.langtag_likely.specs.Matching.{language_replaced, region_replaced, region_alone, with_language, with_region, without_language, keeping_language, most_unknown, most_likely, matching_fields}
+use Rattle.langtag_likely.specs.Matching.{language_replaced, region_replaced, region_alone, with_language_from, with_region_from, without_language, keeping_language, most_unknown, most_likely, matching_fields}
 use Rattle.langtag_choice.specs.MatchingData.{language_rules, script_rules}
 use Rattle.langtag_likely.specs.Aliases.{language_aliases, region_aliases}
 use Rattle.langtag_choice.specs.Rules.{Rule, fits, distance_by}
@@ -15,17 +15,17 @@ use Rattle.langtag_likely.proofs.AlikeFields.{AlikeFields, AlikeOptions, are_ali
 
 language-alike : (a b : Fields) → AlikeFields a b → AlikeFields (language_replaced a) (language_replaced b)
 unfolding language_replaced
-language-alike a b h = by_same (λ o p. AlikeFields (option_map_or (with_language a) o a) (option_map_or (with_language b) p b)) by_row _ _ (likely_for-alike language_aliases (language_alone a) (language_alone b) (alone_alike a b h.language))
+language-alike a b h = by_same (λ o p. AlikeFields (option_map_or (with_language_from a) o a) (option_map_or (with_language_from b) p b)) by_row _ _ (likely_for-alike language_aliases (language_alone a) (language_alone b) (alone_alike a b h.language))
   where
-    by_row : (o : Option Fields) → AlikeFields (option_map_or (with_language a) o a) (option_map_or (with_language b) o b)
+    by_row : (o : Option Fields) → AlikeFields (option_map_or (with_language_from a) o a) (option_map_or (with_language_from b) o b)
     by_row None = h
     by_row (Some v) = record { language = refl; script = or_other-alike a.script b.script v.script h.script; region = or_other-alike a.region b.region v.region h.region }
 
 region-alike : (a b : Fields) → AlikeFields a b → AlikeFields (region_replaced a) (region_replaced b)
 unfolding region_replaced
-region-alike a b h = by_same (λ o p. AlikeFields (option_map_or (with_region a) o a) (option_map_or (with_region b) p b)) by_row _ _ (likely_for-alike region_aliases (region_alone a) (region_alone b) (record { language = refl; script = refl; region = h.region }))
+region-alike a b h = by_same (λ o p. AlikeFields (option_map_or (with_region_from a) o a) (option_map_or (with_region_from b) p b)) by_row _ _ (likely_for-alike region_aliases (region_alone a) (region_alone b) (record { language = refl; script = refl; region = h.region }))
   where
-    by_row : (o : Option Fields) → AlikeFields (option_map_or (with_region a) o a) (option_map_or (with_region b) o b)
+    by_row : (o : Option Fields) → AlikeFields (option_map_or (with_region_from a) o a) (option_map_or (with_region_from b) o b)
     by_row None = h
     by_row (Some v) = record { language = h.language; script = h.script; region = refl }
 

@@ -13,16 +13,16 @@ use Rattle.langtag_tables.proofs.Letters.{primary_length}
 use Rattle.langtag_match.specs.Basic.{ends_subtag}
 use Rattle.langtag_match.specs.Fallback.{ends_in_single}
 use Rattle.langtag_match.specs.Listed.{basic_text}
-use Rattle.langtag_match.specs.Wanted.{hyphened, is_mark}
-use Rattle.langtag_choice.specs.Lone.{HasNoExtended, begins_counted, IsShort, head, is_lone, is_related, lone_head, replacing}
+use Rattle.langtag_match.specs.Wanted.{hyphened, is_separator}
+use Rattle.langtag_choice.specs.Lone.{HasNoExtended, begins_counted, IsShort, first_two, is_lone, is_related, lone_head, replacing}
 use Rattle.langtag_choice.specs.Distance.{distance_of_forms, distance_of_texts, is_among, language_distance}
 use Rattle.langtag_likely.specs.Likely.{Fields, Likely, are_alike_fields, known, language_alone, likely_for}
-use Rattle.langtag_likely.specs.Matching.{language_replaced, matching_fields, matching_form, with_language}
+use Rattle.langtag_likely.specs.Matching.{language_replaced, matching_fields, matching_form, with_language_from}
 use Rattle.langtag_choice.specs.MatchingData.{language_rules}
 use Rattle.langtag_likely.specs.Aliases.{language_aliases}
 use Rattle.langtag_choice.specs.Nearness.{is_fallback, kept}
 use Rattle.langtag_choice.specs.Rules.{Rule, distance_by}
-use Rattle.langtag_likely.specs.TextFields.{counts, language_of, parts, text_fields}
+use Rattle.langtag_likely.specs.TextFields.{counts, last_language, counted_parts, text_fields}
 use Rattle.langtag_likely.proofs.AlikeFields.{by_options}
 use Rattle.langtag_choice.proofs.AlikeRanges.{matching_form-alike}
 use Rattle.langtag_likely.proofs.AliasTables.{aliases_lead}
@@ -34,7 +34,7 @@ use Rattle.langtag_match.proofs.Prefixes.{length-alike}
 
 -- ---- heads
 
-head-alike : (a b : List ℕ) → Alike a b → head a ≡ head b
+head-alike : (a b : List ℕ) → Alike a b → first_two a ≡ first_two b
 head-alike [] [] alike = refl
 head-alike [] (y ∷ b) alike = absurd cc
 head-alike (x ∷ a) [] alike = absurd cc
@@ -46,7 +46,7 @@ head-alike (x ∷ w ∷ a) (y ∷ z ∷ b) alike =
     let two : fold_byte w ≡ fold_byte z = cc in
     rw (one, two) refl
 
-head-take : (n : ℕ) (text : List ℕ) → 2 ≤ length (take n text) → head (take n text) ≡ head text
+head-take : (n : ℕ) (text : List ℕ) → 2 ≤ length (take n text) → first_two (take n text) ≡ first_two text
 head-take zero text long = absurd (omega (arith, long))
 head-take (suc zero) [] long = refl
 head-take (suc zero) (a ∷ text) long = absurd (omega (arith, long))
@@ -59,47 +59,47 @@ apart_letters a b apart same =
     let one : a ≡ b = cc in
     both_ways _ (not-true _ apart) (and_from (a.0 == b.0) (a.1 == b.1) (eq-eqb a.0 b.0 (ap (λ p. p.0) one)) (eq-eqb a.1 b.1 (ap (λ p. p.1) one)))
 
-head_first : (text : List ℕ) → is_primary (before_first is_mark text) ≡ true → head (before_first is_mark text) ≡ head text
-head_first text primary = head-take (position_or_len is_mark text) text (primary_length (before_first is_mark text) primary)
+head_first : (text : List ℕ) → is_primary (before_first is_separator text) ≡ true → first_two (before_first is_separator text) ≡ first_two text
+head_first text primary = head-take (position_or_len is_separator text) text (primary_length (before_first is_separator text) primary)
 
 -- ---- what a text begins with
 
-unmarked : (x : ℕ) (text : List ℕ) → is_mark x ≡ false → before_first is_mark (x ∷ text) ≡ x ∷ before_first is_mark text
-unmarked x text is = take_while-cons (λ b. not (is_mark b)) x text ∙ ap (λ b. cond (not b) (x ∷ before_first is_mark text) []) is
+unmarked : (x : ℕ) (text : List ℕ) → is_separator x ≡ false → before_first is_separator (x ∷ text) ≡ x ∷ before_first is_separator text
+unmarked x text is = take_while-cons (λ b. not (is_separator b)) x text ∙ ap (λ b. cond (not b) (x ∷ before_first is_separator text) []) is
 
-first_letter : (x : ℕ) (text : List ℕ) → is_letter x ≡ false → is_extended (before_first is_mark (x ∷ text)) ≡ false
+first_letter : (x : ℕ) (text : List ℕ) → is_letter x ≡ false → is_extended (before_first is_separator (x ∷ text)) ≡ false
 unfolding is_extended
-first_letter x text other = by_mark (is_mark x) refl
+first_letter x text other = by_mark (is_separator x) refl
   where
-    by_mark : (b : Bool) → is_mark x ≡ b → is_extended (before_first is_mark (x ∷ text)) ≡ false
+    by_mark : (b : Bool) → is_separator x ≡ b → is_extended (before_first is_separator (x ∷ text)) ≡ false
     by_mark true is = rw is refl
     by_mark false is = rw (unmarked x text is) (false_from_ne_true _ (λ yes.
-        let letters = and_parts (length (x ∷ before_first is_mark text) == 3) (are_letters (x ∷ before_first is_mark text)) yes in
-        both_ways (is_letter x) other (and_parts (is_letter x) (are_letters (before_first is_mark text)) letters.1).0))
+        let letters = and_parts (length (x ∷ before_first is_separator text) == 3) (are_letters (x ∷ before_first is_separator text)) yes in
+        both_ways (is_letter x) other (and_parts (is_letter x) (are_letters (before_first is_separator text)) letters.1).0))
 
 extended_length : (text : List ℕ) → is_extended text ≡ true → length text ≡ 3
 unfolding is_extended
 extended_length text is = grind (arith, nat_tests)
 
-pub few_extended : (text : List ℕ) → length text ≤ 2 → is_extended (before_first is_mark text) ≡ false
+pub few_extended : (text : List ℕ) → length text ≤ 2 → is_extended (before_first is_separator text) ≡ false
 few_extended text few = false_from_ne_true _ (λ yes.
-    let three = extended_length (before_first is_mark text) yes in
-    let most = length-take (position_or_len is_mark text) text in
+    let three = extended_length (before_first is_separator text) yes in
+    let most = length-take (position_or_len is_separator text) text in
     omega (arith, three, most, few))
 
 -- no mark stands at the third place from 0 on
-longer : (x y z n : ℕ) (text : List ℕ) → is_mark n ≡ false → is_extended (before_first is_mark (x ∷ y ∷ z ∷ n ∷ text)) ≡ false
+longer : (x y z n : ℕ) (text : List ℕ) → is_separator n ≡ false → is_extended (before_first is_separator (x ∷ y ∷ z ∷ n ∷ text)) ≡ false
 unfolding is_extended
-longer x y z n text other = by_marks (is_mark x) (is_mark y) (is_mark z) refl refl refl
+longer x y z n text other = by_marks (is_separator x) (is_separator y) (is_separator z) refl refl refl
   where
     by_marks :
-        (a b c : Bool) → is_mark x ≡ a → is_mark y ≡ b → is_mark z ≡ c → is_extended (before_first is_mark (x ∷ y ∷ z ∷ n ∷ text)) ≡ false
+        (a b c : Bool) → is_separator x ≡ a → is_separator y ≡ b → is_separator z ≡ c → is_extended (before_first is_separator (x ∷ y ∷ z ∷ n ∷ text)) ≡ false
     by_marks true b c first second third = rw first refl
     by_marks false true c first second third = rw (first, second) refl
     by_marks false false true first second third = rw (first, second, third) refl
     by_marks false false false first second third = false_from_ne_true _ (λ yes.
-        let three = extended_length (before_first is_mark (x ∷ y ∷ z ∷ n ∷ text)) yes in
-        let whole : before_first is_mark (x ∷ y ∷ z ∷ n ∷ text) ≡ x ∷ y ∷ z ∷ n ∷ before_first is_mark text =
+        let three = extended_length (before_first is_separator (x ∷ y ∷ z ∷ n ∷ text)) yes in
+        let whole : before_first is_separator (x ∷ y ∷ z ∷ n ∷ text) ≡ x ∷ y ∷ z ∷ n ∷ before_first is_separator text =
         unmarked x (y ∷ z ∷ n ∷ text) first ∙ ap (λ t. x ∷ t) (unmarked y (z ∷ n ∷ text) second ∙ ap (λ t. y ∷ t) (unmarked z (n ∷ text) third ∙ ap (λ t. z ∷ t) (unmarked n text other))) in
         let four = ap length whole in
         omega (arith, three, four))
@@ -110,23 +110,23 @@ not_primary text few primary = let long = primary_length text primary in omega (
 -- a text of two bytes, and one with a mark after two
 two_short : (a b : ℕ) → IsShort (a ∷ b ∷ [])
 unfolding is_extended
-two_short a b = λ primary. by_marks (is_mark a) (is_mark b) refl refl primary
+two_short a b = λ primary. by_marks (is_separator a) (is_separator b) refl refl primary
   where
     by_marks :
-        (x y : Bool) → is_mark a ≡ x → is_mark b ≡ y → is_primary (before_first is_mark (a ∷ b ∷ [])) ≡ true →
-        (length (before_first is_mark (a ∷ b ∷ [])) ≡ 2) × HasNoExtended (after_first is_mark (a ∷ b ∷ []))
-    by_marks true y first second primary = absurd (not_primary (before_first is_mark (a ∷ b ∷ [])) (rw first (omega arith)) primary)
-    by_marks false true first second primary = absurd (not_primary (before_first is_mark (a ∷ b ∷ [])) (rw (first, second) (omega arith)) primary)
+        (x y : Bool) → is_separator a ≡ x → is_separator b ≡ y → is_primary (before_first is_separator (a ∷ b ∷ [])) ≡ true →
+        (length (before_first is_separator (a ∷ b ∷ [])) ≡ 2) × HasNoExtended (after_first is_separator (a ∷ b ∷ []))
+    by_marks true y first second primary = absurd (not_primary (before_first is_separator (a ∷ b ∷ [])) (rw first (omega arith)) primary)
+    by_marks false true first second primary = absurd (not_primary (before_first is_separator (a ∷ b ∷ [])) (rw (first, second) (omega arith)) primary)
     by_marks false false first second primary = rw (first, second) (refl, (refl, refl))
 
-marked_short : (a b m : ℕ) (rest : List ℕ) → is_mark m ≡ true → HasNoExtended rest → IsShort (a ∷ b ∷ m ∷ rest)
-marked_short a b m rest mark alone = λ primary. by_marks (is_mark a) (is_mark b) refl refl primary
+marked_short : (a b m : ℕ) (rest : List ℕ) → is_separator m ≡ true → HasNoExtended rest → IsShort (a ∷ b ∷ m ∷ rest)
+marked_short a b m rest mark alone = λ primary. by_marks (is_separator a) (is_separator b) refl refl primary
   where
     by_marks :
-        (x y : Bool) → is_mark a ≡ x → is_mark b ≡ y → is_primary (before_first is_mark (a ∷ b ∷ m ∷ rest)) ≡ true →
-        (length (before_first is_mark (a ∷ b ∷ m ∷ rest)) ≡ 2) × HasNoExtended (after_first is_mark (a ∷ b ∷ m ∷ rest))
-    by_marks true y first second primary = absurd (not_primary (before_first is_mark (a ∷ b ∷ m ∷ rest)) (rw first (omega arith)) primary)
-    by_marks false true first second primary = absurd (not_primary (before_first is_mark (a ∷ b ∷ m ∷ rest)) (rw (first, second) (omega arith)) primary)
+        (x y : Bool) → is_separator a ≡ x → is_separator b ≡ y → is_primary (before_first is_separator (a ∷ b ∷ m ∷ rest)) ≡ true →
+        (length (before_first is_separator (a ∷ b ∷ m ∷ rest)) ≡ 2) × HasNoExtended (after_first is_separator (a ∷ b ∷ m ∷ rest))
+    by_marks true y first second primary = absurd (not_primary (before_first is_separator (a ∷ b ∷ m ∷ rest)) (rw first (omega arith)) primary)
+    by_marks false true first second primary = absurd (not_primary (before_first is_separator (a ∷ b ∷ m ∷ rest)) (rw (first, second) (omega arith)) primary)
     by_marks false false first second primary = rw (first, second, mark) (refl, alone)
 
 pub short_of_two : (text : List ℕ) → 2 ≤ length text → length text < 3 → IsShort text
@@ -135,17 +135,17 @@ short_of_two (a ∷ []) least most = absurd (omega (arith, least))
 short_of_two (a ∷ b ∷ []) least most = two_short a b
 short_of_two (a ∷ b ∷ m ∷ rest) least most = absurd (omega (arith, most))
 
-pub short_of_more : (text : List ℕ) → 3 ≤ length text → is_mark (get_or text 2 0) ≡ true → HasNoExtended (drop 3 text) → IsShort text
+pub short_of_more : (text : List ℕ) → 3 ≤ length text → is_separator (get_or text 2 0) ≡ true → HasNoExtended (drop 3 text) → IsShort text
 short_of_more [] least mark alone = absurd (omega (arith, least))
 short_of_more (a ∷ []) least mark alone = absurd (omega (arith, least))
 short_of_more (a ∷ b ∷ []) least mark alone = absurd (omega (arith, least))
 short_of_more (a ∷ b ∷ m ∷ rest) least mark alone = marked_short a b m rest mark alone
 
-pub extended_letter : (text : List ℕ) → 1 ≤ length text → is_letter (get_or text 0 0) ≡ false → is_extended (before_first is_mark text) ≡ false
+pub extended_letter : (text : List ℕ) → 1 ≤ length text → is_letter (get_or text 0 0) ≡ false → is_extended (before_first is_separator text) ≡ false
 extended_letter [] some other = absurd (omega (arith, some))
 extended_letter (x ∷ text) some other = first_letter x text other
 
-pub extended_mark : (text : List ℕ) → 4 ≤ length text → is_mark (get_or text 3 0) ≡ false → is_extended (before_first is_mark text) ≡ false
+pub extended_mark : (text : List ℕ) → 4 ≤ length text → is_separator (get_or text 3 0) ≡ false → is_extended (before_first is_separator text) ≡ false
 extended_mark [] long other = absurd (omega (arith, long))
 extended_mark (x ∷ []) long other = absurd (omega (arith, long))
 extended_mark (x ∷ y ∷ []) long other = absurd (omega (arith, long))
@@ -154,15 +154,15 @@ extended_mark (x ∷ y ∷ z ∷ n ∷ text) long other = longer x y z n text ot
 
 -- ---- the language of a text
 
-first_counts : (b : ℕ) (text : List ℕ) → begins_counted (b ∷ text) ≡ true → counts (before_first is_mark (b ∷ text)) ≡ true
+first_counts : (b : ℕ) (text : List ℕ) → begins_counted (b ∷ text) ≡ true → counts (before_first is_separator (b ∷ text)) ≡ true
 first_counts b text is =
-    let apart = or_parts (is_mark b) (b == 42) (not-true _ is) in
-    rw (unmarked b text apart.0, apart.1, some_length b (before_first is_mark text)) refl
+    let apart = or_parts (is_separator b) (b == 42) (not-true _ is) in
+    rw (unmarked b text apart.0, apart.1, some_length b (before_first is_separator text)) refl
 
-no_extended : (text : List ℕ) → HasNoExtended text → (language : List ℕ) → language_of language (parts text) ≡ language
+no_extended : (text : List ℕ) → HasNoExtended text → (language : List ℕ) → last_language language (counted_parts text) ≡ language
 no_extended [] none language = refl
 no_extended (b ∷ text) none language =
-    ap (language_of language) (next_part (b ∷ text))
+    ap (last_language language) (next_part (b ∷ text))
     ∙ rw (first_counts b text none.0, none.1) refl
 
 -- a language that is there and is not that one
@@ -173,23 +173,23 @@ record IsOther (one language : List ℕ) : Type 0 where
 known_two : (text : List ℕ) → length text ≡ 2 → known (codes "und") text ≡ text
 known_two text two = rw (false_from_ne_true (are_alike (codes "und") text) (λ yes. let same = alike_length (codes "und") text yes in omega (arith, same, two))) refl
 
-module _ (one : List ℕ) (letters : ℕ × ℕ) (begins : head one ≡ Some letters) where
-  module _ (text : List ℕ) (short : IsShort text) (other : head text ≡ Some letters → ⊥) where
-    language_first : is_primary (before_first is_mark text) ≡ true → language_of (known (codes "und") (before_first is_mark text)) (parts (after_first is_mark text)) ≡ before_first is_mark text
+module _ (one : List ℕ) (letters : ℕ × ℕ) (begins : first_two one ≡ Some letters) where
+  module _ (text : List ℕ) (short : IsShort text) (other : first_two text ≡ Some letters → ⊥) where
+    language_first : is_primary (before_first is_separator text) ≡ true → last_language (known (codes "und") (before_first is_separator text)) (counted_parts (after_first is_separator text)) ≡ before_first is_separator text
     language_first primary =
-        no_extended (after_first is_mark text) (short primary).1 (known (codes "und") (before_first is_mark text)) ∙ known_two (before_first is_mark text) (short primary).0
+        no_extended (after_first is_separator text) (short primary).1 (known (codes "und") (before_first is_separator text)) ∙ known_two (before_first is_separator text) (short primary).0
 
-    first_other : is_primary (before_first is_mark text) ≡ true → Alike one (before_first is_mark text) → ⊥
-    first_other primary = λ alike. other (sym (head_first text primary) ∙ sym (head-alike one (before_first is_mark text) alike) ∙ begins)
+    first_other : is_primary (before_first is_separator text) ≡ true → Alike one (before_first is_separator text) → ⊥
+    first_other primary = λ alike. other (sym (head_first text primary) ∙ sym (head-alike one (before_first is_separator text) alike) ∙ begins)
 
     text_other : (f : Fields) → text_fields (hyphened text) ≡ Some f → (Alike one f.language → ⊥) × (length f.language ≡ 2)
-    text_other f is = by_primary (is_primary (before_first is_mark text)) refl
+    text_other f is = by_primary (is_primary (before_first is_separator text)) refl
       where
-        by_primary : (b : Bool) → is_primary (before_first is_mark text) ≡ b → (Alike one f.language → ⊥) × (length f.language ≡ 2)
+        by_primary : (b : Bool) → is_primary (before_first is_separator text) ≡ b → (Alike one f.language → ⊥) × (length f.language ≡ 2)
         by_primary false not = absurd (let none = no_fields text not ∙ is in cc)
         by_primary true primary =
             let same = all_fields text _ _ _ primary refl refl refl ∙ is in
-            let language : language_of (known (codes "und") (before_first is_mark text)) (parts (after_first is_mark text)) ≡ f.language = cc in
+            let language : last_language (known (codes "und") (before_first is_separator text)) (counted_parts (after_first is_separator text)) ≡ f.language = cc in
             rw (← language, language_first primary) (first_other primary, (short primary).0)
 
   -- ---- its replacement
@@ -225,12 +225,12 @@ module _ (one : List ℕ) (letters : ℕ × ℕ) (begins : head one ≡ Some let
   unfolding language_replaced
   replaced_other f apart there two = by_row (likely_for language_aliases (language_alone f)) refl
     where
-      by_row : (o : Option Fields) → likely_for language_aliases (language_alone f) ≡ o → IsOther one (option_map_or (with_language f) o f).language
+      by_row : (o : Option Fields) → likely_for language_aliases (language_alone f) ≡ o → IsOther one (option_map_or (with_language_from f) o f).language
       by_row None is = record { other = there; some = omega (arith, two) }
       by_row (Some to) is = alias_other language_aliases aliases_lead (language_alone f) to two is apart
 
   form_other :
-      (text : List ℕ) → IsShort text → (head text ≡ Some letters → ⊥) → is_among (replacing language_aliases) one ≡ false →
+      (text : List ℕ) → IsShort text → (first_two text ≡ Some letters → ⊥) → is_among (replacing language_aliases) one ≡ false →
       (form : Fields) → matching_form text ≡ Some form → Alike one form.language → ⊥
   unfolding matching_form
   form_other text short other apart form is = by_und (are_alike (basic_text text) (codes "und")) is
@@ -272,22 +272,22 @@ form_alone range tag f some none = false_from_ne_true (are_alike range tag) (λ 
     by_options (λ a b. a ≡ Some f → b ≡ None → ⊥) (λ is not. cc) (λ a b alike is not. cc) _ _
     (matching_form-alike range tag ((are_alike-decides range tag).0 yes)) some none)
 
-lone_language : (f : Fields) (letters : ℕ × ℕ) → lone_head (Some f) ≡ Some letters → (is_lone f.language ≡ true) × (head f.language ≡ Some letters)
+lone_language : (f : Fields) (letters : ℕ × ℕ) → lone_head (Some f) ≡ Some letters → (is_lone f.language ≡ true) × (first_two f.language ≡ Some letters)
 lone_language f letters is = by_test (is_lone f.language) is
   where
-    by_test : (b : Bool) → cond b (head f.language) None ≡ Some letters → (b ≡ true) × (head f.language ≡ Some letters)
+    by_test : (b : Bool) → cond b (first_two f.language) None ≡ Some letters → (b ≡ true) × (first_two f.language ≡ Some letters)
     by_test true is = (refl, is)
     by_test false is = absurd cc
 
 pub far_from_lone :
-    (letters : ℕ × ℕ) (range tag : List ℕ) → lone_head (matching_form range) ≡ Some letters → IsShort tag → (head tag ≡ Some letters → ⊥) →
+    (letters : ℕ × ℕ) (range tag : List ℕ) → lone_head (matching_form range) ≡ Some letters → IsShort tag → (first_two tag ≡ Some letters → ⊥) →
     50 ≤ distance_of_texts range tag
 unfolding distance_of_texts is_lone
 far_from_lone letters range tag lone short other = by_form (matching_form range) lone refl
   where
     by_tag :
         (d : Fields) → matching_form range ≡ Some d → is_among (map (λ rule. rule.desired.language) language_rules) d.language ≡ false →
-        is_among (replacing language_aliases) d.language ≡ false → head d.language ≡ Some letters →
+        is_among (replacing language_aliases) d.language ≡ false → first_two d.language ≡ Some letters →
         (o : Option Fields) → matching_form tag ≡ o → 50 ≤ distance_of_forms range tag (Some d) o
     by_tag d is desired replacing begins None none = rw (form_alone range tag d is none) (omega arith)
     by_tag d is desired replacing begins (Some form) some = let eighty = language_far d form desired (form_other d.language letters begins tag short other replacing form some) in omega (arith, eighty)
@@ -303,25 +303,25 @@ far_from_lone letters range tag lone short other = by_form (matching_form range)
 
 -- ---- what look-up keeps
 
-head_length : (text : List ℕ) (letters : ℕ × ℕ) → head text ≡ Some letters → 2 ≤ length text
+head_length : (text : List ℕ) (letters : ℕ × ℕ) → first_two text ≡ Some letters → 2 ≤ length text
 head_length [] letters is = absurd cc
 head_length (a ∷ []) letters is = absurd cc
 head_length (a ∷ b ∷ text) letters is = omega arith
 
-pub starts_alike : (range tag : List ℕ) → 2 ≤ length tag → are_alike (take (length tag) range) tag ≡ true → head range ≡ head tag
+pub starts_alike : (range tag : List ℕ) → 2 ≤ length tag → are_alike (take (length tag) range) tag ≡ true → first_two range ≡ first_two tag
 starts_alike range tag long is =
     let alike = (are_alike-decides (take (length tag) range) tag).0 is in
     let whole : 2 ≤ length (take (length tag) range) = omega (arith, length-alike (take (length tag) range) tag alike, long) in
     sym (head-take (length tag) range whole) ∙ head-alike (take (length tag) range) tag alike
 
 -- what a range falls back to begins as the range does
-fallback_begins : (range tag : List ℕ) → 2 ≤ length tag → is_fallback range tag ≡ true → head range ≡ head tag
+fallback_begins : (range tag : List ℕ) → 2 ≤ length tag → is_fallback range tag ≡ true → first_two range ≡ first_two tag
 fallback_begins range tag long fallback =
     let parts = and_parts (are_alike (take (length tag) range) tag) (ends_subtag (drop (length tag) range) && ((length tag == length range) || not (ends_in_single tag))) fallback in
     starts_alike range tag long parts.0
 
 pub nothing_kept :
-    (letters begin : ℕ × ℕ) (range tag : List ℕ) → head range ≡ Some letters → head tag ≡ Some begin → (head tag ≡ Some letters → ⊥) → kept range tag ≡ 0
+    (letters begin : ℕ × ℕ) (range tag : List ℕ) → first_two range ≡ Some letters → first_two tag ≡ Some begin → (first_two tag ≡ Some letters → ⊥) → kept range tag ≡ 0
 unfolding kept
 nothing_kept letters begin range tag starts is other = by_test (is_fallback range tag) refl
   where

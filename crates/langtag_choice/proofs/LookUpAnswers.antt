@@ -13,7 +13,7 @@ use Rattle.langtag_match.specs.AcceptLanguage.{Element}
 use Rattle.langtag_match.specs.Fallback.{before_hyphens, ends_in_single, fallbacks}
 use Rattle.langtag_match.specs.Range.{is_star}
 use Rattle.langtag_choice.specs.Best.{IsChoice, is_wish, reach, serves}
-use Rattle.langtag_choice.specs.ChoiceLaws.{LooksUp, AnswersLookUp}
+use Rattle.langtag_choice.specs.ChoiceLaws.{FallsBackTo, AnswersLookUp}
 use Rattle.langtag_choice.specs.Nearness.{is_fallback, kept}
 use Rattle.std.proofs.Math.Seq.{take-append_seam, drop-append_seam, take-length, drop-length}
 use Rattle.langtag_match.proofs.Prefixes.{length-alike}
@@ -80,7 +80,7 @@ all_fall range =
     shorter_fallback range _ tag (All-filter (λ text. not (ends_in_single text)) (IsBefore range) (before_hyphens range) (all_before range) k d inside)
     (filter_passes (λ text. not (ends_in_single text)) (before_hyphens range) k d inside) alike)
 
-looked_up : (range tag : List ℕ) → LooksUp range tag → is_fallback range tag ≡ true
+looked_up : (range tag : List ℕ) → FallsBackTo range tag → is_fallback range tag ≡ true
 looked_up range tag found =
     let at = found.1 in
     subst (Falls range) (at.2) (all_fall range (at.0) (found.0) (at.1)) tag (found.2)

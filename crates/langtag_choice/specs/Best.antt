@@ -1,4 +1,4 @@
--- The tag that a reader wants: the choice among some tags for some ranges with weights.
+-- The choice: the best of some tags for a reader's language ranges and their weights.
 use Rattle.std.specs.Prelude.{◌≡◌, ℕ, ◌-◌, Bool, false, not, ◌==◌, ◌&&◌, ◌||◌, if◌then◌else◌, IsTrue, List, [], ◌∷◌, Option, Some, MatchOption, length, max, nat_lt}
 use Rattle.std.specs.Cmp.Lexicographic.{slice_cmp}
 use Rattle.std.specs.List.{slice_get}
@@ -19,56 +19,59 @@ is_excluded element = element.weight == 0
 abbrev pub is_wish : Element → Bool
 is_wish element = not (is_excluded element)
 
--- a range, other than "*", matches a tag by basic filtering (RFC 4647 section 3.3.1)
+-- whether a range other than "*" matches a tag by basic filtering (RFC 4647 section 3.3.1)
 abbrev pub matches : Element → List ℕ → Bool
 matches element tag = not (is_star element.range) && test_basic element.range tag
 
--- the length of the longest range of a kind that matches a tag
+-- the length of the longest range that matches a tag, among the ranges of one kind
 abbrev pub longest : (Element → Bool) → List Element → List ℕ → ℕ
 longest of_kind [] tag = 0
 longest of_kind (element ∷ elements) tag =
     if of_kind element && matches element tag then max (length element.range) (longest of_kind elements tag)
     else longest of_kind elements tag
 
--- the longest range that matches a tag has the weight 0
+-- whether the longest range that matches a tag has the weight 0
 unfoldable pub is_refused : List Element → List ℕ → Bool
 is_refused elements tag = nat_lt (longest is_wish elements tag) (longest is_excluded elements tag)
 
 -- ---- which tags may serve a range
 
--- the distance; from 50 on no tag is farther than another
+-- the distance from a range to a tag, where all distances from 50 on count as 50
 unfoldable pub reach : List ℕ → List ℕ → ℕ
 reach range tag = if nat_lt (distance_of_texts range tag) 50 then distance_of_texts range tag else 50
 
--- a tag is nearer than 50, or look-up of the range finds it
+-- whether the distance from a range to a tag is below 50, or look-up of the range finds the tag
 abbrev pub may_serve : List ℕ → List ℕ → Bool
 may_serve range tag = nat_lt (reach range tag) 50 || nat_lt 0 (kept range tag)
 
--- and the range has a weight above 0, and is not "*"
+-- whether a tag may serve a range that has a weight above 0 and is not "*"
 unfoldable pub serves : Element → List ℕ → Bool
 serves element tag = is_wish element && (not (is_star element.range) && may_serve element.range tag)
 
--- ---- which goes before another
+-- ---- which pair of a range and a tag is better
 
--- a tag that is nearer than 16 serves best, then one that is nearer than 50, then what look-up alone finds. Where 16 and 50
--- stand is of no account within the gaps beside them: no distance lies from 15 to 19, nor from 45 to 49
+-- how well a tag serves a range: best at a distance below 16, then at a distance below 50, and then if only look-up
+-- finds the tag. Limits that differ a little would give the same result, since no distance is from 15 to 19 or from 45
+-- to 49
 abbrev pub service : ℕ → ℕ
 service distance = if nat_lt distance 16 then 0 else if nat_lt distance 50 then 1 else 2
 
--- the rank of the tag at an index for the range at a place: how the tag serves it, what the weight lacks to 1, the place, the
--- distance, what look-up takes from the range (all where it does not find the tag), how unlikely the region is, the index
+-- the rank of a tag for a range, as a list of numbers. The first four are how well the tag serves the range, 1 minus
+-- the weight of the range in thousandths, the number of ranges before the range, and the distance. The last three are
+-- how many bytes look-up removes from the range (all if it does not find the tag), how unlikely the region of the tag
+-- is, and the index of the tag
 unfoldable pub rank : ℕ → Element → ℕ → List ℕ → List ℕ
 rank place element index tag =
     service (reach element.range tag) ∷ (1000 - element.weight) ∷ place ∷ reach element.range tag ∷
     (length element.range - kept element.range tag) ∷ unlikely tag ∷ index ∷ []
 
--- of two ranks the first number that differs decides
+-- a rank is at most another rank: the first number in which they differ decides
 abbrev pub IsAtMost : List ℕ → List ℕ → Type 0
 IsAtMost a b = is_gt (slice_cmp nat_cmp a b) ≡ false
 
 -- ---- the choice
 
--- a range and a tag that may serve it and is not refused
+-- a range, and a tag that may serve the range and is not refused
 pub record Pair (elements : List Element) (tags : List (Option (List ℕ))) : Type 0 where
   pub place : ℕ
   pub element : Element
@@ -82,17 +85,18 @@ pub record Pair (elements : List Element) (tags : List (Option (List ℕ))) : Ty
 abbrev pub rank_of_pair : (elements : List Element) (tags : List (Option (List ℕ))) → Pair elements tags → List ℕ
 rank_of_pair elements tags pair = rank pair.place pair.element pair.index pair.tag
 
--- the tag at an index is that of the least of all pairs
+-- the tag at an index belongs to the pair with the least rank
 pub record IsLeast (elements : List Element) (tags : List (Option (List ℕ))) (index : ℕ) : Type 0 where
   pub pair : Pair elements tags
   pub here : pair.index ≡ index
   pub least : (other : Pair elements tags) → IsAtMost (rank_of_pair elements tags pair) (rank_of_pair elements tags other)
 
--- the tag that a reader wants: that of the least pair, none if there is no pair
+-- the choice is the index of the tag in the pair with the least rank, or `None` if there is no pair
 abbrev pub IsChoice : List Element → List (Option (List ℕ)) → Option ℕ → Type 0
 IsChoice elements tags answer = MatchOption answer (Pair elements tags → ⊥) (IsLeast elements tags)
 
--- what is said of the least of all pairs: the index of its tag, its range and the place of that, and how far the tag is from it
+-- the match describes the pair with the least rank: the index of its tag, its range, the number of ranges before that
+-- range, and the distance from the range to the tag
 pub record IsMatchOf (elements : List Element) (tags : List (Option (List ℕ))) (found : BestMatch) : Type 0 where
   pub pair : Pair elements tags
   pub index : found.index ≡ pair.index
@@ -101,6 +105,6 @@ pub record IsMatchOf (elements : List Element) (tags : List (Option (List ℕ)))
   pub distance : found.distance ≡ distance_of_texts pair.element.range pair.tag
   pub least : (other : Pair elements tags) → IsAtMost (rank_of_pair elements tags pair) (rank_of_pair elements tags other)
 
--- none if there is no pair
+-- the match of the pair with the least rank, or `None` if there is no pair
 abbrev pub IsMatch : List Element → List (Option (List ℕ)) → Option BestMatch → Type 0
 IsMatch elements tags answer = MatchOption answer (Pair elements tags → ⊥) (IsMatchOf elements tags)

@@ -1,4 +1,4 @@
--- What is true of the choice, beside its definition.
+-- Laws of the choice.
 use Rattle.std.specs.Prelude.{◌≡◌, ℕ, ◌<◌, ◌≤◌, false, IsTrue, List, map, Option, Some, length, is_some}
 use Rattle.std.specs.List.{Contains, slice_get}
 use Rattle.std.specs.Option.{option_map}
@@ -15,25 +15,26 @@ IsOnlyChoice elements tags answer = (other : Option ℕ) → IsChoice elements t
 
 -- ---- where look-up finds a tag
 
--- a tag is what look-up falls back to from a range (RFC 4647 section 3.4)
-abbrev pub LooksUp : List ℕ → List ℕ → Type 0
-LooksUp range tag = (text : List ℕ) × Contains (fallbacks range) text × Alike text tag
+-- look-up of a range finds a tag: the tag equals the range or one of its fallbacks (RFC 4647 section 3.4), ignoring
+-- case
+abbrev pub FallsBackTo : List ℕ → List ℕ → Type 0
+FallsBackTo range tag = (text : List ℕ) × Contains (fallbacks range) text × Alike text tag
 
--- where look-up finds one that is not refused, for a range of a weight above 0, there is an answer
+-- if look-up of a range with a weight above 0 finds a tag that is not refused, then some tag is chosen
 abbrev pub AnswersLookUp : List Element → List (Option (List ℕ)) → Option ℕ → Type 0
 AnswersLookUp elements tags answer =
     (place : ℕ) (element : Element) (index : ℕ) (tag : List ℕ) → slice_get elements place ≡ Some element → IsTrue (is_wish element) → is_star element.range ≡ false →
-    slice_get tags index ≡ Some (Some tag) → is_refused elements tag ≡ false → 0 < length tag → LooksUp element.range tag → IsTrue (is_some answer)
+    slice_get tags index ≡ Some (Some tag) → is_refused elements tag ≡ false → 0 < length tag → FallsBackTo element.range tag → IsTrue (is_some answer)
 
 -- ---- a tag that is the range itself
 
--- of the elements none is heavier than one, and none before it as heavy
+-- the element is the first element with the greatest weight
 pub record IsHeaviest (elements : List Element) (place : ℕ) (element : Element) : Type 0 where
   pub there : slice_get elements place ≡ Some element
   pub most : (k : ℕ) (other : Element) → slice_get elements k ≡ Some other → other.weight ≤ element.weight
   pub first : (k : ℕ) (other : Element) → slice_get elements k ≡ Some other → k < place → other.weight < element.weight
 
--- the tag at an index is a range but for case, and is not refused; no such tag stands before it
+-- the tag at an index is the first tag that equals a range, ignoring case, and is not refused
 pub record IsFirstAlike (elements : List Element) (tags : List (Option (List ℕ))) (range : List ℕ) (index : ℕ) : Type 0 where
   pub tag : List ℕ
   pub there : slice_get tags index ≡ Some (Some tag)
@@ -41,7 +42,7 @@ pub record IsFirstAlike (elements : List Element) (tags : List (Option (List ℕ
   pub alike : Alike range tag
   pub first : (k : ℕ) (other : List ℕ) → slice_get tags k ≡ Some (Some other) → is_refused elements other ≡ false → Alike range other → index ≤ k
 
--- a tag that is the first range of the greatest weight is the answer
+-- the first tag that equals the first range of the greatest weight is chosen
 abbrev pub AnswersEqual : List Element → List (Option (List ℕ)) → Option ℕ → Type 0
 AnswersEqual elements tags answer =
     (place : ℕ) (element : Element) (index : ℕ) → IsHeaviest elements place element → IsTrue (is_wish element) → element.weight ≤ 1000 → is_star element.range ≡ false →
@@ -49,13 +50,13 @@ AnswersEqual elements tags answer =
 
 -- ---- the case of letters
 
--- of elements and tags that are equal to these but for case it is the choice, too
+-- the choice is the same for all elements and tags that equal the given ones, ignoring case
 abbrev pub IgnoresCase : List Element → List (Option (List ℕ)) → Option ℕ → Type 0
 IgnoresCase elements tags answer =
     (other : List Element) (other_tags : List (Option (List ℕ))) → map folded elements ≡ map folded other → map (option_map fold_text) tags ≡ map (option_map fold_text) other_tags →
     IsChoice other other_tags answer
 
--- of a header and tags that are equal to these but for case it is the choice, too
+-- the choice stays the same if the header or the tags change only in the case of their letters
 abbrev pub IgnoresHeaderCase : List ℕ → List (Option (List ℕ)) → Option ℕ → Type 0
 IgnoresHeaderCase header tags answer =
     (other : List ℕ) (other_tags : List (Option (List ℕ))) → Alike header other → map (option_map fold_text) tags ≡ map (option_map fold_text) other_tags →

@@ -1,5 +1,5 @@
--- The distance from a desired tag to a supported one (UTS #35, part 1, section 'Language Matching'): of the languages, the
--- scripts and the regions of their matching forms, added up.
+-- The distance from a desired tag to a supported tag (UTS #35, part 1, section 'Language Matching'). It is the sum of
+-- the distances of the languages, the scripts and the regions of their matching forms.
 use Rattle.std.specs.Prelude.{◌≡◌, ℕ, ◌+◌, ◌==◌, Bool, false, ◌&&◌, ◌||◌, not, List, [], ◌∷◌, Option, None, Some, codes, if◌then◌else◌}
 use Rattle.langtag_scan.specs.Case.{Alike, are_alike}
 use Rattle.langtag_likely.specs.Likely.{Fields, are_alike_fields, language_alone, without_region}
@@ -9,12 +9,14 @@ use Rattle.langtag_choice.specs.Rules.{distance_by}
 
 -- ---- languages and scripts
 
--- none where they are equal; else that of the rule for the two, and 80 where there is none
+-- the distance of two languages: 0 if they are equal, and otherwise the distance of the rule for them, or 80 if there
+-- is no rule
 unfoldable pub language_distance : Fields → Fields → ℕ
 language_distance desired supported =
     if are_alike desired.language supported.language then 0 else distance_by language_rules 80 (language_alone desired) (language_alone supported)
 
--- none where they are equal; else that of the rule for the two and their languages, and 50 where there is none
+-- the distance of two scripts: 0 if they are equal, and otherwise the distance of the rule for them and their
+-- languages, or 50 if there is no rule
 unfoldable pub script_distance : Fields → Fields → ℕ
 script_distance desired supported =
     if are_alike desired.script supported.script then 0 else distance_by script_rules 50 (without_region desired) (without_region supported)
@@ -25,20 +27,21 @@ abbrev pub is_among : List (List ℕ) → List ℕ → Bool
 is_among [] text = false
 is_among (word ∷ words) text = are_alike word text || is_among words text
 
--- regions, and groups that lie in a set as all their countries do; and groups of which some countries do
+-- a set of regions: `inside` has its regions, and the groups whose countries are all in the set; `partly` has the
+-- groups with only some countries in the set
 pub record RegionSet : Type 0 where
   pub inside : List (List ℕ)
   pub partly : List (List ℕ)
 
--- a region lies in what the set leaves, `$!`, if none of its countries lies in the set
+-- whether a region is in the complement of a set, which CLDR writes as `$!`: none of its countries is in the set
 abbrev pub is_outside : RegionSet → List ℕ → Bool
 is_outside set region = not (is_among set.inside region) && not (is_among set.partly region)
 
--- both lie in the set, or both in what it leaves
+-- whether two regions are both in a set, or both in its complement
 abbrev pub on_one_side : RegionSet → List ℕ → List ℕ → Bool
 on_one_side set a b = (is_among set.inside a && is_among set.inside b) || (is_outside set a && is_outside set b)
 
--- the rules for a language with a set: both on one side, 4; else 5
+-- the distance of two regions by a set: 4 if both are in the set or both in its complement, and otherwise 5
 abbrev pub by_side : RegionSet → List ℕ → List ℕ → ℕ
 by_side set a b = if on_one_side set a b then 4 else 5
 
@@ -54,15 +57,16 @@ americas = record { inside = americas_inside; partly = americas_partly }
 unfoldable pub cnsar : RegionSet
 cnsar = record { inside = cnsar_inside; partly = cnsar_partly }
 
--- the United Kingdom, and a region of the complement of $enUS
+-- whether the first region is the United Kingdom, and the second is in the complement of $enUS
 abbrev pub is_british : List ℕ → List ℕ → Bool
 is_british a b = are_alike (codes "GB") a && is_outside en_us b
 
--- English: what is not as in the United States is nearer to British English
+-- the distance of two regions for English: a region outside the United States' set is nearer to the United Kingdom than
+-- to other regions
 abbrev pub english : List ℕ → List ℕ → ℕ
 english a b = if is_british a b || is_british b a then 3 else by_side en_us a b
 
--- of different regions, of one language
+-- the distance of two different regions for one language
 abbrev pub by_language : Fields → Fields → ℕ
 by_language desired supported =
     if are_alike (codes "ar") desired.language then by_side maghreb desired.region supported.region
@@ -80,11 +84,11 @@ region_distance desired supported =
 
 -- ---- the distance of two texts
 
--- of their matching forms: at most 134
+-- the distance of two matching forms, which is at most 134
 abbrev pub fields_distance : Fields → Fields → ℕ
 fields_distance desired supported = language_distance desired supported + (script_distance desired supported + region_distance desired supported)
 
--- where a text has no matching form: 0 to one that is equal but for case, and otherwise 255
+-- the distance of two texts if one of them has no matching form: 0 if they are equal, ignoring case, and otherwise 255
 abbrev pub formless_distance : List ℕ → List ℕ → ℕ
 formless_distance desired supported = if are_alike desired supported then 0 else 255
 
@@ -93,13 +97,13 @@ distance_of_forms desired supported None form = formless_distance desired suppor
 distance_of_forms desired supported (Some a) None = formless_distance desired supported
 distance_of_forms desired supported (Some a) (Some b) = fields_distance a b
 
--- the distance from a desired text to a supported one
+-- the distance from a desired text to a supported text
 unfoldable pub distance_of_texts : List ℕ → List ℕ → ℕ
 distance_of_texts desired supported = distance_of_forms desired supported (matching_form desired) (matching_form supported)
 
 -- ---- laws
 
--- matching forms are equal but for case; of texts without one, the texts
+-- whether two matching forms are equal, ignoring case; if a text has no matching form, whether the texts are equal
 abbrev pub are_alike_forms : List ℕ → List ℕ → Option Fields → Option Fields → Bool
 are_alike_forms desired supported None form = are_alike desired supported
 are_alike_forms desired supported (Some a) None = are_alike desired supported
@@ -110,6 +114,6 @@ abbrev pub ZeroIfEqual : List ℕ → List ℕ → ℕ → Type 0
 ZeroIfEqual desired supported distance =
     (distance == 0) ≡ are_alike_forms desired supported (matching_form desired) (matching_form supported)
 
--- texts that are equal but for case to these two are as far apart
-abbrev pub IgnoresCase : List ℕ → List ℕ → ℕ → Type 0
-IgnoresCase desired supported distance = (d s : List ℕ) → Alike desired d → Alike supported s → distance_of_texts d s ≡ distance
+-- all pairs of texts that equal the two given texts, ignoring case, have the same distance
+abbrev pub DistanceIgnoresCase : List ℕ → List ℕ → ℕ → Type 0
+DistanceIgnoresCase desired supported distance = (d s : List ℕ) → Alike desired d → Alike supported s → distance_of_texts d s ≡ distance

@@ -1,4 +1,4 @@
--- What is found on the way to the choice. Contracts of private functions alone speak of this page.
+-- The candidate that is found while the choice is made. Only contracts of private functions cite this page.
 use Rattle.std.specs.Prelude.{◌≡◌, ◌⊎◌, ℕ, ◌<◌, ◌-◌, true, false, List, [], ◌∷◌, Option, Some, None, MatchOption, IfSome, length}
 use Rattle.std.specs.List.{slice_get}
 use Rattle.std.specs.Option.{option_map}
@@ -15,7 +15,7 @@ use Rattle.langtag_choice.specs.declared.candidate.Service.TheVariants.{Near, Ac
 use Rattle.langtag_choice.specs.declared.nearness.Nearness.{Nearness}
 use Rattle.langtag_choice.specs.declared.wish.Wish.{Wish}
 
--- what a range says
+-- the element from which a wish was read
 abbrev pub wish_element : Wish → Element
 wish_element wish = record { range = basic_text wish.range.now; weight = wish.weight }
 
@@ -29,28 +29,28 @@ rank_of c =
     service_number c.rank.service ∷ c.rank.lack ∷ c.rank.place ∷ c.rank.distance ∷
     (length (basic_text c.range.now) - kept (basic_text c.range.now) c.tag.now) ∷ unlikely c.tag.now ∷ c.index ∷ []
 
--- what was found has at most a rank
+-- a candidate was found, and its rank is at most this one
 abbrev pub IsNotAfter : Option Candidate → List ℕ → Type 0
 IsNotAfter None rank = ⊥
 IsNotAfter (Some c) rank = IsAtMost (rank_of c) rank
 
--- what has at most a rank still has
+-- the candidate did not get worse: if the rank of the old candidate is at most r, so is the rank of the new candidate
 abbrev pub Keeps : Option Candidate → Option Candidate → Type 0
 Keeps old new = (r : List ℕ) → IsNotAfter old r → IsNotAfter new r
 
--- how near a tag is to a range that it may serve
+-- the nearness of a tag to a range that the tag may serve
 pub record IsNear (range tag : List ℕ) (near : Nearness) : Type 0 where
   pub distance : near.distance ≡ reach range tag
   pub form : option_map field_texts near.form ≡ matching_form tag
   pub served : may_serve range tag ≡ true
 
--- at a distance below a limit, with a form
+-- the nearness has this distance, which is below a limit, and this matching form
 pub record IsNearer (limit far : ℕ) (known : Option Fields) (near : Nearness) : Type 0 where
   pub distance : near.distance ≡ far
   pub below : far < limit
   pub form : option_map field_texts near.form ≡ known
 
--- the candidate that a tag at an index is for a range
+-- the candidate is the tag at an index, for the range of a wish
 pub record IsOf (wish : Wish) (text : List ℕ) (there : ℕ) (c : Candidate) : Type 0 where
   pub place : c.rank.place ≡ wish.place
   pub index : c.index ≡ there
@@ -59,13 +59,13 @@ pub record IsOf (wish : Wish) (text : List ℕ) (there : ℕ) (c : Candidate) : 
   pub served : serves (wish_element wish) text ≡ true
   pub same_rank : rank_of c ≡ rank wish.place (wish_element wish) there text
 
--- what was found, before and after a text at an index is taken for a range
+-- `old` and `new` are the candidates before and after the text at an index was tried for a range
 pub record Takes (wish : Wish) (tag : List ℕ) (index : ℕ) (old new : Option Candidate) : Type 0 where
   pub keeps : Keeps old new
   pub covers : serves (wish_element wish) tag ≡ true → IsNotAfter new (rank wish.place (wish_element wish) index tag)
   pub from : (new ≡ old) ⊎ MatchOption new ⊥ (IsOf wish tag index)
 
--- a candidate that a text at an index is for one of some ranges
+-- the candidate is the text at an index, for one of the ranges
 pub record IsAt (elements : List Element) (text : List ℕ) (there : ℕ) (c : Candidate) : Type 0 where
   pub element : Element
   pub wanted : slice_get elements c.rank.place ≡ Some element
@@ -75,51 +75,51 @@ pub record IsAt (elements : List Element) (text : List ℕ) (there : ℕ) (c : C
   pub served : serves element text ≡ true
   pub same_rank : rank_of c ≡ rank c.rank.place element there text
 
--- what was found is what it was, or such a candidate
+-- the candidate did not change, or the new candidate is the text at the index for one of the ranges
 abbrev pub IsOldOrAt : List Element → List ℕ → ℕ → Option Candidate → Option Candidate → Type 0
 IsOldOrAt elements tag index old new = (new ≡ old) ⊎ MatchOption new ⊥ (IsAt elements tag index)
 
--- a candidate for one of some ranges. What stands at its index need not be a tag, and may be refused
+-- the candidate is an entry of the list for one of the ranges; the entry need not be a tag, and may be refused
 pub record IsFor (elements : List Element) (tags : List (Option (List ℕ))) (c : Candidate) : Type 0 where
   pub at : IsAt elements c.tag.now c.index c
   pub inside : c.index < length tags
   pub there : (tag : List ℕ) → slice_get tags c.index ≡ Some (Some tag) → c.tag.now ≡ tag
 
--- at an index stands a tag, and it is not refused
+-- the entry at an index is a tag that is not refused
 abbrev pub IsUnrefusedAt : List Element → List (Option (List ℕ)) → ℕ → Type 0
 IsUnrefusedAt elements tags index = (tag : List ℕ) × (slice_get tags index ≡ Some (Some tag)) × (is_refused elements tag ≡ false)
 
--- what was found serves one of some ranges
+-- the candidate, if there is one, serves one of the ranges
 abbrev pub IsReal : List Element → List (Option (List ℕ)) → Option Candidate → Type 0
 IsReal elements tags found = IfSome found (IsFor elements tags)
 
--- what was found is not above any pair of one of the first ranges
+-- no pair with one of the first ranges has a lesser rank than the candidate
 abbrev pub Covers : List Element → List (Option (List ℕ)) → ℕ → Option Candidate → Type 0
 Covers elements tags count found =
     (place : ℕ) → place < count → (element : Element) (index : ℕ) (tag : List ℕ) → slice_get elements place ≡ Some element → slice_get tags index ≡ Some (Some tag) →
     serves element tag ≡ true → IsNotAfter found (rank place element index tag)
 
--- of a range at a place and one of the first tags
+-- no pair of this range and one of the first tags has a lesser rank than the candidate
 abbrev pub CoversTags : Element → ℕ → List (Option (List ℕ)) → ℕ → Option Candidate → Type 0
 CoversTags element place tags count found =
     (index : ℕ) → index < count → (tag : List ℕ) → slice_get tags index ≡ Some (Some tag) → serves element tag ≡ true → IsNotAfter found (rank place element index tag)
 
--- of a tag at an index and one of the first ranges
+-- no pair of this tag and one of the first ranges has a lesser rank than the candidate
 abbrev pub CoversRanges : List Element → List ℕ → ℕ → ℕ → Option Candidate → Type 0
 CoversRanges elements tag index count found =
     (place : ℕ) → place < count → (element : Element) → slice_get elements place ≡ Some element → serves element tag ≡ true → IsNotAfter found (rank place element index tag)
 
--- of one of the first tags that are not refused
+-- no pair with one of the first tags has a lesser rank than the candidate, apart from pairs with refused tags
 abbrev pub CoversOpen : List Element → List (Option (List ℕ)) → ℕ → Option Candidate → Type 0
 CoversOpen elements tags count found =
     (index : ℕ) → index < count → (place : ℕ) (element : Element) (tag : List ℕ) → slice_get elements place ≡ Some element → slice_get tags index ≡ Some (Some tag) →
     is_refused elements tag ≡ false → serves element tag ≡ true → IsNotAfter found (rank place element index tag)
 
--- what was found is of such a tag
+-- the candidate, if there is one, is a tag that is not refused
 abbrev pub AreOpen : List Element → List (Option (List ℕ)) → Option Candidate → Type 0
 AreOpen elements tags found = IfSome found (λ c. IsUnrefusedAt elements tags c.index)
 
--- a candidate is that of the least of all pairs
+-- the candidate is the pair with the least rank
 pub record IsBestOf (elements : List Element) (tags : List (Option (List ℕ))) (c : Candidate) : Type 0 where
   pub pair : Pair elements tags
   pub place : pair.place ≡ c.rank.place
@@ -128,6 +128,6 @@ pub record IsBestOf (elements : List Element) (tags : List (Option (List ℕ))) 
   pub tag : pair.tag ≡ c.tag.now
   pub least : (other : Pair elements tags) → IsAtMost (rank_of_pair elements tags pair) (rank_of_pair elements tags other)
 
--- what was found is that, and nothing where there is no pair
+-- the candidate is the pair with the least rank, or `None` if there is no pair
 abbrev pub IsBestFound : List Element → List (Option (List ℕ)) → Option Candidate → Type 0
 IsBestFound elements tags found = MatchOption found (Pair elements tags → ⊥) (IsBestOf elements tags)

@@ -1,4 +1,4 @@
--- What some tags and some language ranges say.
+-- The texts of tags, and the elements of language ranges.
 use Rattle.std.specs.Prelude.{ℕ, List, Option, Some, map}
 use Rattle.langtag.specs.declared.lang_tag.LangTag.{LangTag}
 use Rattle.langtag.specs.Text.{lang_tag_text}
@@ -8,14 +8,14 @@ use Rattle.langtag_match.specs.Text.{language_range_text}
 use Rattle.langtag_match.specs.declared.language_range.LanguageRange.{LanguageRange}
 use Rattle.langtag_match.specs.declared.weighted_range.WeightedRange.{WeightedRange}
 
--- each tag's text
+-- the text of each tag
 abbrev pub tag_texts : List LangTag → List (Option (List ℕ))
 tag_texts tags = map (λ tag. Some (lang_tag_text tag)) tags
 
--- ranges of one weight, 1, each without its "*"
+-- the elements of ranges that all have the weight 1; each "*" is left out
 abbrev pub ordered_elements : List LanguageRange → List Element
 ordered_elements ranges = map (λ range. record { range = basic_text (language_range_text range); weight = 1000 }) ranges
 
--- ranges with their weights
+-- the elements of ranges with their weights
 abbrev pub weighted_elements : List WeightedRange → List Element
 weighted_elements ranges = map (λ weighted. record { range = basic_text (language_range_text weighted.range); weight = weighted.weight }) ranges

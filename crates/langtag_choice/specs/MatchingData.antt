@@ -1,10 +1,10 @@
--- What Unicode's CLDR 48.2 says of language matching (the notice: likely/LICENSE-UNICODE). Written by likely/generate.py. Do not edit.
+-- The rules of language matching of Unicode's CLDR 48.2 (the notice: likely/LICENSE-UNICODE). Written by likely/generate.py. Do not edit.
 use Rattle.std.specs.Prelude.{ℕ, [], ◌∷◌, List, codes}
 use Rattle.std.specs.List.{flat_map}
 use Rattle.langtag_tables.specs.Words.{words}
 use Rattle.langtag_choice.specs.Rules.{Rule, rules_of_languages, rules_of_scripts}
 
--- a desired and a supported language, and their distance: the rules, in each direction in which they hold
+-- the rules for languages: a desired language, a supported language, and their distance. A rule that holds in both directions is listed twice
 unfoldable pub language_rules : List Rule
 language_rules =
     flat_map (λ text. rules_of_languages (words text))
@@ -24,7 +24,7 @@ language_rules =
     ∷ codes "vro et 10 wuu zh 10 xmm ms 10 xmv mg 10 xmw mg 10 yih yi 10 yue zh 10 zlm ms 10 zmi ms 10"
     ∷ [])
 
--- a desired language with its script and a supported one, and the distance of the scripts: the rules, in each direction in which they hold
+-- the rules for scripts: a desired language with its script, a supported language with its script, and the distance of the scripts. A rule that holds in both directions is listed twice
 unfoldable pub script_rules : List Rule
 script_rules =
     flat_map (λ text. rules_of_scripts (words text))
@@ -33,35 +33,35 @@ script_rules =
     ∷ codes "zh Hani zh Hant 20 zh Latn zh Hans 20"
     ∷ [])
 
--- the regions of $maghreb, and groups of which all countries are
+-- the regions of $maghreb: countries, and groups of countries that are all in it
 unfoldable pub maghreb_inside : List (List ℕ)
 maghreb_inside =
     flat_map words
     (codes "DZ EH LY MA MR TN"
     ∷ [])
 
--- groups of which some countries are in $maghreb, but not all
+-- groups of countries of which some are in $maghreb, but not all
 unfoldable pub maghreb_partly : List (List ℕ)
 maghreb_partly =
     flat_map words
     (codes "UN 001 002 011 015 202"
     ∷ [])
 
--- the regions of $enUS, and groups of which all countries are
+-- the regions of $enUS: countries, and groups of countries that are all in it
 unfoldable pub en_us_inside : List (List ℕ)
 en_us_inside =
     flat_map words
     (codes "AS CA GU MH MP PH PR UM US VI"
     ∷ [])
 
--- groups of which some countries are in $enUS, but not all
+-- groups of countries of which some are in $enUS, but not all
 unfoldable pub en_us_partly : List (List ℕ)
 en_us_partly =
     flat_map words
     (codes "UN 001 003 009 019 021 029 035 057 061 142 419"
     ∷ [])
 
--- the regions of $americas, and groups of which all countries are
+-- the regions of $americas: countries, and groups of countries that are all in it
 unfoldable pub americas_inside : List (List ℕ)
 americas_inside =
     flat_map words
@@ -70,21 +70,21 @@ americas_inside =
     ∷ codes "SX TC TT US UY VC VE VG VI 003 005 013 019 021 029 419"
     ∷ [])
 
--- groups of which some countries are in $americas, but not all
+-- groups of countries of which some are in $americas, but not all
 unfoldable pub americas_partly : List (List ℕ)
 americas_partly =
     flat_map words
     (codes "UN 001"
     ∷ [])
 
--- the regions of $cnsar, and groups of which all countries are
+-- the regions of $cnsar: countries, and groups of countries that are all in it
 unfoldable pub cnsar_inside : List (List ℕ)
 cnsar_inside =
     flat_map words
     (codes "HK MO"
     ∷ [])
 
--- groups of which some countries are in $cnsar, but not all
+-- groups of countries of which some are in $cnsar, but not all
 unfoldable pub cnsar_partly : List (List ℕ)
 cnsar_partly =
     flat_map words

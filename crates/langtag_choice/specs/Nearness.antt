@@ -1,4 +1,4 @@
--- What decides among tags that are as near to a range.
+-- What decides among tags at the same distance from a range.
 use Rattle.std.specs.Prelude.{ℕ, Bool, ◌==◌, ◌&&◌, ◌||◌, not, if◌then◌else◌, List, codes, length, take, drop}
 use Rattle.std.specs.Option.{option_map_or}
 use Rattle.langtag_scan.specs.Case.{are_alike}
@@ -8,28 +8,30 @@ use Rattle.langtag_likely.specs.Matching.{matching_form}
 use Rattle.langtag_match.specs.Basic.{ends_subtag}
 use Rattle.langtag_match.specs.Fallback.{ends_in_single}
 
--- ---- what look-up keeps of a range (RFC 4647 section 3.4)
+-- ---- the part of a range that look-up keeps (RFC 4647 section 3.4)
 
--- a tag is a range, or what stands before one of its hyphens and does not end in a single character
+-- whether a tag equals a range, or equals the text before one of the range's hyphens and does not end in a subtag of a
+-- single character
 abbrev pub is_fallback : List ℕ → List ℕ → Bool
 is_fallback range tag =
     are_alike (take (length tag) range) tag && (ends_subtag (drop (length tag) range) && ((length tag == length range) || not (ends_in_single tag)))
 
--- how much of a range look-up keeps where it finds a tag: 0 where it does not find it
+-- the number of bytes of a range that look-up keeps when it finds a tag, or 0 if it does not find the tag
 unfoldable pub kept : List ℕ → List ℕ → ℕ
 kept range tag = if is_fallback range tag then length tag else 0
 
--- ---- which of several tags is the likeliest
+-- ---- which of several tags is most likely
 
--- a language with the script Latn, and a region
+-- whether a matching form has this language, the script Latn and this region
 abbrev pub is_form : List ℕ → List ℕ → Fields → Bool
 is_form language region form = are_alike language form.language && (are_alike (codes "Latn") form.script && are_alike region form.region)
 
--- the paradigm locales whose regions are not the likely ones: en-GB, es-419 and pt-PT
+-- whether a form is one of CLDR's paradigm locales whose region is not the likely region: en-GB, es-419 and pt-PT
 abbrev pub is_paradigm : Fields → Bool
 is_paradigm form = is_form (codes "en") (codes "GB") form || (is_form (codes "es") (codes "419") form || is_form (codes "pt") (codes "PT") form)
 
--- 0 where its region is the likely one of its language and script, 1 of a paradigm locale, 2 of any other
+-- how unlikely a form is: 0 if its region is the likely region for its language and script, 1 for a paradigm locale,
+-- and 2 for any other form
 abbrev pub unlikely_form : Fields → ℕ
 unlikely_form form = if suffices likely_subtags form (without_region form) then 0 else if is_paradigm form then 1 else 2
 

@@ -1,4 +1,4 @@
--- The numbers by which the tables know two languages. Contracts of private functions alone speak of this page.
+-- The numbers that stand for two languages in the tables. Only contracts of private functions cite this page.
 use Rattle.std.specs.Prelude.{ℕ, ◌+◌, ◌*◌}
 use Rattle.langtag_tables.specs.Numbers.{letter_number}
 use Rattle.langtag_likely.specs.Likely.{Fields}

@@ -2,7 +2,7 @@
 use Rattle.std.specs.Prelude.{ℕ, ◌+◌, ◌*◌, ◌-◌, ◌&&◌, Bool, List, [], ◌∷◌, fold, if◌then◌else◌}
 use Rattle.langtag_likely.specs.Likely.{Fields, are_alike_fields}
 
--- the distance from what is desired to what is supported
+-- a rule: the distance from the desired fields to the supported fields
 pub record Rule : Type 0 where
   pub desired : Fields
   pub supported : Fields
@@ -10,11 +10,11 @@ pub record Rule : Type 0 where
 
 -- ---- how the lists of data are read
 
--- a number in decimal digits
+-- the number that decimal digits stand for
 abbrev pub decimal_number : List ℕ → ℕ
 decimal_number digits = fold (λ number digit. number * 10 + (digit - 48)) 0 digits
 
--- of words, three a row: two languages, and a distance
+-- the rules in a list of words, three for each rule: two languages, and their distance
 abbrev pub rules_of_languages : List (List ℕ) → List Rule
 rules_of_languages [] = []
 rules_of_languages (d ∷ []) = []
@@ -23,7 +23,8 @@ rules_of_languages (d ∷ s ∷ n ∷ words) =
     record { desired = record { language = d; script = []; region = [] }; supported = record { language = s; script = []; region = [] }; distance = decimal_number n }
     ∷ rules_of_languages words
 
--- of words, five a row: a language and a script, twice, and a distance
+-- the rules in a list of words, five for each rule: a language and a script, another language and script, and their
+-- distance
 abbrev pub rules_of_scripts : List (List ℕ) → List Rule
 rules_of_scripts [] = []
 rules_of_scripts (d ∷ []) = []
@@ -34,12 +35,12 @@ rules_of_scripts (d ∷ a ∷ s ∷ b ∷ n ∷ words) =
     record { desired = record { language = d; script = a; region = [] }; supported = record { language = s; script = b; region = [] }; distance = decimal_number n }
     ∷ rules_of_scripts words
 
--- ---- a rule for two
+-- ---- the rule for two sets of fields
 
 abbrev pub fits : Fields → Fields → Rule → Bool
 fits desired supported rule = are_alike_fields rule.desired desired && are_alike_fields rule.supported supported
 
--- the distance by the rule for these, or else that of the rule for all
+-- the distance by the rule for these fields, or the given distance if there is no such rule
 abbrev pub distance_by : List Rule → ℕ → Fields → Fields → ℕ
 distance_by [] otherwise desired supported = otherwise
 distance_by (rule ∷ rules) otherwise desired supported =

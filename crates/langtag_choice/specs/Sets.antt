@@ -1,4 +1,4 @@
--- The sets of regions as the code names them. Contracts of private functions alone speak of this page.
+-- The sets of regions by their names in the code. Only contracts of private functions cite this page.
 use Rattle.langtag_choice.specs.declared.region_distance.SetName.{SetName}
 use Rattle.langtag_choice.specs.declared.region_distance.SetName.TheVariants.{Maghreb, UnitedStates, Americas, HongKongAndMacao}
 use Rattle.langtag_choice.specs.Distance.{RegionSet, maghreb, en_us, americas, cnsar}

@@ -1,4 +1,4 @@
-//! The tag that a reader wants.
+//! Choosing the best tag for a reader.
 ghost use Rattle.std.specs.Prelude.{◌≡◌, ◌<◌, IsTrue, length};
 ghost use Rattle.std.specs.List.{list_any};
 ghost use Rattle.std.specs.Option.{option_map};
@@ -60,9 +60,9 @@ pub fn best_for_accept_language(
     best_among(accepted.ranges(), &Tags(tags))
 }
 
-/// Returns the index of the best tag for a list of language ranges, the most wanted first, as [`best_for_header`] does:
-/// 1 for the ranges `nn` and `de`, and the tags `en` and `nb`. An extended range counts without its `*`: `zh-*-Hant`
-/// as `zh-Hant`.
+/// Returns the index of the best tag for a list of language ranges, the most wanted first, as [`best_for_header`] does.
+/// For the ranges `nn` and `de`, and the tags `en` and `nb`, it is 1. An extended range is read without its `*`:
+/// `zh-*-Hant` is read as `zh-Hant`.
 ///
 /// ```
 /// use langtag::LangTag;
@@ -134,7 +134,7 @@ pub fn match_among<'a, R: RangeList<'a>, T: TagList>(ranges: R, tags: &T) -> Opt
     }
 }
 
-/// Returns the match for a chosen candidate.
+/// Converts the chosen candidate to a [`BestMatch`].
 fn match_of<'a>(found: Candidate<'a, '_>) -> BestMatch<'a>
     ensures index { result.index ≡ found.entry.index }
     ensures range { result.range.now ≡ found.entry.range.now }

@@ -1,4 +1,4 @@
-//! The choice range by range, which skips lighter ranges if a heavier one has a tag.
+//! Making the choice range by range. Ranges of lower weight are skipped if a tag serves a range of higher weight.
 ghost use Rattle.std.specs.Prelude.{◌≡◌, ℕ, List, IsTrue, Some, length};
 ghost use Rattle.std.specs.List.{list_any, slice_get};
 ghost use Rattle.langtag_match.specs.AcceptLanguage.{Element};
@@ -15,7 +15,7 @@ use crate::tag_list::TagList;
 use crate::wish::Wish;
 use langtag_match::WantedRange;
 
-/// Returns the first of all candidates, even if it is refused or not a tag, and whether a range has the weight 0.
+/// Returns the best of all candidates, even if it is refused or not a tag, and whether a range has the weight 0.
 pub(crate) fn first_by_ranges<'a, 't, R: RangeList<'a>, T: TagList>(
     ranges: R,
     tags: &'t T,
@@ -37,7 +37,7 @@ pub(crate) fn first_by_ranges<'a, 't, R: RangeList<'a>, T: TagList>(
     (first, has_zero)
 }
 
-/// Replaces what was found by the first candidate for a range, if it goes before.
+/// Replaces the candidate by the best candidate for a range, if that is better.
 fn improve_for_range<'a, 't, T: TagList>(
     found: &mut Option<Candidate<'a, 't>>,
     wanted: WantedRange<'a>,

@@ -1,4 +1,4 @@
-//! The choice tag by tag, which checks once for each entry whether it is a tag, and whether it is refused.
+//! Making the choice tag by tag. Each entry is checked once: whether it is a tag, and whether it is refused.
 ghost use Rattle.std.specs.Prelude.{◌≡◌, ◌<◌, ◌↔◌, ℕ, List, IsTrue, Some, false, length};
 ghost use Rattle.std.specs.List.{slice_get};
 ghost use Rattle.langtag_match.specs.AcceptLanguage.{Element};
@@ -16,7 +16,7 @@ use crate::tag_list::TagList;
 use crate::wish::Wish;
 use langtag_match::WantedRange;
 
-/// Returns the first candidate among the tags that are not refused.
+/// Returns the best candidate among the tags that are not refused.
 pub(crate) fn first_by_tags<'a, 't, R: RangeList<'a>, T: TagList>(
     ranges: R,
     tags: &'t T,
@@ -32,8 +32,8 @@ pub(crate) fn first_by_tags<'a, 't, R: RangeList<'a>, T: TagList>(
     first
 }
 
-/// Replaces what was found by the first candidate with the tag at an index, if the tag is not refused and the candidate
-/// goes before.
+/// Replaces the candidate by the best candidate with the tag at an index, if that is better and the tag is not
+/// refused.
 fn improve_at<'a, 't, R: RangeList<'a>, T: TagList>(
     found: &mut Option<Candidate<'a, 't>>,
     ranges: R,
@@ -62,7 +62,7 @@ fn is_open<'a, R: RangeList<'a>, T: TagList>(ranges: R, tags: &T, index: usize) 
     }
 }
 
-/// Replaces what was found by the first candidate with a tag, if it goes before.
+/// Replaces the candidate by the best candidate with a tag, if that is better.
 fn improve_for_tag<'a, 't, R: RangeList<'a>>(
     found: &mut Option<Candidate<'a, 't>>,
     ranges: R,
@@ -82,7 +82,7 @@ fn improve_for_tag<'a, 't, R: RangeList<'a>>(
     }
 }
 
-/// Replaces what was found by the candidate with a tag and a range, if it goes before.
+/// Replaces the candidate by the candidate with a tag and a range, if that is better.
 fn improve_for_pair<'a, 't>(
     found: &mut Option<Candidate<'a, 't>>,
     wanted: WantedRange<'a>,

@@ -11,7 +11,8 @@ use crate::nearness::kept;
 use langtag_likely::{TagFields, basic_len};
 use std::cmp::Ordering;
 
-/// How a tag serves a range: its distance is below 16, or below 50, or only look-up finds it. The first is the best.
+/// How well a tag serves a range, the best first: at a distance below 16, at a distance below 50, or because only
+/// look-up finds it.
 #[derive(Clone, Copy, PartialEq, Eq, PartialOrd, Ord)]
 pub(crate) enum Service {
     Near,
@@ -24,7 +25,7 @@ impl Service {
     ghost use Rattle.langtag_choice.specs.Best.{service};
     ghost use Rattle.langtag_choice.specs.Found.{service_number};
 
-    /// Returns how a tag serves a range at a distance, which is 50 if only look-up finds it.
+    /// Returns how well a tag serves a range at a distance, which is 50 if only look-up finds the tag.
     pub(crate) fn at(distance: u8) -> Service
         ensures { service_number result ≡ service distance }
     {
@@ -49,22 +50,24 @@ impl Service {
     }
 }
 
-/// What is compared first: the lesser of two is the better, by the first field in which they differ.
+/// The part of a candidate that is compared first. The lesser of two ranks is better, and the first field in which they
+/// differ decides.
 #[derive(Clone, Copy, PartialEq, Eq, PartialOrd, Ord)]
 pub(crate) struct Rank {
     pub(crate) service: Service,
     /// 1 minus the weight of the range, in thousandths.
     pub(crate) lack: u32,
-    /// The number of ranges before it.
+    /// The number of ranges before the range.
     pub(crate) place: usize,
-    /// The distance of the tag, which is 50 if only look-up finds it.
+    /// The distance of the tag, which is 50 if only look-up finds the tag.
     pub(crate) distance: u8,
 }
 
 impl Rank {
     ghost use Rattle.std.specs.Prelude.{◌==◌, ◌&&◌, ◌||◌, nat_lt};
 
-    /// Returns whether the range is heavier than another at a place, or as heavy and before it.
+    /// Returns whether the range has more weight than another range, or the same weight and fewer ranges before it. The
+    /// other range is given by its own `lack` and `place`.
     pub(crate) fn is_wanted_more(self, lack: u32, place: usize) -> bool
         ensures { result ≡ (nat_lt self.lack lack || ((self.lack == lack) && nat_lt self.place place)) }
     {
@@ -72,7 +75,7 @@ impl Rank {
     }
 }
 
-/// A tag that may serve a range, at an index, with its matching form.
+/// A tag that may serve a range, with the tag's index and matching form.
 #[derive(Clone, Copy)]
 pub(crate) struct Candidate<'a, 't> {
     pub(crate) rank: Rank,
@@ -92,7 +95,7 @@ impl Candidate<'_, '_> {
     ghost use Rattle.langtag_choice.specs.Found.{rank_of};
     ghost use Rattle.langtag_choice.specs.Nearness.{kept};
 
-    /// Returns whether this candidate goes before another.
+    /// Returns whether this candidate is better than another.
     pub(crate) fn goes_before(&self, other: &Candidate<'_, '_>) -> bool
         ensures { result ≡ is_lt (slice_cmp nat_cmp (rank_of self.now) (rank_of other.now)) }
     {
@@ -103,8 +106,8 @@ impl Candidate<'_, '_> {
         }
     }
 
-    /// Returns whether this candidate goes before another of the same rank. It compares what look-up loses, then the
-    /// likely region, and then the index.
+    /// Returns whether this candidate is better than another of the same rank. It compares how much look-up removes
+    /// from the range, then how likely the region is, and then the index.
     #[tactic(auto, unfolding(crate::specs::Nearness::unlikely))]
     fn breaks_tie(&self, other: &Candidate<'_, '_>) -> bool
         ensures { result ≡ is_lt (slice_cmp nat_cmp (drop 4 (rank_of self.now)) (drop 4 (rank_of other.now))) }
@@ -120,8 +123,8 @@ impl Candidate<'_, '_> {
         self.index < other.index
     }
 
-    /// Returns how many bytes look-up removes from the range to find the tag. If look-up does not find the tag, it is
-    /// the whole length.
+    /// Returns how many bytes look-up removes from the range to find the tag, or the length of the range if look-up
+    /// does not find the tag.
     fn lost(&self) -> usize
         ensures { result ≡ length (basic_text self.now.range.now) - kept (basic_text self.now.range.now) self.now.tag.now }
     {

@@ -1,11 +1,12 @@
-//! Languages that have no other language near them, recognised by the first letters of a tag.
+//! Languages to which no other language is near. For such a language, the first letters of a tag show whether the tag
+//! has a different language.
 ghost use Rattle.std.specs.Prelude.{◌≡◌, IsTrue, Some, false, length};
 ghost use Rattle.std.specs.List.{before_first};
 ghost use Rattle.std.specs.Option.{ForSome, option_map};
 ghost use Rattle.langtag_scan.specs.Class.{is_extended, is_letter};
 ghost use Rattle.langtag_tables.specs.Numbers.{climbs_from};
 ghost use Rattle.langtag_match.specs.Listed.{basic_text};
-ghost use Rattle.langtag_match.specs.Wanted.{is_mark};
+ghost use Rattle.langtag_match.specs.Wanted.{is_separator};
 ghost use Rattle.langtag_choice.specs.Lone as spec;
 ghost use Rattle.langtag_likely.specs.Good.{is_language_field};
 ghost use Rattle.langtag_likely.specs.Texts.{field_texts};
@@ -13,12 +14,13 @@ ghost use Rattle.langtag_choice.specs.declared.matching_tables.TheConstants.{REL
 
 use crate::matching_tables as tables;
 use crate::read_range::starts;
-use langtag_likely::{TagFields, hyphened, language_number};
+use langtag_likely::{TagFields, language_number};
+use langtag_match::is_separator;
 use langtag_scan::into_smallcase;
 
-/// Returns the first two bytes of a text, in lowercase letters.
-pub(crate) fn head(text: &[u8]) -> Option<(u8, u8)>
-    ensures { result ≡ spec.head text.now }
+/// Returns the first two bytes of a text, in lowercase.
+pub(crate) fn first_two(text: &[u8]) -> Option<(u8, u8)>
+    ensures { result ≡ spec.first_two text.now }
 {
     match text {
         [first, second, ..] => Some((into_smallcase(*first), into_smallcase(*second))),
@@ -26,13 +28,14 @@ pub(crate) fn head(text: &[u8]) -> Option<(u8, u8)>
     }
 }
 
-/// Returns whether a text has a language of two letters and no extended language, if it begins with a language.
+/// Returns `true` only if the language of a text has two letters and no extended language follows it, or the text does
+/// not begin with a language.
 pub(crate) fn is_short(text: &[u8]) -> bool
     ensures { IsTrue result → spec.IsShort text.now }
 {
     match text {
         [_, _] => true,
-        [_, _, mark, rest @ ..] => is_mark(*mark) && has_no_extended(rest),
+        [_, _, mark, rest @ ..] => is_separator(*mark) && has_no_extended(rest),
         _ => false,
     }
 }
@@ -49,18 +52,18 @@ fn begins_counted(text: &[u8]) -> bool
     ensures { result ≡ spec.begins_counted text.now }
 {
     match text {
-        [first, ..] => !is_mark(*first) && *first != b'*',
+        [first, ..] => !is_separator(*first) && *first != b'*',
         [] => true,
     }
 }
 
 /// Returns whether a text may begin with an extended language. A region of three digits is not an extended language.
 fn may_be_extended(text: &[u8]) -> bool
-    ensures { result ≡ false → is_extended (before_first is_mark text.now) ≡ false }
+    ensures { result ≡ false → is_extended (before_first is_separator text.now) ≡ false }
 {
     match text {
         [first, _, _] => is_letter(*first),
-        [first, _, _, mark, ..] => is_mark(*mark) && is_letter(*first),
+        [first, _, _, mark, ..] => is_separator(*mark) && is_letter(*first),
         _ => false,
     }
 }
@@ -72,23 +75,17 @@ fn is_letter(byte: u8) -> bool
     byte.is_ascii_alphabetic()
 }
 
-fn is_mark(byte: u8) -> bool
-    ensures { result ≡ is_mark byte }
-{
-    hyphened(byte) == b'-'
-}
-
-/// Returns the letters of a form's language if it has two, the range begins with them, and no other language is near
-/// it.
+/// Returns the letters of a matching form's language if there are exactly two, the range begins with them, and no other
+/// language is near that language.
 pub(crate) fn lone_letters(range: &[u8], form: Option<TagFields<'_>>) -> Option<(u8, u8)>
     ensures lone { ForSome result (λ letters. spec.lone_head (option_map field_texts form.entry) ≡ Some letters) }
-    ensures begins { ForSome result (λ letters. spec.head (basic_text range.now) ≡ Some letters) }
+    ensures begins { ForSome result (λ letters. spec.first_two (basic_text range.now) ≡ Some letters) }
 {
     let Some(form) = form else { return None };
     if form.language.len() != 2 || is_related(form.language) || !starts(range, form.language) {
         return None;
     }
-    head(form.language)
+    first_two(form.language)
 }
 
 /// Returns whether a language of two letters is the desired language of a rule, or replaces a language of two letters.

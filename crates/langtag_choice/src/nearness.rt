@@ -17,16 +17,17 @@ use crate::rule_distance::language_distance;
 use crate::tag_distance::places_distance;
 use crate::wish::Wish;
 use langtag_likely::{TagFields, after_common, are_alike, completed, matching_form, replaced_form};
+use langtag_match::ends_in_single;
 
-/// How far a tag is from a range, and its matching form.
+/// The distance of a tag from a range, and the tag's matching form.
 #[derive(Clone, Copy)]
 pub(crate) struct Nearness<'t> {
     pub(crate) distance: u8,
     pub(crate) form: Option<TagFields<'t>>,
 }
 
-/// Returns how near a tag is to a range that it may serve, if its distance is below a limit. The distance is 50 if only
-/// look-up finds it.
+/// Returns how near a tag is to a range that the tag may serve, if the distance is below a limit. The distance is 50
+/// if only look-up finds the tag.
 #[tactic(auto, unfolding(crate::specs::Best::reach))]
 pub(crate) fn measured<'t>(limit: u8, wish: &Wish<'_>, tag: &'t [u8]) -> Option<Nearness<'t>>
     ensures { MatchOption result (IsTrue (may_serve (basic_text wish.now.range.now) tag.now) → limit ≤ reach (basic_text wish.now.range.now) tag.now)
@@ -81,7 +82,7 @@ fn nearer_fields<'t>(
     })
 }
 
-/// Returns the fields, completed with likely subtags if they have no language.
+/// Returns the fields; if they have no language, likely subtags are added first.
 #[tactic(auto, using(crate::proofs::NearForms::same_language))]
 fn with_language<'t>(fields: TagFields<'t>) -> TagFields<'t>
     ensures { (desired : Fields) → language_distance desired (field_texts result) ≡ language_distance desired (completed (field_texts fields.entry)) }
@@ -93,7 +94,7 @@ fn with_language<'t>(fields: TagFields<'t>) -> TagFields<'t>
     }
 }
 
-/// Returns how near a tag is to a range if one of them has no matching form.
+/// Returns how near a tag is to a range if the tag or the range has no matching form.
 fn equal_text<'t>(limit: u8, range: &[u8], tag: &'t [u8]) -> Option<Nearness<'t>>
     ensures { MatchOption result (limit ≤ formless_distance (basic_text range.now) tag.now)
         (IsNearer limit (formless_distance (basic_text range.now) tag.now) (matching_form tag.now)) }
@@ -107,7 +108,7 @@ fn equal_text<'t>(limit: u8, range: &[u8], tag: &'t [u8]) -> Option<Nearness<'t>
     })
 }
 
-/// Returns how much of a range look-up keeps, if it finds a tag.
+/// Returns the number of bytes of a range that look-up keeps when it finds a tag, or 0 if it does not find the tag.
 #[tactic(auto, unfolding(crate::specs::Nearness::kept))]
 pub(crate) fn kept(range: &[u8], tag: &[u8]) -> usize
     ensures { result ≡ spec.kept (basic_text range.now) tag.now }
@@ -119,8 +120,8 @@ pub(crate) fn kept(range: &[u8], tag: &[u8]) -> usize
     }
 }
 
-/// Returns whether a tag equals a range, or equals what precedes a hyphen of the range and does not end in a single
-/// character.
+/// Returns whether a tag equals a range, or equals the text before one of the range's hyphens and does not end in a
+/// subtag of a single character.
 fn is_fallback(range: &[u8], tag: &[u8]) -> bool
     ensures { result ≡ spec.is_fallback (basic_text range.now) tag.now }
 {
@@ -128,8 +129,8 @@ fn is_fallback(range: &[u8], tag: &[u8]) -> bool
     rest.is_empty() && may_go(left, tag)
 }
 
-/// Returns whether look-up removes what follows a tag in a range. The rest must be empty, or be subtags after a tag
-/// that does not end in a single character.
+/// Returns whether look-up can remove `left`, the rest of a range after a tag. This holds if `left` is empty, or if it
+/// begins with a hyphen and the tag does not end in a subtag of a single character.
 fn may_go(left: &[u8], tag: &[u8]) -> bool
     ensures { result ≡ (ends_subtag (hyphened left.now) && ((length left.now == 0) || not (ends_in_single tag.now))) }
 {
@@ -141,10 +142,4 @@ fn goes_on(rest: &[u8]) -> bool
     ensures { result ≡ ends_subtag (hyphened rest.now) }
 {
     matches!(rest, [] | [b'-' | b'_', ..])
-}
-
-fn ends_in_single(text: &[u8]) -> bool
-    ensures { result ≡ ends_in_single text.now }
-{
-    matches!(text, [_] | [.., b'-', _])
 }

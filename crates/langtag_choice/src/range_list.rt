@@ -1,4 +1,4 @@
-//! Language ranges for which a tag is chosen.
+//! The lists of language ranges for which a tag can be chosen.
 ghost use Rattle.std.specs.Prelude.{◌≡◌, ◌<◌, ◌^◌, ◌∷◌, [], IfSome, IsTrue, List, length};
 ghost use Rattle.std.specs.Option.{option_map_or};
 ghost use Rattle.langtag_match.specs.AcceptLanguage.{Element};
@@ -10,8 +10,8 @@ ghost use Rattle.langtag_choice.specs.ListTexts.{ordered_elements, weighted_elem
 use langtag_match::{LanguageRange, WantedRange, WeightedRange, split_wanted};
 
 /// Language ranges with their weights, in the reader's order. It is implemented for an Accept-Language header in a
-/// slice of bytes, and for slices of [`WeightedRange`] and of [`LanguageRange`]. A value walks over the ranges, and
-/// does not allocate.
+/// slice of bytes, and for slices of [`WeightedRange`] and of [`LanguageRange`]. Walking over the ranges does not
+/// allocate.
 ///
 /// ```
 /// use langtag::LangTag;

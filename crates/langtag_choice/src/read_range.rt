@@ -1,4 +1,4 @@
-//! Ranges as they are read: `_` as `-`, and without each `-*`.
+//! Comparing ranges with tags: in a range, `_` is read as `-`, and each `-*` is left out.
 ghost use Rattle.std.specs.Prelude.{◌≡◌, ◌&&◌, length, take, drop};
 ghost use Rattle.langtag_scan.specs.Case.{are_alike};
 ghost use Rattle.langtag_match.specs.Basic.{ends_subtag};
@@ -15,7 +15,7 @@ pub(crate) fn is_star(range: &[u8]) -> bool
     are_alike(range, b"*")
 }
 
-/// Returns whether a range begins like a tag.
+/// Returns whether a range begins with the whole text of a tag, ignoring case.
 pub(crate) fn starts(range: &[u8], tag: &[u8]) -> bool
     ensures { result ≡ are_alike (take (length tag.now) (basic_text range.now)) tag.now }
 {
@@ -23,7 +23,7 @@ pub(crate) fn starts(range: &[u8], tag: &[u8]) -> bool
     rest.is_empty()
 }
 
-/// Returns whether a tag equals a range, or begins with it and then has a hyphen.
+/// Returns whether a tag equals a range, or begins with the range and a hyphen.
 pub(crate) fn begins(range: &[u8], tag: &[u8]) -> bool
     ensures { result ≡ (are_alike (basic_text range.now) (take (length (basic_text range.now)) tag.now) && ends_subtag (drop (length (basic_text range.now)) tag.now)) }
 {
@@ -31,7 +31,7 @@ pub(crate) fn begins(range: &[u8], tag: &[u8]) -> bool
     left.is_empty() && ends_subtag(rest)
 }
 
-/// Returns whether the rest is empty or begins with a hyphen.
+/// Returns whether the rest of a tag is empty or begins with a hyphen.
 pub(crate) fn ends_subtag(rest: &[u8]) -> bool
     ensures { result ≡ ends_subtag rest.now }
 {

@@ -1,4 +1,4 @@
-//! The distance of regions: for some languages, by the sets in which they lie.
+//! The distance of regions, which for some languages depends on CLDR's sets of regions.
 ghost use Rattle.std.specs.Prelude.{◌≡◌, ◌≤◌, ◌==◌, IsTrue, false, map};
 ghost use Rattle.langtag_scan.specs.Case.{are_alike};
 ghost use Rattle.langtag_scan.specs.Case.{folded_number};
@@ -54,7 +54,7 @@ fn by_language(desired: TagFields<'_>, supported: TagFields<'_>) -> u8
     4
 }
 
-/// Returns the distance of two regions by whether they lie on the same side of a set.
+/// Returns the distance of two regions by a set: it is smaller if both are in the set, or both are outside it.
 fn by_side(set: SetName, a: TagFields<'_>, b: TagFields<'_>) -> u8
     ensures distance { result ≡ spec.by_side (set_of set) a.entry.region.now b.entry.region.now }
     ensures some { 1 ≤ result }
@@ -63,7 +63,8 @@ fn by_side(set: SetName, a: TagFields<'_>, b: TagFields<'_>) -> u8
     if on_one_side(set, a, b) { 4 } else { 5 }
 }
 
-/// Returns the distance of two regions of English. `GB` is nearer to a region outside the set of the United States.
+/// Returns the distance of two regions for English: `GB` is nearer to the regions outside the set `$enUS` than other
+/// regions are.
 fn english(a: TagFields<'_>, b: TagFields<'_>) -> u8
     ensures distance { result ≡ spec.english a.entry.region.now b.entry.region.now }
     ensures some { 1 ≤ result }

@@ -51,7 +51,7 @@ pub(crate) fn script_distance(desired: TagFields<'_>, supported: TagFields<'_>) 
     }
 }
 
-/// Returns two languages as one number.
+/// Returns the number that stands for two languages.
 fn language_pair(desired: TagFields<'_>, supported: TagFields<'_>) -> u32
     requires desired { length desired.language.now ≤ 3 }
     requires supported { length supported.language.now ≤ 3 }
@@ -61,7 +61,7 @@ fn language_pair(desired: TagFields<'_>, supported: TagFields<'_>) -> u32
     language_number(desired.language) * 32768 + language_number(supported.language)
 }
 
-/// Returns two languages, each with its script, as one number.
+/// Returns the number that stands for two languages with their scripts.
 fn script_pair(desired: TagFields<'_>, supported: TagFields<'_>) -> u64
     requires desired { length desired.language.now ≤ 3 }
     requires supported { length supported.language.now ≤ 3 }
@@ -90,7 +90,7 @@ fn script_rule_keys() -> &'static [u64]
     &tables::SCRIPT_RULE_KEYS
 }
 
-/// Returns the distance of a rule, which is never 0.
+/// Returns the distance of the rule at an index. The distance is never 0.
 #[tactic(auto, using(crate::proofs::MatchingTables::language_rule_count, crate::proofs::MatchingTables::language_rule_distances))]
 fn language_rule_distance(index: usize) -> u8
     requires { index < length language_rules }
@@ -101,7 +101,7 @@ fn language_rule_distance(index: usize) -> u8
     tables::LANGUAGE_RULE_DISTANCES[index]
 }
 
-/// Returns the distance of a rule, which is never 0.
+/// Returns the distance of the rule at an index. The distance is never 0.
 #[tactic(auto, using(crate::proofs::MatchingTables::script_rule_count, crate::proofs::MatchingTables::script_rule_distances))]
 fn script_rule_distance(index: usize) -> u8
     requires { index < length script_rules }

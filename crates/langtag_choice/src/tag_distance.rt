@@ -1,4 +1,4 @@
-//! The distance from a desired tag to another (UTS #35, part 1, section 'Language Matching').
+//! The distance from a desired tag to a supported tag (UTS #35, part 1, section 'Language Matching').
 ghost use Rattle.std.specs.Prelude.{◌≡◌, ◌+◌, ◌≤◌, ◌⊎◌, ◌==◌, ◌&&◌, IsTrue, false};
 ghost use Rattle.langtag.specs.Text.{lang_tag_text};
 ghost use Rattle.langtag_match.specs.Listed.{basic_text};
@@ -15,8 +15,8 @@ use langtag::LangTag;
 use langtag_likely::{TagFields, are_alike, matching_form};
 use langtag_scan::case_insensitive_eq;
 
-/// The distance of two different tags of which one has no known language: it is only `und`, or is for private use, or
-/// begins with `i-`.
+/// The distance of two different tags if one of them has no known language. Such a tag is `und`, a private-use tag,
+/// or a tag that begins with `i-`.
 ///
 /// ```
 /// use langtag::LangTag;
@@ -26,16 +26,17 @@ use langtag_scan::case_insensitive_eq;
 /// ```
 pub const FORMLESS_DISTANCE: u8 = 255;
 
-/// Returns the distance from a desired tag to a supported tag (UTS #35, Language Matching): 0 from `zh-TW` to
-/// `zh-Hant`, 4 from `de-AT` to `de`, 10 from `yue` to `zh-HK`, 84 from `de` to `en`.
+/// Returns the distance from a desired tag to a supported tag (UTS #35, Language Matching). It is 0 from `zh-TW` to
+/// `zh-Hant`, 4 from `de-AT` to `de`, 10 from `yue` to `zh-HK`, and 84 from `de` to `en`.
 ///
 /// First, deprecated subtags are replaced and likely subtags are added. The distance is then the sum of the distances
-/// of the languages (80 unless a rule says less), the scripts (50) and the regions (at most 5). Up to 15 the languages
-/// are nearly the same, and below 50 most readers understand the other language. Case, variants, extensions and private
-/// use do not count, nor does anything else after the region, as in `en-GB-oed`. If a tag has no known language, it is
-/// [`FORMLESS_DISTANCE`], or 0 if the tags are equal, ignoring case.
+/// of the languages (80 if no rule gives a smaller distance), the scripts (50) and the regions (at most 5). Up to 15
+/// the languages are nearly the same, and below 50 most readers understand the other language. Case is ignored, and so
+/// is everything after the region, such as variants, extensions and the `oed` of `en-GB-oed`. If one of the tags has no
+/// known language, the distance is [`FORMLESS_DISTANCE`], or 0 if the tags are equal, ignoring case.
 ///
-/// A language that CLDR replaces is read as what replaces it, such as `ger`, `deu` and `iw`, and so is a deprecated region.
+/// A language that CLDR replaces, such as `ger`, `deu` or `iw`, is read as its replacement, and so is a deprecated
+/// region.
 ///
 /// ```
 /// use langtag::LangTag;
@@ -47,7 +48,7 @@ pub const FORMLESS_DISTANCE: u8 = 255;
 pub fn distance(desired: LangTag<'_>, supported: LangTag<'_>) -> u8
     ensures distance { result ≡ spec.distance_of_texts (lang_tag_text desired.entry) (lang_tag_text supported.entry) }
     ensures equal { spec.ZeroIfEqual (lang_tag_text desired.entry) (lang_tag_text supported.entry) result }
-    ensures case { spec.IgnoresCase (lang_tag_text desired.entry) (lang_tag_text supported.entry) result }
+    ensures case { spec.DistanceIgnoresCase (lang_tag_text desired.entry) (lang_tag_text supported.entry) result }
     ensures most { result ≤ 134 ⊎ (result ≡ 255) }
 {
     texts_distance(desired.as_bytes(), supported.as_bytes())
@@ -78,7 +79,7 @@ pub(crate) fn range_distance(range: &[u8], tag: &[u8]) -> u8
     }
 }
 
-/// Returns the distance from a range to a tag if one of them has no matching form.
+/// Returns the distance from a range to a tag if the range or the tag has no matching form.
 fn formless_range_distance(range: &[u8], tag: &[u8]) -> u8
     ensures { result ≡ spec.formless_distance (basic_text range.now) tag.now }
 {

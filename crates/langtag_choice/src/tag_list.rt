@@ -1,4 +1,4 @@
-//! Tags among which one is chosen.
+//! The lists of tags from which one can be chosen.
 ghost use Rattle.std.specs.Prelude.{◌≡◌, ◌<◌, ℕ, List, Option, None, length, slice_index_or};
 ghost use Rattle.std.specs.Option.{ForSome, option_map};
 ghost use Rattle.langtag.specs.Text.{lang_tag_text};
@@ -6,7 +6,7 @@ ghost use Rattle.langtag_choice.specs.ListTexts.{tag_texts};
 
 use langtag::LangTag;
 
-/// A list of tags, each at an index. An entry need not be a tag; if it is not, it is never chosen.
+/// A list of tags with an index for each. An entry that is not a tag is allowed, but never chosen.
 ///
 /// ```
 /// use langtag::LangTag;

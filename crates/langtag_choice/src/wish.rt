@@ -1,21 +1,21 @@
-//! A range of a header that tags may serve.
+//! A range that a tag can serve.
 ghost use Rattle.std.specs.Prelude.{◌≡◌, ◌≤◌, ◌==◌, ℕ, IsTrue, List, MatchOption, Some, false};
 ghost use Rattle.std.specs.Option.{ForSome, option_map};
-ghost use Rattle.langtag_choice.specs.Lone.{head, lone_head};
+ghost use Rattle.langtag_choice.specs.Lone.{first_two, lone_head};
 ghost use Rattle.langtag_likely.specs.Matching.{matching_form};
 ghost use Rattle.langtag_likely.specs.Texts.{field_texts};
 ghost use Rattle.langtag_match.specs.Listed.{basic_text};
 ghost use Rattle.langtag_match.specs.Range.{is_language_range, is_star};
 ghost use Rattle.langtag_match.specs.Wanted.{hyphened};
 
-use crate::lone::{head, is_short, lone_letters};
+use crate::lone::{first_two, is_short, lone_letters};
 use crate::read_range::is_star;
 use langtag_likely::{TagFields, matching_form};
 use langtag_match::WantedRange;
 
-/// A range other than `*`, its weight, which is not 0, and the number of ranges before it. Its matching form is made
-/// once for all tags. The letters of its language are kept if the range begins with them and no other language is near
-/// that.
+/// A range other than `*`, its weight, which is not 0, and the number of ranges before it. The matching form of the
+/// range is made once, and used for all tags. The two letters of the range's language are stored if the range begins
+/// with them and no other language is near that language.
 #[derive(Clone, Copy)]
 pub(crate) struct Wish<'a> {
     pub(crate) range: &'a [u8],
@@ -28,7 +28,7 @@ pub(crate) struct Wish<'a> {
     ghost no_star: { is_star (basic_text range.now) ≡ false },
     ghost known: { option_map field_texts form ≡ matching_form (basic_text range.now) },
     ghost far: { ForSome lone (λ letters. lone_head (matching_form (basic_text range.now)) ≡ Some letters) },
-    ghost begins: { ForSome lone (λ letters. head (basic_text range.now) ≡ Some letters) },
+    ghost begins: { ForSome lone (λ letters. first_two (basic_text range.now) ≡ Some letters) },
 }
 
 impl<'a> Wish<'a> {
@@ -38,7 +38,7 @@ impl<'a> Wish<'a> {
     ghost use Rattle.langtag_choice.specs.Found.{wish_element};
     ghost use Rattle.langtag_choice.specs.Nearness.{kept};
 
-    /// Reads the range at a place, or returns `None` if it is `*` or has the weight 0.
+    /// Reads the range with `place` ranges before it, or returns `None` if it is `*` or has the weight 0.
     #[tactic(auto, unfolding(crate::specs::Best::serves), using(crate::proofs::ReadRanges::form_read))]
     pub(crate) fn new(wanted: WantedRange<'a>, place: usize) -> Option<Wish<'a>>
         requires in_class { IsTrue (is_language_range (hyphened wanted.bytes.now)) }
@@ -58,8 +58,8 @@ impl<'a> Wish<'a> {
         })
     }
 
-    /// Returns whether the first letters of a tag show that it cannot serve the range: no other language is near that
-    /// of the range, and the tag has another language of two letters.
+    /// Returns whether the first letters of a tag show that it cannot serve the range: the tag has another two-letter
+    /// language, and no other language is near the language of the range.
     pub(crate) fn is_far_from(&self, tag: &[u8]) -> bool
         ensures far { IsTrue result → 50 ≤ distance_of_texts (basic_text self.now.range.now) tag.now }
         ensures kept { IsTrue result → kept (basic_text self.now.range.now) tag.now ≡ 0 }
@@ -67,7 +67,7 @@ impl<'a> Wish<'a> {
         let Some(letters) = self.lone else {
             return false;
         };
-        let Some(begins) = head(tag) else {
+        let Some(begins) = first_two(tag) else {
             return false;
         };
         begins != letters && is_short(tag)

@@ -1,4 +1,4 @@
--- The tag to answer a request in.
+-- The language tag in which a request is answered.
 use Rattle.std.specs.Prelude.{◌≡◌, ◌⊎◌, ℕ, List, Option, None, Some}
 use Rattle.std.specs.Borrow.{Bor}
 use Rattle.langtag.specs.declared.lang_tag.LangTag.{LangTag}
@@ -7,7 +7,7 @@ use Rattle.langtag_match.specs.LookUp.{choice}
 use Rattle.langtag_match.specs.declared.accept_language_error.ElementPart.{ElementPart}
 use Rattle.langtag_match.specs.declared.weighted_range.WeightedRange.{WeightedRange}
 
--- the tag that is looked up for the header, or the default where there is none, or one with a bad element
+-- the tag that look-up finds for the header, or the default if there is no header or it has a malformed element
 abbrev pub IsTagFor : List LangTag → LangTag → Option (Bor (List ℕ)) → LangTag → Type 0
 IsTagFor tags default None tag = tag ≡ default
 IsTagFor tags default (Some header) tag =

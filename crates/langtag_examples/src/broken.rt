@@ -8,7 +8,7 @@ use langtag::{InvalidLangTag, LangTag, viable_len};
 use std::fmt::Debug;
 use thiserror::Error;
 
-/// A text that is not a tag, and the length of its longest prefix that begins one.
+/// A text that is not a tag, and the length of its longest prefix with which some tag begins.
 #[derive(Debug, Drop, Error)]
 #[error("no language tag can begin with more than the first {begun} bytes of '{text}'")]
 pub struct BrokenTag<'a> {
@@ -16,8 +16,8 @@ pub struct BrokenTag<'a> {
     pub begun: usize,
 }
 
-/// Returns the tag of a text, or the length of its longest prefix that begins a tag: 2 for `zh_Hant`, and 3 for `en-`,
-/// which begins a tag but is not one.
+/// Returns a text as a tag, or the length of its longest prefix with which some tag begins. The length is 2 for
+/// `zh_Hant`, and 3 for `en-`, which begins a tag but is not a tag.
 pub fn tag_or_break<'a>(text: &'a str) -> Result<LangTag<'a>, BrokenTag<'a>>
     ensures accepts { IsTrue (is_ok result) ↔ IsTag text.now }
     ensures same_text { IfOk result (λ tag. lang_tag_text tag ≡ text.now) }

@@ -11,7 +11,7 @@ use langtag::LangTagBuf;
 use std::alloc::{AllocError, Global};
 use std::collections::HashMap;
 
-/// Texts by language tag. They are found in whatever case the tag is written.
+/// Texts by language tag. A text is found by its tag, ignoring case.
 ///
 /// After `Salut` was inserted for `fr`, `find(alloc, "FR")` is `Ok(Some("Salut"))`.
 #[derive(Drop)]
@@ -31,7 +31,7 @@ impl Catalogue {
         }
     }
 
-    /// Inserts a text for a tag, and replaces an older one: `Hoi` for `DE-ch` replaces `Grüezi` for `de-CH`.
+    /// Inserts a text for a tag, and replaces any older text: `Hoi` for `DE-ch` replaces `Grüezi` for `de-CH`.
     ///
     /// # Errors
     ///
@@ -47,10 +47,10 @@ impl Catalogue {
         Ok(())
     }
 
-    /// Moves the text of a tag to another tag, whose text it replaces, and returns whether there was one: after
-    /// `rename(&iw, he)` the text of `iw` is that of `he`.
+    /// Moves the text of a tag to another tag, whose text it replaces. After `rename(&iw, he)`, the tag `he` has the
+    /// text that `iw` had. Returns whether the first tag had a text.
     ///
-    /// It allocates first, because a text that was removed before would be lost if allocation fails.
+    /// It allocates before it removes the text, which would otherwise be lost if allocation failed.
     ///
     /// # Errors
     ///
@@ -76,7 +76,7 @@ impl Catalogue {
         Ok(true)
     }
 
-    /// Returns the text of a tag: the tag `FR` finds that of `fr`, but `fr-CH` does not.
+    /// Returns the text of a tag: the tag `FR` finds the text of `fr`, but `fr-CH` does not.
     pub fn get(&self, tag: &LangTagBuf) -> Option<&str>
         ensures { option_map (λ text. text.now) result ≡ text_for self.now (lang_tag_buf_text tag.now) }
     {
@@ -84,12 +84,12 @@ impl Catalogue {
         Some(text.as_str())
     }
 
-    /// Returns the text of a tag that is given as a text, ignoring case. Returns `None` also if that is not a tag, such
-    /// as `de_CH`.
+    /// Returns the text of a tag, which is given as a string, ignoring case. Also returns `None` if the string is not a
+    /// tag, such as `de_CH`.
     ///
     /// # Errors
     ///
-    /// Returns an error if allocation fails for the owned tag with which the map is asked.
+    /// Returns an error if allocation fails for the owned tag that the map needs as a key.
     pub fn find(&self, alloc: Global, tag: &str) -> Result<Option<&str>, AllocError>
         ensures found { IfOk result (λ text. IsTag tag.now → option_map (λ text. text.now) text ≡ text_for self.now tag.now) }
         ensures none { IfOk result (λ text. (IsTag tag.now → ⊥) → text ≡ None) }

@@ -1,4 +1,4 @@
-//! Counts by language tag, in a map that is in the order of its keys.
+//! Counts by language tag, in a map that is sorted by its keys.
 ghost use Rattle.std.specs.Prelude.{◌≡◌, ℕ, List, Some, None, OnOk, OnErr, IsTrue, false};
 ghost use Rattle.langtag.specs.Case.{are_alike};
 ghost use Rattle.langtag.specs.Text.{lang_tag_buf_text};
@@ -8,7 +8,7 @@ use langtag::LangTagBuf;
 use std::alloc::{AllocError, Global};
 use std::collections::BTreeMap;
 
-/// Counts by language tag, in whatever case the tag is written.
+/// Counts by language tag. A count is found by its tag, ignoring case.
 #[derive(Drop)]
 pub struct Counts {
     counts: BTreeMap<LangTagBuf, u32>,
@@ -17,7 +17,7 @@ pub struct Counts {
 impl Counts {
     ghost use Rattle.langtag_examples.specs.Counts.{count_for};
 
-    /// Returns counts of no tags.
+    /// Returns an empty map of counts.
     pub fn new(alloc: Global) -> Self
         ensures { (tag : List ℕ) → count_for result tag ≡ None }
     {
@@ -26,7 +26,7 @@ impl Counts {
         }
     }
 
-    /// Sets the count of a tag: after `de-CH` with 3 and `DE-ch` with 5, that of `de-ch` is 5.
+    /// Sets the count of a tag: if `de-CH` is set to 3 and then `DE-ch` to 5, the count of `de-ch` is 5.
     ///
     /// # Errors
     ///

@@ -7,8 +7,8 @@ use langtag::LangTag;
 
 /// A text in a language (RDF 1.1 Concepts section 3.3).
 ///
-/// Two literals are the same if their texts are equal, byte for byte, and their tags are equal, ignoring case. So a set
-/// of literals keeps one of them.
+/// Two literals are the same if their texts are equal, byte for byte, and their tags are equal, ignoring case. A set
+/// of literals keeps only one of two literals that are the same.
 #[derive(Clone, Copy, Debug, PartialEq, Eq, PartialOrd, Ord, Hash)]
 pub struct Literal<'a> {
     /// The text, such as `color`.
@@ -18,8 +18,8 @@ pub struct Literal<'a> {
 }
 
 impl<'a> Literal<'a> {
-    /// Returns whether two literals are the same: `color` in `en-US` is `color` in `EN-us`, but neither `Color` nor
-    /// `color` in `en-GB`. It is proved that a clone succeeds and is the same literal.
+    /// Returns whether two literals are the same: `color` in `en-US` is the same as `color` in `EN-us`, but not as
+    /// `Color` in `en-US` or `color` in `en-GB`. It is proved that a clone succeeds and is the same literal.
     pub fn is_same(&self, other: &Literal<'_>) -> bool
         ensures same { IsTrue result ↔ (self.now.text.now ≡ other.now.text.now) × IsTrue (are_alike (lang_tag_text self.now.language) (lang_tag_text other.now.language)) }
 

@@ -11,7 +11,7 @@ use crate::catalogue::Catalogue;
 use langtag::{NormalLangTagBuf, Script, ScriptBuf};
 use std::alloc::{AllocError, Global};
 
-/// Sets or removes the script of a tag, and returns the old one.
+/// Sets or removes the script of a tag, and returns the old script.
 ///
 /// With `Latn`, `sr-Cyrl-RS` becomes `sr-Latn-RS`, and the result is `Ok(Some(Cyrl))`.
 ///
@@ -36,15 +36,16 @@ pub fn replace_script(
     Ok(old)
 }
 
-/// Returns the text that a catalogue has for a tag, or otherwise for the tag in another script. The tag gets its own
-/// script back.
+/// Returns the text that a catalogue has for a tag or, if it has none, for the tag in another script. Afterwards the
+/// tag has its own script again.
 ///
-/// For `sr-Cyrl-RS` and the script `Latn` it is the text of `sr-Cyrl-RS`, or otherwise that of `sr-Latn-RS`.
+/// For `sr-Cyrl-RS` and the script `Latn`, it is the text of `sr-Cyrl-RS` or, if there is none, the text of
+/// `sr-Latn-RS`.
 ///
 /// # Errors
 ///
 /// Returns an error if allocation fails. The tag is then unchanged, or still in the other script if the allocation to
-/// set it back failed. To set back a tag without a script does not allocate.
+/// restore its own script failed. Restoring a tag without a script does not allocate.
 pub fn find_in_scripts<'a>(
     catalogue: &'a Catalogue,
     tag: &mut NormalLangTagBuf,

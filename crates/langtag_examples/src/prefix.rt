@@ -1,12 +1,12 @@
-//! The longest of some tags that a wanted tag begins with.
+//! The longest tag of a list with which a wanted tag begins.
 ghost use Rattle.std.specs.Prelude.{◌↔◌, ℕ, IsTrue, IfSome, All};
 ghost use Rattle.langtag.specs.Text.{lang_tag_text};
 ghost use Rattle.langtag_examples.specs.Prefix.{IsPrefix, IsPrefixAmong, IsNoBetter, IsAsLong, IsFrom};
 
 use langtag::{LangTag, case_insensitive_eq};
 
-/// Returns the longest tag that the wanted one begins with, by whole subtags and ignoring case: from `de`, `zh` and
-/// `zh-Hant` it chooses `zh-Hant` for `ZH-hant-TW`, and none for `den`. It does not allocate.
+/// Returns the longest of the tags with which the wanted tag begins, by whole subtags and ignoring case. From `de`,
+/// `zh` and `zh-Hant`, it chooses `zh-Hant` for `ZH-hant-TW`, and none for `den`. It does not allocate.
 pub fn longest_prefix<'a>(tags: &[LangTag<'a>], wanted: &LangTag<'_>) -> Option<LangTag<'a>>
     ensures found { IfSome result (IsPrefixAmong tags.now (lang_tag_text wanted.now)) }
     ensures longest { All (IsNoBetter (lang_tag_text wanted.now) result) tags.now }
@@ -18,7 +18,7 @@ pub fn longest_prefix<'a>(tags: &[LangTag<'a>], wanted: &LangTag<'_>) -> Option<
     longest
 }
 
-/// Returns this tag if it is a longer prefix, and otherwise the longest prefix so far.
+/// Returns this tag if it is a longer prefix than the longest so far, and otherwise the longest so far.
 fn longer<'a>(
     longest: Option<LangTag<'a>>,
     tag: LangTag<'a>,

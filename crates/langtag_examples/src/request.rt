@@ -1,4 +1,4 @@
-//! The language to answer a request in, by its Accept-Language header (RFC 9110 section 12.5.4).
+//! The language in which a request is answered, by its Accept-Language header (RFC 9110 section 12.5.4).
 ghost use Rattle.std.specs.Prelude.{IfOk, IsNone, IsOk};
 ghost use Rattle.langtag_examples.specs.Request.{IsTagFor};
 
@@ -6,8 +6,8 @@ use langtag::LangTag;
 use langtag_match::{AcceptLanguageError, tag_for_header};
 use std::alloc::{AllocError, Global};
 
-/// Returns the tag in which to answer a request: from `en` and `de-CH` it chooses `de-CH` for the header
-/// `fr, de-ch-1996;q=0.9`. It returns the default if the request has no header, or a malformed one.
+/// Returns the tag in which to answer a request: from `en` and `de-CH` it chooses `de-CH` for the header `fr,
+/// de-ch-1996;q=0.9`. It returns the default if the request has no header, or a malformed header.
 ///
 /// # Errors
 ///

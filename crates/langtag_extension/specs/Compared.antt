@@ -1,4 +1,5 @@
--- The types of this crate: their `==`, `cmp` and `hash` are those of their texts, folded, and of singletons those of their bytes.
+-- The types of this crate compare and hash by their texts, ignoring the case of ASCII letters. Singletons are the
+-- exception: they compare and hash by their exact bytes.
 use Rattle.std.specs.Prelude.{◌≡◌, ◌==◌}
 use Rattle.std.specs.Hash.{u8}
 use Rattle.std.specs.Ordering.{nat_cmp}
@@ -55,7 +56,7 @@ ExtensionsBufsCompareByCase =
     ComparesByCase extensions_buf_text extensions_buf_equality.eq-value.it
     extensions_buf_order.cmp-value.it extensions_buf_hash.hash_input-value.it
 
--- singletons compare by their exact bytes: a hasher is fed the byte alone
+-- singletons compare by their exact bytes, and feed a hasher the byte and nothing else
 pub record SingletonsCompareByByte : Type 0 where
   pub equal : (a b : Singleton) → singleton_equality.eq-value.it a b ≡ (singleton_byte a == singleton_byte b)
   pub ordered : (a b : Singleton) → singleton_order.cmp-value.it a b ≡ nat_cmp (singleton_byte a) (singleton_byte b)

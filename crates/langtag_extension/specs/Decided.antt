@@ -1,5 +1,5 @@
--- The rules of the module Spelling as tests over the subtags of a text.
--- Only ghost fields and contracts of private functions cite this page.
+-- The rules of the page Spelling as tests of the subtags of a text. Only ghost fields and contracts of private
+-- functions cite this page.
 use Rattle.std.specs.Prelude.{ℕ, Bool, false, ◌&&◌, ◌==◌, List, [], ◌∷◌, slice_index}
 use Rattle.std.specs.List.{list_all}
 use Rattle.langtag_scan.specs.Case.{fold_byte}
@@ -24,6 +24,6 @@ are_extension_texts texts = list_all is_extension_text texts
 abbrev pub is_extensions_text : List ℕ → Bool
 is_extensions_text text = are_extension_texts (extension_texts text)
 
--- whether the text begins with the byte, but for case
+-- whether the text begins with the byte, ignoring case
 abbrev pub opens_alike : ℕ → List ℕ → Bool
 opens_alike singleton text = fold_byte (slice_index text 0) == fold_byte singleton

@@ -1,4 +1,4 @@
--- The text of each type: its bytes; and the texts that an iterator has still to yield.
+-- The text of each type, as a list of bytes, and the texts that an iterator will still return.
 use Rattle.std.specs.Prelude.{ℕ, List, String}
 use Rattle.std.specs.String.{string_bytes}
 use Rattle.std.specs.declared.alloc.Global.{Global}
@@ -18,7 +18,7 @@ singleton_byte singleton = singleton.byte
 abbrev pub extension_subtag_text : ExtensionSubtag → List ℕ
 extension_subtag_text subtag = subtag.text.0.now
 
--- the very String that is kept
+-- the `String` itself, which the value owns
 abbrev pub extension_subtag_buf_string : ExtensionSubtagBuf → String Global
 extension_subtag_buf_string subtag = subtag.text.0
 
@@ -28,7 +28,7 @@ extension_subtag_buf_text subtag = string_bytes (extension_subtag_buf_string sub
 abbrev pub extension_text : Extension → List ℕ
 extension_text extension = extension.text.0.now
 
--- the very String that is kept
+-- the `String` itself, which the value owns
 abbrev pub extension_buf_string : ExtensionBuf → String Global
 extension_buf_string extension = extension.text.0
 
@@ -38,7 +38,7 @@ extension_buf_text extension = string_bytes (extension_buf_string extension)
 abbrev pub extensions_text : Extensions → List ℕ
 extensions_text extensions = extensions.text.0.now
 
--- the very String that is kept
+-- the `String` itself, which the value owns
 abbrev pub extensions_buf_string : ExtensionsBuf → String Global
 extensions_buf_string extensions = extensions.text.0
 

@@ -55,7 +55,8 @@ impl<'a> Extension<'a> {
     /// # Errors
     ///
     /// Returns the text if it is not one extension: `Extension::new("a")`, which has no subtag, is
-    /// `Err(InvalidExtension("a"))`. `a-bb-b-cc` has two singletons, and `x-bb` is a private use part.
+    /// `Err(InvalidExtension("a"))`. Other examples are `a-bb-b-cc`, which is two extensions, and `x-bb`, which is a
+    /// private use part.
     pub fn new(text: &'a str) -> Result<Extension<'a>, InvalidExtension<&'a str>>
         ensures accepts { IsTrue (is_ok result) ↔ IsExtension text.now }
         ensures same_text { IfOk result (λ extension. extension_text extension ≡ text.now) }
@@ -67,7 +68,7 @@ impl<'a> Extension<'a> {
         Ok(Extension::from_checked(text))
     }
 
-    /// Returns the extension of a text that is known to be one, without checking it.
+    /// Wraps a text that is known to be an extension, without checking it.
     /// `Extension::from_checked(extension.as_str())` is equal to `extension`.
     pub fn from_checked(text: &'a str) -> Extension<'a>
         requires { IsExtension text.now }
@@ -93,7 +94,7 @@ impl<'a> Extension<'a> {
         self.as_str().as_bytes()
     }
 
-    /// Returns whether another text is equal, ignoring the case of ASCII letters:
+    /// Returns whether another text equals this text, ignoring the case of ASCII letters:
     /// `Extension::new("u-co")?.eq_str("U-CO")` is `true`. It is proved that comparisons and hashes also ignore case,
     /// and that a clone is the same value.
     pub fn eq_str(&self, other: &str) -> bool
@@ -134,7 +135,7 @@ impl<'a> Extension<'a> {
         Singleton::from_checked(self.as_bytes()[0])
     }
 
-    /// Whether the extension is opened by the singleton, without regard to case.
+    /// Returns whether the extension begins with the singleton, ignoring case.
     pub(crate) fn has_singleton(&self, singleton: Singleton) -> bool
         ensures { result ≡ opens_alike (singleton_byte singleton) (extension_text self.now) }
     {
@@ -257,7 +258,7 @@ impl fmt::Display for ExtensionBuf {
     }
 }
 
-/// Whether the text is a singleton and at least one subtag of an extension, joined by hyphens.
+/// Returns whether the text is a singleton and at least one subtag of an extension, joined by hyphens.
 pub(crate) fn is_extension(text: &str) -> bool
     ensures { result ≡ is_extension_text text.now }
 {
@@ -273,7 +274,7 @@ pub(crate) fn is_extension(text: &str) -> bool
     false
 }
 
-/// Whether all that is left is subtags of an extension.
+/// Returns whether all subtags that are left are subtags of an extension.
 fn all_are_extension_subtags(mut subtags: Subtags<'_>) -> bool
     ensures { result ≡ are_extension_subtags subtags.entry }
 {

@@ -1,4 +1,4 @@
-//! The walk over the subtags of an extension.
+//! An iterator over the subtags of an extension.
 ghost use Rattle.std.specs.Prelude.{◌≡◌, ◌<◌, ◌^◌, [], IsTrue, drop, length, ⊤};
 ghost use Rattle.std.specs.Iterator.{YieldsFirstBy, item_count};
 ghost use Rattle.langtag_scan.specs.Subtags.{subtags};
@@ -38,7 +38,7 @@ impl<'a> ExtensionIter<'a> {
         }
     }
 
-    /// The subtags of an extension, without its singleton.
+    /// Returns an iterator over the subtags of an extension, without its singleton.
     #[tactic(auto, using(crate::proofs::Rules::after_singleton))]
     pub(crate) fn new(text: &'a str) -> Self
         requires { IsTrue (is_extension_text text.now) }
@@ -50,7 +50,7 @@ impl<'a> ExtensionIter<'a> {
     }
 }
 
-/// The subtags of a text but for the first, which is the singleton.
+/// Returns the subtags of a text except the first, which is the singleton.
 fn after_singleton<'a>(text: &'a str) -> Subtags<'a>
     ensures { result ≡ drop 1 (subtags text.now) }
 {

@@ -68,7 +68,7 @@ impl<'a> ExtensionSubtag<'a> {
         Ok(ExtensionSubtag::from_checked(text))
     }
 
-    /// Returns the subtag of a text that is known to be one, without checking it.
+    /// Wraps a text that is known to be a subtag of an extension, without checking it.
     /// `ExtensionSubtag::from_checked(subtag.as_str())` is equal to `subtag`.
     pub fn from_checked(text: &'a str) -> ExtensionSubtag<'a>
         requires { IsTrue (class.is_extension_subtag text.now) }
@@ -94,7 +94,7 @@ impl<'a> ExtensionSubtag<'a> {
         self.as_str().as_bytes()
     }
 
-    /// Returns whether another text is equal, ignoring the case of ASCII letters:
+    /// Returns whether another text equals this text, ignoring the case of ASCII letters:
     /// `ExtensionSubtag::new("co")?.eq_str("CO")` is `true`. It is proved that comparisons and hashes also ignore case,
     /// and that a clone is the same value.
     pub fn eq_str(&self, other: &str) -> bool

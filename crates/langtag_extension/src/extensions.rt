@@ -18,7 +18,7 @@ use std::fmt;
 use std::fmt::Debug;
 use thiserror::Error;
 
-/// The error for a text that is not extensions. It contains the text.
+/// The error for a text that is not a list of extensions. It contains the text.
 ///
 /// ```
 /// use langtag_extension::Extensions;
@@ -34,8 +34,8 @@ pub struct InvalidExtensions<T>(pub T);
 /// The extensions of a tag (RFC 5646 section 2.2.6), joined by hyphens, such as `a-ext1-ext2-u-co-phonebk`. The empty
 /// text means no extensions.
 ///
-/// A singleton may occur twice: such a tag is well formed but not valid (section 2.2.9). Two lists are equal if their
-/// texts differ only in the case of ASCII letters, such as `u-co` and `U-CO`.
+/// A singleton may occur twice: a tag with such a list is well formed but not valid (section 2.2.9). Two lists of
+/// extensions are equal if their texts differ only in the case of ASCII letters, such as `u-co` and `U-CO`.
 ///
 /// ```
 /// use langtag_extension::Extensions;
@@ -63,7 +63,7 @@ impl<'a> Extensions<'a> {
     ///
     /// # Errors
     ///
-    /// Returns the text if it is not extensions joined by hyphens: `Extensions::new("u-")` is
+    /// Returns the text if it is not a list of extensions joined by hyphens: `Extensions::new("u-")` is
     /// `Err(InvalidExtensions("u-"))`.
     pub fn new(text: &'a str) -> Result<Extensions<'a>, InvalidExtensions<&'a str>>
         ensures accepts { IsTrue (is_ok result) ↔ IsExtensions text.now }
@@ -76,7 +76,7 @@ impl<'a> Extensions<'a> {
         Ok(Extensions::from_checked(text))
     }
 
-    /// Returns the extensions of a text that is known to be extensions, without checking it.
+    /// Wraps a text that is known to be a list of extensions, without checking it.
     /// `Extensions::from_checked(extensions.as_str())` is equal to `extensions`.
     pub fn from_checked(text: &'a str) -> Extensions<'a>
         requires { IsExtensions text.now }
@@ -102,7 +102,7 @@ impl<'a> Extensions<'a> {
         self.as_str().as_bytes()
     }
 
-    /// Returns whether another text is equal, ignoring the case of ASCII letters:
+    /// Returns whether another text equals this text, ignoring the case of ASCII letters:
     /// `Extensions::new("u-co")?.eq_str("U-CO")` is `true`. It is proved that comparisons and hashes also ignore case,
     /// and that a clone is the same value.
     pub fn eq_str(&self, other: &str) -> bool
@@ -129,7 +129,7 @@ impl<'a> Extensions<'a> {
         })
     }
 
-    /// Returns an iterator over the extensions, including those with a repeated singleton: `a-bb` and `A-cc` for
+    /// Returns an iterator over the extensions, including extensions with a repeated singleton: `a-bb` and `A-cc` for
     /// `a-bb-A-cc`.
     ///
     /// ```
@@ -166,8 +166,8 @@ impl<'a> Extensions<'a> {
             .find(|extension| extension.has_singleton(singleton))
     }
 
-    /// Returns an iterator over the subtags of the extension that `get` returns, and over nothing if there is none:
-    /// `co` and `phonebk` for the singleton `u` in `a-bb-u-co-phonebk`.
+    /// Returns an iterator over the subtags of the extension that `get` returns, or over no subtags if `get` returns
+    /// `None`: `co` and `phonebk` for the singleton `u` in `a-bb-u-co-phonebk`.
     ///
     /// ```
     /// use langtag_extension::{Extensions, Singleton};
@@ -207,7 +207,7 @@ impl fmt::Display for Extensions<'_> {
     }
 }
 
-/// The extensions of a tag, which own their text.
+/// Extensions that own their text.
 ///
 /// ```
 /// use langtag_extension::Extensions;
@@ -231,7 +231,7 @@ impl ExtensionsBuf {
     ///
     /// # Errors
     ///
-    /// Returns the same `String` if it is not extensions joined by hyphens, such as `u-`.
+    /// Returns the same `String` if it is not a list of extensions joined by hyphens, such as `u-`.
     ///
     /// ```
     /// use langtag_extension::ExtensionsBuf;
@@ -293,7 +293,7 @@ impl fmt::Display for ExtensionsBuf {
     }
 }
 
-/// Whether the text is extensions joined by hyphens, or nothing.
+/// Returns whether the text is empty or a list of extensions joined by hyphens.
 fn are_extensions(text: &str) -> bool
     ensures { result ≡ is_extensions_text text.now }
 {

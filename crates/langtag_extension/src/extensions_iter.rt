@@ -1,4 +1,4 @@
-//! The walk over the extensions of a tag.
+//! An iterator over the extensions of a tag.
 ghost use Rattle.std.specs.Prelude.{◌≡◌, ◌<◌, ◌^◌, IsTrue, length, ⊤};
 ghost use Rattle.std.specs.Iterator.{YieldsFirstBy, item_count};
 ghost use Rattle.langtag_extension.specs.Decided.{are_extension_texts, is_extensions_text};
@@ -29,7 +29,7 @@ pub struct ExtensionsIter<'a> {
 impl<'a> ExtensionsIter<'a> {
     ghost use Rattle.langtag_extension.specs.Text.{extensions_left};
 
-    /// The extensions of a text.
+    /// Returns an iterator over the extensions of a text.
     #[tactic(auto, using(crate::proofs::Counts::few_extensions))]
     pub(crate) fn new(text: &'a str) -> Self
         requires { IsTrue (is_extensions_text text.now) }

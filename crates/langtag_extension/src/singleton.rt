@@ -25,8 +25,8 @@ pub struct InvalidSingleton<T>(pub T);
 /// The letter or digit, other than `x` and `X`, that begins an extension (RFC 5646 section 2.2.6), such as `u` in
 /// `u-co-phonebk`.
 ///
-/// It stores the exact byte, and compares and hashes by it: `u` and `U` begin the same extension, but are different
-/// singletons.
+/// It stores the exact byte, and compares and hashes by that byte: `u` and `U` begin the same extension, but are
+/// different singletons.
 ///
 /// ```
 /// use langtag_extension::Singleton;
@@ -44,7 +44,7 @@ impl Singleton {
     ghost use Rattle.langtag_extension.specs.Compared.{SingletonsCompareByByte};
     ghost use Rattle.langtag_extension.specs.Text.{singleton_byte};
 
-    /// Returns the singleton with a byte: `Singleton::new(b'u')` is `Ok`. It is proved that singletons compare and hash
+    /// Returns the singleton for a byte: `Singleton::new(b'u')` is `Ok`. It is proved that singletons compare and hash
     /// by their exact bytes, and that a clone is the same value.
     ///
     /// # Errors
@@ -68,7 +68,7 @@ impl Singleton {
         Ok(Singleton { byte: c })
     }
 
-    /// The singleton of a byte that is known to be one.
+    /// Wraps a byte that is known to be a singleton, without checking it.
     pub(crate) fn from_checked(byte: u8) -> Self
         requires { IsTrue (class.is_singleton byte) }
         ensures { singleton_byte result ≡ byte }
@@ -76,7 +76,7 @@ impl Singleton {
         Singleton { byte }
     }
 
-    /// Returns the singleton with a text of one byte: `Singleton::from_string("u")` is `Ok`.
+    /// Returns the singleton for a text of one byte: `Singleton::from_string("u")` is `Ok`.
     ///
     /// # Errors
     ///

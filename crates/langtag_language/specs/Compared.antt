@@ -1,4 +1,4 @@
--- The types of this crate: their `==`, `cmp` and `hash` are those of their texts, folded.
+-- The types of this crate compare and hash by their texts, ignoring the case of ASCII letters.
 use Rattle.langtag_scan.specs.Compare.{ComparesByCase}
 use Rattle.langtag_language.specs.contracts.primary_language.PrimaryLanguageHash.TheImpl as primary_hash
 use Rattle.langtag_language.specs.contracts.primary_language.PrimaryLanguageOrd.TheImpl as primary_order

@@ -1,6 +1,5 @@
--- The rules `extlang` and `language` once more, as tests over what stands between the hyphens of a text. Ghost fields and
--- contracts of private functions alone cite this page: what a caller is promised speaks of `IsLanguageExtension` and
--- `IsLanguage`.
+-- The rules `extlang` and `language` as tests of the subtags of a text. Only ghost fields and contracts of private
+-- functions cite this page. Public contracts cite `IsLanguageExtension` and `IsLanguage` instead.
 use Rattle.std.specs.Prelude.{ℕ, Bool, false, ◌&&◌, nat_le, if◌then◌else◌, List, [], ◌∷◌, length}
 use Rattle.std.specs.List.{list_all}
 use Rattle.langtag_scan.specs.Class.{is_primary, is_extended}
@@ -9,11 +8,11 @@ use Rattle.langtag_scan.specs.Subtags.{subtags}
 abbrev pub are_extended : List (List ℕ) → Bool
 are_extended subtags = list_all is_extended subtags
 
--- at most so many, all of them extended
+-- whether there are at most `room` subtags, and all of them are extended language subtags
 abbrev pub are_extended_within : ℕ → List (List ℕ) → Bool
 are_extended_within room subtags = nat_le (length subtags) room && are_extended subtags
 
--- how many extended subtags may follow
+-- how many extended subtags may follow a primary subtag: three, or none after four letters or more
 abbrev pub extended_room : List ℕ → ℕ
 extended_room primary = if nat_le (length primary) 3 then 3 else 0
 

@@ -1,4 +1,4 @@
--- The text of each type: its bytes; and the texts that an iterator has still to yield.
+-- The text of each type, as a list of bytes, and the texts that an iterator will still return.
 use Rattle.std.specs.Prelude.{ℕ, List, [], Option, None, Some, String}
 use Rattle.std.specs.String.{string_bytes}
 use Rattle.std.specs.declared.alloc.Global.{Global}
@@ -16,7 +16,7 @@ use Rattle.langtag_language.specs.declared.language.LanguageBuf.{LanguageBuf}
 abbrev pub primary_language_text : PrimaryLanguage → List ℕ
 primary_language_text primary = primary.text.0.now
 
--- the very `String` that is kept
+-- the `String` itself, which the value owns
 abbrev pub primary_language_buf_string : PrimaryLanguageBuf → String Global
 primary_language_buf_string primary = primary.text.0
 
@@ -26,7 +26,7 @@ primary_language_buf_text primary = string_bytes (primary_language_buf_string pr
 abbrev pub extended_lang_tag_text : ExtendedLangTag → List ℕ
 extended_lang_tag_text extended = extended.text.0.now
 
--- the very `String` that is kept
+-- the `String` itself, which the value owns
 abbrev pub extended_lang_tag_buf_string : ExtendedLangTagBuf → String Global
 extended_lang_tag_buf_string extended = extended.text.0
 
@@ -36,26 +36,26 @@ extended_lang_tag_buf_text extended = string_bytes (extended_lang_tag_buf_string
 abbrev pub language_extension_text : LanguageExtension → List ℕ
 language_extension_text extension = extension.text.0.now
 
--- the very `String` that is kept
+-- the `String` itself, which the value owns
 abbrev pub language_extension_buf_string : LanguageExtensionBuf → String Global
 language_extension_buf_string extension = extension.text.0
 
 abbrev pub language_extension_buf_text : LanguageExtensionBuf → List ℕ
 language_extension_buf_text extension = string_bytes (language_extension_buf_string extension)
 
--- the subtags of an extension, none where there is no extension
+-- the subtags of a language extension, or the empty list if there is none
 abbrev pub extension_list : Option LanguageExtension → List (List ℕ)
 extension_list None = []
 extension_list (Some extension) = subtags (language_extension_text extension)
 
--- the extended subtags still to come
+-- the extended subtags that the iterator will still return
 abbrev pub extended_subtags_left : LanguageExtensionIter → List (List ℕ)
 extended_subtags_left subtags = subtags.rest
 
 abbrev pub language_text : Language → List ℕ
 language_text language = language.text.0.now
 
--- the very `String` that is kept
+-- the `String` itself, which the value owns
 abbrev pub language_buf_string : LanguageBuf → String Global
 language_buf_string language = language.text.0
 

@@ -27,7 +27,8 @@ pub struct InvalidExtendedLangTag<T>(pub T);
 
 /// An extended language subtag (RFC 5646 section 2.2.2): three letters, such as `yue` in `zh-yue`.
 ///
-/// Two of them are equal if their texts differ only in the case of ASCII letters, such as `yue` and `YUE`.
+/// Two extended language subtags are equal if their texts differ only in the case of ASCII letters, such as `yue` and
+/// `YUE`.
 ///
 /// ```
 /// use langtag_language::ExtendedLangTag;
@@ -65,7 +66,7 @@ impl<'a> ExtendedLangTag<'a> {
         Ok(ExtendedLangTag::from_checked(text))
     }
 
-    /// Returns the subtag of a text that is known to be one, without checking it.
+    /// Wraps a text that is known to be an extended language subtag, without checking it.
     /// `ExtendedLangTag::from_checked(extended.as_str())` is equal to `extended`.
     pub fn from_checked(text: &'a str) -> ExtendedLangTag<'a>
         requires { IsTrue (class.is_extended text.now) }
@@ -91,7 +92,7 @@ impl<'a> ExtendedLangTag<'a> {
         self.as_str().as_bytes()
     }
 
-    /// Returns whether another text is equal, ignoring the case of ASCII letters:
+    /// Returns whether another text equals this text, ignoring the case of ASCII letters:
     /// `ExtendedLangTag::new("yue")?.eq_str("YUE")` is `true`. It is proved that comparisons and hashes also ignore
     /// case, and that a clone is the same value.
     pub fn eq_str(&self, other: &str) -> bool

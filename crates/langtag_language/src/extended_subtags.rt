@@ -4,7 +4,7 @@ ghost use Rattle.langtag_language.specs.Decided as test;
 
 use langtag_scan::{Subtags, is_extended};
 
-/// Whether at most so many subtags are left, all of them extended.
+/// Returns whether at most `room` subtags are left, and all of them are extended language subtags.
 pub(crate) fn are_extended_within(room: usize, subtags: Subtags<'_>) -> bool
     ensures { result ≡ test.are_extended_within room subtags.entry }
 {

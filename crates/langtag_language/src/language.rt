@@ -70,8 +70,8 @@ impl<'a> Language<'a> {
         Ok(Language::from_checked(text))
     }
 
-    /// Returns the language of a text that is known to be one, without checking it.
-    /// `Language::from_checked(language.as_str())` is equal to `language`.
+    /// Wraps a text that is known to be a language, without checking it. `Language::from_checked(language.as_str())`
+    /// is equal to `language`.
     pub fn from_checked(text: &'a str) -> Language<'a>
         requires { IsLanguage text.now }
         ensures { language_text result ≡ text.now }
@@ -96,7 +96,7 @@ impl<'a> Language<'a> {
         self.as_str().as_bytes()
     }
 
-    /// Returns whether another text is equal, ignoring the case of ASCII letters:
+    /// Returns whether another text equals this text, ignoring the case of ASCII letters:
     /// `Language::new("zh-yue")?.eq_str("ZH-YUE")` is `true`. It is proved that comparisons and hashes also ignore
     /// case, and that a clone is the same value.
     pub fn eq_str(&self, other: &str) -> bool
@@ -167,7 +167,7 @@ impl<'a> Language<'a> {
         }
     }
 
-    /// The primary subtag, and the extension where there is one.
+    /// Returns the primary subtag, and the extension if there is one.
     fn split(&self) -> (PrimaryLanguage<'a>, Option<LanguageExtension<'a>>)
         ensures { subtags (language_text self.now) ≡ primary_language_text result.0 ∷ extension_list result.1 }
     {
@@ -182,7 +182,8 @@ impl<'a> Language<'a> {
     }
 }
 
-/// Whether the text is a primary subtag and, after two or three letters, at most three extended ones.
+/// Returns whether the text is a language: a primary subtag, and at most three extended subtags, which only a primary
+/// subtag of two or three letters may have.
 fn is_language(text: &str) -> bool
     ensures { result ≡ test.is_language text.now }
 {

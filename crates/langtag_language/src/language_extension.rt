@@ -29,7 +29,8 @@ pub struct InvalidLanguageExtension<T>(pub T);
 
 /// The extended subtags of a language (RFC 5646 section 2.2.2): one to three, joined by hyphens, such as `min-nan`.
 ///
-/// Two of them are equal if their texts differ only in the case of ASCII letters, such as `min-nan` and `MIN-NAN`.
+/// Two language extensions are equal if their texts differ only in the case of ASCII letters, such as `min-nan` and
+/// `MIN-NAN`.
 ///
 /// ```
 /// use langtag_language::LanguageExtension;
@@ -53,7 +54,7 @@ impl<'a> LanguageExtension<'a> {
     ///
     /// # Errors
     ///
-    /// Returns the text if it is not one to three extended subtags with one hyphen between neighbours:
+    /// Returns the text if it is not one to three extended subtags joined by hyphens:
     /// `LanguageExtension::new("min-")` is `Err(InvalidLanguageExtension("min-"))`.
     pub fn new(text: &'a str) -> Result<LanguageExtension<'a>, InvalidLanguageExtension<&'a str>>
         ensures accepts { IsTrue (is_ok result) ↔ (IsLanguageExtension text.now) }
@@ -66,7 +67,7 @@ impl<'a> LanguageExtension<'a> {
         Ok(LanguageExtension::from_checked(text))
     }
 
-    /// Returns the language extension of a text that is known to be one, without checking it.
+    /// Wraps a text that is known to be a language extension, without checking it.
     /// `LanguageExtension::from_checked(extension.as_str())` is equal to `extension`.
     pub fn from_checked(text: &'a str) -> LanguageExtension<'a>
         requires { IsLanguageExtension text.now }
@@ -92,7 +93,7 @@ impl<'a> LanguageExtension<'a> {
         self.as_str().as_bytes()
     }
 
-    /// Returns whether another text is equal, ignoring the case of ASCII letters:
+    /// Returns whether another text equals this text, ignoring the case of ASCII letters:
     /// `LanguageExtension::new("min-nan")?.eq_str("MIN-NAN")` is `true`. It is proved that comparisons and hashes also
     /// ignore case, and that a clone is the same value.
     pub fn eq_str(&self, other: &str) -> bool
@@ -140,7 +141,7 @@ impl<'a> LanguageExtension<'a> {
     }
 }
 
-/// Whether the text is one to three extended subtags, joined by hyphens.
+/// Returns whether the text is one to three extended subtags, joined by hyphens.
 fn is_language_extension(text: &str) -> bool
     ensures { result ≡ test.is_language_extension text.now }
 {
@@ -181,8 +182,7 @@ impl LanguageExtensionBuf {
     ///
     /// # Errors
     ///
-    /// Returns the same `String` if it is not one to three extended subtags with one hyphen between neighbours, such as
-    /// `min-`.
+    /// Returns the same `String` if it is not one to three extended subtags joined by hyphens, such as `min-`.
     ///
     /// ```
     /// use langtag_language::LanguageExtensionBuf;

@@ -1,4 +1,4 @@
-//! The extended subtags of a language one by one.
+//! An iterator over the extended subtags of a language.
 ghost use Rattle.std.specs.Prelude.{◌≡◌, ◌≤◌, IsTrue, [], length, ⊤};
 ghost use Rattle.std.specs.Iterator.{YieldsFirstBy, item_count};
 ghost use Rattle.langtag_scan.specs.Subtags.{subtags};
@@ -37,7 +37,7 @@ impl<'a> LanguageExtensionIter<'a> {
         }
     }
 
-    /// The subtags of a language extension.
+    /// Returns an iterator over the subtags of a language extension.
     #[tactic(auto, using(crate::proofs::Rules::extension_members))]
     pub(crate) fn new(text: &'a str) -> Self
         requires { IsTrue (is_language_extension text.now) }

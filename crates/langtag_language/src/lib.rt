@@ -12,8 +12,8 @@
 //! assert_eq!(rt; extension.as_str(), "min-nan");
 //! ```
 //!
-//! A returned part has the bytes of its part of the text, and borrows the text. It is proved that the bytes are those,
-//! but not that the address is.
+//! A returned part borrows its bytes from the text. It is proved that its bytes equal the bytes in the text, but not
+//! that they are at the same address.
 #![tactic(auto)]
 
 mod extended_lang_tag;

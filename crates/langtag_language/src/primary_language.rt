@@ -28,7 +28,8 @@ pub struct InvalidPrimaryLanguage<T>(pub T);
 
 /// A primary language subtag (RFC 5646 section 2.2.1): two to eight letters, such as `fr`.
 ///
-/// Two of them are equal if their texts differ only in the case of ASCII letters, such as `fr` and `FR`.
+/// Two primary language subtags are equal if their texts differ only in the case of ASCII letters, such as `fr` and
+/// `FR`.
 ///
 /// ```
 /// use langtag_language::PrimaryLanguage;
@@ -66,7 +67,7 @@ impl<'a> PrimaryLanguage<'a> {
         Ok(PrimaryLanguage::from_checked(text))
     }
 
-    /// Returns the subtag of a text that is known to be one, without checking it.
+    /// Wraps a text that is known to be a primary language subtag, without checking it.
     /// `PrimaryLanguage::from_checked(primary.as_str())` is equal to `primary`.
     pub fn from_checked(text: &'a str) -> PrimaryLanguage<'a>
         requires { IsTrue (class.is_primary text.now) }
@@ -92,7 +93,7 @@ impl<'a> PrimaryLanguage<'a> {
         self.as_str().as_bytes()
     }
 
-    /// Returns whether another text is equal, ignoring the case of ASCII letters:
+    /// Returns whether another text equals this text, ignoring the case of ASCII letters:
     /// `PrimaryLanguage::new("fr")?.eq_str("FR")` is `true`. It is proved that comparisons and hashes also ignore case,
     /// and that a clone is the same value.
     pub fn eq_str(&self, other: &str) -> bool

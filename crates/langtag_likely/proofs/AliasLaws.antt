@@ -1,6 +1,7 @@
 -- What is deprecated is found by its number, with what replaces it.
 use Rattle.std.proofs.Common.{◌≡◌, ℕ, ◌<◌, true, List, [], length, get_or, map, option_map, sym, ap, ◌∙◌, Option}
 use Rattle.std.proofs.lemmas.List.{get_or-map}
+use Rattle.std.specs.List.{list_all}
 use Rattle.langtag_scan.specs.Class.{are_letters, are_alphanumeric}
 use Rattle.langtag_scan.specs.Case.{folded_number}
 use Rattle.langtag_tables.specs.Numbers.{letter_number}
@@ -9,14 +10,14 @@ use Rattle.langtag_likely.specs.Likely.{Fields, Likely, likely_for, language_alo
 use Rattle.langtag_likely.specs.Matching.{region_alone}
 use Rattle.langtag_likely.specs.Aliases.{language_aliases, region_aliases}
 use Rattle.langtag_likely.specs.Numbers.{first_index, name_at}
-use Rattle.langtag_likely.proofs.AliasTables.{aliases_alone, alias_languages, alias_scripts, alias_regions, region_aliases_alone, region_alias_languages, region_alias_scripts, region_alias_names}
+use Rattle.langtag_likely.proofs.AliasTables.{aliases_alone, alias_languages, alias_scripts, alias_regions, region_alias_languages, region_alias_scripts, region_alias_names}
 use Rattle.langtag_likely.proofs.RegionNumbers.{is_region_alone, region_number, region-tells}
 use Rattle.langtag_likely.proofs.RowLaws.{is_language, language_number, language-tells}
 use Rattle.langtag_likely.proofs.RowsFound.{found_by_number}
 use Rattle.langtag_likely.specs.Rows.{no_row}
 
 -- what a list has at an index, where another list has the same
-at_index :
+pub at_index :
     (rows : List Likely) (texts : List (List ℕ)) (column : Likely → List ℕ) (i : ℕ) → texts ≡ map column rows → i < length rows →
     get_or texts i [] ≡ column (get_or rows i no_row)
 at_index rows texts column i same inside = ap (λ list. get_or list i []) same ∙ get_or-map column rows i no_row [] inside
@@ -53,11 +54,12 @@ abbrev pub region_key : Likely → ℕ
 region_key row = folded_number row.from.region
 
 pub region_found :
-    (f : Fields) (keys : List ℕ) (number : ℕ) (o : Option ℕ) → are_alphanumeric f.region ≡ true → keys ≡ map region_key region_aliases → number ≡ folded_number f.region → o ≡ first_index keys number →
-    option_map (λ i. (get_or region_aliases i no_row).to) o ≡ likely_for region_aliases (region_alone f)
-region_found f keys number o plain keys_are number_is is =
-    ap (option_map (λ i. (get_or region_aliases i no_row).to)) (is ∙ ap (λ list. first_index list number) keys_are ∙ ap (first_index (map region_key region_aliases)) number_is)
-    ∙ found_by_number region_number is_region_alone (region_alone f) (region-tells f plain) region_aliases region_aliases_alone
+    (rows : List Likely) → list_all is_region_alone rows ≡ true →
+    (f : Fields) (keys : List ℕ) (number : ℕ) (o : Option ℕ) → are_alphanumeric f.region ≡ true → keys ≡ map region_key rows → number ≡ folded_number f.region → o ≡ first_index keys number →
+    option_map (λ i. (get_or rows i no_row).to) o ≡ likely_for rows (region_alone f)
+region_found rows alone f keys number o plain keys_are number_is is =
+    ap (option_map (λ i. (get_or rows i no_row).to)) (is ∙ ap (λ list. first_index list number) keys_are ∙ ap (first_index (map region_key rows)) number_is)
+    ∙ found_by_number region_number is_region_alone (region_alone f) (region-tells f plain) rows alone
 
 pub region_at :
     (i : ℕ) (region : List ℕ) → i < length region_aliases → region ≡ name_at REGION_ALIAS_NAMES i →

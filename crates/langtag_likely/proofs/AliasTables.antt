@@ -86,3 +86,23 @@ region_alias_count = refl
 pub region_aliases_good : list_all (λ name. is_region_field (name_text name)) table.REGION_ALIAS_NAMES ≡ true
 unfolding is_region is_letter is_digit
 region_aliases_good = refl
+
+pub replacement_numbers : table.REPLACEMENT_KEYS ≡ map (λ row. folded_number row.from.region) list.region_replacements
+unfolding list.region_replacements folded_number fold_byte
+replacement_numbers = refl
+
+pub replacement_names : map name_text table.REPLACEMENT_NAMES ≡ map (λ row. row.to.region) list.region_replacements
+unfolding list.region_replacements fold_byte
+replacement_names = refl
+
+pub replacements_alone : list_all is_region_alone list.region_replacements ≡ true
+unfolding list.region_replacements is_letter is_digit fold_byte
+replacements_alone = refl
+
+pub replacement_count : length list.region_replacements ≡ length table.REPLACEMENT_NAMES
+unfolding list.region_replacements fold_byte
+replacement_count = refl
+
+pub replacements_good : list_all (λ name. is_region_field (name_text name)) table.REPLACEMENT_NAMES ≡ true
+unfolding is_region is_letter is_digit
+replacements_good = refl

@@ -7,7 +7,7 @@ use Rattle.langtag_match.specs.Listed.{basic_text}
 use Rattle.langtag_match.specs.Wanted.{hyphened}
 use Rattle.langtag_likely.specs.Likely.{Fields, add_likely, filled, likely_for, looked_up, or_other}
 use Rattle.langtag_likely.specs.LikelySubtags.{likely_subtags}
-use Rattle.langtag_likely.specs.Matching.{completed, keeping_language, language_replaced, matching_fields, matching_form, most_likely, most_unknown, region_alone, region_replaced, replaced_form, with_region, without_language}
+use Rattle.langtag_likely.specs.Matching.{completed, keeping_language, language_replaced, matching_fields, matching_form, most_likely, most_unknown, region_alone, region_replaced, replaced_form, with_region_from, without_language}
 use Rattle.langtag_likely.specs.Aliases.{region_aliases}
 use Rattle.langtag_likely.specs.TextFields.{text_fields}
 
@@ -26,7 +26,7 @@ region_language : (f : Fields) → (region_replaced f).language ≡ f.language
 unfolding region_replaced
 region_language f = by_row (likely_for region_aliases (region_alone f))
   where
-    by_row : (o : Option Fields) → (option_map_or (with_region f) o f).language ≡ f.language
+    by_row : (o : Option Fields) → (option_map_or (with_region_from f) o f).language ≡ f.language
     by_row None = refl
     by_row (Some to) = refl
 

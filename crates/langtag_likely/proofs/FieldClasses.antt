@@ -19,6 +19,10 @@ pub language_letters : (text : List ℕ) → is_language_field text ≡ true →
 language_letters [] good = refl
 language_letters (b ∷ text) good = primary_letters (b ∷ text) good
 
+pub language_alphanumeric : (text : List ℕ) → is_language_field text ≡ true → are_alphanumeric text ≡ true
+language_alphanumeric [] good = refl
+language_alphanumeric (b ∷ text) good = (of_primary (b ∷ text) good).alphanumeric
+
 pub from_primary : (text : List ℕ) → is_primary text ≡ true → is_language_field text ≡ true
 from_primary [] is = refl
 from_primary (b ∷ text) is = is

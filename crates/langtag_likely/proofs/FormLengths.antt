@@ -1,6 +1,6 @@
 -- How long the maximal and the minimal form of a tag may be.
 use Rattle.std.specs.Option.{option_map_or}
-use Rattle.std.proofs.Common.{◌≡◌, ℕ, ◌+◌, ◌≤◌, List, [], ◌∷◌, ◌++◌, length, Option, None, Some, IfSome, IsTrue, inl, inr, sym, ap, arith, length-append}
+use Rattle.std.proofs.Common.{◌≡◌, ℕ, ◌+◌, ◌≤◌, List, [], ◌∷◌, ◌++◌, length, Option, None, Some, IfSome, IsTrue, inl, inr, ap, arith, length-append}
 use Rattle.std.specs.List.{flat_map}
 use Rattle.langtag_scan.specs.Class.{is_script, is_region}
 use Rattle.langtag_scan.specs.Record.{Record, IsWellFormed, extension_flat, private_part_flat, one_flat, spell}

@@ -20,6 +20,7 @@ pub mod RegionNumbers
 pub mod RowLaws
 pub mod RowsFound
 pub mod SettledRows
+pub mod SuggestionLaws
 pub mod TableRows
 pub mod TextLaws
 pub mod TextParts

@@ -1,15 +1,13 @@
 -- The tag of a POSIX locale's name: its parts, and its length.
-use Rattle.std.proofs.Common.{◌≡◌, ℕ, suc, ◌+◌, ◌≤◌, true, false, Bool, cond, List, [], ◌∷◌, ◌++◌, length, length-take, not, Option, None, Some, inl, IsTrue, refl, sym, ap, subst, ◌∙◌, arith}
+use Rattle.std.proofs.Common.{◌≡◌, ℕ, suc, ◌+◌, ◌≤◌, true, false, Bool, cond, List, [], ◌∷◌, ◌++◌, length, Option, None, Some, inl, IsTrue, refl, sym, ap, subst, ◌∙◌, arith}
 use Rattle.std.specs.Prelude.{◌==◌, ◌||◌, codes, IfSome, MatchOption}
-use Rattle.std.specs.List.{after_first, before_first, flat_map, list_any, position_or_len}
+use Rattle.std.specs.List.{after_first, before_first, flat_map}
 use Rattle.std.specs.Borrow.{Bor}
 use Rattle.std.specs.Option.{option_map, option_or}
 use Rattle.std.specs.Str.{IsUtf8}
 use Rattle.std.proofs.lemmas.Str.{IsUtf8-from_ascii}
 use Rattle.std.proofs.lemmas.Bool.{and_parts, eqb-true}
-use Rattle.std.proofs.Math.ListN.{drop_of_length-le}
 use Rattle.std.proofs.lemmas.List.{length-append}
-use Rattle.std.proofs.lemmas.List.Sums.{take_while-cons}
 use Rattle.langtag_scan.specs.Case.{are_alike, fold_byte}
 use Rattle.langtag_scan.specs.Class.{are_letters, is_letter, is_digit, is_script, is_variant}
 use Rattle.langtag_scan.specs.Record.{EachRecord, Record, IsWellFormed, Spells, extension_flat, one_flat, private_part_flat, spell}
@@ -17,7 +15,7 @@ use Rattle.langtag_scan.specs.Tag.{IsNormal, IsTag}
 use Rattle.langtag_scan.proofs.Ascii.{IsAscii-spelled}
 use Rattle.langtag_scan.proofs.Joins.{hyphenated, length-hyphenated, length-join}
 use Rattle.langtag_scan.proofs.SubtagFacts.{of_script}
-use Rattle.langtag.specs.Edit.{SetsVariants, with_script}
+use Rattle.langtag.specs.Edit.{with_script}
 use Rattle.langtag.proofs.EditLaws.{script-replaces}
 use Rattle.langtag_place.specs.Text.{script_text}
 use Rattle.langtag_place.specs.declared.script.Script.{Script}
@@ -28,7 +26,8 @@ use Rattle.langtag_likely.specs.Scripts.{script_codes}
 use Rattle.langtag_likely.specs.Likely.{or_else}
 use Rattle.langtag_likely.specs.Maximal.{IsForm}
 use Rattle.langtag_likely.specs.Modifiers.{is_script_code, modifier_script, modifier_variant}
-use Rattle.langtag_likely.specs.Posix.{front_of, is_hash, is_underscore, modifier_of, said_script, script_behind, with_said, with_said_script, with_said_variant}
+use Rattle.langtag_match.specs.Locale.{front_of, is_hash}
+use Rattle.langtag_likely.specs.Posix.{is_underscore, modifier_of, said_script, script_behind, with_said, with_said_script, with_said_variant}
 
 -- ---- the table of scripts has the codes of the list: by computation
 
@@ -163,48 +162,6 @@ set_script old new script is (r, spells) set =
     let longer = longer_by_script r script (script_length script is) in
     let few : length new ≤ length old + 5 = omega (arith, longer, ap length spelled.1, ap length spells.1) in
     (inl (with_script r (Some script), spelled), few, record_form (with_said_script (Some script)) old new r spells (sym spelled.1))
-
-pub set_variant :
-    (old new variant : List ℕ) → IsTrue (is_variant variant) → IsNormal old → SetsVariants variant old new → IsForm (with_said_variant (Some variant)) old new
-unfolding IsNormal
-set_variant old new variant is (r, spells) set =
-    record_form (with_said_variant (Some variant)) old new r spells (sym (set r spells (variant ∷ []) (one_variant variant is)).1)
-
-pub form_same : (text : List ℕ) → IsForm (λ r. r) text text
-form_same text = record { kept = λ other. refl; parts = λ r spells. sym spells.1 }
-
--- ---- what stands before `#`
-
-hash_place : (front : List ℕ) → length (before_first is_hash front) ≡ length front → length front ≤ position_or_len is_hash front
-hash_place front whole = let taken = length-take (position_or_len is_hash front) front in omega (arith, taken, whole)
-
-pub no_hash : (front : List ℕ) → length (before_first is_hash front) ≡ length front → list_any is_hash front ≡ false
-no_hash [] whole = refl
-no_hash (x ∷ front) whole = by_test (is_hash x) refl (no_hash front)
-  where
-    by_test : (b : Bool) → is_hash x ≡ b → (length (before_first is_hash front) ≡ length front → list_any is_hash front ≡ false) → list_any is_hash (x ∷ front) ≡ false
-    by_test true is later = absurd (let none : length (before_first is_hash (x ∷ front)) ≡ 0 = rw is refl in omega (arith, none, whole))
-    by_test false is later =
-        let step = ap length (take_while-cons (λ b. not (is_hash b)) x front ∙ ap (λ b. cond (not b) (x ∷ before_first is_hash front) []) is) in
-        rw is (later (omega (arith, step, whole)))
-
-pub some_hash : (front : List ℕ) → (length (before_first is_hash front) ≡ length front → ⊥) → list_any is_hash front ≡ true
-some_hash [] other = absurd (other refl)
-some_hash (x ∷ front) other = by_test (is_hash x) refl (some_hash front)
-  where
-    by_test :
-        (b : Bool) → is_hash x ≡ b → ((length (before_first is_hash front) ≡ length front → ⊥) → list_any is_hash front ≡ true) → list_any is_hash (x ∷ front) ≡ true
-    by_test true is later = rw is refl
-    by_test false is later =
-        let step = ap length (take_while-cons (λ b. not (is_hash b)) x front ∙ ap (λ b. cond (not b) (x ∷ before_first is_hash front) []) is) in
-        rw is (later (λ same. other (omega (arith, step, same))))
-
-pub nothing_behind : (front : List ℕ) → length (before_first is_hash front) ≡ length front → script_behind front ≡ None
-unfolding is_script
-nothing_behind front whole =
-    let past = hash_place front whole in
-    let none : after_first is_hash front ≡ [] = drop_of_length-le front (omega (arith, past)) in
-    rw none refl
 
 -- ---- the form of a form
 

@@ -5,9 +5,8 @@ use Rattle.langtag_scan.specs.AlikeRecords.{AlikeRecords}
 use Rattle.langtag_scan.specs.Case.{Alike, fold_text}
 use Rattle.langtag_scan.specs.Record.{Record, IsWellFormed, spell}
 use Rattle.langtag_scan.specs.Tag.{IsNormal}
-use Rattle.langtag_scan.proofs.CaseLaw.{alike_normal, alike_parts}
+use Rattle.langtag_scan.proofs.CaseLaw.{alike_normal, alike_parts, spelled_alike}
 use Rattle.langtag_scan.proofs.NormalTexts.{spelled_once}
-use Rattle.langtag_tables.proofs.AlikeTexts.{spelled_alike}
 use Rattle.langtag_likely.specs.Likely.{Fields, add_likely, remove_likely}
 use Rattle.langtag_likely.specs.LikelySubtags.{likely_subtags}
 use Rattle.langtag_likely.specs.Maximal.{IsForm, IsMaximalForm, IsMinimalForm, fields_of, put_fields, maximal_record, minimal_record}

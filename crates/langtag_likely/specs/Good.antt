@@ -1,8 +1,8 @@
--- What each field is, if it is not empty. Contracts of private functions alone speak of this page.
+-- What each field is if it is not empty. Only contracts of private functions cite this page.
 use Rattle.std.specs.Prelude.{ℕ, Bool, true, List, [], ◌∷◌}
 use Rattle.langtag_scan.specs.Class.{is_primary, is_script, is_region}
 
--- each is empty or of its class (RFC 5646 section 2.1)
+-- a field is empty, or a subtag of its class (RFC 5646 section 2.1)
 abbrev pub is_language_field : List ℕ → Bool
 is_language_field [] = true
 is_language_field (b ∷ text) = is_primary (b ∷ text)

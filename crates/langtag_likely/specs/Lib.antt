@@ -13,5 +13,6 @@ pub mod Ranges
 pub mod RightToLeft
 pub mod Rows
 pub mod Scripts
+pub mod Suggestion
 pub mod TextFields
 pub mod Texts

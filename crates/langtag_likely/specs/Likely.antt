@@ -1,27 +1,27 @@
--- Likely subtags (UTS #35, part 1, section 'Likely Subtags'): the script and the region that a language has most likely, and
--- the language that most likely goes with a script or a region.
+-- Likely subtags (UTS #35, part 1, section 'Likely Subtags'): the most likely script and region of a language, and the
+-- most likely language for a script or a region.
 use Rattle.std.specs.Prelude.{ℕ, ◌&&◌, Bool, false, List, [], ◌∷◌, Option, None, Some, codes, if◌then◌else◌}
 use Rattle.std.specs.Option.{option_map, option_map_or}
 use Rattle.langtag_scan.specs.Case.{are_alike}
 
--- a language, a script and a region; the empty text where there is none
+-- a language, a script and a region, each of which is the empty text if it is absent
 pub record Fields : Type 0 where
   pub language : List ℕ
   pub script : List ℕ
   pub region : List ℕ
 
--- a row of the data: the fields of its left side become those of its right side
+-- a row of the data: the fields on the left become the fields on the right
 pub record Likely : Type 0 where
   pub from : Fields
   pub to : Fields
 
 -- ---- how the lists of data are read
 
--- a field of the data, in which a hyphen stands for the empty text
+-- a field of the data, in which a hyphen means the empty text
 abbrev pub field : List ℕ → List ℕ
 field text = if are_alike (codes "-") text then [] else text
 
--- of words, three a row: a language, and the script and region that it becomes
+-- the rows in a list of words, three for each row: a language, and its likely script and region
 abbrev pub likely_of_languages : List (List ℕ) → List Likely
 likely_of_languages [] = []
 likely_of_languages (l ∷ []) = []
@@ -29,7 +29,7 @@ likely_of_languages (l ∷ s ∷ []) = []
 likely_of_languages (l ∷ s ∷ r ∷ words) =
     record { from = record { language = l; script = []; region = [] }; to = record { language = l; script = s; region = r } } ∷ likely_of_languages words
 
--- of words, six a row: the fields of the left side, and those of the right side
+-- the rows in a list of words, six for each row: the fields of the left side, and then the fields of the right side
 abbrev pub likely_of_fields : List (List ℕ) → List Likely
 likely_of_fields [] = []
 likely_of_fields (l ∷ []) = []
@@ -41,9 +41,9 @@ likely_of_fields (l ∷ s ∷ r ∷ l2 ∷ s2 ∷ r2 ∷ words) =
     record { from = record { language = field l; script = field s; region = field r }; to = record { language = field l2; script = field s2; region = field r2 } }
     ∷ likely_of_fields words
 
--- ---- a row for fields
+-- ---- finding a row
 
--- fields are equal but for case
+-- whether fields are equal, ignoring case
 abbrev pub are_alike_fields : Fields → Fields → Bool
 are_alike_fields a b = are_alike a.language b.language && (are_alike a.script b.script && are_alike a.region b.region)
 
@@ -52,7 +52,7 @@ abbrev pub likely_for : List Likely → Fields → Option Fields
 likely_for [] key = None
 likely_for (row ∷ rows) key = if are_alike_fields row.from key then Some row.to else likely_for rows key
 
--- the first of two that is there
+-- the first value if there is one, or else the second
 abbrev pub or_else : {A : Type 0} → Option A → Option A → Option A
 or_else None second = second
 or_else (Some first) second = Some first
@@ -66,19 +66,20 @@ without_script f = record { language = f.language; script = []; region = f.regio
 abbrev pub language_alone : Fields → Fields
 language_alone f = record { language = f.language; script = []; region = [] }
 
--- Lookup: language, script and region; language and script; language and region; language
+-- the step Lookup of UTS #35: the first row for language, script and region; for language and script; for language and
+-- region; or for the language
 abbrev pub looked_up : List Likely → Fields → Option Fields
 looked_up rows f =
     or_else (likely_for rows f)
     (or_else (likely_for rows (without_region f))
     (or_else (likely_for rows (without_script f)) (likely_for rows (language_alone f))))
 
--- a text, or the other where it is empty
+-- the first text, or the second text if the first is empty
 abbrev pub or_other : List ℕ → List ℕ → List ℕ
 or_other [] other = other
 or_other (b ∷ text) other = b ∷ text
 
--- each field that is there, and in place of the others those of a row
+-- the fields, with each empty field replaced by the same field of a row
 abbrev pub filled : Fields → Fields → Fields
 filled f likely = record {
   language = or_other f.language likely.language;
@@ -86,26 +87,27 @@ filled f likely = record {
   region = or_other f.region likely.region;
 }
 
--- Add Likely Subtags, over fields: none where there is no row
+-- the operation Add Likely Subtags of UTS #35, for fields; `None` if no row fits
 abbrev pub add_likely : List Likely → Fields → Option Fields
 add_likely rows f = option_map (filled f) (looked_up rows f)
 
--- ---- what is unknown is not there
+-- ---- unknown fields count as absent
 
--- a text that does not say `unknown`, as `Zzzz` and `ZZ` do
+-- a text, or the empty text if it is the given code for an unknown field, such as `Zzzz` or `ZZ`
 abbrev pub known : List ℕ → List ℕ → List ℕ
 known unknown text = if are_alike unknown text then [] else text
 
 abbrev pub known_fields : Fields → Fields
 known_fields f = record { language = f.language; script = known (codes "Zzzz") f.script; region = known (codes "ZZ") f.region }
 
--- ---- Remove Likely Subtags, over fields
+-- ---- the operation Remove Likely Subtags of UTS #35, for fields
 
--- these few fields have the maximal form
+-- whether these few fields have this maximal form
 abbrev pub suffices : List Likely → Fields → Fields → Bool
 suffices rows most few = option_map_or (λ form. are_alike_fields most form) (add_likely rows few) false
 
--- of a maximal form: the language alone, or with its region, or with its script, the first that has that form; else all
+-- the fewest fields with the same maximal form. These fields are tried in order: only the language; language and
+-- region; language and script; all fields
 abbrev pub least : List Likely → Fields → Fields
 least rows most =
     if suffices rows most (language_alone (known_fields most)) then language_alone (known_fields most)

@@ -4,7 +4,7 @@ use Rattle.std.specs.List.{flat_map}
 use Rattle.langtag_tables.specs.Words.{words}
 use Rattle.langtag_likely.specs.Likely.{Likely, likely_of_languages, likely_of_fields}
 
--- the rows whose left side is a language alone: this, and the script and the region that it becomes
+-- the rows whose left side is only a language: this language, and its likely script and region
 unfoldable pub language_rows : List Likely
 language_rows =
     flat_map (λ text. likely_of_languages (words text))
@@ -62,7 +62,7 @@ language_rows =
     ∷ codes "zaa Latn MX zab Latn MX zac Latn MX zad Latn MX zae Latn MX zaf Latn MX zag Latn SD zah Latn NG zaj Latn TZ zak Latn TZ zam Latn MX zao Latn MX zap Latn MX zaq Latn MX zar Latn MX zas Latn MX zat Latn MX zau Tibt IN zav Latn MX zaw Latn MX zax Latn MX zay Latn ET zaz Latn NG zba Arab 001 zbc Latn MY zbe Latn MY zbt Latn ID zbu Latn NG zbw Latn MY zca Latn MX zch Hani CN zdj Arab KM zea Latn NL zeg Latn PG zeh Hani CN zem Latn NG zen Tfng MR zga Latn TZ zgb Hani CN zgh Tfng MA zgm Hani CN zgn Hani CN zgr Latn PG zhd Hani CN zhi Latn NG zhn Latn CN zhw Latn CM zia Latn PG zik Latn PG zil Latn GN zim Latn TD zin Latn TZ ziw Latn TZ ziz Latn NG zka Latn ID zkd Latn MM zko Cyrl RU zkp Latn BR zkt Kits CN zku Latn AU zkz Cyrl RU zla Latn CD zlj Hani CN zlm Latn MY zln Hani CN zlq Hani CN zlu Latn NG zma Latn AU zmb Latn CD zmc Latn AU zmd Latn AU zme Latn AU zmf Latn CD zmg Latn AU zmh Latn PG zmi Latn MY zmj Latn AU zmk Latn AU zml Latn AU zmm Latn AU zmn Latn GA zmo Latn SD zmp Latn CD zmq Latn CD zmr Latn AU zms Latn CD zmt Latn AU zmu Latn AU zmv Latn AU zmw Latn CD zmx Latn CG zmy Latn AU zmz Latn CD zna Latn TD zne Latn CD zng Latn VN znk Latn AU zns Latn NG zoc Latn MX zoh Latn MX zom Latn IN zoo Latn MX zoq Latn MX zor Latn MX zos Latn MX zpa Latn MX zpb Latn MX zpc Latn MX zpd Latn MX zpe Latn MX zpf Latn MX zpg Latn MX zph Latn MX zpi Latn MX zpj Latn MX zpk Latn MX zpl Latn MX zpm Latn MX zpn Latn MX zpo Latn MX zpp Latn MX zpq Latn MX zpr Latn MX zps Latn MX zpt Latn MX zpu Latn MX zpv Latn MX zpw Latn MX zpx Latn MX zpy Latn MX zpz Latn MX zqe Hani CN zrg Orya IN zrn Latn TD zro Latn EC zrp Hebr FR zrs Latn ID zsa Latn PG zsr Latn MX zsu Latn PG zte Latn MX ztg Latn MX ztl Latn MX ztm Latn MX ztn Latn MX ztp Latn MX ztq Latn MX zts Latn MX ztt Latn MX ztu Latn MX ztx Latn MX zty Latn MX zuh Latn PG zum Arab OM zun Latn US zuy Latn CM zwa Ethi ET zyg Hani CN zyj Latn CN zyn Hani CN zyp Latn MM zza Latn TR zzj Hani CN"
     ∷ [])
 
--- the other rows: language, script and region of the left side, and those of the right side
+-- the rows whose left side is not only a language: language, script and region of the left side, and then of the right side
 unfoldable pub other_rows : List Likely
 other_rows =
     flat_map (λ text. likely_of_fields (words text))
@@ -91,6 +91,6 @@ other_rows =
     ∷ codes "yue - CN yue Hans CN yue Hans - yue Hans CN"
     ∷ [])
 
--- all rows
+-- all rows of likely subtags
 unfoldable pub likely_subtags : List Likely
 likely_subtags = language_rows ++ other_rows

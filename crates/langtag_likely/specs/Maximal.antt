@@ -1,4 +1,4 @@
--- The maximal and the minimal form of a tag (UTS #35, part 1, section 'Likely Subtags').
+-- The maximal and minimal forms of a tag (UTS #35, part 1, section 'Likely Subtags').
 use Rattle.std.specs.Prelude.{◌≡◌, ℕ, List, [], ◌∷◌, Option, None, Some, codes, if◌then◌else◌, unwrap_or}
 use Rattle.std.specs.Option.{option_map_or}
 use Rattle.langtag_scan.specs.Case.{are_alike}
@@ -9,13 +9,14 @@ use Rattle.langtag_likely.specs.LikelySubtags.{likely_subtags}
 
 -- ---- the fields of a tag
 
--- the language: the last extended subtag where there is one, else the primary one; `und` is none
+-- the language of a tag: its last extended subtag if it has any, and otherwise its primary subtag; `und` counts as no
+-- language
 abbrev pub language_field : List ℕ → List (List ℕ) → List ℕ
 language_field primary [] = known (codes "und") primary
 language_field primary (extlang ∷ []) = extlang
 language_field primary (first ∷ second ∷ others) = language_field primary (second ∷ others)
 
--- `Zzzz` is no script, and `ZZ` no region
+-- the fields of a record; `Zzzz` counts as no script, and `ZZ` as no region
 abbrev pub fields_of : Record → Fields
 fields_of r = record {
   language = language_field r.primary r.extended;
@@ -25,43 +26,44 @@ fields_of r = record {
 
 -- ---- a tag with other fields
 
--- a language that is known stays, and so do extended subtags and what stands before them
+-- the new primary subtag: the language of the fields for `und` without extended subtags, and otherwise the old primary
+-- subtag
 abbrev pub put_language : List ℕ → List (List ℕ) → List ℕ → List ℕ
 put_language primary [] language = if are_alike (codes "und") primary then or_other language primary else primary
 put_language primary (extlang ∷ others) language = primary
 
--- the subtag of a field: none of an empty one
+-- the subtag of a field, or `None` if the field is empty
 abbrev pub subtag_of : List ℕ → Option (List ℕ)
 subtag_of [] = None
 subtag_of (b ∷ text) = Some (b ∷ text)
 
--- the script and the region are those of the fields, and all else stays
+-- the record with the script and the region of the fields, and with their language in place of `und`
 abbrev pub put_fields : Record → Fields → Record
 put_fields r f = record r { primary = put_language r.primary r.extended f.language; script = subtag_of f.script; region = subtag_of f.region }
 
 -- ---- the forms
 
--- of a tag with likely subtags: with these; any other stays
+-- the record with its likely subtags added, or the same record if no likely subtags are known
 unfoldable pub maximal_record : Record → Record
 maximal_record r = option_map_or (put_fields r) (add_likely likely_subtags (fields_of r)) r
 
--- of a tag with likely subtags: without those that are likely anyway; any other stays
+-- the record without the subtags that are likely anyway, or the same record if no likely subtags are known
 unfoldable pub minimal_record : Record → Record
 minimal_record r = option_map_or (put_fields r) (remove_likely likely_subtags (fields_of r)) r
 
--- what a normal tag becomes, its record becoming another; any other tag stays
+-- `new` is the text of the changed record if the tag is normal; any other tag stays unchanged
 pub record IsForm (form_of : Record → Record) (old new : List ℕ) : Type 0 where
   pub kept : (IsNormal old → ⊥) → new ≡ old
   pub parts : EachRecord old (λ r. new ≡ spell (form_of r))
 
--- and it is the only such text
+-- `old` has no form other than `new`
 abbrev pub IsOnlyForm : (Record → Record) → List ℕ → List ℕ → Type 0
 IsOnlyForm form_of old new = (form : List ℕ) → IsForm form_of old form → form ≡ new
 
--- Add Likely Subtags
+-- the maximal form of a text: Add Likely Subtags of UTS #35
 abbrev pub IsMaximalForm : List ℕ → List ℕ → Type 0
 IsMaximalForm old new = IsForm maximal_record old new
 
--- Remove Likely Subtags
+-- the minimal form of a text: Remove Likely Subtags of UTS #35
 abbrev pub IsMinimalForm : List ℕ → List ℕ → Type 0
 IsMinimalForm old new = IsForm minimal_record old new

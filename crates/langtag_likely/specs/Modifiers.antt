@@ -1,15 +1,15 @@
--- What the modifiers of locales' names say, as glibc, KDE and GNOME use them.
+-- What the modifiers of locale names mean, as glibc, KDE and GNOME use them.
 use Rattle.std.specs.Prelude.{ℕ, Bool, true, false, ◌&&◌, ◌||◌, List, [], ◌∷◌, Option, None, Some, codes, is_some, if◌then◌else◌}
 use Rattle.std.specs.List.{list_any}
 use Rattle.langtag_scan.specs.Case.{are_alike}
 use Rattle.langtag_scan.specs.Class.{is_script}
 use Rattle.langtag_likely.specs.Scripts.{script_codes}
 
--- the code of a script (ISO 15924)
+-- whether a text is the code of a script (ISO 15924)
 abbrev pub is_script_code : List ℕ → Bool
 is_script_code text = is_script text && list_any (λ code. are_alike code text) script_codes
 
--- the script of a modifier: `Cyrl` and `shaw` are codes
+-- the script that a modifier names; it may be a code such as `Cyrl` or `shaw`
 abbrev pub modifier_script : List ℕ → Option (List ℕ)
 modifier_script modifier =
     if are_alike (codes "latin") modifier || (are_alike (codes "iqtelif") modifier || are_alike (codes "ijekavianlatin") modifier) then Some (codes "Latn")
@@ -18,7 +18,7 @@ modifier_script modifier =
     else if is_script_code modifier then Some modifier
     else None
 
--- the variant of a modifier
+-- the variant that a modifier names
 abbrev pub modifier_variant : List ℕ → Option (List ℕ)
 modifier_variant modifier =
     if are_alike (codes "ijekavian") modifier || are_alike (codes "ijekavianlatin") modifier then Some (codes "ijekavsk")
@@ -26,7 +26,7 @@ modifier_variant modifier =
     else if are_alike (codes "valencia") modifier then Some (codes "valencia")
     else None
 
--- these say how to sort, to quote or to pay, and nothing of the language
+-- whether a modifier is about sorting, quotation marks or currency, and not about the language
 abbrev pub says_nothing : List ℕ → Bool
 says_nothing modifier =
     are_alike (codes "euro") modifier || (are_alike (codes "preeuro") modifier || (are_alike (codes "abegede") modifier || (are_alike (codes "phonebook") modifier
@@ -37,6 +37,6 @@ abbrev pub is_empty : List ℕ → Bool
 is_empty [] = true
 is_empty (b ∷ text) = false
 
--- no modifier, or one that says a script or a variant, or nothing of the language
+-- whether the modifier is empty, names a script or a variant, or is not about the language
 unfoldable pub is_known : List ℕ → Bool
 is_known modifier = is_empty modifier || (is_some (modifier_script modifier) || (is_some (modifier_variant modifier) || says_nothing modifier))

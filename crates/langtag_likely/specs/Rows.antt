@@ -1,20 +1,20 @@
--- What the tables have. Contracts of private functions alone speak of this page.
+-- What the tables of likely subtags contain. Only contracts of private functions cite this page.
 use Rattle.std.specs.Prelude.{ℕ, List, [], Option}
 use Rattle.std.specs.Option.{option_map}
 use Rattle.langtag_likely.specs.Likely.{Fields, Likely, likely_for}
 use Rattle.langtag_likely.specs.LikelySubtags.{language_rows}
 
--- a language and no more
+-- the fields with only a language
 abbrev pub of_language : List ℕ → Fields
 of_language language = record { language = language; script = []; region = [] }
 
--- the script and the region that a language becomes
+-- the likely script and region of a language
 abbrev pub places_of : Fields → Fields
 places_of to = record { language = []; script = to.script; region = to.region }
 
 abbrev pub places_for : List ℕ → Option Fields
 places_for language = option_map places_of (likely_for language_rows (of_language language))
 
--- what stands past the end of a list
+-- the value for an index after the end of a list
 abbrev pub no_row : Likely
 no_row = record { from = of_language []; to = of_language [] }

@@ -1,23 +1,23 @@
--- The fields of a text, which need not be a tag: its first subtags, as far as they are a language, a script and a region.
+-- The fields of a text, which need not be a tag: the language, the script and the region with which it begins.
 use Rattle.std.specs.Prelude.{ℕ, Bool, ◌==◌, ◌||◌, not, List, [], ◌∷◌, filter, length, Option, None, Some, codes, if◌then◌else◌}
 use Rattle.std.specs.List.{slice_split}
 use Rattle.langtag_scan.specs.Class.{is_primary, is_extended, is_script, is_region}
 use Rattle.langtag_scan.specs.Subtags.{subtags}
 use Rattle.langtag_match.specs.Range.{is_star}
-use Rattle.langtag_match.specs.Wanted.{is_mark}
+use Rattle.langtag_match.specs.Wanted.{is_separator}
 use Rattle.langtag_likely.specs.Likely.{Fields, known}
 
--- which subtags after the first count: not "*", which a language range may have, and not what is empty
+-- whether a subtag after the first counts: "*", which a language range may have, and empty subtags do not
 abbrev pub counts : List ℕ → Bool
 counts subtag = not (is_star subtag || (length subtag == 0))
 
 abbrev pub counted : List (List ℕ) → List (List ℕ)
 counted subtags = filter counts subtags
 
--- the last of the extended subtags in front, or else the language before them
-abbrev pub language_of : List ℕ → List (List ℕ) → List ℕ
-language_of language [] = language
-language_of language (subtag ∷ others) = if is_extended subtag then language_of subtag others else language
+-- the last of the extended subtags at the start, or else the language before them
+abbrev pub last_language : List ℕ → List (List ℕ) → List ℕ
+last_language language [] = language
+last_language language (subtag ∷ others) = if is_extended subtag then last_language subtag others else language
 
 abbrev pub after_language : List (List ℕ) → List (List ℕ)
 after_language [] = []
@@ -35,13 +35,14 @@ abbrev pub region_of : List (List ℕ) → List ℕ
 region_of [] = []
 region_of (subtag ∷ others) = if is_region subtag then subtag else []
 
--- none where the text does not begin with a language; `und`, `Zzzz` and `ZZ` are none
+-- the fields of a text with these subtags, or `None` if it does not begin with a language; `und`, `Zzzz` and `ZZ` count
+-- as absent
 abbrev pub fields_of_subtags : List (List ℕ) → Option Fields
 fields_of_subtags [] = None
 fields_of_subtags (first ∷ others) =
     if is_primary first then
     Some (record {
-      language = language_of (known (codes "und") first) (counted others);
+      language = last_language (known (codes "und") first) (counted others);
       script = known (codes "Zzzz") (script_of (after_language (counted others)));
       region = known (codes "ZZ") (region_of (after_script (after_language (counted others))));
     })
@@ -50,7 +51,7 @@ fields_of_subtags (first ∷ others) =
 unfoldable pub text_fields : List ℕ → Option Fields
 text_fields text = fields_of_subtags (subtags text)
 
--- ---- of what is left of a text in which "_" is read as "-"; contracts of private functions alone speak of it
+-- ---- the rest of a text in which "_" is read as "-"; only contracts of private functions cite these definitions
 
-abbrev pub parts : List ℕ → List (List ℕ)
-parts text = counted (slice_split is_mark text)
+abbrev pub counted_parts : List ℕ → List (List ℕ)
+counted_parts text = counted (slice_split is_separator text)

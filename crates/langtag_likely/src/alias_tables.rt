@@ -1,6 +1,6 @@
-//! What is deprecated by Unicode's CLDR 48.2, in tables (the notice: likely/LICENSE-UNICODE). Written by likely/generate.py. Do not edit.
+//! The deprecated languages and regions of Unicode's CLDR 48.2, in tables (the notice: likely/LICENSE-UNICODE). Written by likely/generate.py. Do not edit.
 
-/// The languages that are replaced: their letters as the digits of a number, in rising order.
+/// The keys of the languages that are replaced, in rising order: each key is the number whose base-26 digits are the letters.
 #[rattlefmt::skip]
 pub(crate) static ALIAS_KEYS: [u16; 435] = [
     0x003C, 0x00F8, 0x0101, 0x010D, 0x011B, 0x0161, 0x01F6, 0x0214, 0x021F, 0x02CB, 0x02D0, 0x02E3, 0x031C, 0x0352,
@@ -37,7 +37,7 @@ pub(crate) static ALIAS_KEYS: [u16; 435] = [
     0x4734,
 ];
 
-/// What each of them becomes.
+/// The language that replaces each language of `ALIAS_KEYS`.
 #[rattlefmt::skip]
 pub(crate) static ALIAS_LANGUAGES: [[u8; 4]; 435] = [
     *b"bho\0", *b"id\0\0", *b"he\0\0", *b"yi\0\0", *b"jv\0\0", *b"ro\0\0", *b"sr\0\0", *b"fil\0", *b"ak\0\0",
@@ -90,13 +90,13 @@ pub(crate) static ALIAS_LANGUAGES: [[u8; 4]; 435] = [
     *b"ms\0\0", *b"zu\0\0", *b"za\0\0",
 ];
 
-/// No script, and those that this brings.
+/// An empty entry for no script, and then the scripts that come with a replacement.
 #[rattlefmt::skip]
 pub(crate) static ALIAS_SCRIPT_NAMES: [[u8; 4]; 2] = [
     *b"\0\0\0\0", *b"Latn",
 ];
 
-/// Where the script that it brings stands.
+/// The index of the script that comes with each replacement.
 #[rattlefmt::skip]
 pub(crate) static ALIAS_SCRIPTS: [u8; 435] = [
     0x00, 0x00, 0x00, 0x00, 0x00, 0x00, 0x01, 0x00, 0x00, 0x00, 0x00, 0x00, 0x00, 0x00, 0x00, 0x00, 0x00, 0x00,
@@ -126,13 +126,13 @@ pub(crate) static ALIAS_SCRIPTS: [u8; 435] = [
     0x00, 0x00, 0x00,
 ];
 
-/// No region, and those that this brings.
+/// An empty entry for no region, and then the regions that come with a replacement.
 #[rattlefmt::skip]
 pub(crate) static ALIAS_REGION_NAMES: [[u8; 4]; 4] = [
     *b"\0\0\0\0", *b"AF\0\0", *b"CD\0\0", *b"ME\0\0",
 ];
 
-/// Where the region that it brings stands.
+/// The index of the region that comes with each replacement.
 #[rattlefmt::skip]
 pub(crate) static ALIAS_REGIONS: [u8; 435] = [
     0x00, 0x00, 0x00, 0x00, 0x00, 0x00, 0x00, 0x00, 0x00, 0x00, 0x00, 0x00, 0x00, 0x00, 0x00, 0x00, 0x00, 0x00,
@@ -162,7 +162,7 @@ pub(crate) static ALIAS_REGIONS: [u8; 435] = [
     0x00, 0x00, 0x00,
 ];
 
-/// The regions that are replaced: their lowercase bytes as the digits of a number, in rising order.
+/// The keys of the regions that are replaced, in rising order: each key is the number whose base-256 digits are the lowercase bytes.
 #[rattlefmt::skip]
 pub(crate) static REGION_ALIAS_KEYS: [u32; 27] = [
     0x0000616E, 0x00006275, 0x00006373, 0x00006374, 0x00006464, 0x00006479, 0x00006671, 0x00006678, 0x00006876,
@@ -170,10 +170,92 @@ pub(crate) static REGION_ALIAS_KEYS: [u32; 27] = [
     0x00007268, 0x00007375, 0x00007470, 0x0000756B, 0x00007664, 0x0000776B, 0x00007964, 0x00007975, 0x00007A72,
 ];
 
-/// What each of them becomes.
+/// The region that replaces each region of `REGION_ALIAS_KEYS`.
 #[rattlefmt::skip]
 pub(crate) static REGION_ALIAS_NAMES: [[u8; 4]; 27] = [
     *b"CW\0\0", *b"MM\0\0", *b"RS\0\0", *b"KI\0\0", *b"DE\0\0", *b"BJ\0\0", *b"AQ\0\0", *b"FR\0\0", *b"BF\0\0",
     *b"UM\0\0", *b"UM\0\0", *b"VU\0\0", *b"AQ\0\0", *b"SA\0\0", *b"FM\0\0", *b"UM\0\0", *b"PA\0\0", *b"EU\0\0",
     *b"ZW\0\0", *b"RU\0\0", *b"TL\0\0", *b"GB\0\0", *b"VN\0\0", *b"UM\0\0", *b"YE\0\0", *b"RS\0\0", *b"CD\0\0",
+];
+
+/// The keys, in rising order, of the regions that another region replaces, including codes of three digits.
+#[rattlefmt::skip]
+pub(crate) static REPLACEMENT_KEYS: [u32; 317] = [
+    0x00006275, 0x00006374, 0x00006464, 0x00006479, 0x00006678, 0x00006876, 0x00006A74, 0x00006D69, 0x00006E68,
+    0x00006E71, 0x00007075, 0x0000707A, 0x00007175, 0x00007268, 0x00007470, 0x0000756B, 0x00007664, 0x0000776B,
+    0x00007964, 0x00007A72, 0x00303034, 0x00303038, 0x00303130, 0x00303132, 0x00303136, 0x00303230, 0x00303234,
+    0x00303238, 0x00303331, 0x00303332, 0x00303336, 0x00303430, 0x00303434, 0x00303438, 0x00303530, 0x00303531,
+    0x00303532, 0x00303536, 0x00303630, 0x00303634, 0x00303638, 0x00303730, 0x00303732, 0x00303734, 0x00303736,
+    0x00303834, 0x00303836, 0x00303930, 0x00303932, 0x00303936, 0x00313030, 0x00313034, 0x00313038, 0x00313132,
+    0x00313136, 0x00313230, 0x00313234, 0x00313332, 0x00313336, 0x00313430, 0x00313434, 0x00313438, 0x00313532,
+    0x00313536, 0x00313538, 0x00313632, 0x00313636, 0x00313730, 0x00313734, 0x00313735, 0x00313738, 0x00313830,
+    0x00313834, 0x00313838, 0x00313931, 0x00313932, 0x00313936, 0x00323033, 0x00323034, 0x00323038, 0x00323132,
+    0x00323134, 0x00323138, 0x00323232, 0x00323236, 0x00323330, 0x00323331, 0x00323332, 0x00323333, 0x00323334,
+    0x00323338, 0x00323339, 0x00323432, 0x00323436, 0x00323438, 0x00323439, 0x00323530, 0x00323534, 0x00323538,
+    0x00323630, 0x00323632, 0x00323636, 0x00323638, 0x00323730, 0x00323735, 0x00323736, 0x00323738, 0x00323830,
+    0x00323838, 0x00323932, 0x00323936, 0x00333030, 0x00333034, 0x00333038, 0x00333132, 0x00333136, 0x00333230,
+    0x00333234, 0x00333238, 0x00333332, 0x00333334, 0x00333336, 0x00333430, 0x00333434, 0x00333438, 0x00333532,
+    0x00333536, 0x00333630, 0x00333634, 0x00333638, 0x00333732, 0x00333736, 0x00333830, 0x00333834, 0x00333838,
+    0x00333932, 0x00333938, 0x00343030, 0x00343034, 0x00343038, 0x00343130, 0x00343134, 0x00343137, 0x00343138,
+    0x00343232, 0x00343236, 0x00343238, 0x00343330, 0x00343334, 0x00343338, 0x00343430, 0x00343432, 0x00343436,
+    0x00343530, 0x00343534, 0x00343538, 0x00343632, 0x00343636, 0x00343730, 0x00343734, 0x00343738, 0x00343830,
+    0x00343834, 0x00343932, 0x00343936, 0x00343938, 0x00343939, 0x00353030, 0x00353034, 0x00353038, 0x00353132,
+    0x00353136, 0x00353230, 0x00353234, 0x00353238, 0x00353331, 0x00353333, 0x00353334, 0x00353335, 0x00353430,
+    0x00353438, 0x00353534, 0x00353538, 0x00353632, 0x00353636, 0x00353730, 0x00353734, 0x00353738, 0x00353830,
+    0x00353831, 0x00353833, 0x00353834, 0x00353835, 0x00353836, 0x00353931, 0x00353938, 0x00363030, 0x00363034,
+    0x00363038, 0x00363132, 0x00363136, 0x00363230, 0x00363234, 0x00363236, 0x00363330, 0x00363334, 0x00363338,
+    0x00363432, 0x00363433, 0x00363436, 0x00363532, 0x00363534, 0x00363539, 0x00363630, 0x00363632, 0x00363633,
+    0x00363636, 0x00363730, 0x00363734, 0x00363738, 0x00363832, 0x00363836, 0x00363838, 0x00363930, 0x00363934,
+    0x00373032, 0x00373033, 0x00373034, 0x00373035, 0x00373036, 0x00373130, 0x00373136, 0x00373230, 0x00373234,
+    0x00373238, 0x00373239, 0x00373332, 0x00373336, 0x00373430, 0x00373434, 0x00373438, 0x00373532, 0x00373536,
+    0x00373630, 0x00373632, 0x00373634, 0x00373638, 0x00373732, 0x00373736, 0x00373830, 0x00373834, 0x00373838,
+    0x00373932, 0x00373935, 0x00373936, 0x00373938, 0x00383030, 0x00383034, 0x00383037, 0x00383138, 0x00383236,
+    0x00383331, 0x00383332, 0x00383333, 0x00383334, 0x00383430, 0x00383530, 0x00383534, 0x00383538, 0x00383630,
+    0x00383632, 0x00383736, 0x00383832, 0x00383836, 0x00383837, 0x00383934, 0x00393538, 0x00393539, 0x00393630,
+    0x00393632, 0x00393633, 0x00393634, 0x00393635, 0x00393636, 0x00393637, 0x00393638, 0x00393639, 0x00393730,
+    0x00393731, 0x00393732, 0x00393733, 0x00393734, 0x00393735, 0x00393736, 0x00393737, 0x00393738, 0x00393739,
+    0x00393830, 0x00393831, 0x00393832, 0x00393833, 0x00393834, 0x00393835, 0x00393836, 0x00393837, 0x00393838,
+    0x00393839, 0x00393930, 0x00393931, 0x00393932, 0x00393933, 0x00393934, 0x00393935, 0x00393936, 0x00393937,
+    0x00393938, 0x00393939,
+];
+
+/// The region that replaces each region of `REPLACEMENT_KEYS`.
+#[rattlefmt::skip]
+pub(crate) static REPLACEMENT_NAMES: [[u8; 4]; 317] = [
+    *b"MM\0\0", *b"KI\0\0", *b"DE\0\0", *b"BJ\0\0", *b"FR\0\0", *b"BF\0\0", *b"UM\0\0", *b"UM\0\0", *b"VU\0\0",
+    *b"AQ\0\0", *b"UM\0\0", *b"PA\0\0", *b"EU\0\0", *b"ZW\0\0", *b"TL\0\0", *b"GB\0\0", *b"VN\0\0", *b"UM\0\0",
+    *b"YE\0\0", *b"CD\0\0", *b"AF\0\0", *b"AL\0\0", *b"AQ\0\0", *b"DZ\0\0", *b"AS\0\0", *b"AD\0\0", *b"AO\0\0",
+    *b"AG\0\0", *b"AZ\0\0", *b"AR\0\0", *b"AU\0\0", *b"AT\0\0", *b"BS\0\0", *b"BH\0\0", *b"BD\0\0", *b"AM\0\0",
+    *b"BB\0\0", *b"BE\0\0", *b"BM\0\0", *b"BT\0\0", *b"BO\0\0", *b"BA\0\0", *b"BW\0\0", *b"BV\0\0", *b"BR\0\0",
+    *b"BZ\0\0", *b"IO\0\0", *b"SB\0\0", *b"VG\0\0", *b"BN\0\0", *b"BG\0\0", *b"MM\0\0", *b"BI\0\0", *b"BY\0\0",
+    *b"KH\0\0", *b"CM\0\0", *b"CA\0\0", *b"CV\0\0", *b"KY\0\0", *b"CF\0\0", *b"LK\0\0", *b"TD\0\0", *b"CL\0\0",
+    *b"CN\0\0", *b"TW\0\0", *b"CX\0\0", *b"CC\0\0", *b"CO\0\0", *b"KM\0\0", *b"YT\0\0", *b"CG\0\0", *b"CD\0\0",
+    *b"CK\0\0", *b"CR\0\0", *b"HR\0\0", *b"CU\0\0", *b"CY\0\0", *b"CZ\0\0", *b"BJ\0\0", *b"DK\0\0", *b"DM\0\0",
+    *b"DO\0\0", *b"EC\0\0", *b"SV\0\0", *b"GQ\0\0", *b"ET\0\0", *b"ET\0\0", *b"ER\0\0", *b"EE\0\0", *b"FO\0\0",
+    *b"FK\0\0", *b"GS\0\0", *b"FJ\0\0", *b"FI\0\0", *b"AX\0\0", *b"FR\0\0", *b"FR\0\0", *b"GF\0\0", *b"PF\0\0",
+    *b"TF\0\0", *b"DJ\0\0", *b"GA\0\0", *b"GE\0\0", *b"GM\0\0", *b"PS\0\0", *b"DE\0\0", *b"DE\0\0", *b"DE\0\0",
+    *b"GH\0\0", *b"GI\0\0", *b"KI\0\0", *b"GR\0\0", *b"GL\0\0", *b"GD\0\0", *b"GP\0\0", *b"GU\0\0", *b"GT\0\0",
+    *b"GN\0\0", *b"GY\0\0", *b"HT\0\0", *b"HM\0\0", *b"VA\0\0", *b"HN\0\0", *b"HK\0\0", *b"HU\0\0", *b"IS\0\0",
+    *b"IN\0\0", *b"ID\0\0", *b"IR\0\0", *b"IQ\0\0", *b"IE\0\0", *b"IL\0\0", *b"IT\0\0", *b"CI\0\0", *b"JM\0\0",
+    *b"JP\0\0", *b"KZ\0\0", *b"JO\0\0", *b"KE\0\0", *b"KP\0\0", *b"KR\0\0", *b"KW\0\0", *b"KG\0\0", *b"LA\0\0",
+    *b"LB\0\0", *b"LS\0\0", *b"LV\0\0", *b"LR\0\0", *b"LY\0\0", *b"LI\0\0", *b"LT\0\0", *b"LU\0\0", *b"MO\0\0",
+    *b"MG\0\0", *b"MW\0\0", *b"MY\0\0", *b"MV\0\0", *b"ML\0\0", *b"MT\0\0", *b"MQ\0\0", *b"MR\0\0", *b"MU\0\0",
+    *b"MX\0\0", *b"MC\0\0", *b"MN\0\0", *b"MD\0\0", *b"ME\0\0", *b"MS\0\0", *b"MA\0\0", *b"MZ\0\0", *b"OM\0\0",
+    *b"NA\0\0", *b"NR\0\0", *b"NP\0\0", *b"NL\0\0", *b"CW\0\0", *b"AW\0\0", *b"SX\0\0", *b"BQ\0\0", *b"NC\0\0",
+    *b"VU\0\0", *b"NZ\0\0", *b"NI\0\0", *b"NE\0\0", *b"NG\0\0", *b"NU\0\0", *b"NF\0\0", *b"NO\0\0", *b"MP\0\0",
+    *b"UM\0\0", *b"FM\0\0", *b"MH\0\0", *b"PW\0\0", *b"PK\0\0", *b"PA\0\0", *b"PG\0\0", *b"PY\0\0", *b"PE\0\0",
+    *b"PH\0\0", *b"PN\0\0", *b"PL\0\0", *b"PT\0\0", *b"GW\0\0", *b"TL\0\0", *b"PR\0\0", *b"QA\0\0", *b"RE\0\0",
+    *b"RO\0\0", *b"RU\0\0", *b"RW\0\0", *b"BL\0\0", *b"SH\0\0", *b"KN\0\0", *b"AI\0\0", *b"LC\0\0", *b"MF\0\0",
+    *b"PM\0\0", *b"VC\0\0", *b"SM\0\0", *b"ST\0\0", *b"SA\0\0", *b"SN\0\0", *b"RS\0\0", *b"SC\0\0", *b"SL\0\0",
+    *b"SG\0\0", *b"SK\0\0", *b"VN\0\0", *b"SI\0\0", *b"SO\0\0", *b"ZA\0\0", *b"ZW\0\0", *b"YE\0\0", *b"ES\0\0",
+    *b"SS\0\0", *b"SD\0\0", *b"EH\0\0", *b"SD\0\0", *b"SR\0\0", *b"SJ\0\0", *b"SZ\0\0", *b"SE\0\0", *b"CH\0\0",
+    *b"SY\0\0", *b"TJ\0\0", *b"TH\0\0", *b"TG\0\0", *b"TK\0\0", *b"TO\0\0", *b"TT\0\0", *b"AE\0\0", *b"TN\0\0",
+    *b"TR\0\0", *b"TM\0\0", *b"TC\0\0", *b"TV\0\0", *b"UG\0\0", *b"UA\0\0", *b"MK\0\0", *b"EG\0\0", *b"GB\0\0",
+    *b"GG\0\0", *b"JE\0\0", *b"IM\0\0", *b"TZ\0\0", *b"US\0\0", *b"VI\0\0", *b"BF\0\0", *b"UY\0\0", *b"UZ\0\0",
+    *b"VE\0\0", *b"WF\0\0", *b"WS\0\0", *b"YE\0\0", *b"YE\0\0", *b"ZM\0\0", *b"AA\0\0", *b"QM\0\0", *b"QN\0\0",
+    *b"QP\0\0", *b"QQ\0\0", *b"QR\0\0", *b"QS\0\0", *b"QT\0\0", *b"EU\0\0", *b"QV\0\0", *b"QW\0\0", *b"QX\0\0",
+    *b"QY\0\0", *b"QZ\0\0", *b"XA\0\0", *b"XB\0\0", *b"XC\0\0", *b"XD\0\0", *b"XE\0\0", *b"XF\0\0", *b"XG\0\0",
+    *b"XH\0\0", *b"XI\0\0", *b"XJ\0\0", *b"XK\0\0", *b"XL\0\0", *b"XM\0\0", *b"XN\0\0", *b"XO\0\0", *b"XP\0\0",
+    *b"XQ\0\0", *b"XR\0\0", *b"XS\0\0", *b"XT\0\0", *b"XU\0\0", *b"XV\0\0", *b"XW\0\0", *b"XX\0\0", *b"XY\0\0",
+    *b"XZ\0\0", *b"ZZ\0\0",
 ];

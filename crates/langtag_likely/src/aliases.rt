@@ -1,4 +1,4 @@
-//! What is deprecated in the fields of a tag, replaced.
+//! Replacing deprecated languages and regions in the fields of a tag.
 ghost use Rattle.std.specs.Prelude.{◌≡◌, IsTrue, length, map};
 ghost use Rattle.std.specs.Option.{option_map};
 ghost use Rattle.langtag_scan.specs.Case.{folded_number};
@@ -16,7 +16,8 @@ use crate::names::{name_at, name_in};
 use crate::rows::language_number;
 use crate::tag_fields::TagFields;
 
-/// Returns fields with another language in place of one that CLDR replaces, and with the script or the region that it brings.
+/// Returns the fields with the language replaced if CLDR replaces it, and with the script or the region that comes
+/// with the new language.
 #[tactic(auto, unfolding(crate::specs::Matching::language_replaced))]
 pub(crate) fn language_replaced<'a>(fields: TagFields<'a>) -> TagFields<'a>
     ensures { field_texts result ≡ spec.language_replaced (field_texts fields.entry) }
@@ -27,7 +28,7 @@ pub(crate) fn language_replaced<'a>(fields: TagFields<'a>) -> TagFields<'a>
     }
 }
 
-/// Returns fields with another region in place of one that is deprecated.
+/// Returns the fields with the region replaced if it is deprecated.
 #[tactic(auto, unfolding(crate::specs::Matching::region_replaced))]
 pub(crate) fn region_replaced<'a>(fields: TagFields<'a>) -> TagFields<'a>
     ensures { field_texts result ≡ spec.region_replaced (field_texts fields.entry) }
@@ -38,8 +39,8 @@ pub(crate) fn region_replaced<'a>(fields: TagFields<'a>) -> TagFields<'a>
     }
 }
 
-/// Returns what the language is replaced by.
-fn language_alias(fields: TagFields<'_>) -> Option<TagFields<'static>>
+/// Returns the replacement of the language, if there is one.
+pub(crate) fn language_alias(fields: TagFields<'_>) -> Option<TagFields<'static>>
     ensures { option_map field_texts result ≡ likely_for language_aliases (language_alone (field_texts fields.entry)) }
 {
     if fields.language.len() > 3 {
@@ -54,7 +55,7 @@ fn language_alias(fields: TagFields<'_>) -> Option<TagFields<'static>>
     })
 }
 
-/// Returns what the region is replaced by.
+/// Returns the replacement of the region, if there is one.
 #[tactic(auto, using(crate::proofs::FieldClasses::region_length))]
 fn region_alias(fields: TagFields<'_>) -> Option<TagFields<'static>>
     ensures { option_map field_texts result ≡ likely_for region_aliases (spec.region_alone (field_texts fields.entry)) }
@@ -86,9 +87,10 @@ fn region_alias_keys() -> &'static [u32]
 }
 
 impl<'a> TagFields<'a> {
-    /// Returns another language with what it brings where these fields have no script or no region.
+    /// Returns these fields with another language. The script or region that comes with the language is added if these
+    /// fields have none.
     fn with_language(self, other: TagFields<'a>) -> TagFields<'a>
-        ensures { field_texts result ≡ spec.with_language (field_texts self.entry) (field_texts other.entry) }
+        ensures { field_texts result ≡ spec.with_language_from (field_texts self.entry) (field_texts other.entry) }
     {
         TagFields {
             language: other.language,
@@ -97,9 +99,9 @@ impl<'a> TagFields<'a> {
         }
     }
 
-    /// Returns these fields with the region of others.
+    /// Returns these fields with the region of `other`.
     fn with_region(self, other: TagFields<'a>) -> TagFields<'a>
-        ensures { field_texts result ≡ spec.with_region (field_texts self.entry) (field_texts other.entry) }
+        ensures { field_texts result ≡ spec.with_region_from (field_texts self.entry) (field_texts other.entry) }
     {
         TagFields {
             language: self.language,

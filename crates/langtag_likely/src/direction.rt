@@ -11,9 +11,9 @@ use langtag::{LangTag, case_insensitive_eq};
 /// Returns whether a tag's language is written from right to left: `true` for `he`, `pa-PK`, `az-Arab` and `und-Thaa`,
 /// `false` for `ar-Latn`.
 ///
-/// It depends on the script of the tag. If the tag has none, the most likely script of its language and region is used.
-/// Deprecated subtags such as `iw` count as their replacements. It is `false` for private-use tags, irregular tags and
-/// `und`.
+/// The script of the tag decides. If the tag has no script, the most likely script of its language and region is used.
+/// Deprecated subtags such as `iw` count as their replacements. The result is `false` for private-use tags, irregular
+/// tags and `und`.
 ///
 /// ```
 /// use langtag::LangTag;

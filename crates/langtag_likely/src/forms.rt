@@ -1,4 +1,4 @@
-//! The maximal and the minimal form of a tag (UTS #35, part 1, section 'Likely Subtags').
+//! The maximal and minimal forms of a tag (UTS #35, part 1, section 'Likely Subtags').
 ghost use Rattle.std.specs.Prelude.{◌≡◌, ◌+◌, ◌-◌, ◌^◌, length, min, IfOk};
 ghost use Rattle.langtag.specs.Text.{lang_tag_text, lang_tag_buf_text};
 ghost use Rattle.langtag_scan.specs.Tag.{IsTag};
@@ -7,17 +7,19 @@ ghost use Rattle.langtag_likely.specs.Maximal.{IsMaximalForm, IsMinimalForm, IsO
 ghost use Rattle.langtag_likely.specs.MaximalLaws.{IsAlikeForm, KeepsOthers, TellsAsMaximal, UndoesMaximal, UndoesMinimal};
 
 use crate::likely::{add_likely, remove_likely};
-use crate::put::{write_changed, write_text};
+use crate::put::write_changed;
 use crate::tag_fields::TagFields;
 use langtag::{LangTag, LangTagBuf};
+use langtag_output::write_text;
 use std::alloc::{AllocError, Global};
 
 /// Adds the likely subtags to a tag (UTS #35, Add Likely Subtags): `zh-TW` becomes `zh-Hant-TW`, `en` and `und` become
 /// `en-Latn-US`, and `de-1996` becomes `de-Latn-DE-1996`.
 ///
-/// Subtags of the tag stay, with their case, except `und`, `Zzzz` and `ZZ`, which mean that something is unknown.
-/// Deprecated subtags stay, too: to replace them, call `langtag_registry::canonical` first. Variants, extensions and
-/// private use stay. A tag about which nothing is known, such as `x-a` or `qaa`, stays as it is.
+/// Subtags of the tag stay, with their case. Only `und`, `Zzzz` and `ZZ`, which mean an unknown language, script or
+/// region, are replaced. Deprecated subtags stay, too: to replace them, call `langtag_registry::canonical` first.
+/// Variants, extensions and private use stay. A tag without known likely subtags, such as `x-a` or `qaa`, stays
+/// unchanged.
 ///
 /// # Errors
 ///
@@ -41,7 +43,7 @@ pub fn maximized(alloc: Global, tag: LangTag<'_>) -> Result<LangTagBuf, AllocErr
 }
 
 /// Removes the likely subtags from a tag (UTS #35, Remove Likely Subtags): `zh-Hant-TW` becomes `zh-TW`, and
-/// `en-Latn-US` becomes `en`. If either the script or the region would be enough, the region is kept.
+/// `en-Latn-US` becomes `en`. If it is enough to keep either the script or the region, the region is kept.
 ///
 /// # Errors
 ///
@@ -66,7 +68,7 @@ pub fn minimized(alloc: Global, tag: LangTag<'_>) -> Result<LangTagBuf, AllocErr
 }
 
 /// Writes a tag with its likely subtags to a buffer, as [`maximized`] returns it, and returns its length in bytes. If
-/// the buffer is too short, it stays unchanged, and the length says how much room is needed. It does not allocate.
+/// the buffer is too short, it stays unchanged, and the length says how long a buffer must be. It does not allocate.
 ///
 /// ```
 /// use langtag::LangTag;
@@ -105,7 +107,7 @@ pub fn write_minimized(tag: LangTag<'_>, buffer: &mut [u8]) -> usize
     write_changed(normal, remove_likely(TagFields::of(normal)), buffer)
 }
 
-/// Returns a buffer that has room for each form of a tag.
+/// Returns a buffer that is long enough for the maximal and the minimal form of a tag.
 fn form_buffer(alloc: Global, tag: LangTag<'_>) -> Result<Vec<u8>, AllocError>
     ensures { IfOk result (λ buffer. length buffer.items ≡ min (length (lang_tag_text tag.entry) + 17) (2 ^ 64 - 1)) }
 {
@@ -131,7 +133,7 @@ fn minimal_bytes(alloc: Global, tag: LangTag<'_>) -> Result<Vec<u8>, AllocError>
     Ok(bytes)
 }
 
-/// Returns the tag that these bytes are.
+/// Converts bytes that are known to be a tag into that tag.
 pub(crate) fn tag_of(bytes: Vec<u8>) -> LangTagBuf
     requires { IsTag bytes.items }
     ensures { lang_tag_buf_text result ≡ bytes.items }

@@ -1,6 +1,6 @@
 //! Likely subtags (UTS #35, part 1, section 'Likely Subtags') from Unicode's CLDR. They are the most likely script and
-//! region of a language, which can be added to a tag or removed from it. Also the direction of writing, and the tags of
-//! POSIX locale names.
+//! region of a language, which can be added to a tag or removed from it. The crate also finds the writing direction of
+//! a tag, and the tags for POSIX locale names.
 //!
 //! ```
 //! use langtag::LangTag;
@@ -26,6 +26,7 @@ mod posix_error;
 mod put;
 mod read_text;
 mod rows;
+mod suggestion;
 mod tables;
 mod tag_fields;
 mod text_fields;
@@ -35,12 +36,13 @@ pub use forms::{maximized, minimized, write_maximized, write_minimized};
 pub use modifiers::unknown_modifier;
 pub use posix::{from_posix, write_from_posix};
 pub use posix_error::PosixError;
+pub use suggestion::{suggested_language, suggested_region};
 pub use tables::CLDR_VERSION;
 
 // For langtag_choice.
 pub use keys::index_of;
 pub use likely::suffices;
 pub use matching::{completed, matching_form, replaced_form};
-pub use read_text::{after_common, are_alike, basic_len, hyphened};
+pub use read_text::{after_common, are_alike, basic_len};
 pub use rows::{key_number, language_number};
 pub use tag_fields::TagFields;

@@ -1,4 +1,4 @@
-//! Likely subtags of fields, added and removed (UTS #35, part 1, section 'Likely Subtags').
+//! Adding and removing the likely subtags of fields (UTS #35, part 1, section 'Likely Subtags').
 ghost use Rattle.std.specs.Prelude.{◌≡◌};
 ghost use Rattle.std.specs.Option.{option_map};
 ghost use Rattle.langtag_likely.specs.Likely.{filled, add_likely, looked_up, suffices, least, remove_likely};
@@ -8,7 +8,7 @@ ghost use Rattle.langtag_likely.specs.Texts.{field_texts};
 use crate::rows::likely_for;
 use crate::tag_fields::TagFields;
 
-/// Returns the fields with what is likely in place of each that is empty; `None` if nothing is known.
+/// Returns the fields with the likely subtag in place of each empty field, or `None` if no row fits.
 pub(crate) fn add_likely<'a>(fields: TagFields<'a>) -> Option<TagFields<'a>>
     ensures { option_map field_texts result ≡ add_likely likely_subtags (field_texts fields.entry) }
 {
@@ -36,7 +36,7 @@ fn looked_up(fields: TagFields<'_>) -> Option<TagFields<'static>>
     likely_for(fields.language_alone())
 }
 
-/// Returns the fewest fields that have the same maximal form; `None` if nothing is known.
+/// Returns the fewest fields that have the same maximal form, or `None` if no row fits.
 pub(crate) fn remove_likely<'a>(fields: TagFields<'a>) -> Option<TagFields<'a>>
     ensures { option_map field_texts result ≡ remove_likely likely_subtags (field_texts fields.entry) }
 {
@@ -46,7 +46,7 @@ pub(crate) fn remove_likely<'a>(fields: TagFields<'a>) -> Option<TagFields<'a>>
     }
 }
 
-/// Returns the fewest fields of a maximal form that have it too: a region goes before a script.
+/// Returns the fewest fields of a maximal form that have the same maximal form. A region is preferred to a script.
 fn least<'a>(most: TagFields<'a>) -> TagFields<'a>
     ensures { field_texts result ≡ least likely_subtags (field_texts most.entry) }
 {
@@ -63,7 +63,7 @@ fn least<'a>(most: TagFields<'a>) -> TagFields<'a>
     most
 }
 
-/// Returns whether few fields have this maximal form.
+/// Returns whether the fields `few` have the maximal form `most`.
 pub fn suffices(most: TagFields<'_>, few: TagFields<'_>) -> bool
     ensures { result ≡ suffices likely_subtags (field_texts most.entry) (field_texts few.entry) }
 {

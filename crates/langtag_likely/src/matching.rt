@@ -9,8 +9,8 @@ use crate::likely::add_likely;
 use crate::read_text::are_alike;
 use crate::tag_fields::TagFields;
 
-/// Returns the matching form of a text: its fields, of which what is deprecated is replaced, with the likely ones in place of those
-/// that are empty. A text `und` has none, nor has one that does not begin with a language.
+/// Returns the matching form of a text: its fields, with deprecated subtags replaced and likely subtags added.
+/// Returns `None` for `und`, and for a text that does not begin with a language.
 #[tactic(auto, using(crate::proofs::CompletedForms::form_completed))]
 pub fn matching_form(text: &[u8]) -> Option<TagFields<'_>>
     ensures { option_map field_texts result ≡ spec.matching_form text.now }
@@ -35,15 +35,15 @@ pub fn replaced_form(text: &[u8]) -> Option<TagFields<'_>>
     }
 }
 
-/// Returns fields with another region in place of one that is deprecated, and with likely subtags.
+/// Returns the fields with a deprecated region replaced, and with likely subtags added.
 pub fn completed<'a>(fields: TagFields<'a>) -> TagFields<'a>
     ensures { field_texts result ≡ spec.completed (field_texts fields.entry) }
 {
     most_likely(region_replaced(fields))
 }
 
-/// Returns fields with the likely ones in place of those that are empty. Where nothing is known of a language, script and region
-/// are as if there were none.
+/// Returns the fields with likely subtags added. If no likely subtags of the language are known, script and region
+/// are what they would be without the language.
 #[tactic(auto, unfolding(crate::specs::Matching::most_likely))]
 fn most_likely<'a>(fields: TagFields<'a>) -> TagFields<'a>
     ensures { field_texts result ≡ spec.most_likely (field_texts fields.entry) }
@@ -69,7 +69,7 @@ impl<'a> TagFields<'a> {
         }
     }
 
-    /// Returns the language of these fields, and the script and the region of others.
+    /// Returns the language of these fields, with the script and the region of `others`.
     fn keeping_language(self, others: TagFields<'a>) -> TagFields<'a>
         ensures { field_texts result ≡ spec.keeping_language (field_texts self.entry) (field_texts others.entry) }
     {

@@ -1,4 +1,4 @@
-//! What the modifiers of locales' names say.
+//! What the modifiers of locale names mean.
 ghost use Rattle.std.specs.Prelude.{◌≡◌, ◌||◌, IsTrue, MatchOption, None, Some, codes, false, if◌then◌else◌};
 ghost use Rattle.std.specs.List.{list_any};
 ghost use Rattle.std.specs.Option.{option_map};
@@ -14,10 +14,11 @@ use langtag::case_insensitive_eq;
 use langtag_place::Script;
 use langtag_scan::{is_script, split_at_byte};
 
-/// Returns the modifier of a locale's name if [`write_from_posix`] and [`from_posix`] drop it without knowing what it says: `b"foo"`
-/// for `de_DE@foo`.
+/// Returns the modifier of a locale name if [`write_from_posix`] and [`from_posix`] drop it because they do not know
+/// it: `b"foo"` for `de_DE@foo`.
 ///
-/// Returns `None` without a modifier, if it says a script or a variant, and if it says nothing of the language, such as `euro`.
+/// Returns `None` if there is no modifier, if the modifier names a script or a variant, or if it is not about the
+/// language, such as `euro`.
 ///
 /// ```
 /// use langtag_likely::unknown_modifier;
@@ -50,7 +51,7 @@ fn is_known(modifier: &[u8]) -> bool
         || says_nothing(modifier)
 }
 
-/// Returns the script that a modifier says.
+/// Returns the script that a modifier names.
 #[tactic(auto, unfolding(langtag_scan::specs::Class::is_script, langtag_scan::specs::Class::is_letter))]
 pub(crate) fn modifier_script(modifier: &[u8]) -> Option<Script<'_>>
     ensures { option_map script_text result ≡ spec.modifier_script modifier.now }
@@ -98,7 +99,7 @@ fn scripts() -> &'static [[u8; 4]]
     &tables::SCRIPT_NAMES
 }
 
-/// Returns the script that a text is.
+/// Returns a text as a script, or `None` if it is not one.
 #[tactic(auto, using(crate::proofs::PosixLaws::utf8_script))]
 pub(crate) fn script_of(text: &[u8]) -> Option<Script<'_>>
     ensures { option_map script_text result ≡ if is_script text.now then Some text.now else None }
@@ -107,7 +108,7 @@ pub(crate) fn script_of(text: &[u8]) -> Option<Script<'_>>
     Script::new(text).ok()
 }
 
-/// Returns the variant that a modifier says.
+/// Returns the variant that a modifier names.
 pub(crate) fn modifier_variant(modifier: &[u8]) -> Option<&'static str>
     ensures { option_map (λ variant. variant.now) result ≡ spec.modifier_variant modifier.now }
 {
@@ -125,7 +126,7 @@ pub(crate) fn modifier_variant(modifier: &[u8]) -> Option<&'static str>
     None
 }
 
-/// Returns whether a modifier says how to sort, to quote or to pay, and nothing of the language.
+/// Returns whether a modifier is about sorting, quotation marks or currency, and not about the language.
 fn says_nothing(modifier: &[u8]) -> bool
     ensures { result ≡ spec.says_nothing modifier.now }
 {

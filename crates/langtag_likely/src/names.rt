@@ -1,4 +1,4 @@
-//! The names of languages, scripts and regions, by their places in the tables.
+//! The names of languages, scripts and regions, by their positions in the tables.
 ghost use Rattle.std.specs.Prelude.{◌≡◌, ◌<◌, ◌≤◌, IsTrue, [], length, map, nat_lt, slice_index_or};
 ghost use Rattle.std.specs.List.{list_all};
 ghost use Rattle.langtag_likely.specs.Numbers.{name_at, name_length};
@@ -12,7 +12,7 @@ pub(crate) fn name_at(names: &'static [[u8; 4]], index: usize) -> &'static [u8]
     &name[..name_length(name)]
 }
 
-/// Returns the name that a column of a table says at an index.
+/// Reads the index of a name from a column of a table, and returns the name.
 pub(crate) fn name_in(
     names: &'static [[u8; 4]],
     column: &'static [u8],
@@ -25,7 +25,7 @@ pub(crate) fn name_in(
     name_at(names, usize::from(column[index]))
 }
 
-/// Returns how many letters a name has before the zeros that fill it up.
+/// Returns the number of letters in a name, without the zeros that fill it up to four bytes.
 fn name_length(name: &[u8; 4]) -> usize
     ensures letters { result ≡ name_length name.now }
     ensures most { result ≤ 4 }

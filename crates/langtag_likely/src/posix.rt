@@ -1,51 +1,52 @@
-//! The tag of a POSIX locale's name.
+//! The tag for a POSIX locale name.
 ghost use Rattle.std.specs.Prelude.{◌≡◌, ◌+◌, ◌≤◌, ℕ, IsTrue, List, None, Some, IfOk, IfErr, IfSome, MatchOption, length};
 ghost use Rattle.std.specs.Option.{option_map};
 ghost use Rattle.langtag.specs.Edit.{SetsPart, SetsVariants};
 ghost use Rattle.langtag_place.specs.Variants.{IsVariants};
 ghost use Rattle.langtag_place.specs.Text.{script_text};
 ghost use Rattle.langtag_scan.specs.Class.{is_variant};
-ghost use Rattle.langtag.specs.Text.{lang_tag_text, lang_tag_buf_text, normal_lang_tag_text};
+ghost use Rattle.langtag.specs.Text.{lang_tag_text, lang_tag_buf_text};
+ghost use Rattle.langtag_match.specs.Locale.{front_of};
 ghost use Rattle.langtag_output.specs.Writes.{Writes};
 ghost use Rattle.langtag_likely.specs.Maximal.{IsForm};
-ghost use Rattle.langtag_likely.specs.Posix.{IsPlace, IsRefusal, IsTagOfName, NamesTag, front_of, hyphenated, modifier_of, place_before, script_behind, with_said_script, with_said_variant, without_mark};
+ghost use Rattle.langtag_likely.specs.Posix.{IsLocalePlace, IsRefusal, IsTagOfName, NamesTag, hyphenated, modifier_of, script_behind, with_said_script, with_said_variant};
 
 use crate::forms::tag_of;
 use crate::modifiers::{modifier_script, modifier_variant, script_of};
 use crate::posix_error::PosixError;
-use crate::put::write_text;
-use langtag::{LangTag, LangTagBuf, NormalLangTag, Part, put_part};
-use langtag_output::write_pieces;
+use langtag::{LangTag, LangTagBuf, Part, write_part};
+use langtag_match::locale_place;
+use langtag_output::write_text;
 use langtag_place::{Script, Variants};
-use langtag_scan::split_at_byte;
+use langtag_scan::{split_at_byte, split_at_either};
 use std::alloc::{AllocError, Global};
 
 /// The greatest length of a language and a territory, in bytes.
 const MOST: usize = 255;
 
-/// The greatest length of these with a script.
+/// The greatest length of a language and a territory with a script, in bytes.
 const MOST_WITH_SCRIPT: usize = MOST + 5;
 
-/// Returns the tag of a POSIX locale's name (IEEE Std 1003.1, section 8.2),
+/// Returns the tag for a POSIX locale name (IEEE Std 1003.1, section 8.2),
 /// `language[_territory][.codeset][@modifier]`: `pt-BR` for `pt_BR.UTF-8`, `sr-Latn-RS` for `sr_RS@latin`,
 /// `ca-ES-valencia` for `ca_ES.UTF-8@valencia`.
 ///
 /// The codeset is dropped. These modifiers name a script or a variant, ignoring case:
 ///
 /// - `latin`, `cyrillic`, `devanagari`, `iqtelif`, and the code of a script, such as `Cyrl` and `shaw`;
-/// - `valencia`, `tarask`, `ijekavian`, and `ijekavianlatin`, which names both.
+/// - `valencia`, `tarask`, `ijekavian`, and `ijekavianlatin`, which names both a script and a variant.
 ///
-/// Other modifiers are dropped, such as `euro`; [`unknown_modifier`] returns one whose meaning is not known. A script
-/// behind `_#` is read as Java and Android print it: `zh-Hant-TW` for `zh_TW_#Hant`. Each `_` is read as a hyphen. Case
-/// and deprecated subtags stay as they are.
+/// Other modifiers are dropped, such as `euro`; [`unknown_modifier`] returns a modifier whose meaning is not known. A
+/// script after `_#`, as Java and Android print it, is read, too: `zh-Hant-TW` for `zh_TW_#Hant`. Each `_` is read as a
+/// hyphen. Case and deprecated subtags stay as they are.
 ///
 /// [`unknown_modifier`]: crate::unknown_modifier
 ///
 /// # Errors
 ///
-/// Returns `NoTag` with the name if its language and territory are not a tag, as in `C`, `en_` and the empty text, or
-/// are `POSIX`, ignoring case, or have more than 255 bytes, which no system's names have. Returns `Memory` if
-/// allocation fails.
+/// Returns `NoTag` with the name if its language and territory are not a tag, as in `C`, `en_` and the empty text.
+/// `NoTag` is also returned for `POSIX`, ignoring case, and for a language and territory of more than 255 bytes.
+/// Returns `Memory` if allocation fails.
 ///
 /// ```
 /// use langtag_likely::from_posix;
@@ -64,7 +65,7 @@ pub fn from_posix(alloc: Global, name: &str) -> Result<LangTagBuf, PosixError<'_
     }
 }
 
-/// Returns the bytes of the tag of a name; None of a name that says none.
+/// Returns the bytes of the tag for a name, or `None` if the name has no tag.
 fn bytes_of(alloc: Global, name: &[u8]) -> Result<Option<Vec<u8>>, AllocError>
     ensures tag { IfOk result (λ bytes. MatchOption bytes (NamesTag name.now → ⊥)
         (λ bytes. NamesTag name.now × IsTagOfName name.now bytes.items)) }
@@ -78,9 +79,9 @@ fn bytes_of(alloc: Global, name: &[u8]) -> Result<Option<Vec<u8>>, AllocError>
     Ok(Some(bytes))
 }
 
-/// Writes the tag of a POSIX locale's name to a buffer, as [`from_posix`] returns it, and returns its length in bytes,
-/// or `None` if the name has no tag. If the buffer is too short, it stays unchanged, and the length says how much room
-/// is needed. It does not allocate.
+/// Writes the tag for a POSIX locale name to a buffer, as [`from_posix`] returns it, and returns its length in bytes,
+/// or `None` if the name has no tag. If the buffer is too short, it stays unchanged, and the length says how long a
+/// buffer must be. It does not allocate.
 ///
 /// ```
 /// use langtag_likely::write_from_posix;
@@ -95,52 +96,38 @@ pub fn write_from_posix(name: &[u8], buffer: &mut [u8]) -> Option<usize>
         (λ len. NamesTag name.now × Writes (IsTagOfName name.now) buffer.old buffer.new len) }
     ensures nothing { result ≡ None → buffer.new ≡ buffer.old }
 {
-    let (front, modifier) = front_and_modifier(name);
-    let (place, script) = place_and_script(front);
     let mut room = [0; MOST];
-    let tag = tag_of_place(place, &mut room)?;
+    let tag = tag_of_place(locale_place(name), &mut room)?;
+    let (front, modifier) = front_and_modifier(name);
+    let script = script_behind(front);
     let mut longer = [0; MOST_WITH_SCRIPT];
     let tag = tag_with_script(tag, modifier_script(modifier).or(script), &mut longer);
     Some(write_with_variant(tag, modifier_variant(modifier), buffer))
 }
 
-/// Returns what stands before the modifier and before the codeset, and the modifier.
+/// Returns the text before the codeset and the modifier, and the modifier.
 fn front_and_modifier(name: &[u8]) -> (&[u8], &[u8])
     ensures front { result.0.now ≡ front_of name.now }
     ensures modifier { result.1.now ≡ modifier_of name.now }
 {
-    let (place_and_codeset, modifier) = split_at_byte(name, b'@');
-    let (front, _codeset) = split_at_byte(place_and_codeset, b'.');
+    let (front, _codeset) = split_at_either(name, b'.', b'@');
+    let (_, modifier) = split_at_byte(name, b'@');
     (front, modifier)
 }
 
-/// Returns the language and the territory, and the script behind `#`.
-fn place_and_script(front: &[u8]) -> (&[u8], Option<Script<'_>>)
-    ensures place { result.0.now ≡ place_before front.now }
-    ensures script { option_map script_text result.1 ≡ script_behind front.now }
+/// Returns the script after `#`.
+fn script_behind(front: &[u8]) -> Option<Script<'_>>
+    ensures { option_map script_text result ≡ script_behind front.now }
 {
-    let (before, behind) = split_at_byte(front, b'#');
-    if before.len() == front.len() {
-        return (front, None);
-    }
+    let (_, behind) = split_at_byte(front, b'#');
     let (script, _extensions) = split_at_byte(behind, b'_');
-    (without_mark(without_mark(before)), script_of(script))
+    script_of(script)
 }
 
-/// Returns a text without a `_` at its end.
-fn without_mark(text: &[u8]) -> &[u8]
-    ensures { result.now ≡ without_mark text.now }
-{
-    match text {
-        [front @ .., b'_'] => front,
-        _ => text,
-    }
-}
-
-/// Returns the tag that a language and a territory are, written into this room.
+/// Writes a language and a territory into `room`, and returns them as a tag.
 fn tag_of_place<'a>(place: &[u8], room: &'a mut [u8; MOST]) -> Option<LangTag<'a>>
-    ensures { MatchOption result (IsPlace place.now → ⊥)
-        (λ tag. IsPlace place.now × (lang_tag_text tag ≡ hyphenated place.now)) }
+    ensures { MatchOption result (IsLocalePlace place.now → ⊥)
+        (λ tag. IsLocalePlace place.now × (lang_tag_text tag ≡ hyphenated place.now)) }
 {
     let bytes = room.get_mut(..place.len())?;
     bytes.copy_from_slice(place);
@@ -163,7 +150,7 @@ fn hyphenate(bytes: &mut [u8])
     }
 }
 
-/// Returns a tag with a script, written into this room.
+/// Writes a tag with a script into `room`, and returns it as a tag.
 fn tag_with_script<'a>(
     tag: LangTag<'a>,
     script: Option<Script<'_>>,
@@ -176,14 +163,14 @@ fn tag_with_script<'a>(
     let Some(normal) = tag.as_normal() else {
         return tag;
     };
-    let len = write_with(normal, Part::Script(Some(script)), room);
+    let len = write_part(normal, Part::Script(Some(script)), room);
     match LangTag::from_bytes(&room[..len]) {
         Ok(tag) => tag,
         Err(_) => unreachable!(),
     }
 }
 
-/// Writes a tag with a variant in place of its variants.
+/// Writes a tag with its variants replaced by the given variant.
 fn write_with_variant(tag: LangTag<'_>, variant: Option<&'static str>, buffer: &mut [u8]) -> usize
     requires { IfSome variant (λ variant. IsTrue (is_variant variant.now)) }
     ensures { Writes (IsForm (with_said_variant (option_map (λ variant. variant.now) variant.entry)) (lang_tag_text tag.entry)) buffer.old buffer.new result }
@@ -194,10 +181,10 @@ fn write_with_variant(tag: LangTag<'_>, variant: Option<&'static str>, buffer: &
     let Some(normal) = tag.as_normal() else {
         return write_text(tag.as_bytes(), buffer);
     };
-    write_with(normal, variants_part(variant), buffer)
+    write_part(normal, variants_part(variant), buffer)
 }
 
-/// Returns the part that variants are.
+/// Returns variants as a part of a tag.
 fn variants_part(variants: &str) -> Part<'_>
     requires { IsVariants variants.now }
     ensures { (old new : List ℕ) → SetsPart result old new → SetsVariants variants.now old new }
@@ -206,16 +193,4 @@ fn variants_part(variants: &str) -> Part<'_>
         Ok(variants) => Part::Variants(variants),
         Err(_) => unreachable!(),
     }
-}
-
-/// Writes a tag with a part into a buffer, where it has room, and returns how long that tag is.
-fn write_with<'a>(tag: NormalLangTag<'a>, part: Part<'a>, buffer: &mut [u8]) -> usize
-    ensures { Writes (SetsPart part.entry (normal_lang_tag_text tag.entry)) buffer.old buffer.new result }
-{
-    let text = tag.as_str().as_bytes();
-    let new = put_part(tag, part);
-    let hyphen: &'a [u8] = new.hyphen.as_bytes();
-    let part = new.part.as_bytes();
-    let pieces = [&text[..new.start], hyphen, part, &text[new.end..]];
-    write_pieces(&pieces, buffer)
 }

@@ -1,11 +1,11 @@
-//! Why a POSIX locale's name gave no tag.
+//! Why a POSIX locale name has no tag.
 ghost use Rattle.std.specs.Prelude.{◌≡◌};
 ghost use Rattle.langtag_likely.specs.declared.posix_error.PosixError.TheVariants.{Memory};
 
 use std::alloc::AllocError;
 use thiserror::Error;
 
-/// The error for a POSIX locale's name: why it has no tag.
+/// The error for a POSIX locale name: why it has no tag.
 ///
 /// ```
 /// use langtag_likely::{PosixError, from_posix};
@@ -14,7 +14,7 @@ use thiserror::Error;
 /// ```
 #[derive(Debug, Drop, Error)]
 pub enum PosixError<'a> {
-    /// The name, which has no language: `C`, `POSIX`, the empty text, or a text that is not a tag, such as `en_`.
+    /// The name, which gives no tag: `C`, `POSIX`, the empty text, or a text that is not a tag, such as `en_`.
     #[error("no locale's name that says a language: {0}")]
     NoTag(&'a str),
     /// Allocation failed.

@@ -1,4 +1,4 @@
-//! A tag with other fields.
+//! Writes a tag with other fields.
 ghost use Rattle.std.specs.Prelude.{◌≡◌, ◌∷◌, ◌++◌, drop};
 ghost use Rattle.std.specs.List.{flat_map};
 ghost use Rattle.std.specs.Option.{option_map, option_map_or};
@@ -16,9 +16,9 @@ use crate::fields::or_other;
 use crate::tag_fields::TagFields;
 use langtag::NormalLangTag;
 use langtag_language::Language;
-use langtag_output::write_pieces;
+use langtag_output::{write_pieces, write_text};
 
-/// Writes a tag with other fields to a buffer, or unchanged if there are none.
+/// Writes a tag with the given fields to a buffer, or the unchanged tag if `None` is given.
 pub(crate) fn write_changed(
     tag: NormalLangTag<'_>,
     fields: Option<TagFields<'_>>,
@@ -33,7 +33,7 @@ pub(crate) fn write_changed(
     }
 }
 
-/// Writes a tag with these fields into a buffer, where it has room, and returns how long that tag is.
+/// Writes a tag with these fields into a buffer, if it fits, and returns the length of that tag.
 #[inline(always)]
 fn write_fields<'a>(tag: NormalLangTag<'a>, fields: TagFields<'a>, buffer: &mut [u8]) -> usize
     ensures { EachRecord (normal_lang_tag_text tag.entry)
@@ -50,21 +50,14 @@ fn write_fields<'a>(tag: NormalLangTag<'a>, fields: TagFields<'a>, buffer: &mut 
     write_pieces(&pieces, buffer)
 }
 
-/// Writes a text.
-pub(crate) fn write_text(text: &[u8], buffer: &mut [u8]) -> usize
-    ensures { Writes (λ new. new ≡ text.now) buffer.old buffer.new result }
-{
-    write_pieces(&[text], buffer)
-}
-
-/// Returns the hyphen before a subtag; nothing, if there is none.
+/// Returns the hyphen before a subtag, or nothing if the subtag is empty.
 fn hyphen_before(subtag: &[u8]) -> &[u8]
     ensures { result.now ++ subtag.now ≡ flat_map (λ s. 45 ∷ s) (one_flat (subtag_of subtag.now)) }
 {
     if subtag.is_empty() { b"" } else { b"-" }
 }
 
-/// Returns what stands in a tag after its region, with the hyphen before it.
+/// Returns the rest of a tag after its region, with the hyphen before it.
 fn after_region<'a>(tag: NormalLangTag<'a>) -> &'a [u8]
     ensures { EachRecord (normal_lang_tag_text tag.entry) (λ r. result.now ≡ drop (ends_of r).region (spell r)) }
 {
@@ -72,7 +65,7 @@ fn after_region<'a>(tag: NormalLangTag<'a>) -> &'a [u8]
     &text.as_bytes()[tag.ends().region..]
 }
 
-/// Returns the language of a tag, or another in place of `und`.
+/// Returns the language of a tag, or `other` in place of `und`.
 #[tactic(auto, using(crate::proofs::PutLaws::und_alone))]
 fn put_language<'a>(language: Language<'a>, other: &'a [u8]) -> &'a [u8]
     ensures { EachLanguageSpelling (language_text language.entry)

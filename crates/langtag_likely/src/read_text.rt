@@ -1,4 +1,4 @@
-//! Language ranges as they are read: `_` as `-`, and without each `-*`.
+//! Language ranges as a look-up reads them: `_` is read as `-`, and each `-*` is left out.
 ghost use Rattle.std.specs.Prelude.{◌≡◌, ◌≤◌, IsTrue, length};
 ghost use Rattle.langtag_scan.specs.Case.{are_alike};
 ghost use Rattle.langtag_match.specs.Listed.{basic_text};
@@ -8,7 +8,7 @@ ghost use Rattle.langtag_likely.specs.Ranges as spec;
 
 use langtag_scan::into_smallcase;
 
-/// Returns whether a range, read in this way, equals a text, ignoring case.
+/// Returns whether a range, with `_` read as `-` and without each `-*`, equals a text, ignoring case.
 pub fn are_alike(range: &[u8], text: &[u8]) -> bool
     ensures { result ≡ are_alike (basic_text range.now) text.now }
 {
@@ -16,7 +16,7 @@ pub fn are_alike(range: &[u8], text: &[u8]) -> bool
     left.is_empty() && rest.is_empty()
 }
 
-/// Returns what is left of a range and of a text after their common beginning.
+/// Returns what remains of a range and of a text after their common beginning.
 #[tactic(auto, using(crate::proofs::CommonTexts::common_next, crate::proofs::CommonTexts::common_apart, crate::proofs::CommonTexts::common_end))]
 pub fn after_common<'a, 't>(range: &'a [u8], text: &'t [u8]) -> (&'a [u8], &'t [u8])
     ensures left { (basic_text result.0.now, result.1.now) ≡ spec.after_common (basic_text range.now) text.now }
@@ -34,7 +34,7 @@ pub fn after_common<'a, 't>(range: &'a [u8], text: &'t [u8]) -> (&'a [u8], &'t [
     (left, rest)
 }
 
-/// Returns the length of a range, as it is read.
+/// Returns the length of a range without each `-*`.
 #[tactic(auto, using(crate::proofs::CommonTexts::byte_off, crate::proofs::CommonTexts::nothing_read, crate::proofs::CommonTexts::length_read))]
 pub fn basic_len(range: &[u8]) -> usize
     ensures { result ≡ length (basic_text range.now) }
@@ -48,7 +48,7 @@ pub fn basic_len(range: &[u8]) -> usize
     len
 }
 
-/// Returns a range without each `-*` in front.
+/// Returns a range without each `-*` at its start.
 #[tactic(auto, using(crate::proofs::CommonTexts::star_off))]
 fn without_stars(range: &[u8]) -> &[u8]
     ensures same { basic_text result.now ≡ basic_text range.now }
@@ -70,8 +70,8 @@ fn begins_with_star(range: &[u8]) -> bool
     matches!(range, [b'-' | b'_', b'*', ..])
 }
 
-/// Returns a byte as it is read.
-pub fn hyphened(byte: u8) -> u8
+/// Returns `-` for `_`, and any other byte unchanged.
+fn hyphened(byte: u8) -> u8
     ensures { result ≡ hyphened_byte byte }
 {
     if byte == b'_' { b'-' } else { byte }

@@ -1,4 +1,5 @@
-//! The rows of likely subtags, in tables: those of a language alone, and the others.
+//! The rows of likely subtags, in tables: one table for rows with only a language on the left, and one for all other
+//! rows.
 ghost use Rattle.std.specs.Prelude.{◌≡◌, ◌≤◌, ◌<◌, IsTrue, length, map, slice_index_or};
 ghost use Rattle.std.specs.Option.{option_map};
 ghost use Rattle.langtag_scan.specs.Class as class;
@@ -17,7 +18,8 @@ use crate::tables;
 use crate::tag_fields::TagFields;
 use langtag_tables::letter_number;
 
-/// Returns the right side of the row with this left side. Its language is empty if the left side has one.
+/// Returns the right side of the row with this left side. The language of the right side is empty if the left side has a
+/// language.
 #[tactic(auto, using(crate::proofs::RowLaws::all_long, crate::proofs::RowLaws::all_alone, crate::proofs::RowLaws::all_other))]
 pub(crate) fn likely_for(key: TagFields<'_>) -> Option<TagFields<'static>>
     ensures { option_map (filled (field_texts key.entry)) (option_map field_texts result)
@@ -32,7 +34,7 @@ pub(crate) fn likely_for(key: TagFields<'_>) -> Option<TagFields<'static>>
     other_row(key)
 }
 
-/// Returns the script and the region of a language alone.
+/// Returns the likely script and region of a language.
 fn language_row(language: &[u8]) -> Option<TagFields<'static>>
     requires primary { IsTrue (class.is_primary language.now) }
     requires short { length language.now ≤ 3 }
@@ -42,7 +44,8 @@ fn language_row(language: &[u8]) -> Option<TagFields<'static>>
     Some(language_places(index))
 }
 
-/// Returns where the language with a number stands among those with a row: how many bits are set before its own, if that is set.
+/// Returns the index of a language, given by its number, among the languages with a row. If the language's bit is set,
+/// the index is the number of set bits before it.
 #[tactic(auto, using(crate::proofs::LanguageBits::no_row, crate::proofs::LanguageBits::enough_ends, crate::proofs::LanguageBits::row_at))]
 fn language_index(number: usize) -> Option<usize>
     requires from_aa { 27 ≤ number }
@@ -58,7 +61,7 @@ fn language_index(number: usize) -> Option<usize>
     Some(end - bits.count_ones() as usize)
 }
 
-/// Returns the right side of a row whose left side is no language alone.
+/// Returns the right side of a row whose left side is not only a language.
 fn other_row(key: TagFields<'_>) -> Option<TagFields<'static>>
     requires { length key.language.now ≤ 3 }
     ensures { option_map field_texts result ≡ likely_for other_rows (field_texts key.entry) }
@@ -67,7 +70,7 @@ fn other_row(key: TagFields<'_>) -> Option<TagFields<'static>>
     Some(other_fields(index))
 }
 
-/// Returns fields as one number, which is not 0.
+/// Returns the number that stands for three fields, which is never 0.
 #[tactic(auto, using(crate::proofs::FieldClasses::script_length, crate::proofs::FieldClasses::region_length), unfolding(crate::specs::Numbers::key_number))]
 pub fn key_number(key: TagFields<'_>) -> u32
     requires { length key.language.now ≤ 3 }
@@ -77,7 +80,7 @@ pub fn key_number(key: TagFields<'_>) -> u32
     language_number(key.language) * 131072 + places
 }
 
-/// Returns the letters of a language as the digits of a number in base 26, or 0 if there is no language.
+/// Returns the number whose digits in base 26 are the letters of a language, or 0 if there is no language.
 #[tactic(auto, using(crate::proofs::FieldClasses::language_primary, crate::proofs::FieldClasses::number_of_none))]
 pub fn language_number(language: &[u8]) -> u32
     requires in_class { IsTrue (is_language_field language.now) }
@@ -129,7 +132,8 @@ fn language_places(index: usize) -> TagFields<'static>
     }
 }
 
-/// Returns the right side at an index. Its language is empty where none is known.
+/// Returns the right side of the row at an index. The language of the right side is empty if the left side has a
+/// language.
 #[tactic(auto, using(crate::proofs::TableRows::other_count))]
 fn other_fields(index: usize) -> TagFields<'static>
     requires { index < length other_rows }

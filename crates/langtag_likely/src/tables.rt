@@ -1,9 +1,9 @@
 //! Unicode's CLDR 48.2 in tables (the notice: likely/LICENSE-UNICODE). Written by likely/generate.py. Do not edit.
 
-/// The major version of Unicode's CLDR in this crate, which is 48.2.
+/// The major version of Unicode's CLDR in this crate. The full version is 48.2.
 pub const CLDR_VERSION: &str = "48";
 
-/// The scripts: their lowercase bytes as the digits of a number, in rising order.
+/// The keys of the scripts, in rising order: each key is the number whose base-256 digits are the lowercase bytes.
 #[rattlefmt::skip]
 pub(crate) static SCRIPT_KEYS: [u32; 179] = [
     0x61646C6D, 0x61676862, 0x61686F6D, 0x61726162, 0x61726D69, 0x61726D6E, 0x61767374, 0x62616C69, 0x62616D75,
@@ -28,7 +28,7 @@ pub(crate) static SCRIPT_KEYS: [u32; 179] = [
     0x76697468, 0x77617261, 0x7763686F, 0x7870656F, 0x78737578, 0x79657A69, 0x79696969, 0x7A616E62,
 ];
 
-/// The same scripts.
+/// The same scripts as text, in the same order.
 #[rattlefmt::skip]
 pub(crate) static SCRIPT_NAMES: [[u8; 4]; 179] = [
     *b"Adlm", *b"Aghb", *b"Ahom", *b"Arab", *b"Armi", *b"Armn", *b"Avst", *b"Bali", *b"Bamu", *b"Bass", *b"Batk",
@@ -50,7 +50,7 @@ pub(crate) static SCRIPT_NAMES: [[u8; 4]; 179] = [
     *b"Yezi", *b"Yiii", *b"Zanb",
 ];
 
-/// The regions: their lowercase bytes as the digits of a number, in rising order.
+/// The keys of the regions, in rising order: each key is the number whose base-256 digits are the lowercase bytes.
 #[rattlefmt::skip]
 pub(crate) static REGION_KEYS: [u32; 235] = [
     0x00006164, 0x00006165, 0x00006166, 0x00006167, 0x0000616C, 0x0000616D, 0x0000616F, 0x00006172, 0x00006173,
@@ -82,7 +82,7 @@ pub(crate) static REGION_KEYS: [u32; 235] = [
     0x00343139,
 ];
 
-/// The same regions.
+/// The same regions as text, in the same order.
 #[rattlefmt::skip]
 pub(crate) static REGION_NAMES: [[u8; 4]; 235] = [
     *b"AD\0\0", *b"AE\0\0", *b"AF\0\0", *b"AG\0\0", *b"AL\0\0", *b"AM\0\0", *b"AO\0\0", *b"AR\0\0", *b"AS\0\0",
@@ -114,7 +114,7 @@ pub(crate) static REGION_NAMES: [[u8; 4]; 235] = [
     *b"419\0",
 ];
 
-/// No language, and then those that are likely where none is known.
+/// An empty entry for no language, and then the languages on the right sides of the rows of `OTHER_KEYS`.
 #[rattlefmt::skip]
 pub(crate) static LANGUAGE_NAMES: [[u8; 4]; 239] = [
     *b"\0\0\0\0", *b"ab\0\0", *b"ae\0\0", *b"af\0\0", *b"ak\0\0", *b"am\0\0", *b"ar\0\0", *b"az\0\0", *b"bg\0\0",
@@ -145,8 +145,8 @@ pub(crate) static LANGUAGE_NAMES: [[u8; 4]; 239] = [
     *b"zkt\0",
 ];
 
-/// The languages with likely subtags: a bit for each text of two letters and then of three, in the order of the alphabet,
-/// from the lowest bit of the first word on.
+/// A bit for each text of two letters, and then of three, in alphabetical order: it is set if the language has likely
+/// subtags. The first text has the lowest bit of the first word.
 #[rattlefmt::skip]
 pub(crate) static LANGUAGE_BITS: [u64; 286] = [
     0x091019C547263433, 0x1C68108800045364, 0x4443028094090C84, 0x8000041C4559C690, 0xC00E1850D767F410,
@@ -209,7 +209,7 @@ pub(crate) static LANGUAGE_BITS: [u64; 286] = [
     0x0000000000000000,
 ];
 
-/// How many bits are set up to the end of each word.
+/// The number of bits that are set in each word and all words before it.
 #[rattlefmt::skip]
 pub(crate) static LANGUAGE_ENDS: [u16; 286] = [
     0x0018, 0x0029, 0x0039, 0x004B, 0x0065, 0x007D, 0x0083, 0x00A3, 0x00AE, 0x00B2, 0x00CC, 0x0100, 0x0123, 0x0155,
@@ -235,7 +235,7 @@ pub(crate) static LANGUAGE_ENDS: [u16; 286] = [
     0x1BF9, 0x1C08, 0x1C19, 0x1C1B, 0x1C21, 0x1C21,
 ];
 
-/// Where the script of each of these languages stands.
+/// The index of the likely script of each language of `LANGUAGE_BITS`, among the scripts.
 #[rattlefmt::skip]
 pub(crate) static LANGUAGE_SCRIPTS: [u8; 7201] = [
     0x51, 0x1C, 0x06, 0x51, 0x51, 0x24, 0x51, 0x03, 0x0B, 0x1C, 0x51, 0x51, 0x1C, 0x1C, 0x1C, 0x51, 0x51, 0x0B,
@@ -641,7 +641,7 @@ pub(crate) static LANGUAGE_SCRIPTS: [u8; 7201] = [
     0x32,
 ];
 
-/// Where the region of each of them stands.
+/// The index of the likely region of each language of `LANGUAGE_BITS`, among the regions.
 #[rattlefmt::skip]
 pub(crate) static LANGUAGE_REGIONS: [u8; 7201] = [
     0x40, 0x49, 0x62, 0xE6, 0x4B, 0x40, 0x3F, 0x3C, 0x60, 0xB1, 0x19, 0x0D, 0xB1, 0x20, 0x13, 0xE0, 0x85, 0x10,
@@ -1047,7 +1047,7 @@ pub(crate) static LANGUAGE_REGIONS: [u8; 7201] = [
     0x2C,
 ];
 
-/// The other left sides, in rising order: language, script and region as one number.
+/// The left sides that are not only a language, in rising order: language, script and region as one number.
 #[rattlefmt::skip]
 pub(crate) static OTHER_KEYS: [u32; 581] = [
     0x00000001, 0x00000002, 0x00000003, 0x00000004, 0x00000006, 0x00000007, 0x00000008, 0x00000009, 0x0000000A,
@@ -1117,7 +1117,7 @@ pub(crate) static OTHER_KEYS: [u32; 581] = [
     0x68933001, 0x71E4009D, 0x71E43C01, 0x8856002E, 0x88566A01,
 ];
 
-/// Where the language of the right side of each of them stands.
+/// The index of the language on the right side of each row of `OTHER_KEYS`.
 #[rattlefmt::skip]
 pub(crate) static OTHER_LANGUAGES: [u8; 581] = [
     0x16, 0x0E, 0x06, 0x19, 0x58, 0x26, 0x4A, 0x17, 0x55, 0x12, 0x44, 0x5C, 0x07, 0x0D, 0x0B, 0x44, 0x1D, 0x08,
@@ -1155,7 +1155,7 @@ pub(crate) static OTHER_LANGUAGES: [u8; 581] = [
     0xCE, 0xDD, 0xDD, 0xEB, 0xEB,
 ];
 
-/// Where the script of each of them stands.
+/// The index of the script on the right side of each row of `OTHER_KEYS`.
 #[rattlefmt::skip]
 pub(crate) static OTHER_SCRIPTS: [u8; 581] = [
     0x51, 0x51, 0x03, 0x03, 0x51, 0x05, 0x51, 0x51, 0x51, 0x51, 0x51, 0x51, 0x51, 0x51, 0x0B, 0x51, 0x51, 0x1C,
@@ -1193,7 +1193,7 @@ pub(crate) static OTHER_SCRIPTS: [u8; 581] = [
     0x97, 0x1D, 0x1D, 0x34, 0x34,
 ];
 
-/// Where the region of each of them stands.
+/// The index of the region on the right side of each row of `OTHER_KEYS`.
 #[rattlefmt::skip]
 pub(crate) static OTHER_REGIONS: [u8; 581] = [
     0xD8, 0x00, 0x01, 0x02, 0x04, 0x05, 0x06, 0x07, 0x08, 0x09, 0x0B, 0x0C, 0x0D, 0x0E, 0x10, 0x11, 0x12, 0x13,
@@ -1231,7 +1231,7 @@ pub(crate) static OTHER_REGIONS: [u8; 581] = [
     0x2C, 0x9B, 0x9B, 0x2C, 0x2C,
 ];
 
-/// The scripts that are written from right to left, and the variants of two of them (ISO 15924).
+/// The scripts that are written from right to left, with variants of scripts that have codes of their own (ISO 15924).
 #[rattlefmt::skip]
 pub(crate) static RIGHT_TO_LEFT_SCRIPTS: [[u8; 4]; 41] = [
     *b"Adlm", *b"Arab", *b"Armi", *b"Avst", *b"Chrs", *b"Cprt", *b"Elym", *b"Gara", *b"Hatr", *b"Hebr", *b"Hung",

@@ -1,4 +1,4 @@
-//! The fields of a tag that likely subtags are about: its language, its script and its region.
+//! The fields of a tag that likely subtags fill in: its language, its script and its region.
 ghost use Rattle.std.specs.Prelude.{◌≡◌, IsTrue};
 ghost use Rattle.langtag_likely.specs.Good.{is_language_field, is_script_field, is_region_field};
 
@@ -35,7 +35,7 @@ impl<'a> TagFields<'a> {
         }
     }
 
-    /// Returns the language alone.
+    /// Returns the language, without script and region.
     pub(crate) fn language_alone(self) -> TagFields<'a>
         ensures { field_texts result ≡ language_alone (field_texts self.entry) }
     {
@@ -79,7 +79,7 @@ impl<'a> TagFields<'a> {
         }
     }
 
-    /// Returns these fields, with each empty one replaced by that of `others`.
+    /// Returns these fields, with each empty field replaced by the same field of `others`.
     pub(crate) fn filled(self, others: TagFields<'a>) -> TagFields<'a>
         ensures { field_texts result ≡ filled (field_texts self.entry) (field_texts others.entry) }
     {

@@ -4,7 +4,7 @@ ghost use Rattle.std.specs.Option.{option_map, option_map_or};
 ghost use Rattle.langtag_match.specs.Wanted.{hyphened};
 ghost use Rattle.langtag_likely.specs.Good.{is_language_field, is_script_field, is_region_field};
 ghost use Rattle.langtag_likely.specs.TextFields as spec;
-ghost use Rattle.langtag_likely.specs.TextFields.{after_language, after_script, language_of, parts, region_of, script_of};
+ghost use Rattle.langtag_likely.specs.TextFields.{after_language, after_script, last_language, counted_parts, region_of, script_of};
 ghost use Rattle.langtag_likely.specs.Texts.{field_texts};
 
 use crate::fields::known;
@@ -12,7 +12,7 @@ use crate::tag_fields::TagFields;
 use langtag_scan::{is_extended, is_primary, is_region, is_script, split_at_either};
 
 impl<'a> TagFields<'a> {
-    /// Returns the fields of a text in which `_` is read as `-`: `None` if it does not begin with a language.
+    /// Returns the fields of a text in which `_` is read as `-`, or `None` if it does not begin with a language.
     #[tactic(auto, using(crate::proofs::FieldClasses::known_language, crate::proofs::FieldClasses::known_script, crate::proofs::FieldClasses::known_region, crate::proofs::FieldClasses::from_primary, crate::proofs::TextParts::no_fields, crate::proofs::TextParts::all_fields))]
     pub(crate) fn of_text(text: &'a [u8]) -> Option<TagFields<'a>>
         ensures { option_map field_texts result ≡ spec.text_fields (hyphened text.now) }
@@ -32,12 +32,12 @@ impl<'a> TagFields<'a> {
     }
 }
 
-/// Returns the last of the extended subtags in front, or else the language before them, and what follows.
+/// Returns the last of the extended subtags at the start, or else the language before them, and the rest of the text.
 #[tactic(auto, using(crate::proofs::FieldClasses::from_extended))]
 fn last_extended<'a>(language: &'a [u8], text: &'a [u8]) -> (&'a [u8], &'a [u8])
     requires { IsTrue (is_language_field language.now) }
-    ensures language { result.0.now ≡ language_of language.now (parts text.now) }
-    ensures rest { parts result.1.now ≡ after_language (parts text.now) }
+    ensures language { result.0.now ≡ last_language language.now (counted_parts text.now) }
+    ensures rest { counted_parts result.1.now ≡ after_language (counted_parts text.now) }
     ensures in_class { IsTrue (is_language_field result.0.now) }
 {
     let mut language = language;
@@ -52,11 +52,11 @@ fn last_extended<'a>(language: &'a [u8], text: &'a [u8]) -> (&'a [u8], &'a [u8])
     (language, left)
 }
 
-/// Returns the script in front, and what follows.
+/// Returns the script at the start, and the rest of the text.
 #[tactic(auto, using(crate::proofs::FieldClasses::from_script))]
 fn script_before<'a>(text: &'a [u8]) -> (&'a [u8], &'a [u8])
-    ensures script { result.0.now ≡ script_of (parts text.now) }
-    ensures rest { parts result.1.now ≡ after_script (parts text.now) }
+    ensures script { result.0.now ≡ script_of (counted_parts text.now) }
+    ensures rest { counted_parts result.1.now ≡ after_script (counted_parts text.now) }
     ensures in_class { IsTrue (is_script_field result.0.now) }
 {
     match next_subtag(text) {
@@ -65,10 +65,10 @@ fn script_before<'a>(text: &'a [u8]) -> (&'a [u8], &'a [u8])
     }
 }
 
-/// Returns the region in front.
+/// Returns the region at the start.
 #[tactic(auto, using(crate::proofs::FieldClasses::from_region))]
 fn region_before(text: &[u8]) -> &[u8]
-    ensures region { result.now ≡ region_of (parts text.now) }
+    ensures region { result.now ≡ region_of (counted_parts text.now) }
     ensures in_class { IsTrue (is_region_field result.now) }
 {
     match next_subtag(text) {
@@ -77,10 +77,10 @@ fn region_before(text: &[u8]) -> &[u8]
     }
 }
 
-/// Returns the first subtag that counts, and what stands after it.
+/// Returns the first subtag that counts, and the text after it.
 #[tactic(auto, using(crate::proofs::TextParts::next_part, langtag_match::proofs::WantedTexts::shorter))]
 fn next_subtag(text: &[u8]) -> Option<(&[u8], &[u8])>
-    ensures { parts text.now ≡ option_map_or (λ found. found.0.now ∷ parts found.1.now) result [] }
+    ensures { counted_parts text.now ≡ option_map_or (λ found. found.0.now ∷ counted_parts found.1.now) result [] }
 {
     let mut left = text;
     while !left.is_empty() {

@@ -1,4 +1,4 @@
--- What the program says of a fault, and the status that it ends with.
+-- The message of a program for an error, and its exit status.
 use Rattle.std.specs.Prelude.{ℕ, List, Result, Ok, Err, codes}
 use Rattle.langtag_lines.specs.declared.run_error.RunError.{RunError}
 use Rattle.langtag_lines.specs.declared.run_error.RunError.TheVariants.{Memory, Read, Write}
@@ -9,13 +9,13 @@ message_of Memory = codes "out of memory"
 message_of Read = codes "read failed"
 message_of Write = codes "write failed"
 
--- the exit status that tells the fault
+-- the exit status for an error
 abbrev pub status_of : RunError → ℕ
 status_of Memory = 3
 status_of Read = 4
 status_of Write = 5
 
--- the status that the program ends with: 0 without a fault
+-- the exit status after a run: 0 if there was no error
 abbrev pub status_after : Result (Unit {0}) RunError → ℕ
 status_after (Ok done) = 0
 status_after (Err error) = status_of error

@@ -1,4 +1,4 @@
-//! What answers a line.
+//! The trait for values that answer a line.
 ghost use Rattle.std.specs.Prelude.{◌≡◌, ◌≢◌, ℕ, List, [], ◌∷◌, OnOk, IfErr, IsErrOf};
 ghost use Rattle.std.specs.Io.KnownBytes.{append_known};
 ghost use Rattle.langtag_lines.specs.Report.{AnswersBy};
@@ -7,17 +7,18 @@ use crate::page::Page;
 use crate::run_error::RunError;
 use std::io::Write;
 
-/// What answers a line: the text that [`answer_lines`](crate::answer_lines) writes for it, which depends only on the
-/// line.
+/// A value that answers lines: it makes the text that [`answer_lines`](crate::answer_lines) writes for a line. The
+/// text depends only on the line.
 pub trait Answerer {
-    /// Whether a text is the answer to a line.
+    /// Says whether a text is the answer to a line.
     ghost is_answer: { List ℕ → List ℕ → Type 0 };
 
     /// Adds the answer to a line, and an LF, to the page.
     ///
     /// # Errors
     ///
-    /// `Memory` if there is not enough memory for the answer: nothing of it is added then. `Write` if a write fails.
+    /// Returns `Memory` if allocation fails for the answer. Then no part of the answer is added. Returns `Write` if a
+    /// write fails.
     fn put_answer<W: Write>(
         &self,
         line: &[u8],
@@ -30,6 +31,6 @@ pub trait Answerer {
             append_known (W.contents output.new) page.new ≡ append_known (W.contents output.old) page.old }
         ensures other { IfErr result (λ e. e ≢ RunError.Read) };
 
-    /// A line has one answer.
+    /// A line has only one answer.
     ghost one_answer: { (line text other : List ℕ) → is_answer line text → is_answer line other → text ≡ other };
 }

@@ -1,12 +1,12 @@
-//! A line that is gathered from several reads.
+//! A line that is collected from several reads.
 ghost use Rattle.std.specs.Prelude.{◌≡◌, ℕ, List, [], ◌++◌, OnOk};
 
 use std::alloc::AllocError;
 
-/// The bytes of a line so far: a `Vec`, or another type of the caller of [`answer_lines_in`](crate::answer_lines_in),
-/// such as an array that refuses longer lines.
+/// The bytes of a line that were read so far. The caller of [`answer_lines_in`](crate::answer_lines_in) can use a `Vec`
+/// or a type of its own, such as an array that refuses longer lines.
 pub trait GatheredLine {
-    /// What has been added since the line was last cleared.
+    /// The bytes that were added since the line was last cleared.
     ghost bytes: { Self → List ℕ };
 
     /// Returns all bytes of the line.
@@ -17,7 +17,7 @@ pub trait GatheredLine {
     ///
     /// # Errors
     ///
-    /// If there is no room for them. A run ends then, and does not use the line again.
+    /// Returns an error if there is no room for the bytes. The run then ends, and does not use the line again.
     fn extend(&mut self, more: &[u8]) -> Result<(), AllocError>
         ensures { OnOk result (bytes self.new ≡ bytes self.old ++ more.now) };
 

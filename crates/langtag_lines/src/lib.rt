@@ -1,4 +1,4 @@
-//! Lines of an input, and what answers them: reads each line, and writes its answer in order.
+//! Reads the lines of an input, and writes the answer to each line, in order.
 //!
 //! A line ends at LF. A last line without LF is answered if it is not empty. CR is an ordinary byte. An [`Answerer`]
 //! decides what the answer to a line is:
@@ -25,7 +25,8 @@
 //! conclude(ended, &mut rt.stderr()) // the exit status
 //! ```
 //!
-//! That the page gains the answer is proved by the lemma `Answers-one` for `proofs/Written`, once for each `put_line`.
+//! For each call of `put_line`, the lemma `Answers-one` of `proofs/Written` proves that the answer is added to the
+//! page.
 #![tactic(auto)]
 
 mod answerer;

@@ -12,7 +12,7 @@ use std::process::ExitCode;
 
 /// Writes the error that ended a run, if there was one, to standard error, and returns the exit status.
 ///
-/// If standard error cannot be written either, the status still tells the error.
+/// If writing to standard error fails, too, the status still shows the error.
 pub fn conclude<W: Write>(outcome: Result<(), RunError>, errors: &mut W) -> ExitCode
     ensures status { exit_status result ≡ status_after outcome }
     ensures quiet { OnOk outcome (Keeps (W.contents errors.old) (W.contents errors.new)) }

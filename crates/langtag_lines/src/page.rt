@@ -9,13 +9,13 @@ use crate::run_error::RunError;
 use std::io::Write;
 use std::marker::Model;
 
-/// The length of a page in bytes, which is about two hundred answers to ordinary tags.
+/// The length of a page in bytes, which holds about two hundred answers to ordinary tags.
 const PAGE_LEN: usize = 16_384;
 
-/// The answers that are not written yet, so that one write serves many lines.
+/// A buffer for answers that are not written yet, so that one write is enough for many lines.
 ///
-/// It does not allocate. It is written before the next read, so no answer waits for input. Answers longer than a page
-/// are written in several writes, complete and in order.
+/// It does not allocate. It is written out before the next read, so no answer waits for input. An answer longer than
+/// a page takes several writes, but is written completely and in order.
 #[derive(Drop)]
 pub struct Page {
     bytes: [u8; PAGE_LEN],
@@ -31,7 +31,7 @@ impl Model for Page {
 }
 
 impl Page {
-    /// An empty page.
+    /// Returns an empty page.
     pub(crate) fn new() -> Page
         ensures { result ≡ [] }
     {
@@ -45,7 +45,7 @@ impl Page {
     ///
     /// # Errors
     ///
-    /// `Write` if the page is full, and a write of it fails.
+    /// Returns `Write` if the page is full and writing it fails.
     pub fn put_line<W: Write>(&mut self, pieces: &[&str], output: &mut W) -> Result<(), RunError>
         ensures ok { OnOk result (Appends (append_known (W.contents output.old) self.old)
             (append_known (W.contents output.new) self.new) (ended (flat_map (λ piece. piece.now) pieces.now))) }
@@ -57,8 +57,8 @@ impl Page {
         self.put("\n", output)
     }
 
-    /// Adds the next piece of an answer. If it does not fit, the page is written out first; a piece longer than a page is
-    /// then written directly.
+    /// Adds the next piece of an answer. If the piece does not fit, the page is written out first. A piece longer than
+    /// a page is then written directly.
     pub(crate) fn put<W: Write>(&mut self, piece: &str, output: &mut W) -> Result<(), RunError>
         ensures ok { OnOk result (Appends (append_known (W.contents output.old) self.old)
             (append_known (W.contents output.new) self.new) piece.now) }
@@ -71,7 +71,7 @@ impl Page {
         self.put_on_next_page(piece, output)
     }
 
-    /// Writes the page out, and then adds a piece. It is not inlined, so that a piece that fits costs no more for it.
+    /// Writes the page out, and then adds a piece. It is not inlined, so that pieces that fit are added fast.
     #[inline(never)]
     fn put_on_next_page<W: Write>(&mut self, piece: &str, output: &mut W) -> Result<(), RunError>
         ensures ok { OnOk result (Appends (append_known (W.contents output.old) self.old)

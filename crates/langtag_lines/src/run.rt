@@ -12,7 +12,7 @@ use crate::run_error::RunError;
 use std::alloc::Global;
 use std::io::{Read, Write};
 
-/// The number of bytes that a read asks for.
+/// The greatest number of bytes for a read.
 const BUFFER_LEN: usize = 16_384;
 
 const LINE_FEED: u8 = b'\n';
@@ -20,13 +20,14 @@ const LINE_FEED: u8 = b'\n';
 /// Writes the answer to each line of the input, each followed by LF, and flushes once at the end.
 ///
 /// Answers are collected on a page, which is written when it is full and before the next read. The page and the buffer
-/// for reads have fixed sizes. Only the answerer allocates, and a line that does not lie within one read with its LF.
+/// for reads have fixed sizes. Memory is allocated only by the answerer, and for a line that, with its LF, is not
+/// wholly within one read.
 ///
 /// # Errors
 ///
-/// Returns `Memory` if allocation fails for such a line or for an answer. Returns `Read` at the first error of the
-/// reader, which may be an interruption, and if the input has not ended after 2^64 - 1 reads. Returns `Write` if
-/// `write_all` or the flush fails.
+/// Returns `Memory` if allocation fails for a line or for an answer. Returns `Read` at the first error of the reader,
+/// which may be an interruption, and if the input has not ended after 2^64 - 1 reads. Returns `Write` if `write_all`
+/// or the flush fails.
 pub fn answer_lines<A: Answerer, R: Read, W: Write>(
     alloc: Global,
     answerer: &A,
@@ -35,7 +36,8 @@ pub fn answer_lines<A: Answerer, R: Read, W: Write>(
 ) -> Result<(), RunError>
     ensures report { HasRun A.is_answer result (R.remaining input.old) (R.remaining input.new) (W.contents output.old) (W.contents output.new) }
 
-    // These words have one meaning: there is one way to cut an input into lines, one answer to a line, and one report.
+    // The definitions are unambiguous: an input can be split into lines in only one way, a line has only one answer,
+    // and an input has only one report.
     ensures cut { (i : List ℕ) → IsCutInto i (complete_lines i) (rest_of i) }
     ensures one_cut { (i : List ℕ) (lines others : List (List ℕ)) (rest other : List ℕ) →
         IsCutInto i lines rest → IsCutInto i others other → (lines ≡ others) × (rest ≡ other) }
@@ -46,8 +48,8 @@ pub fn answer_lines<A: Answerer, R: Read, W: Write>(
     answer_lines_in(answerer, Vec::new(alloc), input, output)
 }
 
-/// Does the same, and collects a line that does not lie within one read in the given `line`. Use it to limit the length
-/// of such lines, or to provide their memory. The previous content of `line` is lost.
+/// Does what [`answer_lines`] does, but collects a line that is not wholly within one read in the given `line`. Use
+/// it to limit the length of such lines, or to provide their memory. The previous content of `line` is lost.
 ///
 /// # Errors
 ///
@@ -75,9 +77,9 @@ pub fn answer_lines_in<A: Answerer, L: GatheredLine + Drop, R: Read, W: Write>(
     Err(RunError::Read)
 }
 
-/// Adds bytes to the line that is gathered, and writes the answer to each line that they complete.
+/// Adds bytes to the line that is being collected, and writes the answer to each line that they complete.
 ///
-/// If it returns Ok, the page is empty again, so no answer waits for the next bytes.
+/// If it returns `Ok`, the page is empty again, so no answer waits for the next bytes.
 fn take_bytes<A: Answerer, L: GatheredLine, W: Write>(
     answerer: &A,
     line: &mut L,
@@ -103,15 +105,15 @@ fn take_bytes<A: Answerer, L: GatheredLine, W: Write>(
     page.write_out(output)
 }
 
-/// The number of bytes before the first LF, if there is one.
+/// Returns the number of bytes before the first LF, if there is one.
 fn line_len(bytes: &[u8]) -> Option<usize>
     ensures { result ≡ position is_line_feed bytes.now }
 {
     bytes.iter().position(|byte| *byte == LINE_FEED)
 }
 
-/// Ends the line that is gathered with these bytes, and adds the answer to it to the page. If all of the line is in these
-/// bytes, it is not copied.
+/// Ends the line that is being collected with these bytes, and adds its answer to the page. If the whole line is in
+/// these bytes, it is not copied.
 fn end_line<A: Answerer, L: GatheredLine, W: Write>(
     answerer: &A,
     line: &mut L,
@@ -134,7 +136,7 @@ fn end_line<A: Answerer, L: GatheredLine, W: Write>(
     Ok(())
 }
 
-/// Adds bytes to the line that is gathered.
+/// Adds bytes to the line that is being collected.
 ///
 /// If there is not enough memory, the page is written out, so that the answers to the lines before it are not lost.
 fn gather<L: GatheredLine, W: Write>(
@@ -174,7 +176,7 @@ fn answer<A: Answerer, W: Write>(
     }
 }
 
-/// Writes the page out where memory is refused, and returns the error that ends the run.
+/// Writes the page out after an allocation failed, and returns the error that ends the run.
 fn out_of_memory<W: Write>(page: &mut Page, output: &mut W) -> RunError
     ensures written { result ≡ RunError.Memory → Appends (W.contents output.old) (W.contents output.new) page.old }
     ensures other { result ≢ RunError.Read }
@@ -185,7 +187,7 @@ fn out_of_memory<W: Write>(page: &mut Page, output: &mut W) -> RunError
     }
 }
 
-/// Writes the answer to the rest if it is not empty, and flushes.
+/// Writes the answer to the rest of the input if it is not empty, and flushes.
 fn finish<A: Answerer, W: Write>(
     answerer: &A,
     rest: &[u8],

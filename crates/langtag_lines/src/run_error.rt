@@ -4,8 +4,8 @@ ghost use Rattle.std.specs.Prelude.{◌≡◌, ◌↔◌, IsTrue};
 /// An error that ended a run.
 #[derive(Clone, Copy, Debug, PartialEq, Eq)]
 pub enum RunError {
-    /// Allocation failed for a line or for its answer. The complete lines before it are answered: all that ended before
-    /// the last read, and the first ones of that read.
+    /// Allocation failed for a line or for its answer. The answers to complete lines before this line are written: to
+    /// all lines that ended before the last read, and to the first lines of that read.
     Memory,
     /// A read failed, or the input had not ended after 2^64 - 1 reads. The answers to all complete lines that were read
     /// are written.
@@ -18,8 +18,8 @@ impl RunError {
     ghost use Rattle.langtag_lines.specs.RunError.{message_of, status_of};
     ghost use Rattle.langtag_lines.specs.declared.run_error.RunError.{RunError};
 
-    /// Returns the text that the program writes to standard error, without the LF. It is proved that errors are equal
-    /// exactly if they are the same, and that a clone succeeds and is the same error.
+    /// Returns the text that the program writes to standard error, without the LF. It is proved that `==` holds exactly
+    /// for two values that are the same error, and that a clone succeeds and is the same error.
     pub fn text(&self) -> &'static str
         ensures message { result.now ≡ message_of self.now }
 

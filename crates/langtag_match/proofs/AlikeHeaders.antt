@@ -1,16 +1,19 @@
 -- Headers that are equal but for the case of letters have elements that are equal but for case.
-use Rattle.std.proofs.Common.{◌≡◌, ℕ, Bool, true, false, cond, List, [], ◌∷◌, map, Option, None, Some, option_map, refl, sym, ap, ◌∙◌, arith}
-use Rattle.std.specs.Int.{is_in_range}
+use Rattle.std.proofs.Common.{◌≡◌, ℕ, ◌-◌, ◌==◌, Bool, true, false, cond, List, [], ◌∷◌, length, map, take, get_or, Option, None, Some, option_map, refl, sym, ap, ◌∙◌, arith}
 use Rattle.std.specs.List.{list_any, slice_split, before_first, after_first, cons_option}
+use Rattle.std.proofs.Math.ListN.{get_or-map}
 use Rattle.std.proofs.lemmas.Bool.{and_parts}
+use Rattle.std.proofs.lemmas.List.{length-map, take-map}
 use Rattle.std.proofs.lemmas.Bool.Decides.{nat_tests}
 use Rattle.langtag_scan.specs.Case.{fold_byte, fold_text}
-use Rattle.langtag_scan.proofs.CaseLaw.{all-fold}
+use Rattle.langtag_scan.specs.Class.{are_digits, is_digit}
+use Rattle.langtag_scan.proofs.CaseLaw.{all-fold, is_digit-fold}
 use Rattle.langtag_match.specs.AcceptLanguage.{Element, is_comma, is_semicolon, trimmed, range_of, items}
 use Rattle.langtag_match.specs.Range.{is_basic_range}
 use Rattle.langtag_match.specs.Weight.{is_q}
-use Rattle.langtag_match.specs.Wanted.{hyphened, ends_locale, wanted_text, is_point, are_digits, number_weight, value_weight, is_equals, is_q_name, is_q_parameter, wanted_weight, parameters, wanted, digits_behind, wanted_items, wanted_elements, folded, IgnoresCase}
-use Rattle.langtag_match.proofs.AlikeTexts.{mark-fold, hyphened-fold, trimmed-fold, is_basic_range-fold}
+use Rattle.langtag_match.specs.Locale.{ends_locale, front_of, is_hash, place_before, locale_place, without_mark}
+use Rattle.langtag_match.specs.Wanted.{hyphened, wanted_text, is_point, number_weight, value_weight, is_equals, is_q_name, is_q_parameter, wanted_weight, parameters, wanted, digits_behind, wanted_items, wanted_elements, folded, ElementsIgnoreCase}
+use Rattle.langtag_match.proofs.AlikeTexts.{mark-fold, underscore-fold, hyphened-fold, trimmed-fold, is_basic_range-fold}
 use Rattle.langtag_match.proofs.ChangedTexts.{list_any-changed, before_first-changed, after_first-changed, slice_split-changed}
 
 -- ---- where an item is cut
@@ -27,12 +30,43 @@ is_point-fold = mark-fold 46 (omega arith)
 ends_locale-fold : (b : ℕ) → ends_locale (fold_byte b) ≡ ends_locale b
 ends_locale-fold b = rw (mark-fold 46 (omega arith) b, mark-fold 64 (omega arith) b) refl
 
+is_hash-fold : (b : ℕ) → is_hash (fold_byte b) ≡ is_hash b
+is_hash-fold = mark-fold 35 (omega arith)
+
+without_mark-fold : (text : List ℕ) → without_mark (fold_text text) ≡ fold_text (without_mark text)
+unfolding fold_byte
+without_mark-fold text =
+    rw (length-map text fold_byte, get_or-map fold_byte text (length text - 1) 0, underscore-fold (get_or text (length text - 1) 0), take-map fold_byte (length text - 1) text)
+    (by_test (get_or text (length text - 1) 0 == 95))
+  where
+    by_test : (marked : Bool) → cond marked (fold_text (take (length text - 1) text)) (fold_text text) ≡ fold_text (cond marked (take (length text - 1) text) text)
+    by_test true = refl
+    by_test false = refl
+
+place_before-fold : (front : List ℕ) → place_before (fold_text front) ≡ fold_text (place_before front)
+place_before-fold front =
+    rw (
+      list_any-changed fold_byte is_hash is_hash is_hash-fold front,
+      before_first-changed fold_byte is_hash is_hash is_hash-fold front,
+      without_mark-fold (before_first is_hash front),
+      without_mark-fold (without_mark (before_first is_hash front)),
+    ) (by_test (list_any is_hash front))
+  where
+    by_test :
+        (marked : Bool) →
+        cond marked (fold_text (without_mark (without_mark (before_first is_hash front)))) (fold_text front) ≡ fold_text (cond marked (without_mark (without_mark (before_first is_hash front))) front)
+    by_test true = refl
+    by_test false = refl
+
+locale_place-fold : (name : List ℕ) → locale_place (fold_text name) ≡ fold_text (locale_place name)
+locale_place-fold name = ap place_before (before_first-changed fold_byte ends_locale ends_locale ends_locale-fold name) ∙ place_before-fold (front_of name)
+
 -- what is to be the range of an item
 wanted_range-fold : (item : List ℕ) → hyphened (wanted_text (fold_text item)) ≡ fold_text (hyphened (wanted_text item))
 wanted_range-fold item =
-    ap (λ t. hyphened (before_first ends_locale (trimmed t))) (before_first-changed fold_byte is_semicolon is_semicolon is_semicolon-fold item)
-    ∙ ap (λ t. hyphened (before_first ends_locale t)) (trimmed-fold (before_first is_semicolon item))
-    ∙ ap hyphened (before_first-changed fold_byte ends_locale ends_locale ends_locale-fold (range_of item))
+    ap (λ t. hyphened (locale_place (trimmed t))) (before_first-changed fold_byte is_semicolon is_semicolon is_semicolon-fold item)
+    ∙ ap (λ t. hyphened (locale_place t)) (trimmed-fold (before_first is_semicolon item))
+    ∙ ap hyphened (locale_place-fold (range_of item))
     ∙ hyphened-fold (wanted_text item)
 
 parameters-fold : (item : List ℕ) → parameters (fold_text item) ≡ map fold_text (parameters item)
@@ -42,22 +76,18 @@ parameters-fold item =
 
 -- ---- the weight that a value says: a number has no letters
 
-decimal-fold : (b : ℕ) → is_in_range 48 57 (fold_byte b) ≡ is_in_range 48 57 b
-unfolding fold_byte
-decimal-fold b = grind (arith, nat_tests)
-
-decimal_stays : (b : ℕ) → is_in_range 48 57 b ≡ true → fold_byte b ≡ b
-unfolding fold_byte
-decimal_stays b digit = grind (arith, nat_tests)
+digit_stays : (b : ℕ) → is_digit b ≡ true → fold_byte b ≡ b
+unfolding fold_byte is_digit
+digit_stays b digit = grind (arith, nat_tests)
 
 digits_stay : (text : List ℕ) → are_digits text ≡ true → fold_text text ≡ text
 digits_stay [] digits = refl
 digits_stay (b ∷ text) digits =
-    let k = and_parts (is_in_range 48 57 b) (are_digits text) digits in
-    ap (λ c. c ∷ fold_text text) (decimal_stays b k.0) ∙ ap (λ t. b ∷ t) (digits_stay text k.1)
+    let k = and_parts (is_digit b) (are_digits text) digits in
+    ap (λ c. c ∷ fold_text text) (digit_stays b k.0) ∙ ap (λ t. b ∷ t) (digits_stay text k.1)
 
 are_digits-fold : (text : List ℕ) → are_digits (fold_text text) ≡ are_digits text
-are_digits-fold = all-fold (is_in_range 48 57) decimal-fold
+are_digits-fold = all-fold is_digit is_digit-fold
 
 number_weight-fold : (whole fraction : List ℕ) → number_weight (fold_text whole) (fold_text fraction) ≡ number_weight whole fraction
 number_weight-fold whole fraction = by_tests (are_digits whole) (are_digits fraction) refl refl
@@ -160,5 +190,5 @@ wanted_items-fold (item ∷ items) =
 wanted_elements-fold : (header : List ℕ) → wanted_elements (fold_text header) ≡ map folded (wanted_elements header)
 wanted_elements-fold header = ap wanted_items (slice_split-changed fold_byte is_comma is_comma (mark-fold 44 (omega arith)) header) ∙ wanted_items-fold (items header)
 
-pub alike_headers : (header : List ℕ) → IgnoresCase header (wanted_elements header)
+pub alike_headers : (header : List ℕ) → ElementsIgnoreCase header (wanted_elements header)
 alike_headers header other alike = sym (wanted_elements-fold other) ∙ ap wanted_elements (sym alike) ∙ wanted_elements-fold header

@@ -3,8 +3,8 @@ use Rattle.std.proofs.Common.{◌≡◌, ℕ, ◌<◌, eqb, Bool, true, false, c
 use Rattle.std.specs.List.{list_all}
 use Rattle.std.proofs.lemmas.Bool.Decides.{nat_tests, eqb_tells}
 use Rattle.langtag_scan.specs.Case.{fold_byte, fold_text}
-use Rattle.langtag_scan.proofs.CaseLaw.{all-fold, is_letter-fold, length-fold, segments-fold}
-use Rattle.langtag.specs.Class.{is_letter, is_digit, is_alphanumeric, is_private_subtag}
+use Rattle.langtag_scan.proofs.CaseLaw.{all-fold, is_digit-fold, is_letter-fold, length-fold, segments-fold}
+use Rattle.langtag.specs.Class.{is_letter, is_alphanumeric, is_private_subtag}
 use Rattle.langtag.specs.Subtags.{subtags}
 use Rattle.langtag_match.specs.AcceptLanguage.{is_space, from_first, trimmed}
 use Rattle.langtag_match.specs.Range.{is_star, is_first_subtag, are_basic_range, is_basic_range}
@@ -21,13 +21,9 @@ mark-fold mark below b = grind (arith, nat_tests)
 is_space-fold : (b : ℕ) → is_space (fold_byte b) ≡ is_space b
 is_space-fold b = rw (mark-fold 32 (omega arith) b, mark-fold 9 (omega arith) b) refl
 
-underscore-fold : (b : ℕ) → eqb (fold_byte b) 95 ≡ eqb b 95
+pub underscore-fold : (b : ℕ) → eqb (fold_byte b) 95 ≡ eqb b 95
 unfolding fold_byte
 underscore-fold b = grind (arith, nat_tests)
-
-pub is_digit-fold : (b : ℕ) → is_digit (fold_byte b) ≡ is_digit b
-unfolding fold_byte is_digit
-is_digit-fold b = grind (arith, nat_tests)
 
 is_alphanumeric-fold : (b : ℕ) → is_alphanumeric (fold_byte b) ≡ is_alphanumeric b
 is_alphanumeric-fold b = rw (is_letter-fold b, is_digit-fold b) refl

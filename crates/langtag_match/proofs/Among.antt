@@ -7,7 +7,8 @@ use Rattle.langtag_scan.specs.Case.{fold_byte, Alike, are_alike}
 use Rattle.langtag_scan.specs.CaseLaws.{are_alike-decides}
 use Rattle.langtag_scan.specs.Subtags.{subtags}
 use Rattle.langtag_match.specs.Extended.{matches_subtag, have_no_single, StandAmong, without_stars, MatchSubtags, MatchesExtended, stand_among, match_subtags, test_extended}
-use Rattle.langtag_match.specs.Range.{is_star, is_single}
+use Rattle.langtag.specs.Class.{is_single}
+use Rattle.langtag_match.specs.Range.{is_star}
 
 -- texts that are alike are as long
 alike_single : (w t : List ℕ) → are_alike w t ≡ true → is_single t ≡ is_single w

@@ -46,9 +46,12 @@ IsAscii-range (s ∷ ss) is =
     let k = and_parts (is_star s || is_first_subtag s) (are_range_subtags ss) is in
     IsAscii-join (s ∷ ss) (IsAscii-first s k.0, IsAscii-subtags ss k.1)
 
+pub IsAscii-language_range : (text : List ℕ) → is_language_range text ≡ true → IsAscii text
+IsAscii-language_range text is = subst IsAscii (join-subtags text) (IsAscii-range (subtags text) is)
+
 -- so it is UTF-8
 pub IsUtf8-range : (text : List ℕ) → is_language_range text ≡ true → IsUtf8 text
-IsUtf8-range text is = IsUtf8-from_ascii text (subst IsAscii (join-subtags text) (IsAscii-range (subtags text) is))
+IsUtf8-range text is = IsUtf8-from_ascii text (IsAscii-language_range text is)
 
 pub ruleset utf8_range = (IsUtf8-range)
 

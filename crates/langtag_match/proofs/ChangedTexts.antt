@@ -1,13 +1,9 @@
 -- A text with each byte changed is cut and tested as the text is, where the one test says of a changed byte what the other says of the byte.
 use Rattle.std.proofs.Common.{◌≡◌, ℕ, ◌+◌, Bool, true, false, cond, List, [], ◌∷◌, ◌++◌, map, take, drop, reverse, refl, sym, ap, ◌∙◌}
-use Rattle.std.specs.List.{list_all, list_any, slice_split, onto_first, before_first, after_first, position_or_len}
+use Rattle.std.specs.List.{list_any, slice_split, onto_first, before_first, after_first, position_or_len}
 use Rattle.std.proofs.lemmas.List.{take-map, drop-map, map-append, reverse-append}
 
 module _ (change : ℕ → ℕ) (p q : ℕ → Bool) (same : (b : ℕ) → p (change b) ≡ q b) where
-  pub list_all-changed : (text : List ℕ) → list_all p (map change text) ≡ list_all q text
-  list_all-changed [] = refl
-  list_all-changed (b ∷ text) = rw (same b, list_all-changed text) refl
-
   pub list_any-changed : (text : List ℕ) → list_any p (map change text) ≡ list_any q text
   list_any-changed [] = refl
   list_any-changed (b ∷ text) = rw (same b, list_any-changed text) refl

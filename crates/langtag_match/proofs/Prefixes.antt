@@ -4,7 +4,7 @@ use Rattle.std.proofs.lemmas.Bool.{and_parts, or_cases, or_right, cases_lt, eqb-
 use Rattle.std.proofs.lemmas.List.{take_at, length-map, length-append, at_drop_more, take-append-drop, get_or-append_right, get_or-drop, take_all}
 use Rattle.langtag_scan.specs.Case.{fold_byte, fold_text, Alike, are_alike}
 use Rattle.langtag_scan.specs.CaseLaws.{are_alike-decides}
-use Rattle.langtag_match.specs.Basic.{BeginsWith, MatchesBasic, ends_subtag, test_basic}
+use Rattle.langtag_match.specs.Basic.{BeginsWithRange, MatchesBasic, ends_subtag, test_basic}
 use Rattle.langtag_match.specs.Range.{is_star}
 
 -- texts that are alike are as long
@@ -14,7 +14,7 @@ length-alike a b alike = sym (length-map a fold_byte) ∙ ap length alike ∙ le
 -- the tag goes on with a hyphen
 pub begins_before :
     (range tag : List ℕ) → length range < length tag → Alike range (take (length range) tag) → get_or tag (length range) 0 ≡ 45 →
-    BeginsWith range tag
+    BeginsWithRange range tag
 begins_before range tag longer alike hyphen =
     let rest : drop (length range) tag ≡ 45 ∷ drop (length range + 1) tag = at_drop_more (λ ys. ys) tag (length range) 0 longer ∙ ap (λ b. b ∷ drop (length range + 1) tag) hyphen in
     inr (take (length range) tag, drop (length range + 1) tag, sym (take-append-drop (length range) tag) ∙ ap (λ t. take (length range) tag ++ t) rest, alike)
@@ -25,7 +25,7 @@ pub record Begins (range tag : List ℕ) : Type 0 where
   pub alike : Alike range (take (length range) tag)
   pub hyphen : length range < length tag → get_or tag (length range) 0 ≡ 45
 
-pub begins_shown : (range tag : List ℕ) → BeginsWith range tag → Begins range tag
+pub begins_shown : (range tag : List ℕ) → BeginsWithRange range tag → Begins range tag
 begins_shown range tag (inl alike) =
     let same = length-alike range tag alike in
     record {
@@ -56,7 +56,7 @@ ends_subtag-from_hyphen (b ∷ rest) hyphen = eq-eqb b 45 (hyphen (omega arith))
 first-drop : (n : ℕ) (text : List ℕ) → get_or (drop n text) 0 0 ≡ get_or text n 0
 first-drop n text = let none : n + 0 ≡ n = omega arith in get_or-drop n text 0 0 ∙ ap (λ m. get_or text m 0) none
 
-begins_from_test : (range tag : List ℕ) → are_alike range (take (length range) tag) ≡ true → ends_subtag (drop (length range) tag) ≡ true → BeginsWith range tag
+begins_from_test : (range tag : List ℕ) → are_alike range (take (length range) tag) ≡ true → ends_subtag (drop (length range) tag) ≡ true → BeginsWithRange range tag
 begins_from_test range tag alike ends =
     let same : Alike range (take (length range) tag) = (are_alike-decides range (take (length range) tag)).0 alike in
     elim (cases_lt (length range) (length tag)) [
@@ -66,7 +66,7 @@ begins_from_test range tag alike ends =
       | inr short ↦ inl (same ∙ ap fold_text (take_all (length range) tag short))
     ]
 
-test_from_begins : (range tag : List ℕ) → BeginsWith range tag → (are_alike range (take (length range) tag) && ends_subtag (drop (length range) tag)) ≡ true
+test_from_begins : (range tag : List ℕ) → BeginsWithRange range tag → (are_alike range (take (length range) tag) && ends_subtag (drop (length range) tag)) ≡ true
 test_from_begins range tag begins =
     let shown = begins_shown range tag begins in
     let alike : are_alike range (take (length range) tag) ≡ true = (are_alike-decides range (take (length range) tag)).1 shown.alike in

@@ -1,35 +1,36 @@
 -- Ranges in which "_" is read as "-", and the parts of a list that is cut one after the other.
 use Rattle.std.proofs.Common.{◌≡◌, ◌⊎◌, take, not, nat_lt, inl, inr, cond, Option, ℕ, ◌+◌, ◌<◌, ◌≤◌, Bool, true, false, ◌&&◌, ◌||◌, List, [], ◌∷◌, Some, None, length, length-drop, ap, refl, sym, ◌∙◌, arith}
-use Rattle.std.specs.List.{slice_split, before_first, after_first, onto_first, position, position_or_len, cons_option}
+use Rattle.std.specs.List.{list_any, slice_split, before_first, after_first, onto_first, position, position_or_len, cons_option}
 use Rattle.std.proofs.lemmas.Bool.{and_parts, cases_lt, or_cases, or_right}
 use Rattle.std.proofs.lemmas.Bool.Decides.{nat_tests, eqb_tells}
 use Rattle.std.proofs.lemmas.List.{length-take-le, drop_all, take_all}
 use Rattle.std.proofs.lemmas.List.Splits.{length-slice_split, slice_split_first, slice_split_none}
 use Rattle.std.proofs.lemmas.List.Sums.{count_by-le-length, prefix_len-le-length, fails_before_first}
-use Rattle.langtag.specs.Class.{has_length, are_letters, is_private_subtag}
+use Rattle.langtag.specs.Class.{has_length, are_digits, are_letters, is_private_subtag}
 use Rattle.langtag.specs.Subtags.{is_hyphen, segments, subtags}
 use Rattle.langtag_match.specs.AcceptLanguage.{Element, items, is_comma, is_semicolon, trimmed}
+use Rattle.langtag_match.specs.Locale.{is_hash}
 use Rattle.langtag_match.specs.Range.{is_star, is_first_subtag, is_range_subtag, are_basic_range, are_basic_subtags, are_extended_range, are_range_subtags, is_basic_range, is_language_range}
 use Rattle.langtag_scan.proofs.SubtagFacts.{letters_alphanumeric}
 use Rattle.langtag_scan.proofs.Places.{any_at_first, none_at_length}
-use Rattle.langtag_match.specs.Wanted.{hyphened_byte, hyphened, is_mark, is_q_name, is_q_parameter, is_equals, is_point, are_digits, number_weight, value_weight, wanted_weight, wanted, digits_behind, wanted_items, wanted_elements}
+use Rattle.langtag_match.specs.Wanted.{hyphened_byte, hyphened, is_separator, is_q_name, is_q_parameter, is_equals, is_point, number_weight, value_weight, wanted_weight, wanted, digits_behind, wanted_items, wanted_elements}
 
 -- ---- the subtags of a text in which a byte is read as a hyphen
 
-is_hyphen-read : (b : ℕ) → is_hyphen (hyphened_byte b) ≡ is_mark b
+is_hyphen-read : (b : ℕ) → is_hyphen (hyphened_byte b) ≡ is_separator b
 is_hyphen-read b = grind (arith, nat_tests)
 
-other_byte : (b : ℕ) → is_mark b ≡ false → hyphened_byte b ≡ b
+other_byte : (b : ℕ) → is_separator b ≡ false → hyphened_byte b ≡ b
 other_byte b other = grind (arith, nat_tests)
 
 -- they hold no such byte
-pub segments-read : (text : List ℕ) → segments (hyphened text) ≡ slice_split is_mark text
+pub segments-read : (text : List ℕ) → segments (hyphened text) ≡ slice_split is_separator text
 segments-read [] = refl
-segments-read (b ∷ text) = rw (is_hyphen-read b, segments-read text) (by_mark (is_mark b) refl)
+segments-read (b ∷ text) = rw (is_hyphen-read b, segments-read text) (by_mark (is_separator b) refl)
   where
     by_mark :
-        (mark : Bool) → is_mark b ≡ mark →
-        cond mark ([] ∷ slice_split is_mark text) (onto_first (hyphened_byte b) (slice_split is_mark text)) ≡ cond mark ([] ∷ slice_split is_mark text) (onto_first b (slice_split is_mark text))
+        (mark : Bool) → is_separator b ≡ mark →
+        cond mark ([] ∷ slice_split is_separator text) (onto_first (hyphened_byte b) (slice_split is_separator text)) ≡ cond mark ([] ∷ slice_split is_separator text) (onto_first b (slice_split is_separator text))
     by_mark true is = refl
     by_mark false is = rw (other_byte b is) refl
 
@@ -89,28 +90,28 @@ extended_parts first others = and_absorb (is_star first || is_first_subtag first
 -- what is seen of the first part and of all parts is seen of the subtags of a text
 seen_parts :
     (f : List (List ℕ) → Bool) (g : List ℕ → List (List ℕ) → Bool) → f [] ≡ f ([] ∷ []) → ((first : List ℕ) (others : List (List ℕ)) → f (first ∷ others) ≡ g first (first ∷ others)) →
-    (text : List ℕ) → f (subtags (hyphened text)) ≡ g (before_first is_mark text) (slice_split is_mark text)
+    (text : List ℕ) → f (subtags (hyphened text)) ≡ g (before_first is_separator text) (slice_split is_separator text)
 seen_parts f g none each text = of_text text ∙ ap f (segments-read text) ∙ of_parts
   where
     of_text : (t : List ℕ) → f (subtags (hyphened t)) ≡ f (segments (hyphened t))
     of_text [] = none
     of_text (b ∷ t) = refl
 
-    of_parts : f (slice_split is_mark text) ≡ g (before_first is_mark text) (slice_split is_mark text)
-    of_parts = elim (cut_or_whole is_mark text) [
-      | inl more ↦ ap f more ∙ each (before_first is_mark text) (slice_split is_mark (after_first is_mark text)) ∙ ap (g (before_first is_mark text)) (sym more)
-      | inr whole ↦ ap f whole.0 ∙ each (before_first is_mark text) [] ∙ ap (g (before_first is_mark text)) (sym whole.0)
+    of_parts : f (slice_split is_separator text) ≡ g (before_first is_separator text) (slice_split is_separator text)
+    of_parts = elim (cut_or_whole is_separator text) [
+      | inl more ↦ ap f more ∙ each (before_first is_separator text) (slice_split is_separator (after_first is_separator text)) ∙ ap (g (before_first is_separator text)) (sym more)
+      | inr whole ↦ ap f whole.0 ∙ each (before_first is_separator text) [] ∙ ap (g (before_first is_separator text)) (sym whole.0)
     ]
 
 pub basic_read :
     (text : List ℕ) →
-    is_basic_range (hyphened text) ≡ (is_star text || (is_first_subtag (before_first is_mark text) && are_basic_subtags (slice_split is_mark text)))
+    is_basic_range (hyphened text) ≡ (is_star text || (is_first_subtag (before_first is_separator text) && are_basic_subtags (slice_split is_separator text)))
 basic_read text = rw (is_star-read text, seen_parts are_basic_range (λ first parts. is_first_subtag first && are_basic_subtags parts) refl basic_parts text) refl
 
 pub extended_read :
     (text : List ℕ) →
     is_language_range (hyphened text)
-    ≡ ((is_star (before_first is_mark text) || is_first_subtag (before_first is_mark text)) && are_range_subtags (slice_split is_mark text))
+    ≡ ((is_star (before_first is_separator text) || is_first_subtag (before_first is_separator text)) && are_range_subtags (slice_split is_separator text))
 extended_read = seen_parts are_extended_range (λ first parts. (is_star first || is_first_subtag first) && are_range_subtags parts) refl extended_parts
 
 -- ---- the elements of a header, and the weight of an element, part by part
@@ -144,20 +145,29 @@ weight_at parameters behind = elim (cut_or_whole is_semicolon parameters) [
 pub shorter : (p : ℕ → Bool) (text : List ℕ) → 0 < length text → length (after_first p text) < length text
 shorter p text some = omega (arith, length-drop (position_or_len p text + 1) text)
 
--- ---- a text has a point if it ends behind what stands before one
+-- ---- a text has a mark if it ends behind what stands before one
 
-cut_at : (text : List ℕ) → length (before_first is_point text) ≡ position_or_len is_point text
-cut_at text = length-take-le (position_or_len is_point text) text (prefix_len-le-length (λ b. not (is_point b)) text)
+cut_at : (p : ℕ → Bool) (text : List ℕ) → length (before_first p text) ≡ position_or_len p text
+cut_at p text = length-take-le (position_or_len p text) text (prefix_len-le-length (λ b. not (p b)) text)
+
+pub some_hash : (front : List ℕ) → (length (before_first is_hash front) ≡ length front → ⊥) → list_any is_hash front ≡ true
+some_hash front cut = elim (cases_lt (position_or_len is_hash front) (length front)) [
+  | inl within ↦ any_at_first is_hash front within
+  | inr past ↦ absurd (cut (omega (arith, cut_at is_hash front, past, prefix_len-le-length (λ b. not (is_hash b)) front)))
+]
+
+pub no_hash : (front : List ℕ) → length (before_first is_hash front) ≡ length front → list_any is_hash front ≡ false
+no_hash front whole = none_at_length is_hash front (omega (arith, cut_at is_hash front, whole))
 
 pub value_with_point :
     (value behind : List ℕ) → length (before_first is_point value) < length value →
     value_weight value behind ≡ number_weight (before_first is_point value) (after_first is_point value)
-value_with_point value behind cut = rw (any_at_first is_point value (omega (arith, cut_at value, cut))) refl
+value_with_point value behind cut = rw (any_at_first is_point value (omega (arith, cut_at is_point value, cut))) refl
 
 pub value_without_point :
     (value behind : List ℕ) → length value ≤ length (before_first is_point value) → value_weight value behind ≡ number_weight (before_first is_point value) behind
 value_without_point value behind whole =
-    rw (none_at_length is_point value (omega (arith, cut_at value, whole, prefix_len-le-length (λ b. not (is_point b)) value))) refl
+    rw (none_at_length is_point value (omega (arith, cut_at is_point value, whole, prefix_len-le-length (λ b. not (is_point b)) value))) refl
 
 -- no more ranges than bytes, and one
 length-wanted_items : (items : List (List ℕ)) → length (wanted_items items) ≤ length items

@@ -21,12 +21,12 @@ is_space b = (b == 32) || (b == 9)
 abbrev pub is_ows : List ℕ → Bool
 is_ows text = list_all is_space text
 
--- a text without the OWS before it
+-- the text without the OWS at its start
 abbrev pub from_first : List ℕ → List ℕ
 from_first [] = []
 from_first (b ∷ text) = if is_space b then from_first text else b ∷ text
 
--- a text without the OWS around it
+-- the text without the OWS at its start and end
 abbrev pub trimmed : List ℕ → List ℕ
 trimmed text = reverse (from_first (reverse (from_first text)))
 
@@ -34,30 +34,32 @@ trimmed text = reverse (from_first (reverse (from_first text)))
 abbrev pub is_semicolon : ℕ → Bool
 is_semicolon b = b == 59
 
--- what an element has for its language-range: all before a ";"
+-- the language-range of an element: the text before its first ";"
 abbrev pub range_of : List ℕ → List ℕ
 range_of item = trimmed (before_first is_semicolon item)
 
--- its weight in thousandths, which follows the ";": without one it is 1 (section 12.4.2)
+-- the weight of an element in thousandths, read from the text after its first ";"; it is 1000 if there is no ";"
+-- (section 12.4.2)
 abbrev pub weight_of : List ℕ → Option ℕ
 weight_of item = if list_any is_semicolon item then weight (trimmed (after_first is_semicolon item)) else Some 1000
 
--- an element, language-range [ weight ], as a text and a number of thousandths
+-- an element, language-range [ weight ]: the text of its range, and its weight in thousandths
 pub record Element : Type 0 where
   pub range : List ℕ
   pub weight : ℕ
 
--- the element that is an item; the range is a basic one
+-- the element that an item of a header represents, or none if the item is malformed; the range of an element is a basic
+-- range
 unfoldable pub element : List ℕ → Option Element
 element item =
     if is_basic_range (range_of item) then option_map (λ thousandths. record { range = range_of item; weight = thousandths }) (weight_of item) else None
 
--- the bad part of an item that is not an element
+-- the malformed part of an item that is not an element
 unfoldable pub bad_part : List ℕ → ElementPart
 bad_part item = if is_basic_range (range_of item) then Weight else Range
 
--- the range of an element begins at an offset in its item, with OWS alone before it
-pub record IsPlaceOf (item range : List ℕ) (start : ℕ) : Type 0 where
+-- the range of an element begins at this offset in its item, and only OWS is before it
+pub record IsRangePlace (item range : List ℕ) (start : ℕ) : Type 0 where
   pub within : start + length range ≤ length item
   pub there : slice_range item start (start + length range) ≡ range
   pub space : IsTrue (is_ows (take start item))
@@ -66,66 +68,68 @@ pub record IsPlaceOf (item range : List ℕ) (start : ℕ) : Type 0 where
 abbrev pub is_comma : ℕ → Bool
 is_comma b = b == 44
 
--- what stands between the commas of a list
+-- the items of a list, which are separated by commas
 abbrev pub items : List ℕ → List (List ℕ)
 items header = slice_split is_comma header
 
--- the elements of some items, in order; an item that is empty (section 5.6.1.2) or bad has none
+-- the elements of the items, in order; an item that is empty (section 5.6.1.2) or malformed gives no element
 abbrev pub elements : List (List ℕ) → List Element
 elements items = filter_map element items
 
--- an item is empty, or an element
+-- whether an item is empty or an element
 abbrev pub is_good : List ℕ → Bool
 is_good item = is_ows item || is_some (element item)
 
--- each item is
+-- whether each item is empty or an element
 abbrev pub are_good : List (List ℕ) → Bool
 are_good items = list_all is_good items
 
--- the weight 0 means not acceptable (section 12.4.2)
+-- the elements that are acceptable: elements of weight 0 are not (section 12.4.2)
 abbrev pub acceptable : List Element → List Element
 acceptable elements = filter (λ element. nat_lt 0 element.weight) elements
 
 abbrev pub weight_in : Element → ℕ
 weight_in element = element.weight
 
--- a weight may stand before another that is not greater
+-- a weight may come before another weight that is equal or smaller
 abbrev pub FallsTo : ℕ → ℕ → Type 0
 FallsTo weight later = later ≤ weight
 
--- the elements by falling weight, and those of one weight as they were
+-- `ordered` has the elements in the order of descending weight; elements of equal weight keep their order
 abbrev pub IsByWeight : List Element → List Element → Type 0
 IsByWeight elements ordered = IsStableOrder weight_in FallsTo elements ordered
 
--- what a weighted range says
+-- the element that a weighted range represents
 abbrev pub reading : WeightedRange → Element
 reading weighted = record { range = weighted_range_text weighted; weight = weighted.weight }
 
--- these are the acceptable elements of a header, by falling weight
+-- the ranges in `ordered` are the acceptable elements of the header, in the order of descending weight
 abbrev pub AreElements : List ℕ → List WeightedRange → Type 0
 AreElements header ordered = IsByWeight (acceptable (elements (items header))) (map reading ordered)
 
--- every item of the header is empty or an element, and these are the acceptable elements, by falling weight
+-- every item of the header is empty or an element, and the ranges in `ordered` are the acceptable elements of the
+-- header, in the order of descending weight
 abbrev pub AreAccepted : List ℕ → List WeightedRange → Type 0
 AreAccepted header ordered = IsTrue (are_good (items header)) × AreElements header ordered
 
--- the texts of some ranges
+-- the texts of the ranges
 abbrev pub range_texts : List WeightedRange → List (List ℕ)
 range_texts ordered = map weighted_range_text ordered
 
--- however a header is read, its ranges and weights are the same, in the same order
+-- two results for the same header have the same ranges and weights, in the same order
 abbrev pub HasOneReading : List ℕ → Type 0
 HasOneReading header =
     (first second : List WeightedRange) → AreAccepted header first → AreAccepted header second →
     map reading first ≡ map reading second
 
--- an item stands in a header after this number of commas and of bytes
+-- an item is in the header, with this number of commas and this number of bytes before it
 abbrev pub StandsAt : List ℕ → List ℕ → ℕ → ℕ → Type 0
 StandsAt header item commas bytes =
     (before : List ℕ) × (after : List ℕ) × (header ≡ before ++ (item ++ after)) ×
     (count_by is_comma before ≡ commas) × (length before ≡ bytes)
 
--- the item at an index, which begins at an offset, is bad: neither empty nor an element; every item before it is one of these
+-- the item at this index, which begins at this offset, is the first malformed item: it is neither empty nor an element,
+-- and no item before it is malformed
 pub record IsFirstBad (header : List ℕ) (index offset : ℕ) (part : ElementPart) : Type 0 where
   pub item : List ℕ
   pub there : slice_get (items header) index ≡ Some item
@@ -134,7 +138,7 @@ pub record IsFirstBad (header : List ℕ) (index offset : ℕ) (part : ElementPa
   pub which : part ≡ bad_part item
   pub before : IsTrue (are_good (take index (items header)))
 
--- a refusal has the header itself, and where its first bad element stands
+-- the error contains the header itself, and the index and offset of its first malformed element
 abbrev pub Refuses : Bor (List ℕ) → AcceptLanguageError → Type 0
 Refuses header (BadElement given index offset part) = (given ≡ header) × IsFirstBad header.now index offset part
 Refuses header (Memory error) = Unit {0}

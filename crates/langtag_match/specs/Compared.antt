@@ -1,4 +1,4 @@
--- The range types: their `==`, `cmp` and `hash` are those of their folded texts (RFC 4647 section 2: ranges ignore case).
+-- The range types compare and hash by their texts, ignoring the case of ASCII letters (RFC 4647 section 2).
 use Rattle.std.specs.Prelude.{◌≡◌, ◌==◌, ◌&&◌}
 use Rattle.langtag.specs.Case.{are_alike}
 use Rattle.langtag.specs.Compare.{ComparesByCase}
@@ -20,7 +20,7 @@ abbrev pub LanguageRangeBufsCompareByCase : Type 0
 LanguageRangeBufsCompareByCase =
     ComparesByCase language_range_buf_text range_buf_equality.eq-value.it range_buf_order.cmp-value.it range_buf_hash.hash_input-value.it
 
--- weighted ranges have `==` alone: the ranges are alike, and the weights the same
+-- weighted ranges have only `==`: they are equal if their ranges are alike and their weights are equal
 abbrev pub WeightedRangesCompareByBoth : Type 0
 WeightedRangesCompareByBoth =
     (a b : WeightedRange) → weighted_equality.eq-value.it a b ≡ (are_alike (weighted_range_text a) (weighted_range_text b) && (a.weight == b.weight))

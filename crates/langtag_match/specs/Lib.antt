@@ -6,6 +6,7 @@ pub mod Filter
 pub mod FilterRule
 pub mod Fallback
 pub mod Listed
+pub mod Locale
 pub mod LookUp
 pub mod Range
 pub mod Stable

@@ -6,29 +6,29 @@ use Rattle.langtag.specs.declared.lang_tag.LangTag.{LangTag}
 use Rattle.langtag.specs.Text.{lang_tag_text}
 use Rattle.langtag_match.specs.Fallback.{fallbacks}
 
--- a text begins with "-*"
+-- whether a text begins with "-*"
 abbrev pub begins_with_wildcard : List ℕ → Bool
 begins_with_wildcard [] = false
 begins_with_wildcard (a ∷ []) = false
 begins_with_wildcard (a ∷ b ∷ text) = (a == 45) && (b == 42)
 
--- the basic range for an extended one: each "-*" is left out (section 3.2). A range that begins with "*" equals no tag, so that
--- it needs no case of its own
+-- the basic range for an extended range: each "-*" is left out (section 3.2). A range that begins with "*" equals no
+-- tag, so it needs no special case
 abbrev pub basic_form : List ℕ → List ℕ
 basic_form [] = []
 basic_form (a ∷ []) = a ∷ []
 basic_form (a ∷ b ∷ text) = if begins_with_wildcard (a ∷ b ∷ text) then basic_form text else a ∷ basic_form (b ∷ text)
 
--- the first of the tags that is a range in its basic form, ignoring case
+-- the first of the tags that equals the basic form of a range, ignoring case
 abbrev pub tag_alike : List LangTag → List ℕ → Option LangTag
 tag_alike tags range = find (λ tag. are_alike (lang_tag_text tag) (basic_form range)) tags
 
--- the tag of the first of some ranges that is one of the tags
+-- the first tag that `tag_alike` finds when it tries the ranges in order, or none
 abbrev pub first_alike : List LangTag → List (List ℕ) → Option LangTag
 first_alike tags [] = None
 first_alike tags (range ∷ ranges) = option_or (tag_alike tags range) (first_alike tags ranges)
 
--- the tag of the first range of which a fallback is one of the tags, or the default
+-- the tag for the first range that equals a tag, either itself or by one of its fallbacks; the default if no range does
 abbrev pub choice : List LangTag → LangTag → List (List ℕ) → LangTag
 choice tags default [] = default
 choice tags default (range ∷ ranges) = unwrap_or (first_alike tags (fallbacks range)) (choice tags default ranges)

@@ -1,5 +1,5 @@
 -- Language ranges (RFC 4647 section 2).
-use Rattle.std.specs.Prelude.{ℕ, ◌==◌, Bool, false, ◌&&◌, ◌||◌, List, [], ◌∷◌, length}
+use Rattle.std.specs.Prelude.{ℕ, Bool, false, ◌&&◌, ◌||◌, List, [], ◌∷◌}
 use Rattle.std.specs.List.{list_all}
 use Rattle.std.specs.Str.{bytes_eq}
 use Rattle.langtag.specs.Class.{has_length, are_letters, is_private_subtag}
@@ -8,10 +8,6 @@ use Rattle.langtag.specs.Subtags.{subtags}
 -- "*"
 abbrev pub is_star : List ℕ → Bool
 is_star text = bytes_eq text (42 ∷ [])
-
--- a single character; of a tag that is a letter or digit, the mark "x" and those that begin an extension among them
-abbrev pub is_single : List ℕ → Bool
-is_single subtag = length subtag == 1
 
 -- 1*8ALPHA
 abbrev pub is_first_subtag : List ℕ → Bool
@@ -24,19 +20,19 @@ is_range_subtag subtag = is_star subtag || is_private_subtag subtag
 abbrev pub are_range_subtags : List (List ℕ) → Bool
 are_range_subtags others = list_all is_range_subtag others
 
--- extended-language-range = (1*8ALPHA / "*") *("-" (1*8alphanum / "*")) (section 2.2), over the subtags
+-- extended-language-range = (1*8ALPHA / "*") *("-" (1*8alphanum / "*")) (section 2.2), as a test of its subtags
 abbrev pub are_extended_range : List (List ℕ) → Bool
 are_extended_range [] = false
 are_extended_range (first ∷ others) = (is_star first || is_first_subtag first) && are_range_subtags others
 
--- a range of either kind: each basic one is an extended one
+-- whether a text is a language range; each basic range is an extended range, too
 abbrev pub is_language_range : List ℕ → Bool
 is_language_range text = are_extended_range (subtags text)
 
 abbrev pub are_basic_subtags : List (List ℕ) → Bool
 are_basic_subtags others = list_all is_private_subtag others
 
--- 1*8ALPHA *("-" 1*8alphanum), over the subtags
+-- 1*8ALPHA *("-" 1*8alphanum), as a test of its subtags
 abbrev pub are_basic_range : List (List ℕ) → Bool
 are_basic_range [] = false
 are_basic_range (first ∷ others) = is_first_subtag first && are_basic_subtags others

@@ -1,4 +1,4 @@
--- The text of each type: its bytes.
+-- The text of each type, as a list of bytes.
 use Rattle.std.specs.Prelude.{ℕ, List, [], String}
 use Rattle.std.specs.Option.{option_map_or}
 use Rattle.std.specs.String.{string_bytes}
@@ -13,7 +13,7 @@ use Rattle.langtag_match.specs.Fallback.{fallbacks}
 abbrev pub language_range_text : LanguageRange → List ℕ
 language_range_text range = range.text.0.now
 
--- the very String that is kept
+-- the `String` itself, which the value owns
 abbrev pub language_range_buf_string : LanguageRangeBuf → String Global
 language_range_buf_string range = range.text.0
 
@@ -23,7 +23,7 @@ language_range_buf_text range = string_bytes (language_range_buf_string range)
 abbrev pub weighted_range_text : WeightedRange → List ℕ
 weighted_range_text weighted = language_range_text weighted.range
 
--- the texts that a walk has left to return
+-- the texts that the iterator will still return
 abbrev pub fallbacks_left : Fallbacks → List (List ℕ)
 fallbacks_left walk = option_map_or (λ range. fallbacks (language_range_text range)) walk.rest []
 

@@ -3,7 +3,7 @@ use Rattle.std.specs.Prelude.{ℕ, ◌+◌, ◌-◌, ◌*◌, ◌/◌, ◌^◌, 
 use Rattle.std.specs.Int.{is_in_range}
 use Rattle.std.specs.List.{list_all}
 
--- [ "." 0*3DIGIT ], of the digits up to a greatest one
+-- [ "." 0*3DIGIT ], in which no digit is greater than `greatest`
 abbrev pub is_fraction : ℕ → List ℕ → Bool
 is_fraction greatest [] = true
 is_fraction greatest (point ∷ digits) = (point == 46) && is_in_range 0 3 (length digits) && list_all (is_in_range 48 greatest) digits
@@ -13,16 +13,17 @@ abbrev pub is_qvalue : List ℕ → Bool
 is_qvalue [] = false
 is_qvalue (whole ∷ fraction) = ((whole == 48) && is_fraction 57 fraction) || ((whole == 49) && is_fraction 48 fraction)
 
--- the number that decimal digits write
+-- the value of a text of decimal digits
 abbrev pub decimal : List ℕ → ℕ
 decimal digits = fold (λ number digit. 10 * number + (digit - 48)) 0 digits
 
--- the value of a qvalue in thousandths: with k digits after the point it is what all its digits write, over 10 ^ k
+-- the value of a qvalue in thousandths: 1000 times the number that all its digits make, divided by 10 ^ k, if there are
+-- k digits after the point
 abbrev pub thousandths : List ℕ → ℕ
 thousandths [] = 0
 thousandths (whole ∷ fraction) = let places = drop 1 fraction in 1000 * decimal (whole ∷ places) / 10 ^ length places
 
--- "q"; a name ignores case
+-- "q", in either case
 abbrev pub is_q : ℕ → Bool
 is_q b = (b == 113) || (b == 81)
 

@@ -1,4 +1,4 @@
-//! The language ranges that an Accept-Language header asks for (RFC 9110 section 12.5.4).
+//! The language ranges in an Accept-Language header (RFC 9110 section 12.5.4).
 ghost use Rattle.std.specs.Prelude.{◌≡◌, ℕ, List, Some, IsTrue, true, is_ok, IfOk, IfErr, map, slice_get};
 ghost use Rattle.langtag_match.specs.AcceptLanguage as spec;
 ghost use Rattle.langtag_match.specs.LookUp.{choice};
@@ -36,9 +36,9 @@ impl<'a> AcceptLanguage<'a> {
     ///
     /// # Errors
     ///
-    /// Returns `BadElement` if an element is neither empty nor a basic language range with an optional weight. It
-    /// contains the whole header, and the index and offset of the first such element. Returns `Memory` if allocation
-    /// fails.
+    /// Returns `BadElement` if an element is neither empty nor a basic language range with an optional weight. The
+    /// error contains the whole header, and the index and offset of the first such element. Returns `Memory` if
+    /// allocation fails.
     pub fn new(
         alloc: Global,
         header: &'a str,
@@ -71,7 +71,7 @@ impl<'a> AcceptLanguage<'a> {
         AcceptLanguage::by_weight(read)
     }
 
-    /// Leaves out the elements of weight 0, and sorts the others by falling weight.
+    /// Leaves out the elements of weight 0, and sorts the other elements by descending weight.
     fn by_weight(elements: Vec<WeightedRange<'a>>) -> Result<AcceptLanguage<'a>, AllocError>
         ensures { IfOk result (λ accepted. spec.IsByWeight (spec.acceptable (map spec.reading elements.entry.items)) (map spec.reading (accept_language_ranges accepted))) }
     {
@@ -81,8 +81,8 @@ impl<'a> AcceptLanguage<'a> {
         Ok(AcceptLanguage { ranges })
     }
 
-    /// Returns the ranges, the greatest weight first. It is proved which ranges are equal, and that a clone is the same
-    /// value.
+    /// Returns the ranges, the greatest weight first. It is proved that ranges are equal if their weights are equal and
+    /// their texts are equal, ignoring case. It is also proved that a clone is the same value.
     ///
     /// ```
     /// use langtag_match::AcceptLanguage;
@@ -122,13 +122,13 @@ impl<'a> AcceptLanguage<'a> {
     }
 }
 
-/// Returns the tag that look-up finds for a header, or the default: [`AcceptLanguage::new`] and
-/// [`AcceptLanguage::look_up`] in one call.
+/// Returns the tag that look-up finds for a header, or the default. It does what [`AcceptLanguage::new`] and
+/// [`AcceptLanguage::look_up`] do, in one call.
 ///
 /// For `fr;q=0.3, DE-ch-1996;q=0.9` and the tags `de-CH` and `fr` it returns `de-CH`.
 ///
-/// This follows RFC 4647 to the letter, so `zh-TW` does not find `zh-Hant`. Most sites want
-/// `langtag_choice::best_for_header`.
+/// This follows RFC 4647 to the letter, so `zh-TW` does not find `zh-Hant`. Most web sites should call
+/// `langtag_choice::best_for_header` instead.
 ///
 /// # Errors
 ///
@@ -193,7 +193,7 @@ fn good_elements(alloc: Global, header: &str) -> Result<Vec<WeightedRange<'_>>, 
     Ok(elements)
 }
 
-/// Returns the number of bytes before the item at an index.
+/// Returns the offset in bytes of the item at an index.
 fn offset_of(header: &str, index: usize) -> usize
     ensures { (item : List ℕ) → slice_get (spec.items header.now) index ≡ Some item
         → spec.StandsAt header.now item index result }

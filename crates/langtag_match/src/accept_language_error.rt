@@ -7,7 +7,7 @@ use std::fmt;
 use thiserror::Error;
 
 /// The part of an element that is malformed: the language range in `de-`, the weight in `de;q=2`. If both are
-/// malformed, it is the range.
+/// malformed, the value is `Range`.
 ///
 /// ```
 /// use langtag_match::ElementPart;
@@ -49,7 +49,7 @@ pub enum AcceptLanguageError<'a> {
         header: &'a str,
         /// The index of the element, which is the number of commas before it.
         index: usize,
-        /// The offset in bytes just after the last of those commas.
+        /// The offset in bytes just after the last of these commas, or 0 if there is none.
         offset: usize,
         /// The part that is malformed.
         part: ElementPart,

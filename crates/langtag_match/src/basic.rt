@@ -4,16 +4,16 @@ ghost use Rattle.langtag_match.specs.Basic as spec;
 
 use langtag::case_insensitive_eq;
 
-/// Returns whether a range is `*`, or equals a tag, or equals the beginning of a tag before a hyphen. Case is ignored.
+/// Returns whether a range is `*`, equals a tag, or equals the text before some hyphen of a tag. Case is ignored.
 pub(crate) fn matches_basic(range: &str, tag: &str) -> bool
     ensures { IsTrue result ↔ spec.MatchesBasic range.now tag.now }
 {
     range == "*" || begins_with(tag.as_bytes(), range.as_bytes())
 }
 
-/// Returns whether a tag equals a range, or begins with it and continues with a hyphen. Case is ignored.
+/// Returns whether a tag equals a range, or begins with the range followed by a hyphen. Case is ignored.
 fn begins_with(tag: &[u8], range: &[u8]) -> bool
-    ensures { IsTrue result ↔ spec.BeginsWith range.now tag.now }
+    ensures { IsTrue result ↔ spec.BeginsWithRange range.now tag.now }
 {
     if range.len() > tag.len() || !case_insensitive_eq(range, &tag[..range.len()]) {
         return false;

@@ -34,7 +34,7 @@ pub struct Element<'a> {
 /// # Errors
 ///
 /// Returns the part that is malformed if the text is not an element: the range in `fr_FR`, the weight in `fr;q=2`. If
-/// both are malformed, or if the text is empty or only white space, it is the range. See [`is_empty_element`].
+/// both are malformed, or if the text is empty or only white space, the error is the range. See [`is_empty_element`].
 ///
 /// ```
 /// use langtag_match::element_at;
@@ -45,7 +45,7 @@ pub struct Element<'a> {
 #[tactic(auto, unfolding(crate::specs::AcceptLanguage::element, crate::specs::AcceptLanguage::bad_part))]
 pub fn element_at(item: &[u8]) -> Result<Element<'_>, ElementPart>
     ensures read { IfOk result (λ found. spec.element item.now ≡ Some (spec.reading found.weighted)) }
-    ensures place { IfOk result (λ found. spec.IsPlaceOf item.now (weighted_range_text found.weighted) found.start) }
+    ensures place { IfOk result (λ found. spec.IsRangePlace item.now (weighted_range_text found.weighted) found.start) }
     ensures none { IfErr result (λ part. spec.element item.now ≡ None) }
     ensures bad { IfErr result (λ part. part ≡ spec.bad_part item.now) }
 {
@@ -92,7 +92,7 @@ fn weight_after(item: &[u8], semicolon: usize) -> Option<u32>
     weight_of(&text[start..end])
 }
 
-/// Returns the bytes as a basic language range, or `None` if they are not one.
+/// Returns the bytes as a basic language range, or `None` if they are not a basic language range.
 #[tactic(auto, using(crate::proofs::BasicRanges::basic_ranges, crate::proofs::AsciiRanges::utf8_basic))]
 fn basic_range(bytes: &[u8]) -> Option<LanguageRange<'_>>
     ensures { MatchOption result (is_basic_range bytes.now ≡ false)
@@ -105,7 +105,7 @@ fn basic_range(bytes: &[u8]) -> Option<LanguageRange<'_>>
     Some(LanguageRange::from_checked(text))
 }
 
-/// Returns where a text begins and ends without the white space around it.
+/// Returns the offsets at which a text begins and ends without the white space around it.
 pub(crate) fn trimmed_place(text: &[u8]) -> (usize, usize)
     ensures ordered { result.0 ≤ result.1 }
     ensures within { result.1 ≤ length text.now }

@@ -4,8 +4,9 @@ ghost use Rattle.langtag_match.specs.Extended as spec;
 
 use langtag::{Subtags, case_insensitive_eq};
 
-/// Returns whether the first subtags match, and the other subtags of the range are among those of the tag.
-pub(crate) fn matches_extended(range: &str, tag: &str) -> bool
+/// Returns whether the first subtag of a range matches the first subtag of a tag, and the other subtags of the range
+/// occur among the other subtags of the tag.
+pub fn matches_extended(range: &str, tag: &str) -> bool
     ensures { IsTrue result ↔ spec.MatchesExtended range.now tag.now }
 {
     let mut wanted = Subtags::new(range);
@@ -23,8 +24,8 @@ fn matches_first(range: &str, subtag: &str) -> bool
     range == "*" || case_insensitive_eq(range.as_bytes(), subtag.as_bytes())
 }
 
-/// Returns whether the subtags of a range are among those of a tag, in the same order. Each `*` is ignored. No
-/// singleton may be skipped.
+/// Returns whether the subtags of a range occur among the subtags of a tag, in the same order. Each `*` in the range is
+/// ignored. No single-character subtag of the tag may be skipped.
 fn stand_among(wanted: Subtags<'_>, mut subtags: Subtags<'_>) -> bool
     ensures { IsTrue result ↔ spec.StandAmong (spec.without_stars wanted.entry) subtags.entry }
 {
@@ -36,8 +37,8 @@ fn stand_among(wanted: Subtags<'_>, mut subtags: Subtags<'_>) -> bool
     true
 }
 
-/// Skips to what follows the next subtag that equals the wanted subtag, ignoring case. Returns `false` if there is none
-/// before the next singleton.
+/// Reads subtags until one equals `wanted`, ignoring case, and then returns `true`. Returns `false` if it reads another
+/// single-character subtag first, or if no subtags are left.
 fn pass(subtags: &mut Subtags<'_>, wanted: &str) -> bool
     ensures found { result ≡ true → (more : List (List ℕ)) → spec.StandAmong more subtags.new ↔ spec.StandAmong (wanted.now ∷ more) subtags.old }
     ensures missed { result ≡ false → (more : List (List ℕ)) → spec.StandAmong (wanted.now ∷ more) subtags.old → ⊥ }

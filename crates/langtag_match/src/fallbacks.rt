@@ -1,5 +1,5 @@
-//! What is left of a language range when subtags are removed from its end (RFC 4647 section 3.4).
-ghost use Rattle.std.specs.Prelude.{◌≡◌, ◌<◌, ◌^◌, ◌∷◌, [], length, IfSome, IsTrue};
+//! The fallbacks of a language range, which are made by removing subtags from its end (RFC 4647 section 3.4).
+ghost use Rattle.std.specs.Prelude.{◌≡◌, ◌<◌, ◌^◌, ◌∷◌, [], length, take, IfSome, IsTrue};
 ghost use Rattle.std.specs.Iterator.{YieldsFirstBy, item_count};
 ghost use Rattle.std.specs.Option.{option_map_or};
 ghost use Rattle.langtag_match.specs.Fallback as spec;
@@ -53,37 +53,49 @@ impl<'a> Iterator for Fallbacks<'a> {
     }
 }
 
-/// Returns a range without its last subtag, and without each single character that would then be last.
+/// Returns a range without its last subtag, and then without any single-character subtags at its end.
 fn shortened(range: LanguageRange<'_>) -> Option<LanguageRange<'_>>
     ensures { spec.fallbacks (language_range_text range.entry) ≡ language_range_text range.entry
         ∷ option_map_or (λ shorter. spec.fallbacks (language_range_text shorter)) result [] }
 {
-    let mut text = range.as_str();
-    while let Some(before) = without_last(text) {
-        if !ends_in_single(before) {
-            return Some(LanguageRange::from_checked(before));
+    let text = range.as_str();
+    let len = shortened_len(text.as_bytes())?;
+    Some(LanguageRange::from_checked(&text[..len]))
+}
+
+/// Returns the length of a range without its last subtag, and then without any single-character subtags at its end.
+/// Returns `None` if nothing is left.
+pub fn shortened_len(range: &[u8]) -> Option<usize>
+    ensures shorter { IfSome result (λ len. len < length range.now) }
+    ensures same { spec.fallbacks range.now ≡ range.now ∷ option_map_or (λ len. spec.fallbacks (take len range.now)) result [] }
+    ensures in_class { IfSome result (λ len. IsTrue (is_language_range range.now) → IsTrue (is_language_range (take len range.now))) }
+{
+    let mut left = range;
+    while let Some(len) = len_without_last(left) {
+        left = &left[..len];
+        if !ends_in_single(left) {
+            return Some(len);
         }
-        text = before;
     }
     None
 }
 
-/// Returns the text before the last hyphen.
-fn without_last(text: &str) -> Option<&str>
-    ensures cut { spec.before_hyphens text.now ≡ option_map_or (λ before. before.now ∷ spec.before_hyphens before.now) result [] }
-    ensures shorter { IfSome result (λ before. length before.now < length text.now) }
-    ensures in_class { IfSome result (λ before. IsTrue (is_language_range text.now) → IsTrue (is_language_range before.now)) }
+/// Returns the number of bytes before the last hyphen.
+fn len_without_last(range: &[u8]) -> Option<usize>
+    ensures shorter { IfSome result (λ len. len < length range.now) }
+    ensures cut { spec.before_hyphens range.now ≡ option_map_or (λ len. take len range.now ∷ spec.before_hyphens (take len range.now)) result [] }
+    ensures in_class { IfSome result (λ len. IsTrue (is_language_range range.now) → IsTrue (is_language_range (take len range.now))) }
 {
-    let start = segment_start(text.as_bytes(), text.len());
+    let start = segment_start(range, range.len());
     if start == 0 {
         return None;
     }
-    Some(&text[..start - 1])
+    Some(start - 1)
 }
 
 /// Returns whether the last subtag of a text is a single character.
-fn ends_in_single(text: &str) -> bool
+pub fn ends_in_single(text: &[u8]) -> bool
     ensures { result ≡ spec.ends_in_single text.now }
 {
-    matches!(text.as_bytes(), [_] | [.., b'-', _])
+    matches!(text, [_] | [.., b'-', _])
 }

@@ -33,9 +33,9 @@ pub struct InvalidLanguageRange<T>(pub T);
 
 /// A language range, basic or extended (RFC 4647 sections 2.1 and 2.2): `de-CH`, `*`, `*-CH`, `de-*-DE`.
 ///
-/// A range has one or more subtags, each of which is `*` or up to eight letters and digits. The first has letters only.
-/// A range need not be a tag: `de-x` and `a-1` are ranges. Two ranges are equal if their texts differ only in the case
-/// of ASCII letters.
+/// A range has one or more subtags. Each subtag is `*`, or one to eight letters and digits. The first subtag has no
+/// digits. A range need not be a tag: `de-x` and `a-1` are ranges. Two ranges are equal if their texts differ only in
+/// the case of ASCII letters.
 ///
 /// ```
 /// use langtag::LangTag;
@@ -71,7 +71,7 @@ impl<'a> LanguageRange<'a> {
         Ok(LanguageRange::from_checked(text))
     }
 
-    /// Returns the range of a text that is known to be one, without checking it.
+    /// Wraps a text that is known to be a language range, without checking it.
     /// `LanguageRange::from_checked(range.as_str())` is equal to `range`.
     pub fn from_checked(text: &'a str) -> LanguageRange<'a>
         requires { IsTrue (spec.is_language_range text.now) }
@@ -90,7 +90,7 @@ impl<'a> LanguageRange<'a> {
         self.text.0
     }
 
-    /// Returns whether another text is equal, ignoring the case of ASCII letters:
+    /// Returns whether another text equals this text, ignoring the case of ASCII letters:
     /// `LanguageRange::new("de-CH")?.eq_str("DE-ch")` is `true`. It is proved that comparisons and hashes also ignore
     /// case, and that a clone is the same value.
     pub fn eq_str(&self, other: &str) -> bool
@@ -103,7 +103,8 @@ impl<'a> LanguageRange<'a> {
         self.text == Caseless(other)
     }
 
-    /// Returns whether the range is a basic one (RFC 4647 section 2.1): `true` for `de-CH` and `*`, `false` for `*-CH`.
+    /// Returns whether the range is a basic range (RFC 4647 section 2.1): `true` for `de-CH` and `*`, `false` for
+    /// `*-CH`.
     ///
     /// ```
     /// use langtag_match::LanguageRange;
@@ -120,7 +121,7 @@ impl<'a> LanguageRange<'a> {
     /// Returns whether the range matches a tag by basic filtering (RFC 4647 section 3.3.1): `de-DE` matches
     /// `de-DE-1996`, but neither `de-Deva` nor `de-Latn-DE`.
     ///
-    /// It is meant for basic ranges. In other ranges `*` equals no subtag, so `de-*` matches nothing.
+    /// This method is meant for basic ranges. In other ranges, `*` equals no subtag, so `de-*` matches nothing.
     ///
     /// ```
     /// use langtag::LangTag;

@@ -28,6 +28,7 @@ mod filter;
 mod filter_rule;
 mod language_range;
 mod listed;
+mod locale;
 mod lookup;
 mod range_text;
 mod wanted;
@@ -42,7 +43,13 @@ pub use fallbacks::Fallbacks;
 pub use filter::{Filtered, filter_basic, filter_extended};
 pub use language_range::{InvalidLanguageRange, LanguageRange, LanguageRangeBuf};
 pub use listed::listed_range;
+pub use locale::locale_place;
 pub use lookup::look_up;
 pub use wanted::{WantedRange, WantedRanges, split_wanted, wanted_ranges};
 pub use weight::weight_of;
 pub use weighted_range::WeightedRange;
+
+// For langtag_registry, langtag_choice and langtag_c.
+pub use extended::matches_extended;
+pub use fallbacks::{ends_in_single, shortened_len};
+pub use wanted_element::is_separator;

@@ -1,19 +1,20 @@
-//! A language range in a list of ranges of a program.
+//! A language range in a list that the caller has, such as the user's settings.
 ghost use Rattle.std.specs.Prelude.{◌≡◌, IfSome, IsTrue};
 ghost use Rattle.std.specs.List.{slice_split};
 ghost use Rattle.std.specs.Option.{option_map};
 ghost use Rattle.langtag_match.specs.Listed as spec;
 ghost use Rattle.langtag_match.specs.Range.{are_range_subtags, is_language_range};
-ghost use Rattle.langtag_match.specs.Wanted.{hyphened, is_mark};
+ghost use Rattle.langtag_match.specs.Wanted.{hyphened, is_separator};
 
+use crate::locale::locale_place;
 use crate::range_text::{is_first_subtag, is_range_subtag};
 use crate::wanted::WantedRange;
-use crate::wanted_element::{is_mark, is_star, trimmed};
+use crate::wanted_element::{is_separator, is_star, trimmed};
 use langtag_scan::split_at_either;
 
-/// Returns the range of a text in a list of ranges, basic or extended, with the weight 1. As in a header, `_` is read
-/// as `-`. White space around the range is dropped, and so is everything after `.` or `@`. Returns `None` if the rest
-/// is not a range, such as `de;q=0`.
+/// Reads a text as a language range, basic or extended, with the weight 1. As in a header, `_` is read as `-`. White
+/// space around the range is dropped, and so is everything from the first `.`, `@` or `_#` on. Returns `None` if the
+/// rest is not a range, such as `de;q=0`.
 ///
 /// ```
 /// use langtag_match::listed_range;
@@ -25,7 +26,7 @@ pub fn listed_range(text: &[u8]) -> Option<WantedRange<'_>>
     ensures listed { option_map spec.listed_element result ≡ spec.listed text.now }
     ensures in_class { IfSome result (λ found. IsTrue (is_language_range (hyphened found.bytes.now))) }
 {
-    let (bytes, _codeset) = split_at_either(trimmed(text), b'.', b'@');
+    let bytes = locale_place(trimmed(text));
     if !is_listed_range(bytes) {
         return None;
     }
@@ -46,8 +47,8 @@ fn is_listed_range(text: &[u8]) -> bool
 
 /// Returns whether each subtag is `*`, or 1 to 8 letters or digits.
 fn are_listed_subtags(text: &[u8]) -> bool
-    ensures { result ≡ are_range_subtags (slice_split is_mark text.now) }
+    ensures { result ≡ are_range_subtags (slice_split is_separator text.now) }
 {
-    text.split(|byte| is_mark(*byte))
+    text.split(|byte| is_separator(*byte))
         .all(|subtag| is_range_subtag(subtag))
 }

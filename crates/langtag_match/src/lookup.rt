@@ -8,14 +8,15 @@ ghost use Rattle.langtag_match.specs.Text.{language_range_text};
 use crate::language_range::LanguageRange;
 use langtag::LangTag;
 
-/// Returns the tag of the first range that finds one, or the default (RFC 4647 section 3.4). A range finds the tag that
-/// equals it, or else the longest of its [`fallbacks`](LanguageRange::fallbacks).
+/// Returns the tag that the first successful range finds, or the default if no range finds a tag (RFC 4647 section
+/// 3.4). A range finds the tag that equals the range. If no tag equals it, its [`fallbacks`](LanguageRange::fallbacks)
+/// are tried, the longest first.
 ///
-/// For the ranges `nl` and `zh-Hant-CN` it tries `nl`, `zh-Hant-CN`, `zh-Hant` and `zh` in this order, and then returns
-/// the default.
+/// For the ranges `nl` and `zh-Hant-CN` it tries `nl`, `zh-Hant-CN`, `zh-Hant` and `zh` in this order. If none of them
+/// equals a tag, it returns the default.
 ///
-/// An extended range is looked up without its `*` (section 3.2): `de-*-DE` as `de-DE`. A range that begins with `*`
-/// finds no tag, and the next range is tried.
+/// An extended range is looked up without its `*` (section 3.2): `de-*-DE` is looked up as `de-DE`. A range that
+/// begins with `*` finds no tag, and the next range is tried.
 ///
 /// ```
 /// use langtag::LangTag;

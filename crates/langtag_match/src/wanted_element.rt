@@ -7,6 +7,7 @@ ghost use Rattle.langtag_match.specs.Range.{are_basic_subtags, is_basic_range, i
 ghost use Rattle.langtag_match.specs.Wanted as spec;
 
 use crate::element::trimmed_place;
+use crate::locale::locale_place;
 use crate::range_text::is_first_subtag;
 use crate::wanted::WantedRange;
 use crate::weight::{are_digits, digit_at};
@@ -20,7 +21,7 @@ pub(crate) fn wanted_at<'a>(item: &'a [u8], behind: &[u8]) -> Option<WantedRange
     ensures basic { IfSome result (λ found. IsTrue (is_basic_range (spec.hyphened found.bytes.now))) }
 {
     let (before, parameters) = split_at_byte(item, b';');
-    let (bytes, _codeset) = split_at_either(trimmed(before), b'.', b'@');
+    let bytes = locale_place(trimmed(before));
     if !is_wanted_range(bytes) {
         return None;
     }
@@ -45,14 +46,15 @@ pub(crate) fn is_star(text: &[u8]) -> bool
 
 /// Returns whether each subtag is 1 to 8 letters or digits.
 fn are_wanted_subtags(text: &[u8]) -> bool
-    ensures { result ≡ are_basic_subtags (slice_split spec.is_mark text.now) }
+    ensures { result ≡ are_basic_subtags (slice_split spec.is_separator text.now) }
 {
-    text.split(|byte| is_mark(*byte))
+    text.split(|byte| is_separator(*byte))
         .all(|subtag| is_private_subtag(subtag))
 }
 
-pub(crate) fn is_mark(byte: u8) -> bool
-    ensures { result ≡ spec.is_mark byte }
+/// Returns whether a byte separates subtags, if `_` is read as `-`.
+pub fn is_separator(byte: u8) -> bool
+    ensures { result ≡ spec.is_separator byte }
 {
     byte == b'-' || byte == b'_'
 }
@@ -94,7 +96,8 @@ fn is_q_name(name: &[u8]) -> bool
     matches!(name, [b'q' | b'Q'])
 }
 
-/// Returns the weight of a value. If the value has no point, the digits after the comma are its fraction.
+/// Returns the weight of a value. If the value has no point, the digits at the start of `behind`, which is the text
+/// after the next comma, are its fraction.
 fn value_weight(value: &[u8], behind: &[u8]) -> u32
     ensures { result ≡ spec.value_weight value.now (spec.digits_behind (items behind.now)) }
 {
@@ -105,8 +108,9 @@ fn value_weight(value: &[u8], behind: &[u8]) -> u32
     number_weight(whole, digits_behind(behind))
 }
 
-/// Returns the digits at the start of a text if a comma or the end follows them, and otherwise an empty text.
-#[tactic(auto, using(crate::proofs::WantedTexts::digits_at))]
+/// Returns the digits at the start of a text if a comma or the end of the text follows them. Otherwise it returns an
+/// empty text.
+#[tactic(auto, unfolding(langtag_scan::specs::Class::is_digit), using(crate::proofs::WantedTexts::digits_at))]
 fn digits_behind(text: &[u8]) -> &[u8]
     ensures { result.now ≡ spec.digits_behind (items text.now) }
 {
@@ -114,8 +118,8 @@ fn digits_behind(text: &[u8]) -> &[u8]
     if are_digits(item, b'9') { item } else { b"" }
 }
 
-/// Returns the weight of a number, by the texts before and after its decimal mark. It is 1 if this is not a number, or
-/// if the number is above 1.
+/// Returns the weight of a number, given the texts before and after its decimal mark. It is 1000 if the texts are not a
+/// number, or if the number is above 1.
 fn number_weight(whole: &[u8], fraction: &[u8]) -> u32
     ensures { result ≡ spec.number_weight whole.now fraction.now }
 {
@@ -125,7 +129,8 @@ fn number_weight(whole: &[u8], fraction: &[u8]) -> u32
     100 * digit_at(fraction, 0) + 10 * digit_at(fraction, 1) + digit_at(fraction, 2)
 }
 
-/// Returns whether the texts before and after a decimal mark are digits, and not both empty.
+/// Returns whether the texts before and after a decimal mark have only digits, and at least one of them has a digit.
+#[tactic(auto, unfolding(langtag_scan::specs::Class::is_digit))]
 fn is_number(whole: &[u8], fraction: &[u8]) -> bool
     ensures { result ≡ spec.are_number whole.now fraction.now }
 {

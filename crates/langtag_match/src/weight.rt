@@ -33,7 +33,7 @@ fn is_qvalue(text: &[u8]) -> bool
     }
 }
 
-/// Returns whether a text is empty, or a point and up to three digits that are at most the greatest digit.
+/// Returns whether a text is empty, or is a point and up to three digits, each at most `greatest`.
 fn is_fraction(text: &[u8], greatest: u8) -> bool
     ensures { result ≡ spec.is_fraction greatest text.now }
 {
@@ -44,7 +44,7 @@ fn is_fraction(text: &[u8], greatest: u8) -> bool
     }
 }
 
-/// Returns whether the bytes are digits that are at most the greatest digit.
+/// Returns whether each byte is a digit that is at most `greatest`.
 pub(crate) fn are_digits(bytes: &[u8], greatest: u8) -> bool
     ensures { result ≡ list_all (is_in_range 48 greatest) bytes.now }
 {

@@ -1,8 +1,8 @@
 -- A text that is written into a buffer, if there is room for it.
 use Rattle.std.specs.Prelude.{◌≡◌, ℕ, ◌<◌, ◌≤◌, List, ◌++◌, length, drop}
 
--- some text that is so has this length, and stands at the start of the buffer where there is room, the rest being as it was;
--- where there is none, all of it is
+-- some text for which `IsSo` holds has this length. If it fits, it is at the start of the buffer, and the rest is
+-- unchanged; if not, the whole buffer is unchanged
 pub record Writes (IsSo : List ℕ → Type 0) (before after : List ℕ) (len : ℕ) : Type 0 where
   pub text : List ℕ
   pub is_so : IsSo text

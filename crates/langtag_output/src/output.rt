@@ -1,4 +1,4 @@
-//! A text that is written into a buffer of the caller's, subtag by subtag.
+//! A text that is written into the caller's buffer subtag by subtag.
 ghost use Rattle.std.specs.Prelude.{◌≡◌, ◌∷◌, [], length};
 ghost use Rattle.langtag_output.specs.Output.{Appends, Pushes, HasText};
 
@@ -10,7 +10,7 @@ pub struct Output<'a> {
 }
 
 impl<'a> Output<'a> {
-    /// Returns the output that begins at the start of a buffer.
+    /// Returns an empty output, which writes from the start of a buffer.
     pub fn new(buffer: &'a mut [u8]) -> Output<'a>
         ensures same_buffer { result.buffer.ghost_name ≡ buffer.entry.ghost_name }
         ensures empty { HasText buffer.old result [] }
@@ -25,7 +25,7 @@ impl<'a> Output<'a> {
         self.len
     }
 
-    /// Appends a subtag, or several joined ones, after a hyphen if there is text before them.
+    /// Appends a subtag, or several subtags joined by hyphens. A hyphen comes first, unless the text is still empty.
     pub fn push_subtag(&mut self, subtag: &[u8])
         ensures same_buffer { self.new.buffer.ghost_name ≡ self.old.buffer.ghost_name }
         ensures pushed { Pushes (subtag.now ∷ []) self.old self.new }
@@ -36,7 +36,7 @@ impl<'a> Output<'a> {
         self.push(subtag);
     }
 
-    /// Appends bytes. The length stops at its maximum if a text has more bytes.
+    /// Appends bytes. The length stays at `usize::MAX` if the text has more bytes than that.
     pub fn push(&mut self, bytes: &[u8])
         ensures same_buffer { self.new.buffer.ghost_name ≡ self.old.buffer.ghost_name }
         ensures appended { Appends bytes.now self.old self.new }

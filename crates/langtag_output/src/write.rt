@@ -1,4 +1,4 @@
-//! Pieces of a text that are written into a buffer of the caller.
+//! Writing the pieces of a text into the caller's buffer.
 ghost use Rattle.std.specs.Prelude.{◌≡◌, ◌<◌, ◌≤◌, ◌-◌, ◌^◌, length};
 ghost use Rattle.std.specs.List.{flat_map};
 ghost use Rattle.langtag_output.specs.Output.{IsCounted};
@@ -10,7 +10,7 @@ use crate::output::Output;
 /// `MM`. If the buffer is too short, it stays unchanged, and the length says how much room is needed. It does not
 /// allocate.
 ///
-/// The length is at most `usize::MAX`, even if overlapping pieces have more bytes in all.
+/// The length is at most `usize::MAX`, even if the pieces overlap and have more bytes in total.
 pub fn write_pieces(pieces: &[&[u8]], buffer: &mut [u8]) -> usize
     ensures written { let text = flat_map (λ piece. piece.now) pieces.now in
         length text < 2 ^ 64 → Writes (λ new. new ≡ text) buffer.old buffer.new result }
@@ -23,7 +23,14 @@ pub fn write_pieces(pieces: &[&[u8]], buffer: &mut [u8]) -> usize
     len
 }
 
-/// Puts pieces into a buffer, as far as it has room. Returns how long their text is.
+/// Writes a text to a buffer, like [`write_pieces`] with a single piece, and returns its length in bytes.
+pub fn write_text(text: &[u8], buffer: &mut [u8]) -> usize
+    ensures { Writes (λ new. new ≡ text.now) buffer.old buffer.new result }
+{
+    write_pieces(&[text], buffer)
+}
+
+/// Writes as much of some pieces as fits into a buffer, and returns their total length.
 fn put_pieces(pieces: &[&[u8]], buffer: &mut [u8]) -> usize
     ensures { IsCounted (flat_map (λ piece. piece.now) pieces.now) buffer.old buffer.new result }
 {

@@ -1,4 +1,4 @@
--- The types of this crate: their `==`, `cmp` and `hash` are those of their texts, folded.
+-- The types of this crate compare and hash by their texts, ignoring the case of ASCII letters.
 use Rattle.langtag_scan.specs.Compare.{ComparesByCase}
 use Rattle.langtag_place.specs.contracts.script.ScriptHash.TheImpl as script_hash
 use Rattle.langtag_place.specs.contracts.script.ScriptOrd.TheImpl as script_order

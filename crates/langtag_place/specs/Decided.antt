@@ -1,5 +1,5 @@
--- The rule of the list of variants as a test over the subtags of a text.
--- Only ghost fields and contracts of private functions cite this page.
+-- The rule for a list of variants as a test of the subtags of a text. Only ghost fields and contracts of private
+-- functions cite this page.
 use Rattle.std.specs.Prelude.{ℕ, Bool, List}
 use Rattle.std.specs.List.{list_all}
 use Rattle.langtag_scan.specs.Class.{is_variant}
@@ -8,6 +8,6 @@ use Rattle.langtag_scan.specs.Subtags.{subtags}
 abbrev pub are_variants : List (List ℕ) → Bool
 are_variants texts = list_all is_variant texts
 
--- what stands between the hyphens are variants
+-- whether all subtags of a text are variants
 abbrev pub is_variants : List ℕ → Bool
 is_variants text = are_variants (subtags text)

@@ -1,4 +1,4 @@
--- The text of each type: its bytes.
+-- The text of each type, as a list of bytes.
 use Rattle.std.specs.Prelude.{ℕ, List, String}
 use Rattle.std.specs.String.{string_bytes}
 use Rattle.std.specs.declared.alloc.Global.{Global}
@@ -15,7 +15,7 @@ use Rattle.langtag_place.specs.declared.variants_iter.VariantsIter.{VariantsIter
 abbrev pub script_text : Script → List ℕ
 script_text script = script.text.0.now
 
--- the very String that is kept
+-- the `String` itself, which the value owns
 abbrev pub script_buf_string : ScriptBuf → String Global
 script_buf_string script = script.text.0
 
@@ -25,7 +25,7 @@ script_buf_text script = string_bytes (script_buf_string script)
 abbrev pub region_text : Region → List ℕ
 region_text region = region.text.0.now
 
--- the very String that is kept
+-- the `String` itself, which the value owns
 abbrev pub region_buf_string : RegionBuf → String Global
 region_buf_string region = region.text.0
 
@@ -35,7 +35,7 @@ region_buf_text region = string_bytes (region_buf_string region)
 abbrev pub variant_text : Variant → List ℕ
 variant_text variant = variant.text.0.now
 
--- the very String that is kept
+-- the `String` itself, which the value owns
 abbrev pub variant_buf_string : VariantBuf → String Global
 variant_buf_string variant = variant.text.0
 
@@ -45,13 +45,13 @@ variant_buf_text variant = string_bytes (variant_buf_string variant)
 abbrev pub variants_text : Variants → List ℕ
 variants_text variants = variants.text.0.now
 
--- the very String that is kept
+-- the `String` itself, which the value owns
 abbrev pub variants_buf_string : VariantsBuf → String Global
 variants_buf_string variants = variants.text.0
 
 abbrev pub variants_buf_text : VariantsBuf → List ℕ
 variants_buf_text variants = string_bytes (variants_buf_string variants)
 
--- the texts of the variants that are still to come
+-- the variants that the iterator will still return
 abbrev pub variants_left : VariantsIter → List (List ℕ)
 variants_left walk = walk.rest

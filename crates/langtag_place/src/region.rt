@@ -67,8 +67,8 @@ impl<'a> Region<'a> {
         Ok(Region::from_checked(text))
     }
 
-    /// Returns the region of a text that is known to be one, without checking it.
-    /// `Region::from_checked(region.as_str())` is equal to `region`.
+    /// Wraps a text that is known to be a region, without checking it. `Region::from_checked(region.as_str())` is
+    /// equal to `region`.
     pub fn from_checked(text: &'a str) -> Region<'a>
         requires { IsTrue (class.is_region text.now) }
         ensures { region_text result ≡ text.now }
@@ -93,8 +93,9 @@ impl<'a> Region<'a> {
         self.as_str().as_bytes()
     }
 
-    /// Returns whether another text is equal, ignoring the case of ASCII letters: `Region::new("fr")?.eq_str("FR")` is
-    /// `true`. It is proved that comparisons and hashes also ignore case, and that a clone is the same value.
+    /// Returns whether another text equals this text, ignoring the case of ASCII letters:
+    /// `Region::new("fr")?.eq_str("FR")` is `true`. It is proved that comparisons and hashes also ignore case, and that
+    /// a clone is the same value.
     pub fn eq_str(&self, other: &str) -> bool
         ensures test { result ≡ are_alike (region_text self.now) other.now }
 

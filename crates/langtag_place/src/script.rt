@@ -64,8 +64,8 @@ impl<'a> Script<'a> {
         Ok(Script::from_checked(text))
     }
 
-    /// Returns the script of a text that is known to be one, without checking it.
-    /// `Script::from_checked(script.as_str())` is equal to `script`.
+    /// Wraps a text that is known to be a script, without checking it. `Script::from_checked(script.as_str())` is
+    /// equal to `script`.
     pub fn from_checked(text: &'a str) -> Script<'a>
         requires { IsTrue (class.is_script text.now) }
         ensures { script_text result ≡ text.now }
@@ -90,8 +90,9 @@ impl<'a> Script<'a> {
         self.as_str().as_bytes()
     }
 
-    /// Returns whether another text is equal, ignoring the case of ASCII letters: `Script::new("Latn")?.eq_str("LATN")`
-    /// is `true`. It is proved that comparisons and hashes also ignore case, and that a clone is the same value.
+    /// Returns whether another text equals this text, ignoring the case of ASCII letters:
+    /// `Script::new("Latn")?.eq_str("LATN")` is `true`. It is proved that comparisons and hashes also ignore case, and
+    /// that a clone is the same value.
     pub fn eq_str(&self, other: &str) -> bool
         ensures test { result ≡ are_alike (script_text self.now) other.now }
 

@@ -26,8 +26,8 @@ use thiserror::Error;
 #[error_bound(T: Debug + Drop)]
 pub struct InvalidVariant<T>(pub T);
 
-/// A variant subtag (RFC 5646 section 2.2.5): five to eight letters and digits, such as `rozaj`, or four of which the
-/// first is a digit, such as `1996`.
+/// A variant subtag (RFC 5646 section 2.2.5): five to eight letters and digits, such as `rozaj`, or a digit followed by
+/// three letters or digits, such as `1996`.
 ///
 /// Two variants are equal if their texts differ only in the case of ASCII letters, such as `rozaj` and `ROZAJ`.
 ///
@@ -52,8 +52,8 @@ impl<'a> Variant<'a> {
     ///
     /// # Errors
     ///
-    /// Returns the text if it is neither five to eight letters and digits nor four of which the first is a digit:
-    /// `Variant::new("roza")` is `Err(InvalidVariant("roza"))`.
+    /// Returns the text if it is neither five to eight letters and digits nor a digit followed by three letters or
+    /// digits: `Variant::new("roza")` is `Err(InvalidVariant("roza"))`.
     #[tactic(auto, using(crate::proofs::Numbers::variant_numbers))]
     pub fn new(text: &'a str) -> Result<Variant<'a>, InvalidVariant<&'a str>>
         ensures accepts { is_ok result ≡ class.is_variant text.now }
@@ -70,8 +70,8 @@ impl<'a> Variant<'a> {
         Ok(Variant::from_checked(text))
     }
 
-    /// Returns the variant of a text that is known to be one, without checking it.
-    /// `Variant::from_checked(variant.as_str())` is equal to `variant`.
+    /// Wraps a text that is known to be a variant, without checking it. `Variant::from_checked(variant.as_str())` is
+    /// equal to `variant`.
     pub fn from_checked(text: &'a str) -> Variant<'a>
         requires { IsTrue (class.is_variant text.now) }
         ensures { variant_text result ≡ text.now }
@@ -96,7 +96,7 @@ impl<'a> Variant<'a> {
         self.as_str().as_bytes()
     }
 
-    /// Returns whether another text is equal, ignoring the case of ASCII letters:
+    /// Returns whether another text equals this text, ignoring the case of ASCII letters:
     /// `Variant::new("rozaj")?.eq_str("ROZAJ")` is `true`. It is proved that comparisons and hashes also ignore case,
     /// and that a clone is the same value.
     pub fn eq_str(&self, other: &str) -> bool
@@ -157,8 +157,8 @@ impl VariantBuf {
     ///
     /// # Errors
     ///
-    /// Returns the same `String` if it is neither five to eight letters and digits nor four of which the first is a
-    /// digit, such as `roza`.
+    /// Returns the same `String` if it is neither five to eight letters and digits nor a digit followed by three
+    /// letters or digits. An example is `roza`.
     ///
     /// ```
     /// use langtag_place::VariantBuf;

@@ -15,7 +15,7 @@ use std::fmt;
 use std::fmt::Debug;
 use thiserror::Error;
 
-/// The error for a text that is not variants. It contains the text.
+/// The error for a text that is not a list of variants. It contains the text.
 ///
 /// ```
 /// use langtag_place::Variants;
@@ -31,8 +31,8 @@ pub struct InvalidVariants<T>(pub T);
 /// The variants of a tag, joined by hyphens (RFC 5646 section 2.2.5), such as `rozaj-1994`. The empty text means no
 /// variants.
 ///
-/// A variant may occur twice: such a tag is well formed but not valid (section 2.2.9). Two lists are equal if their
-/// texts differ only in the case of ASCII letters, such as `rozaj` and `ROZAJ`.
+/// A variant may occur twice: a tag with such a list is well formed but not valid (section 2.2.9). Two lists of
+/// variants are equal if their texts differ only in the case of ASCII letters, such as `rozaj` and `ROZAJ`.
 ///
 /// ```
 /// use langtag_place::Variants;
@@ -59,7 +59,7 @@ impl<'a> Variants<'a> {
     ///
     /// # Errors
     ///
-    /// Returns the text if it is not variants with one hyphen between neighbours: `Variants::new("rozaj-")` is
+    /// Returns the text if it is not a list of variants joined by hyphens: `Variants::new("rozaj-")` is
     /// `Err(InvalidVariants("rozaj-"))`.
     pub fn new(text: &'a str) -> Result<Variants<'a>, InvalidVariants<&'a str>>
         ensures accepts { IsTrue (is_ok result) ↔ (IsVariants text.now) }
@@ -72,7 +72,7 @@ impl<'a> Variants<'a> {
         Ok(Variants::from_checked(text))
     }
 
-    /// Returns the variants of a text that is known to be variants, without checking it.
+    /// Wraps a text that is known to be a list of variants, without checking it.
     /// `Variants::from_checked(variants.as_str())` is equal to `variants`.
     pub fn from_checked(text: &'a str) -> Variants<'a>
         requires { IsVariants text.now }
@@ -98,7 +98,7 @@ impl<'a> Variants<'a> {
         self.as_str().as_bytes()
     }
 
-    /// Returns whether another text is equal, ignoring the case of ASCII letters:
+    /// Returns whether another text equals this text, ignoring the case of ASCII letters:
     /// `Variants::new("rozaj")?.eq_str("ROZAJ")` is `true`. It is proved that comparisons and hashes also ignore case,
     /// and that a clone is the same value.
     pub fn eq_str(&self, other: &str) -> bool
@@ -217,7 +217,7 @@ impl VariantsBuf {
     ///
     /// # Errors
     ///
-    /// Returns the same `String` if it is not variants with one hyphen between neighbours, such as `rozaj-`.
+    /// Returns the same `String` if it is not a list of variants joined by hyphens, such as `rozaj-`.
     ///
     /// ```
     /// use langtag_place::VariantsBuf;
@@ -279,7 +279,7 @@ impl fmt::Display for VariantsBuf {
     }
 }
 
-/// Whether a text is variants with one hyphen between neighbours, or nothing.
+/// Returns whether a text is empty or a list of variants joined by hyphens.
 fn all_variants(text: &str) -> bool
     ensures { result ≡ is_variants text.now }
 {

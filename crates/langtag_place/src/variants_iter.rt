@@ -1,4 +1,4 @@
-//! The variants of a tag one by one, from either end.
+//! An iterator over the variants of a tag, from either end.
 ghost use Rattle.std.specs.Prelude.{◌≡◌, ◌<◌, ◌^◌, IsTrue, [], length, ⊤};
 ghost use Rattle.std.specs.Iterator.{YieldsFirstBy, YieldsLastBy, item_count};
 ghost use Rattle.langtag_scan.specs.Subtags.{subtags};
@@ -37,7 +37,7 @@ impl<'a> VariantsIter<'a> {
         Variants::EMPTY.iter()
     }
 
-    /// The walk over the variants of a text that is known to be spelled by a list of them.
+    /// Returns an iterator over the variants of a text that is known to be a list of variants.
     #[tactic(auto, using(crate::proofs::Rules::few_variants))]
     pub(crate) fn new(text: &'a str) -> Self
         requires { IsTrue (is_variants text.now) }

@@ -8,7 +8,7 @@ use Rattle.langtag_scan.specs.Tag.{IsPrivate}
 use Rattle.langtag_scan.proofs.SubtagFacts.{of_one, of_private_subtag, mark_alphanumeric}
 use Rattle.langtag_scan.proofs.SubtagLists.{each_from_test, test_from_each, each_subtag, subtags-joined, join-subtags, length-after_first}
 use Rattle.langtag_private.specs.PrivateUse.{EachPrivateUseSpelling}
-use Rattle.langtag_private.specs.Decided.{are_private, are_private_use, is_mark_alone, is_private_use}
+use Rattle.langtag_private.specs.Decided.{are_private, are_private_use, is_mark_alone, is_private_use_text}
 
 -- one text, one list
 pub subtags-private : (text : List ℕ) (p : PrivateUse) → IsWellFormedPrivateUse p → join (private_use_flat p) ≡ text → subtags text ≡ private_use_flat p
@@ -35,16 +35,16 @@ IsPrivate-from_list ((b ∷ []) ∷ s ∷ ss) text joined h =
     (record { mark = b; subtags = s ∷ ss }, record { mark = k.0; some = omega arith; subtags = each_from_test is_private_subtag (s ∷ ss) k.1 }, joined)
 
 -- from the test to the rule
-pub IsPrivate-from_test : (text : List ℕ) → IsTrue (is_private_use text) → IsPrivate text
+pub IsPrivate-from_test : (text : List ℕ) → IsTrue (is_private_use_text text) → IsPrivate text
 IsPrivate-from_test text h = IsPrivate-from_list (subtags text) text (join-subtags text) h
 
 -- and back
-pub is_private_use-from_rule : (text : List ℕ) → IsPrivate text → IsTrue (is_private_use text)
+pub is_private_use-from_rule : (text : List ℕ) → IsPrivate text → IsTrue (is_private_use_text text)
 unfolding IsPrivate
 is_private_use-from_rule text r = ap are_private_use (subtags-private text r.0 r.1 r.2) ∙ are_private_use-from_rule r.0.mark r.0.subtags r.1
 
 -- both ways, of an answer that is the test
-pub IsPrivate-decided : (text : List ℕ) (answer : Bool) → answer ≡ is_private_use text → IsTrue answer ↔ IsPrivate text
+pub IsPrivate-decided : (text : List ℕ) (answer : Bool) → answer ≡ is_private_use_text text → IsTrue answer ↔ IsPrivate text
 IsPrivate-decided text answer same = (λ h. IsPrivate-from_test text (sym same ∙ h), λ r. same ∙ is_private_use-from_rule text r)
 
 -- the steps from the one to the other
@@ -58,7 +58,7 @@ are_private-after (mark ∷ []) h = absurd cc
 are_private-after (mark ∷ first ∷ others) h = (and_parts (is_mark_alone mark) (are_private (first ∷ others)) h).1
 
 -- they are private use subtags
-pub are_private-from_test : (text : List ℕ) → IsTrue (is_private_use text) → IsTrue (are_private (drop 1 (subtags text)))
+pub are_private-from_test : (text : List ℕ) → IsTrue (is_private_use_text text) → IsTrue (are_private (drop 1 (subtags text)))
 are_private-from_test text h = are_private-after (subtags text) h
 
 -- what stands after the mark

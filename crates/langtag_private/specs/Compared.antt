@@ -1,4 +1,4 @@
--- The types of this crate: their `==`, `cmp` and `hash` are those of their texts, folded.
+-- The types of this crate compare and hash by their texts, ignoring the case of ASCII letters.
 use Rattle.langtag_scan.specs.Compare.{ComparesByCase}
 use Rattle.langtag_private.specs.contracts.private_use_subtag.PrivateUseSubtagHash.TheImpl as subtag_hash
 use Rattle.langtag_private.specs.contracts.private_use_subtag.PrivateUseSubtagOrd.TheImpl as subtag_order

@@ -1,5 +1,5 @@
--- The rule `privateuse` once more, as a test over what stands between the hyphens of a text. Ghost fields and contracts
--- of private functions alone cite this page: what a caller is promised speaks of `IsPrivateUse`.
+-- The rule `privateuse` as a test of the subtags of a text. Only ghost fields and contracts of private functions cite
+-- this page. Public contracts cite `IsPrivateUse` instead.
 use Rattle.std.specs.Prelude.{ℕ, Bool, false, ◌&&◌, List, [], ◌∷◌}
 use Rattle.std.specs.List.{list_all}
 use Rattle.langtag_scan.specs.Class.{is_mark, is_private_subtag}
@@ -18,5 +18,5 @@ are_private_use [] = false
 are_private_use (mark ∷ []) = false
 are_private_use (mark ∷ first ∷ others) = is_mark_alone mark && are_private (first ∷ others)
 
-abbrev pub is_private_use : List ℕ → Bool
-is_private_use text = are_private_use (subtags text)
+abbrev pub is_private_use_text : List ℕ → Bool
+is_private_use_text text = are_private_use (subtags text)

@@ -1,4 +1,4 @@
--- The text of each type: its bytes; and the texts that an iterator has still to yield.
+-- The text of each type, as a list of bytes, and the texts that an iterator will still return.
 use Rattle.std.specs.Prelude.{ℕ, List, String}
 use Rattle.std.specs.String.{string_bytes}
 use Rattle.std.specs.declared.alloc.Global.{Global}
@@ -11,7 +11,7 @@ use Rattle.langtag_private.specs.declared.private_use_iter.PrivateUseIter.{Priva
 abbrev pub private_use_subtag_text : PrivateUseSubtag → List ℕ
 private_use_subtag_text subtag = subtag.text.0.now
 
--- the very `String` that is kept
+-- the `String` itself, which the value owns
 abbrev pub private_use_subtag_buf_string : PrivateUseSubtagBuf → String Global
 private_use_subtag_buf_string subtag = subtag.text.0
 
@@ -21,13 +21,13 @@ private_use_subtag_buf_text subtag = string_bytes (private_use_subtag_buf_string
 abbrev pub private_use_text : PrivateUse → List ℕ
 private_use_text private_use = private_use.text.0.now
 
--- the very `String` that is kept
+-- the `String` itself, which the value owns
 abbrev pub private_use_buf_string : PrivateUseBuf → String Global
 private_use_buf_string private_use = private_use.text.0
 
 abbrev pub private_use_buf_text : PrivateUseBuf → List ℕ
 private_use_buf_text private_use = string_bytes (private_use_buf_string private_use)
 
--- the private use subtags still to come
+-- the private use subtags that the iterator will still return
 abbrev pub private_use_subtags_left : PrivateUseIter → List (List ℕ)
 private_use_subtags_left subtags = subtags.rest

@@ -12,8 +12,8 @@
 //! assert_eq!(rt; first.as_str(), "a");
 //! ```
 //!
-//! A returned subtag has the bytes of its part of the text, and borrows the text. It is proved that the bytes are
-//! those, but not that the address is.
+//! A returned subtag borrows its bytes from the text. It is proved that its bytes equal the bytes in the text, but not
+//! that they are at the same address.
 #![tactic(auto)]
 
 mod private_use;

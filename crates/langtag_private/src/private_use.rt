@@ -29,7 +29,8 @@ pub struct InvalidPrivateUse<T>(pub T);
 /// A private use part (RFC 5646 section 2.2.7): `x` or `X`, and one or more subtags after it, joined by hyphens, such
 /// as `x-twain`. It may be the end of a tag, or a whole tag.
 ///
-/// Two of them are equal if their texts differ only in the case of ASCII letters, such as `x-twain` and `X-TWAIN`.
+/// Two private use parts are equal if their texts differ only in the case of ASCII letters, such as `x-twain` and
+/// `X-TWAIN`.
 ///
 /// ```
 /// use langtag_private::PrivateUse;
@@ -41,7 +42,7 @@ pub struct InvalidPrivateUse<T>(pub T);
 #[derive(Clone, Copy, Debug, PartialEq, Eq, PartialOrd, Ord, Hash)]
 pub struct PrivateUse<'a> {
     text: Caseless<&'a str>,
-    ghost in_class: { IsTrue (test.is_private_use text.0.now) },
+    ghost in_class: { IsTrue (test.is_private_use_text text.0.now) },
 }
 
 #[tactic(auto, using(crate::proofs::Rules::private_rules))]
@@ -65,7 +66,7 @@ impl<'a> PrivateUse<'a> {
         Ok(PrivateUse::from_checked(text))
     }
 
-    /// Returns the private use part of a text that is known to be one, without checking it.
+    /// Wraps a text that is known to be a private use part, without checking it.
     /// `PrivateUse::from_checked(private_use.as_str())` is equal to `private_use`.
     pub fn from_checked(text: &'a str) -> PrivateUse<'a>
         requires { IsPrivateUse text.now }
@@ -91,7 +92,7 @@ impl<'a> PrivateUse<'a> {
         self.as_str().as_bytes()
     }
 
-    /// Returns whether another text is equal, ignoring the case of ASCII letters:
+    /// Returns whether another text equals this text, ignoring the case of ASCII letters:
     /// `PrivateUse::new("x-twain")?.eq_str("X-TWAIN")` is `true`. It is proved that comparisons and hashes also ignore
     /// case, and that a clone is the same value.
     pub fn eq_str(&self, other: &str) -> bool
@@ -138,9 +139,9 @@ impl<'a> PrivateUse<'a> {
     }
 }
 
-/// Whether the text is a mark and private use subtags, at least one, joined by hyphens.
+/// Returns whether the text is `x` or `X` and at least one private use subtag, joined by hyphens.
 fn is_private_use(text: &str) -> bool
-    ensures { result ≡ test.is_private_use text.now }
+    ensures { result ≡ test.is_private_use_text text.now }
 {
     let mut subtags = Subtags::new(text);
     let marked = subtags
@@ -152,7 +153,7 @@ fn is_private_use(text: &str) -> bool
     marked && followed && are_private(subtags)
 }
 
-/// Whether the bytes are the mark alone.
+/// Returns whether the bytes are only `x` or `X`.
 fn is_mark_alone(bytes: &[u8]) -> bool
     ensures { result ≡ test.is_mark_alone bytes.now }
 {
@@ -162,7 +163,7 @@ fn is_mark_alone(bytes: &[u8]) -> bool
     }
 }
 
-/// Whether all subtags that are left are private use subtags.
+/// Returns whether all subtags that are left are private use subtags.
 fn are_private(mut subtags: Subtags<'_>) -> bool
     ensures { result ≡ test.are_private subtags.entry }
 {
@@ -191,7 +192,7 @@ impl fmt::Display for PrivateUse<'_> {
 #[derive(Debug, Drop, PartialEq, Eq, PartialOrd, Ord, Hash)]
 pub struct PrivateUseBuf {
     text: Caseless<String>,
-    ghost in_class: { IsTrue (test.is_private_use (string_bytes text.0)) },
+    ghost in_class: { IsTrue (test.is_private_use_text (string_bytes text.0)) },
 }
 
 #[tactic(auto, using(crate::proofs::Rules::private_rules))]

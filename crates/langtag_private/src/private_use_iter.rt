@@ -1,8 +1,8 @@
-//! The subtags of a private use part one by one.
+//! An iterator over the subtags of a private use part.
 ghost use Rattle.std.specs.Prelude.{◌≡◌, ◌<◌, ◌^◌, IsTrue, [], drop, length, ⊤};
 ghost use Rattle.std.specs.Iterator.{YieldsFirstBy, item_count};
 ghost use Rattle.langtag_scan.specs.Subtags.{subtags};
-ghost use Rattle.langtag_private.specs.Decided.{are_private, is_private_use};
+ghost use Rattle.langtag_private.specs.Decided.{are_private, is_private_use_text};
 
 use crate::private_use_subtag::PrivateUseSubtag;
 use langtag_scan::Subtags;
@@ -37,10 +37,10 @@ impl<'a> PrivateUseIter<'a> {
         }
     }
 
-    /// The subtags of a private use part, without its mark.
+    /// Returns an iterator over the subtags of a private use part, without the `x` or `X` that begins it.
     #[tactic(auto, using(crate::proofs::Rules::after_mark))]
     pub(crate) fn new(text: &'a str) -> Self
-        requires { IsTrue (is_private_use text.now) }
+        requires { IsTrue (is_private_use_text text.now) }
         ensures { private_use_subtags_left result ≡ drop 1 (subtags text.now) }
     {
         PrivateUseIter {
@@ -49,7 +49,7 @@ impl<'a> PrivateUseIter<'a> {
     }
 }
 
-/// The subtags of a text but for the first, which is the mark.
+/// Returns the subtags of a text except the first, which is `x` or `X`.
 fn after_mark<'a>(text: &'a str) -> Subtags<'a>
     ensures { result ≡ drop 1 (subtags text.now) }
 {

@@ -28,7 +28,8 @@ pub struct InvalidPrivateUseSubtag<T>(pub T);
 
 /// A private use subtag (RFC 5646 section 2.2.7): one to eight letters and digits, such as `twain` in `en-x-twain`.
 ///
-/// Two of them are equal if their texts differ only in the case of ASCII letters, such as `twain` and `TWAIN`.
+/// Two private use subtags are equal if their texts differ only in the case of ASCII letters, such as `twain` and
+/// `TWAIN`.
 ///
 /// ```
 /// use langtag_private::PrivateUseSubtag;
@@ -67,7 +68,7 @@ impl<'a> PrivateUseSubtag<'a> {
         Ok(PrivateUseSubtag::from_checked(text))
     }
 
-    /// Returns the subtag of a text that is known to be one, without checking it.
+    /// Wraps a text that is known to be a private use subtag, without checking it.
     /// `PrivateUseSubtag::from_checked(subtag.as_str())` is equal to `subtag`.
     pub fn from_checked(text: &'a str) -> PrivateUseSubtag<'a>
         requires { IsTrue (class.is_private_subtag text.now) }
@@ -93,7 +94,7 @@ impl<'a> PrivateUseSubtag<'a> {
         self.as_str().as_bytes()
     }
 
-    /// Returns whether another text is equal, ignoring the case of ASCII letters:
+    /// Returns whether another text equals this text, ignoring the case of ASCII letters:
     /// `PrivateUseSubtag::new("twain")?.eq_str("TWAIN")` is `true`. It is proved that comparisons and hashes also
     /// ignore case, and that a clone is the same value.
     pub fn eq_str(&self, other: &str) -> bool

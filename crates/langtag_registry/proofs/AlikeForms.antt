@@ -6,10 +6,9 @@ use Rattle.langtag_scan.specs.AlikeRecords.{fold_extension, fold_private_use, fo
 use Rattle.langtag_scan.specs.Case.{fold_byte, fold_text, Alike}
 use Rattle.langtag_scan.specs.Record.{Extension, PrivateUse, Record, spell}
 use Rattle.langtag_scan.specs.Tag.{IsNormal}
-use Rattle.langtag_scan.proofs.CaseLaw.{alike_normal, alike_parts}
+use Rattle.langtag_scan.proofs.CaseLaw.{alike_normal, alike_parts, fold_byte-twice, fold_text-twice, map-twice, spelled_alike}
 use Rattle.langtag.specs.Registered.{IsGrandfathered, IsGrandfatheredAt}
 use Rattle.langtag.specs.Repeat.{are_alike_bytes}
-use Rattle.langtag_tables.proofs.AlikeTexts.{fold_byte-twice, map-twice, fold_text-twice, spelled_alike}
 use Rattle.langtag_registry.specs.Canonical.{singletons, in_order, preferred_extlang, canonical_primary, canonical_extended, canonical_region, canonical_variants, canonical_record, IsCanonicalForm}
 use Rattle.langtag_registry.specs.Fields.{preferred_language, preferred_region, preferred_variant, preferred_tag}
 use Rattle.langtag_registry.specs.Registered.{is_registered_extlang}

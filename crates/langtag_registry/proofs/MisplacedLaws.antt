@@ -1,12 +1,11 @@
--- The walk over the variants of a tag: what stands before each is a tag, too.
-use Rattle.std.proofs.Common.{◌≡◌, ℕ, ◌+◌, ◌-◌, ◌≤◌, true, false, cond, IsTrue, List, [], ◌∷◌, ◌++◌, length, take, None, Some, inl, refl, ap, sym, ◌∙◌, append_assoc, arith}
-use Rattle.std.specs.List.{AllByRecursion, flat_map, slice_range}
+-- The walk over the variants of a tag, and what stands before each.
+use Rattle.std.proofs.Common.{◌≡◌, ℕ, ◌+◌, ◌-◌, ◌≤◌, true, false, cond, List, [], ◌∷◌, ◌++◌, length, take, None, Some, ap, sym, ◌∙◌, append_assoc, arith}
+use Rattle.std.specs.List.{flat_map, slice_range}
 use Rattle.std.proofs.lemmas.List.{append-nil}
-use Rattle.langtag_scan.specs.Class.{is_variant}
 use Rattle.langtag_scan.specs.Ends.{ends_of}
-use Rattle.langtag_scan.specs.Record.{Record, IsWellFormed, Spells, spell, one_flat, extension_flat, private_part_flat}
+use Rattle.langtag_scan.specs.Record.{Record, Spells, spell, one_flat, extension_flat, private_part_flat}
 use Rattle.langtag_scan.specs.Subtags.{join}
-use Rattle.langtag_scan.specs.Tag.{IsTag, IsNormal}
+use Rattle.langtag_scan.specs.Tag.{IsNormal}
 use Rattle.langtag_scan.proofs.Joins.{take-join, length-join-append}
 use Rattle.langtag_registry.specs.Prefix.{fits_after, up_to, misplaced, misplaced_after}
 
@@ -40,33 +39,6 @@ module _ (r : Record) (before left : List (List ℕ)) (cut : r.variants ≡ befo
       let whole = ap length (spell-cut r before left cut) in
       omega (arith, long, short, whole)
 
-  first_variants : AllByRecursion (λ s. IsTrue (is_variant s)) (before ++ left) → AllByRecursion (λ s. IsTrue (is_variant s)) before
-  first_variants = first_of before
-    where
-      first_of : (vs : List (List ℕ)) → AllByRecursion (λ s. IsTrue (is_variant s)) (vs ++ left) → AllByRecursion (λ s. IsTrue (is_variant s)) vs
-      first_of [] all = tt
-      first_of (v ∷ vs) all = (all.0, first_of vs all.1)
-
-  pub up_to-tag : IsWellFormed r → IsTag (spell (up_to r before))
-  unfolding IsTag IsNormal
-  up_to-tag well = inl (
-    up_to r before,
-    (
-      record {
-        primary = well.primary;
-        extended = well.extended;
-        few = well.few;
-        short = well.short;
-        script = well.script;
-        region = well.region;
-        variants = first_variants (rw cut at well.variants);
-        extensions = tt;
-        private_use = tt;
-      },
-      refl,
-    ),
-  )
-
 pub region_end : (r : Record) → (ends_of r).region ≡ length (spell (up_to r []))
 region_end r = ap (λ ss. length (join (r.primary ∷ (r.extended ++ (one_flat r.script ++ ss))))) (sym (append-nil (one_flat r.region)))
     ∙ sym (ap length (spell-up_to r []))
@@ -99,9 +71,6 @@ module _ (r : Record) (end : ℕ) (left : List (List ℕ)) (walked : IsWalked r 
 
   pub end_within : end ≤ length (spell r)
   end_within = let at = walked.end_at in let within = up_to-within r walked.before left walked.cut in omega (arith, at, within)
-
-  pub tag_here : IsWellFormed r → IsTag (take end (spell r))
-  tag_here well = rw text_here (up_to-tag r walked.before left walked.cut well)
 
   pub walk_ended : left ≡ [] → None ≡ misplaced r
   walk_ended none = sym (walked.so_far ∙ ap (misplaced_after r walked.before) none)

@@ -1,9 +1,8 @@
--- The table of the variants' prefixes has what the list says, and each prefix is a language range: by computation. Written by registry/generate.py. Do not edit.
+-- The table of the variants' prefixes has what the list says: by computation. Written by registry/generate.py. Do not edit.
 use Rattle.std.proofs.Common.{◌≡◌, true, map, refl}
 use Rattle.std.specs.List.{list_all}
 use Rattle.langtag_scan.specs.Case.{fold_byte, folded_number}
-use Rattle.langtag_scan.specs.Class.{is_letter, is_digit, are_alphanumeric, is_private_subtag}
-use Rattle.langtag_match.specs.Range.{is_language_range}
+use Rattle.langtag_scan.specs.Class.{is_letter, is_digit, are_alphanumeric}
 use Rattle.langtag_registry.specs.declared.tables.TheConstants.{VARIANT_PREFIXES}
 use Rattle.langtag_registry.specs.Subtags.{variant_prefixes}
 
@@ -18,7 +17,3 @@ prefix_texts = refl
 pub prefixed_alphanumeric : list_all (λ e. are_alphanumeric e.subtag) variant_prefixes ≡ true
 unfolding variant_prefixes is_letter is_digit
 prefixed_alphanumeric = refl
-
-pub prefixes_are_ranges : list_all (λ e. is_language_range e.value) variant_prefixes ≡ true
-unfolding variant_prefixes is_private_subtag is_letter is_digit
-prefixes_are_ranges = refl

@@ -11,27 +11,28 @@ use Rattle.langtag_registry.specs.Fields.{preferred_language, preferred_region, 
 use Rattle.langtag_registry.specs.Registered.{is_registered_extlang}
 use Rattle.langtag_registry.specs.Subtags.{extlang_subtags}
 
--- ---- step 1: the extensions in the order of their singletons, whatever their case; those of one singleton keep theirs
+-- ---- step 1: the extensions are sorted by their singletons, ignoring case; extensions with the same singleton keep
+-- their order
 
--- each singleton (section 2.2.6) once
+-- all singletons (section 2.2.6), in order
 abbrev pub singletons : List ℕ
 singletons = codes "0123456789abcdefghijklmnopqrstuvwyz"
 
 unfoldable pub in_order : List Extension → List Extension
 in_order extensions = flat_map (λ singleton. filter (λ e. are_alike_bytes singleton e.singleton) extensions) singletons
 
--- ---- step 3: each subtag becomes its Preferred-Value
+-- ---- step 3: each subtag is replaced by its Preferred-Value
 
--- a language becomes its Preferred-Value (section 3.1.7), or stays
+-- the Preferred-Value of a language (section 3.1.7), or the language itself if it has none
 abbrev pub canonical_language : List ℕ → List ℕ
 canonical_language text = unwrap_or (preferred_language text) text
 
--- an extended subtag has itself as its Preferred-Value, in the registry's case
+-- the Preferred-Value of an extended subtag, which is the same text in the registry's case
 unfoldable pub preferred_extlang : List ℕ → Option (List ℕ)
 preferred_extlang text = find (are_alike text) extlang_subtags
 
--- one extended subtag becomes the language, in place of that before it, and may be replaced as a language in turn; two stay,
--- as no valid tag has them
+-- the primary subtag of the canonical form: one extended subtag replaces the language before it, and may then itself be
+-- replaced as a language. Two or more extended subtags, which no valid tag has, change nothing
 abbrev pub canonical_primary : List ℕ → List (List ℕ) → List ℕ
 canonical_primary primary [] = canonical_language primary
 canonical_primary primary (extlang ∷ []) = canonical_language (unwrap_or (preferred_extlang extlang) primary)
@@ -48,7 +49,7 @@ canonical_region region = option_map (λ g. unwrap_or (preferred_region g) g) re
 abbrev pub canonical_variants : List (List ℕ) → List (List ℕ)
 canonical_variants variants = map (λ v. unwrap_or (preferred_variant v) v) variants
 
--- steps 1 and 3 of a record
+-- the record after steps 1 and 3
 unfoldable pub canonical_record : Record → Record
 canonical_record r = record r {
   primary = canonical_primary r.primary r.extended;
@@ -58,27 +59,28 @@ canonical_record r = record r {
   extensions = in_order r.extensions;
 }
 
--- ---- the whole
+-- ---- the canonical form
 
--- step 2 once more: `sgn-DD` becomes `sgn-DE` by step 3, and that is `gsg`
+-- the text of the record after steps 1 and 3, and then after step 2 once more: step 3 turns `sgn-DD` into `sgn-DE`, and
+-- step 2 turns `sgn-DE` into `gsg`
 abbrev pub canonical_text : Record → List ℕ
 canonical_text r = unwrap_or (preferred_tag (spell (canonical_record r))) (spell (canonical_record r))
 
--- The form of RFC 5646, and not that of CLDR, which replaces more. Step 2 is taken twice: of the tag as it is given, and, in
--- `canonical_text`, of what steps 1 and 3 make of it.
--- a whole tag becomes its Preferred-Value; another grandfathered tag stays, as does one that is not normal; any other
--- becomes the canonical text of its record
+-- `new` is the canonical form of `old` by RFC 5646; CLDR replaces more. A tag that has a Preferred-Value as a whole
+-- becomes this value. Any other grandfathered tag stays, and so does a tag that is not normal. Any other tag becomes
+-- the canonical text of its record
 pub record IsCanonicalForm (old new : List ℕ) : Type 0 where
   pub whole : (w : List ℕ) → preferred_tag old ≡ Some w → new ≡ w
   pub kept : preferred_tag old ≡ None → IsGrandfathered old ⊎ (IsNormal old → ⊥) → new ≡ old
   pub parts : preferred_tag old ≡ None → (IsGrandfathered old → ⊥) → EachRecord old (λ r. new ≡ canonical_text r)
 
--- the form of a text of so many bytes has no more than this
+-- the greatest length of the canonical form of a text of this length
 abbrev pub canonical_bound : ℕ → ℕ
 canonical_bound len = 2 * len + 14
 
--- ---- the extlang form: the canonical form, and before a language that is registered as an extended one, too, its Prefix
--- (section 3.1.8); after three extended subtags, which no valid tag has, there is no room for one more
+-- ---- the extlang form: the canonical form, in which a language that is also registered as an extended language gets
+-- its Prefix before it (section 3.1.8). A tag with three extended subtags, which is never valid, has no room for a
+-- fourth
 
 abbrev pub is_full : List (List ℕ) → Bool
 is_full extended = length extended == 3
@@ -92,7 +94,7 @@ extlang_extended primary extended = if is_full extended then extended else optio
 abbrev pub extlang_record : Record → Record
 extlang_record r = record r { primary = extlang_primary r.primary r.extended; extended = extlang_extended r.primary r.extended }
 
--- a canonical form that is not normal stays
+-- `new` is the extlang form of `old`; if the canonical form is not a normal tag, the extlang form is the same text
 pub record IsExtlangForm (old new : List ℕ) : Type 0 where
   pub form : List ℕ
   pub canonical : IsCanonicalForm old form

@@ -1,4 +1,5 @@
--- Faults have `==`, a hash that agrees with it, and no order: they are equal where they are of one kind and their subtags are alike (RFC 5646 section 2.1.1).
+-- Faults have `==` and a hash that agrees with it, but no order. Two faults are equal if they have the same kind and
+-- their subtags are equal, ignoring case except in singletons (RFC 5646 section 2.1.1).
 use Rattle.std.specs.Prelude.{◌≡◌, ◌==◌, Bool, false}
 use Rattle.langtag_scan.specs.Case.{are_alike}
 use Rattle.langtag_language.specs.Text.{primary_language_text, extended_lang_tag_text}
@@ -8,7 +9,8 @@ use Rattle.langtag_registry.specs.contracts.invalid_subtag.InvalidSubtagPartialE
 use Rattle.langtag_registry.specs.declared.invalid_subtag.InvalidSubtag.{InvalidSubtag}
 use Rattle.langtag_registry.specs.declared.invalid_subtag.InvalidSubtag.TheVariants.{Language, Extlang, SecondExtlang, Script, Region, Variant, RepeatedVariant, RepeatedSingleton}
 
--- subtags are alike; a singleton is its exact byte
+-- whether two faults are equal: their kinds are the same, and their subtags are equal, ignoring case, or their
+-- singletons are the same byte
 abbrev pub are_equal_faults : InvalidSubtag → InvalidSubtag → Bool
 are_equal_faults (Language a) (Language b) = are_alike (primary_language_text a) (primary_language_text b)
 are_equal_faults (Extlang a) (Extlang b) = are_alike (extended_lang_tag_text a) (extended_lang_tag_text b)

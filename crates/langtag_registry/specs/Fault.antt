@@ -1,4 +1,4 @@
--- What is wrong with a tag, and with which of its subtags (RFC 5646 sections 2.2.2 and 2.2.9).
+-- The faults that make a tag invalid, and the subtags at fault (RFC 5646 sections 2.2.2 and 2.2.9).
 use Rattle.std.specs.Prelude.{ℕ, Bool, not, List, [], ◌∷◌, ◌++◌, map, Option, None, Some, if◌then◌else◌}
 use Rattle.std.specs.List.{list_any, position}
 use Rattle.langtag_scan.specs.Case.{are_alike}
@@ -11,12 +11,12 @@ use Rattle.langtag_registry.specs.declared.invalid_subtag.InvalidSubtag.{Invalid
 use Rattle.langtag_registry.specs.declared.invalid_subtag.InvalidSubtag.TheVariants.{Language, Extlang, SecondExtlang, Script, Region, Variant, RepeatedVariant, RepeatedSingleton}
 use Rattle.langtag_registry.specs.Registered.{is_registered_language, is_registered_extlang, is_registered_script, is_registered_region, is_registered_variant}
 
--- a subtag, and what is wrong with it: it is not registered, is a second or third extended one, or equals an earlier one,
--- ignoring case
+-- a fault: a subtag that is not registered, is a second or third extended language, or repeats an earlier variant or
+-- singleton, ignoring case
 pub data Told : Type 0 where
   language extlang second_extlang script region variant repeated_variant repeated_singleton : List ℕ → Told
 
--- what a fault tells
+-- the fault for a value of the error type
 abbrev pub told : InvalidSubtag → Told
 told (Language subtag) = language (primary_language_text subtag)
 told (Extlang subtag) = extlang (extended_lang_tag_text subtag)
@@ -27,7 +27,7 @@ told (Variant subtag) = variant (variant_text subtag)
 told (RepeatedVariant subtag) = repeated_variant (variant_text subtag)
 told (RepeatedSingleton subtag) = repeated_singleton (singleton_byte subtag ∷ [])
 
--- ---- all that is wrong with the members of a record, in the order in which they stand
+-- ---- all faults of a record, in the order of the text
 
 abbrev pub unless : Bool → Told → List Told
 unless holds fault = if holds then [] else fault ∷ []
@@ -47,20 +47,20 @@ abbrev pub region_faults : Option (List ℕ) → List Told
 region_faults None = []
 region_faults (Some subtag) = unless (is_registered_region subtag) (region subtag)
 
--- of variants after those that were seen
+-- the faults of variants; the variants in `seen` come before them
 abbrev pub variant_faults : List (List ℕ) → List (List ℕ) → List Told
 variant_faults seen [] = []
 variant_faults seen (subtag ∷ rest) =
     unless (is_registered_variant subtag) (variant subtag)
     ++ (unless (not (list_any (are_alike subtag) seen)) (repeated_variant subtag) ++ variant_faults (seen ++ subtag ∷ []) rest)
 
--- of singletons after those that were seen
+-- the faults of singletons; the singletons in `seen` come before them
 abbrev pub singleton_faults : List ℕ → List ℕ → List Told
 singleton_faults seen [] = []
 singleton_faults seen (singleton ∷ rest) =
     unless (not (list_any (are_alike_bytes singleton) seen)) (repeated_singleton (singleton ∷ [])) ++ singleton_faults (seen ++ singleton ∷ []) rest
 
--- all that is wrong with a record, by place in the tag
+-- all faults of a record, in the order of the text
 unfoldable pub faults : Record → List Told
 faults r =
     language_faults r.primary r.extended
@@ -68,8 +68,8 @@ faults r =
     ++ (region_faults r.region
     ++ (variant_faults [] r.variants ++ singleton_faults [] (map (λ e. e.singleton) r.extensions))))
 
--- which of the variants the first fault is, counted from 0, or which of the extensions has it as its singleton; 0 of a
--- subtag of another kind
+-- the index of the subtag at fault: counted from 0 among the variants for a variant, and among the extensions for a
+-- singleton; it is 0 for any other subtag
 abbrev pub fault_index : Record → Told → Option ℕ
 fault_index r (variant subtag) = position (λ v. not (is_registered_variant v)) r.variants
 fault_index r (repeated_variant subtag) = repeat_index are_alike r.variants

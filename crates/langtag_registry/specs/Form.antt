@@ -1,4 +1,4 @@
--- What the canonical form of a tag is. Contracts of private functions alone speak of this page.
+-- How the canonical form of a tag is made. Only contracts of private functions cite this page.
 use Rattle.std.specs.Prelude.{ℕ, List}
 use Rattle.langtag_scan.specs.Record.{Record, Spells}
 use Rattle.langtag.specs.Text.{lang_tag_text, normal_lang_tag_text}
@@ -6,8 +6,9 @@ use Rattle.langtag_registry.specs.Canonical.{IsCanonicalForm, canonical_text}
 use Rattle.langtag_registry.specs.declared.form.Form.{Form}
 use Rattle.langtag_registry.specs.declared.form.Form.TheVariants.{Same, Whole, Parts}
 
--- the canonical form of the text is the text, a tag, or the canonical text of the record of a normal tag
-abbrev pub IsForm : List ℕ → Form → Type 0
-IsForm text Same = IsCanonicalForm text text
-IsForm text (Whole tag) = IsCanonicalForm text (lang_tag_text tag)
-IsForm text (Parts tag) = (r : Record) × (Spells r (normal_lang_tag_text tag) × IsCanonicalForm text (canonical_text r))
+-- the value says what the canonical form of the text is: the text itself, another tag, or the canonical text of the
+-- record of a normal tag
+abbrev pub IsCanonicalAs : List ℕ → Form → Type 0
+IsCanonicalAs text Same = IsCanonicalForm text text
+IsCanonicalAs text (Whole tag) = IsCanonicalForm text (lang_tag_text tag)
+IsCanonicalAs text (Parts tag) = (r : Record) × (Spells r (normal_lang_tag_text tag) × IsCanonicalForm text (canonical_text r))

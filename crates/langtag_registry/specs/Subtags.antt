@@ -53,19 +53,19 @@ region_subtags = words (codes "AA AC AD AE AF AG AI AL AM AN AO AQ AR AS AT AU A
 unfoldable pub variant_subtags : List (List ℕ)
 variant_subtags = words (codes "1901 1994 1996 aluku barla bciav biske blasl boont cornu fodom gallo gherd hanoi huett jauer kkcor kscor lipaw nedis njiva nulik osojs peano puter rigik rozaj rumgr solba sotav tailo uccor anpezo ao1990 aranes asante auvern bcizbl cisaup creiss dajnko ekavsk fascia fonipa fonupa gascon grital heploc ndyuka nicard pamaka pinyin saigon scouse simple tarask ucrcor ulster unifon abl1943 akuapem alalc97 arevela arevmda arkaika balanka bauddha bohoric emodeng fonnapa grclass grmistr hepburn itihasa laukika lemosin ltg1929 ltg2007 lycopol mdcegyp mesokem metelko monoton pahawh2 pahawh3 pahawh4 pehoeji polyton provenc sahidic sursilv sutsilv vaidika 1606nict 1694acad 1959acad akhmimic baku1926 basiceng biscayan bohairic bornholm colb1945 fayyumic fonkirsh fonxsamp hognorsk hsistemo ijekavsk ivanchov jyutping kleinsch kociewie leidentr lengadoc luna1918 mdctrans newfound oxendict petr1708 scotland spanglis surmiran synnejyl tongyong tunumiit valbadia valencia vallader vecdruka viennese vivaraup wadegile xsistemo")
 
--- those of the records of Type language with a Deprecated field
+-- the Subtag fields of the records of Type language with a Deprecated field
 unfoldable pub deprecated_languages : List (List ℕ)
 deprecated_languages = words (codes "in iw ji jw mo aam adp agp ais ajp ajt aoh asd aue ayx ayy baz bbz bgm bhk bic bij bjd bjq bkb blg bmy bpb btb btl bxx byy cbe cbh cca ccq cdg cjr cka cmk coy cqu cug cum daf dap dek dgu dha dit djl dkl drh drr drw dud duj dwl ekc elp emo gav gbc gfx ggn ggo ggr gio gji gli gti guv hrr iap ibi ill ilw ime izi jar jeg kbf kdv kgc kgd kgh kgm kjf koj kox kpp krm ksa ktr kvs kwq kxe kxl kxu kzh kzj kzt lak lba leg lii llo lmm lmz lno lsg meg mgx mhh mja mld mnt mof mst mvm mwd mwj mwx mwy myd myi myq myt nad nbf nbx ncp ngo nln nlr nns nnx nom noo nte nts nxu ome oun pat pbz pcr pgy pii plj plp pmc pmk pmu pod ppa ppr prb prp pry puk puz rie rmr rna rsi sap sca sdm sgl sgo skk slq smd snb snh sul sum svr szd tbb tdu tgg thc thw thx tid tie tkk tlw tmk tmp tne tnf toe tpw tsf unp uok uun vki wgw wit wiw wra wrd wya xba xbx xia xip xkh xrq xss xtz ybd yds yen yiy yma ymt ynh yos yri yuu zir zkb zua")
 
--- those of the records of Type extlang with a Deprecated field
+-- the Subtag fields of the records of Type extlang with a Deprecated field
 unfoldable pub deprecated_extlangs : List (List ℕ)
 deprecated_extlangs = words (codes "ajp bbz lsg rsi yds")
 
--- those of the records of Type region with a Deprecated field
+-- the Subtag fields of the records of Type region with a Deprecated field
 unfoldable pub deprecated_regions : List (List ℕ)
 deprecated_regions = words (codes "AN BU CS DD FX NT SU TP YD YU ZR")
 
--- those of the records of Type variant with a Deprecated field
+-- the Subtag fields of the records of Type variant with a Deprecated field
 unfoldable pub deprecated_variants : List (List ℕ)
 deprecated_variants = words (codes "heploc arevela arevmda laukika vaidika")
 
@@ -73,34 +73,34 @@ deprecated_variants = words (codes "heploc arevela arevmda laukika vaidika")
 unfoldable pub deprecated_tags : List (List ℕ)
 deprecated_tags = words (codes "i-ami i-bnn i-hak i-lux i-pwn i-tao i-tay i-tsu no-bok no-nyn zh-min i-navajo zh-guoyu zh-hakka zh-xiang en-GB-oed i-klingon sgn-BE-FR sgn-BE-NL sgn-CH-DE art-lojban i-enochian zh-min-nan cel-gaulish sgn-BR sgn-CO sgn-DE sgn-DK sgn-ES sgn-FR sgn-GB sgn-GR sgn-IE sgn-IT sgn-JP sgn-MX sgn-NI sgn-NL sgn-NO sgn-PT sgn-SE sgn-US sgn-ZA zh-cmn zh-gan zh-wuu zh-yue zh-cmn-Hans zh-cmn-Hant")
 
--- the records of Type language with a Preferred-Value field: each Subtag before that value
+-- the records of Type language with a Preferred-Value field: each Subtag, and then the value of that field
 unfoldable pub language_preferred : List Entry
 language_preferred = entries (words (codes "in id iw he ji yi jw jv mo ro aam aas adp dz ajp apc ajt aeb asd snz aue ktz ayx nun bgm bcg bic bir bjd drl blg iba ccq rki cjr mom cka cmr cmk xch coy pij cqu quh dek sqm dit dif drh khk drr kzk drw prs gav dev gfx vaj ggn gvr gli kzk gti nyc guv duz hrr jal ibi opa ilw gal jeg oyb kgc tdf kgh kml kgm plu koj kwv krm bmf ktr dtp kvs gdj kwq yam kxe tvd kxl kru kzj dtp kzt dtp lak ksp lii raq llo ngt lmm rmx meg cir mst mry mwj vaj myd aog myt mry nad xny ncp kdz nns nbr nnx ngv nom cbr nte eko nts pij nxu bpp oun vaj pat kxr pcr adx pmc huw pmk crr pmu phr ppa bfy ppr lcq prp gu pry prt puz pub sca hle skk oyb smd kmb snb iba szd umi tdu dtp thc tpo thw ola thx oyb tie ras tkk twm tlw weo tmk tdg tmp tyj tne kak tnf prs tpw tpn tsf taj uok ema xba cax xia acn xkh waw xrq dmw xss zko ybd rki yma lrr ymt mtm yos zom yuu yug zir scv zkb kjh"))
 
--- the records of Type language with a Suppress-Script field: each Subtag before that value
+-- the records of Type language with a Suppress-Script field: each Subtag, and then the value of that field
 unfoldable pub language_suppress_script : List Entry
 language_suppress_script = entries (words (codes "ab Cyrl af Latn am Ethi ar Arab as Beng ay Latn be Cyrl bg Cyrl bn Beng bs Latn ca Latn ch Latn cs Latn cy Latn da Latn de Latn dv Thaa dz Tibt el Grek en Latn eo Latn es Latn et Latn eu Latn fa Arab fi Latn fj Latn fo Latn fr Latn fy Latn ga Latn gl Latn gn Latn gu Gujr gv Latn he Hebr hi Deva hr Latn ht Latn hu Latn hy Armn id Latn in Latn is Latn it Latn iw Hebr ja Jpan ka Geor kk Cyrl kl Latn km Khmr kn Knda ko Kore la Latn lb Latn ln Latn lo Laoo lt Latn lv Latn mg Latn mh Latn mk Cyrl ml Mlym mo Latn mr Deva ms Latn mt Latn my Mymr na Latn nb Latn nd Latn ne Deva nl Latn nn Latn no Latn nr Latn ny Latn om Latn or Orya pa Guru pl Latn ps Arab pt Latn qu Latn rm Latn rn Latn ro Latn ru Cyrl rw Latn sg Latn si Sinh sk Latn sl Latn sm Latn so Latn sq Latn ss Latn st Latn sv Latn sw Latn ta Taml te Telu th Thai ti Ethi tl Latn tn Latn to Latn tr Latn ts Latn uk Cyrl ur Arab ve Latn vi Latn xh Latn yi Hebr zu Latn dsb Latn frr Latn frs Latn gsw Latn hsb Latn kok Deva mai Deva men Latn nds Latn niu Latn nqo Nkoo nso Latn tem Latn tkl Latn tmh Latn tpi Latn tvl Latn zbl Blis"))
 
--- the records of Type language with a Macrolanguage field: each Subtag before that value
+-- the records of Type language with a Macrolanguage field: each Subtag, and then the value of that field
 unfoldable pub language_macrolanguage : List Entry
 language_macrolanguage = entries (words (codes "bs sh hr sh id ms in ms nb no nn no sr sh tw ak aae sq aao ar aat sq abh ar abv ar acm ar acq ar acw ar acx ar acy ar adf ar aeb ar aec ar afb ar aii syr ajp ar ajt jrb aju jrb aln sq als sq apc ar apd ar arb ar arq ar ars ar ary ar arz ar auz ar avl ar ayc ay ayh ar ayl ar ayn ar ayp ar ayr ay azb az azj az bbz ar bcc bal bcl bik bdt gba bgn bal bgp bal bgq raj bhk bik bhr mg bjn ms bjq mg bln bik bmm mg btj ms bto bik bve ms bvu ms bxk luy bxm bua bxr bua bxu bua bzc mg cdo zh ciw oj cjy zh ckb ku cld syr cls sa cmn zh cnp zh cnr sh coa ms cpx zh cqd hmn cqu qu crj cr crk cr crl cr crm cr csp zh csw cr cts bik cwd cr czh zh czo zh dgo doi dhd mwr dib din dik din dip din diq zza diw din dks din dty ne dup ms ebk bnc ekk et emk man enb kln esg gon esi ik esk ik eyo kln fat ak fbl bik ffm ff fub ff fuc ff fue ff fuf ff fuh ff fui ff fuq ff fuv ff gan zh gax om gaz om gbo grb gbp gba gbq gba gda raj gec grb gju raj gkp kpe gmm gba gno gon gnw gn gom kok grj grb grv grb gry grb gso gba gug gn gui gn gun gn gya gba hae om hak zh hax hai hdn hai hea hmn hji ms hma hmn hmc hmn hmd hmn hme hmn hmg hmn hmh hmn hmi hmn hmj hmn hml hmn hmm hmn hmp hmn hmq hmn hms hmn hmw hmn hmy hmn hmz hmn hnd lah hnj hmn hnm zh hno lah hoj raj hrm hmn hsn zh huj hmn ida luy ike iu ikt iu jak ms jat lah jax ms jye jrb kby kr khk mn kiu zza kmr ku knc kr kng kg knn kok koi kv kpv kv krt kr kvb ms kvr ms kwy kg kxd ms lbk bnc lbl bik lce ms lcf ms ldi kg liw ms lkb luy lko luy lks luy lri luy lrm luy lsm luy ltg lv lto luy lts luy luh zh lvs lv lwg luy lzh zh max ms meo ms mfa ms mfb ms mhr chm min ms mku man mlq man mmr hmn mnk man mnp zh mqg ms mrj chm msc man msh mg msi ms mtr mwr mui ms mup raj muq hmn mve mwr mvf mn mwk man mww hmn myq man nan zh nhd gn niq kln nle luy npi ne nyd luy obk bnc ojb oj ojc oj ojg oj ojs oj ojw oj oki kln orc om orn ms ors ms ory or otw oj pbt ps pbu ps pel ms pes fa pga ar phr lah pko kln plt mg pmu lah pnb lah prs fa pse ms pst ps qub qu qud qu quf qu qug qu quh qu quk qu qul qu qup qu qur qu qus qu quw qu qux qu quy qu quz qu qva qu qvc qu qve qu qvh qu qvi qu qvj qu qvl qu qvm qu qvn qu qvo qu qvp qu qvs qu qvw qu qvz qu qwa qu qwc qu qwh qu qws qu qxa qu qxc qu qxh qu qxl qu qxn qu qxo qu qxp qu qxr qu qxt qu qxu qu qxw qu rag luy rbk bnc rbl bik rmc rom rmf rom rml rom rmn rom rmo rom rmw rom rmy rom rwr mwr scs den sdc sc sdh ku sdn sc sfm hmn sgc kln shu ar sjc zh skg mg skr lah spv or spy kln src sc sro sc ssh ar swc sw swh sw swv mwr taq tmh tdx mg tec kln thv tmh thz tmh tkg mg tmw ms ttq tmh tuy kln txy mg ubl bik umu del unm del urk ms uzn uz uzs uz vbk bnc vkk ms vkt ms vro et vsn sa wbr raj wry mwr wsg gon wuu zh xhe lah xmm ms xmv mg xmw mg xnr doi xpe kpe xsl den ydd yi yhd jrb yih yi yud jrb yue zh zaa zap zab zap zac zap zad zap zae zap zaf zap zai zap zam zap zao zap zaq zap zar zap zas zap zat zap zav zap zaw zap zax zap zca zap zcd zap zch za zeh za zgb za zgm za zgn za zhd za zhn za zlj za zlm ms zln za zlq za zmi ms zoo zap zpa zap zpb zap zpc zap zpd zap zpe zap zpf zap zpg zap zph zap zpi zap zpj zap zpk zap zpl zap zpm zap zpn zap zpo zap zpp zap zpq zap zpr zap zps zap zpt zap zpu zap zpv zap zpw zap zpx zap zpy zap zpz zap zqe za zsm ms zsr zap zte zap ztg zap ztl zap ztm zap ztn zap ztp zap ztq zap zts zap ztt zap ztu zap ztx zap zty zap zyb za zyg za zyj za zyn za zzj za"))
 
--- the records of Type extlang with a Prefix field: each Subtag before that value
+-- the records of Type extlang with a Prefix field: each Subtag, and then the value of that field
 unfoldable pub extlang_prefixes : List Entry
 extlang_prefixes = entries (words (codes "aao ar abh ar abv ar acm ar acq ar acw ar acx ar acy ar adf ar ads sgn aeb ar aec ar aed sgn aen sgn afb ar afg sgn ajp ar ajs sgn apc ar apd ar arb ar arq ar ars ar ary ar arz ar ase sgn asf sgn asp sgn asq sgn asw sgn auz ar avl ar ayh ar ayl ar ayn ar ayp ar bbz ar bfi sgn bfk sgn bjn ms bog sgn bqn sgn bqy sgn btj ms bve ms bvl sgn bvu ms bzs sgn cdo zh cds sgn cjy zh cmn zh cnp zh coa ms cpx zh csc sgn csd sgn cse sgn csf sgn csg sgn csl sgn csn sgn csp zh csq sgn csr sgn csx sgn czh zh czo zh doq sgn dse sgn dsl sgn dsz sgn dup ms ecs sgn ehs sgn esl sgn esn sgn eso sgn eth sgn fcs sgn fse sgn fsl sgn fss sgn gan zh gds sgn gom kok gse sgn gsg sgn gsm sgn gss sgn gus sgn hab sgn haf sgn hak zh hds sgn hji ms hks sgn hnm zh hos sgn hps sgn hsh sgn hsl sgn hsn zh icl sgn iks sgn ils sgn inl sgn ins sgn ise sgn isg sgn isr sgn jak ms jax ms jcs sgn jhs sgn jks sgn jls sgn jos sgn jsl sgn jus sgn kgi sgn knn kok kvb ms kvk sgn kvr ms kxd ms lbs sgn lce ms lcf ms lgs sgn liw ms lls sgn lsb sgn lsc sgn lsg sgn lsl sgn lsn sgn lso sgn lsp sgn lst sgn lsv sgn lsw sgn lsy sgn ltg lv luh zh lvs lv lws sgn lzh zh max ms mdl sgn meo ms mfa ms mfb ms mfs sgn min ms mnp zh mqg ms mre sgn msd sgn msi ms msr sgn mui ms mzc sgn mzg sgn mzy sgn nan zh nbs sgn ncs sgn nsi sgn nsl sgn nsp sgn nsr sgn nzs sgn okl sgn orn ms ors ms pel ms pga ar pgz sgn pks sgn prl sgn prz sgn psc sgn psd sgn pse ms psg sgn psl sgn pso sgn psp sgn psr sgn pys sgn rib sgn rms sgn rnb sgn rsi sgn rsl sgn rsm sgn rsn sgn sdl sgn sfb sgn sfs sgn sgg sgn sgx sgn shu ar sjc zh slf sgn sls sgn sqk sgn sqs sgn sqx sgn ssh ar ssp sgn ssr sgn svk sgn swc sw swh sw swl sgn syy sgn szs sgn tmw ms tse sgn tsm sgn tsq sgn tss sgn tsy sgn tza sgn ugn sgn ugy sgn ukl sgn uks sgn urk ms uzn uz uzs uz vgt sgn vkk ms vkt ms vsi sgn vsl sgn vsv sgn wbs sgn wuu zh xki sgn xml sgn xmm ms xms sgn yds sgn ygs sgn yhs sgn ysl sgn ysm sgn yue zh zib sgn zlm ms zmi ms zsl sgn zsm ms"))
 
--- the records of Type region with a Preferred-Value field: each Subtag before that value
+-- the records of Type region with a Preferred-Value field: each Subtag, and then the value of that field
 unfoldable pub region_preferred : List Entry
 region_preferred = entries (words (codes "BU MM DD DE FX FR TP TL YD YE ZR CD"))
 
--- the records of Type variant with a Preferred-Value field: each Subtag before that value
+-- the records of Type variant with a Preferred-Value field: each Subtag, and then the value of that field
 unfoldable pub variant_preferred : List Entry
 variant_preferred = entries (words (codes "heploc alalc97"))
 
--- the records of Type grandfathered and redundant with a Preferred-Value field: each Tag before that value
+-- the records of Type grandfathered and redundant with a Preferred-Value field: each Tag, and then the value of that field
 unfoldable pub tag_preferred : List Entry
 tag_preferred = entries (words (codes "i-ami ami i-bnn bnn i-hak hak i-lux lb i-pwn pwn i-tao tao i-tay tay i-tsu tsu no-bok nb no-nyn nn sgn-BR bzs sgn-CO csn sgn-DE gsg sgn-DK dsl sgn-ES ssp sgn-FR fsl sgn-GB bfi sgn-GR gss sgn-IE isg sgn-IT ise sgn-JP jsl sgn-MX mfs sgn-NI ncs sgn-NL dse sgn-NO nsl sgn-PT psr sgn-SE swl sgn-US ase sgn-ZA sfs zh-cmn cmn zh-gan gan zh-wuu wuu zh-yue yue i-klingon tlh zh-min-nan nan zh-cmn-Hans cmn-Hans zh-cmn-Hant cmn-Hant sgn-BE-FR sfb sgn-BE-NL vgt sgn-CH-DE sgg i-navajo nv en-GB-oed en-GB-oxendict art-lojban jbo zh-guoyu cmn zh-hakka hak zh-xiang hsn"))
 
--- the records of Type variant with Prefix fields: each Subtag before each of its values
+-- the records of Type variant with Prefix fields: for each such field the Subtag, and then the value of the field
 unfoldable pub variant_prefixes : List Entry
 variant_prefixes = entries (words (codes "1901 de 1994 sl-rozaj 1994 sl-rozaj-biske 1994 sl-rozaj-njiva 1994 sl-rozaj-osojs 1994 sl-rozaj-solba 1996 de aluku djk barla kea bciav zbl biske sl-rozaj blasl ase blasl sgn-ase boont en cornu en fodom lld gallo fr gherd lld hanoi vi huett vi jauer rm kkcor kw kscor kw lipaw sl-rozaj nedis sl njiva sl-rozaj nulik vo osojs sl-rozaj peano la puter rm rigik vo rozaj sl rumgr rm solba sl-rozaj sotav kea tailo nan-Latn uccor kw anpezo lld ao1990 pt ao1990 gl aranes oc asante tw auvern oc bcizbl zbl cisaup oc creiss oc dajnko sl ekavsk sr ekavsk sr-Latn ekavsk sr-Cyrl fascia lld gascon oc grital oc grital oc-cisaup grital oc-nicard grital oc-provenc heploc ja-Latn-hepburn ndyuka djk nicard oc pamaka djk pinyin zh-Latn pinyin bo-Latn saigon vi scouse en tarask be ucrcor kw ulster sco unifon en unifon hup unifon kyh unifon tol unifon yur abl1943 pt-BR akuapem tw arevela hy arevmda hy arkaika eo balanka blo bauddha sa bohoric sl emodeng en grclass oc grclass oc-aranes grclass oc-auvern grclass oc-cisaup grclass oc-creiss grclass oc-gascon grclass oc-lemosin grclass oc-lengadoc grclass oc-nicard grclass oc-provenc grclass oc-vivaraup grmistr oc grmistr oc-aranes grmistr oc-auvern grmistr oc-cisaup grmistr oc-creiss grmistr oc-gascon grmistr oc-lemosin grmistr oc-lengadoc grmistr oc-nicard grmistr oc-provenc grmistr oc-vivaraup hepburn ja-Latn itihasa sa laukika sa lemosin oc ltg1929 ltg ltg2007 ltg lycopol cop mdcegyp egy mesokem cop metelko sl monoton el pahawh2 mww pahawh2 hnj pahawh3 mww pahawh3 hnj pahawh4 mww pahawh4 hnj pehoeji nan-Latn polyton el provenc oc sahidic cop sursilv rm sutsilv rm vaidika sa 1606nict frm 1694acad fr 1959acad be akhmimic cop baku1926 az baku1926 ba baku1926 crh baku1926 kk baku1926 krc baku1926 ky baku1926 sah baku1926 tk baku1926 tt baku1926 uz basiceng en biscayan eu bohairic cop bornholm da colb1945 pt fayyumic cop hognorsk nn hsistemo eo ijekavsk sr ijekavsk sr-Latn ijekavsk sr-Cyrl ivanchov bg jyutping yue kleinsch kl kleinsch kl-tunumiit kociewie pl leidentr egy lengadoc oc luna1918 ru mdctrans egy newfound en-CA oxendict en petr1708 ru scotland en spanglis en spanglis es surmiran rm synnejyl da tongyong zh-Latn tunumiit kl valbadia lld valencia ca vallader rm vecdruka lv viennese de vivaraup oc wadegile zh-Latn xsistemo eo"))

@@ -3,11 +3,11 @@ ghost use Rattle.std.specs.Prelude.{◌≡◌, ◌↔◌, ℕ, ◌-◌, ◌^◌,
 ghost use Rattle.langtag_scan.specs.Case.{Alike};
 ghost use Rattle.langtag_scan.specs.Record.{EachRecord};
 ghost use Rattle.langtag.specs.Text.{lang_tag_text, lang_tag_buf_text, normal_lang_tag_text};
-ghost use Rattle.langtag_registry.specs.CanonicalLaws.{IsOnlyForm, IsAlikeForm, IsValidForm, HasNoExtlang};
+ghost use Rattle.langtag_registry.specs.CanonicalLaws.{IsOnlyCanonicalForm, IsAlikeCanonicalForm, IsValidForm, HasNoExtlang};
 ghost use Rattle.langtag_registry.specs.Canonical as form;
 ghost use Rattle.langtag_registry.specs.Canonical.{IsCanonicalForm, canonical_text};
 ghost use Rattle.langtag_registry.specs.Fields as field;
-ghost use Rattle.langtag_registry.specs.Form.{IsForm};
+ghost use Rattle.langtag_registry.specs.Form.{IsCanonicalAs};
 ghost use Rattle.langtag_registry.specs.declared.form.Form.TheVariants.{Parts};
 ghost use Rattle.langtag_output.specs.Writes.{Writes};
 
@@ -15,26 +15,26 @@ use crate::canonical_parts::put_canonical_parts;
 use crate::form::{Form, form_of};
 use crate::preferred::preferred_for;
 use langtag::{LangTag, LangTagBuf, NormalLangTag};
-use langtag_output::write_pieces;
+use langtag_output::write_text;
 use std::alloc::{AllocError, Global};
 
-/// An upper bound on the number of bytes of a text that is replaced as a whole.
+/// An upper bound on the number of bytes of a whole tag that has a Preferred-Value.
 const LONGEST_REPLACED: usize = 16;
 
-/// An upper bound on the number of bytes of a text that replaces a whole text.
+/// An upper bound on the number of bytes of the Preferred-Value of a whole tag.
 const LONGEST_PREFERRED: usize = 14;
 
 /// Returns the canonical form of a tag (RFC 5646 section 4.5): `he` for `iw`, `yue` for `zh-yue`, `en-MM` for `en-BU`,
 /// `jbo` for `art-lojban`, and `en-a-aaa-b-ccc` for `en-b-ccc-a-aaa`.
 ///
-/// Replacements have the case of the registry, and everything else keeps its case. Variants keep their order. The tag
+/// Replacements are in the case of the registry, and everything else keeps its case. Variants keep their order. The tag
 /// need not be valid: subtags that are not registered stay, and so do two extended languages with the language before
-/// them. This is the form of RFC 5646, while Unicode's CLDR replaces more. The form of a form is itself: step 2 is
-/// repeated after step 3 (`sgn-DD` becomes `gsg`), and an extended language is replaced repeatedly (`ar-ajp` becomes
-/// `apc`).
+/// them. This is the form of RFC 5646; Unicode's CLDR replaces more. Canonicalizing the result again does not change
+/// it. For this, step 2 is repeated after step 3 (`sgn-DD` becomes `gsg`), and a language that replaces an extended
+/// language may be replaced, too (`ar-ajp` becomes `apc`).
 ///
-/// The form of a valid tag is valid, unless two variants become the same, as in `ja-heploc-alalc97`. It has no extended
-/// language, unless it is `zh-min`.
+/// The form of a valid tag is valid, unless two variants become the same, as in `ja-heploc-alalc97`. The form of a
+/// valid tag has no extended language, unless it is `zh-min`.
 ///
 /// # Errors
 ///
@@ -50,9 +50,9 @@ const LONGEST_PREFERRED: usize = 14;
 pub fn canonical(alloc: Global, tag: LangTag<'_>) -> Result<LangTagBuf, AllocError>
     ensures canonical { IfOk result (λ form. IsCanonicalForm (lang_tag_text tag.entry) (lang_tag_buf_text form)) }
 
-    ensures one { IfOk result (λ form. IsOnlyForm (lang_tag_text tag.entry) (lang_tag_buf_text form)) }
+    ensures one { IfOk result (λ form. IsOnlyCanonicalForm (lang_tag_text tag.entry) (lang_tag_buf_text form)) }
     ensures settled { IfOk result (λ form. IsCanonicalForm (lang_tag_buf_text form) (lang_tag_buf_text form)) }
-    ensures alike { IfOk result (λ form. IsAlikeForm (lang_tag_text tag.entry) (lang_tag_buf_text form)) }
+    ensures alike { IfOk result (λ form. IsAlikeCanonicalForm (lang_tag_text tag.entry) (lang_tag_buf_text form)) }
     ensures valid { IfOk result (λ form. IsValidForm (lang_tag_text tag.entry) (lang_tag_buf_text form)) }
     ensures no_extlang { IfOk result (λ form. HasNoExtlang (lang_tag_text tag.entry) (lang_tag_buf_text form)) }
 {
@@ -77,8 +77,8 @@ pub fn is_canonical(tag: LangTag<'_>) -> bool
     matches!(form_of(tag), Form::Same)
 }
 
-/// Writes the canonical form of a tag to a buffer, as [`canonical`] returns it, and returns its length in bytes. If the
-/// buffer is too short, it stays unchanged, and the length says how much room is needed. A buffer of
+/// Writes the canonical form of a tag to a buffer, as [`canonical`] returns it, and returns its length in bytes. If
+/// the buffer is too short, it stays unchanged, and the length says how long a buffer must be. A buffer of
 /// [`canonical_bound`] bytes is always long enough. It does not allocate.
 ///
 /// ```
@@ -101,8 +101,8 @@ pub fn write_canonical(tag: LangTag<'_>, buffer: &mut [u8]) -> usize
     }
 }
 
-/// Returns the greatest length in bytes of the canonical form of a tag of a given length, as the size of a buffer for
-/// [`write_canonical`]. It is twice the length plus 14.
+/// Returns the greatest length in bytes that the canonical form of a tag of a given length can have. It is twice the
+/// length plus 14. A buffer of this size is long enough for [`write_canonical`].
 ///
 /// ```
 /// use langtag_registry::canonical_bound;
@@ -115,7 +115,7 @@ pub fn canonical_bound(tag_len: usize) -> usize
     tag_len.saturating_mul(2).saturating_add(LONGEST_PREFERRED)
 }
 
-/// Returns the canonical form of a tag. If it is a copy of the tag or of a preferred tag, it is not parsed again.
+/// Returns the canonical form of a tag. If it is a copy of the tag or of a Preferred-Value, it is not parsed again.
 fn form_as_tag(alloc: Global, tag: LangTag<'_>) -> Result<LangTagBuf, AllocError>
     ensures { IfOk result (λ form. IsCanonicalForm (lang_tag_text tag.entry) (lang_tag_buf_text form)) }
 {
@@ -126,14 +126,14 @@ fn form_as_tag(alloc: Global, tag: LangTag<'_>) -> Result<LangTagBuf, AllocError
     }
 }
 
-/// Returns the canonical form of a tag: its parts in their canonical forms, or the tag that is preferred to the whole
-/// of them.
+/// Returns the canonical form of a tag: its parts in their canonical forms, or the Preferred-Value of the tag that
+/// these parts make up.
 fn parts_as_tag(
     alloc: Global,
     tag: LangTag<'_>,
     normal: NormalLangTag<'_>,
 ) -> Result<LangTagBuf, AllocError>
-    requires { IsForm (lang_tag_text tag) (Parts normal) }
+    requires { IsCanonicalAs (lang_tag_text tag) (Parts normal) }
     ensures { IfOk result (λ form. IsCanonicalForm (lang_tag_text tag.entry) (lang_tag_buf_text form)) }
 {
     let Ok(text) = String::from_utf8(parts_as_bytes(alloc, tag, normal)?) else {
@@ -152,7 +152,7 @@ fn parts_as_bytes(
     tag: LangTag<'_>,
     normal: NormalLangTag<'_>,
 ) -> Result<Vec<u8>, AllocError>
-    requires { IsForm (lang_tag_text tag) (Parts normal) }
+    requires { IsCanonicalAs (lang_tag_text tag) (Parts normal) }
     ensures { IfOk result (λ bytes. IsCanonicalForm (lang_tag_text tag.entry) bytes.items) }
 {
     let mut bytes = vec![in alloc; 0; canonical_bound(tag.as_bytes().len())]?;
@@ -161,7 +161,7 @@ fn parts_as_bytes(
     Ok(bytes)
 }
 
-/// Writes a tag with its parts in their canonical forms, or the tag that is preferred to the whole of them.
+/// Writes a tag with its parts in their canonical forms, or the Preferred-Value of the tag that these parts make up.
 #[tactic(auto, using(crate::proofs::FormLengths::form_length, crate::proofs::WholeTags::none_longer))]
 fn write_parts(tag: NormalLangTag<'_>, buffer: &mut [u8]) -> usize
     ensures { EachRecord (normal_lang_tag_text tag.entry) (λ r. Writes (λ form. form ≡ canonical_text r) buffer.old buffer.new result) }
@@ -177,8 +177,8 @@ fn write_parts(tag: NormalLangTag<'_>, buffer: &mut [u8]) -> usize
     len
 }
 
-/// Returns the tag that is preferred to a whole text, or the text itself if there is none: `gsg` for `sgn-DE`. The
-/// parts of `sgn-DD` give `sgn-DE`.
+/// Returns the Preferred-Value of a whole tag, or the text itself if it has none: `gsg` for `sgn-DE`, which is `sgn-DD`
+/// with its parts in their canonical forms.
 fn preferred_to(parts: &[u8]) -> &[u8]
     ensures { result.now ≡ unwrap_or (field.preferred_tag parts.now) parts.now }
 {
@@ -186,11 +186,4 @@ fn preferred_to(parts: &[u8]) -> &[u8]
         Some(preferred) => preferred.as_bytes(),
         None => parts,
     }
-}
-
-/// Writes a text, if the buffer has room for it. Returns its length.
-fn write_text(text: &[u8], buffer: &mut [u8]) -> usize
-    ensures { Writes (λ new. new ≡ text.now) buffer.old buffer.new result }
-{
-    write_pieces(&[text], buffer)
 }

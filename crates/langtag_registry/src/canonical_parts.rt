@@ -28,8 +28,8 @@ use langtag_place::{Region, Script, Variants};
 use langtag_private::PrivateUse;
 use langtag_scan::into_smallcase;
 
-/// Writes a tag with its parts in their canonical forms into a buffer, as far as there is room. Returns the length of
-/// that tag.
+/// Writes a tag with its parts in their canonical forms into a buffer, as far as it fits, and returns the length of
+/// the form.
 pub(crate) fn put_canonical_parts(tag: NormalLangTag<'_>, buffer: &mut [u8]) -> usize
     ensures { model.EachRecord (normal_lang_tag_text tag.entry) (λ r. IsCounted (model.spell (canonical_record r)) buffer.old buffer.new result) }
 {
@@ -83,7 +83,7 @@ fn push_extlang(out: &mut Output<'_>, extlang: ExtendedLangTag<'_>)
     }
 }
 
-/// Returns an extended subtag in lowercase letters, as the registry has it.
+/// Returns an extended subtag in lowercase, which is its case in the registry.
 #[tactic(auto, unfolding(langtag_scan::specs::Case::fold_byte))]
 fn in_small_letters(extlang: ExtendedLangTag<'_>) -> [u8; 3]
     ensures { result ≡ fold_text (extended_lang_tag_text extlang.entry) }
@@ -112,7 +112,7 @@ fn push_region(out: &mut Output<'_>, region: Option<Region<'_>>)
     }
 }
 
-/// Adds the canonical form of each variant in turn, even if that repeats a variant.
+/// Adds the canonical form of each variant, even if the form equals another variant.
 fn push_variants(out: &mut Output<'_>, variants: Variants<'_>)
     ensures same_buffer { out.new.buffer.ghost_name ≡ out.old.buffer.ghost_name }
     ensures pushed { Pushes (canonical_variants (subtags (variants_text variants.entry))) out.old out.new }

@@ -7,7 +7,7 @@ ghost use Rattle.langtag_registry.specs.Canonical.{canonical_variants};
 use crate::preferred::preferred_variant;
 use langtag_place::Variants;
 
-/// Returns whether no variant is preferred to any of these.
+/// Returns whether none of these variants has a Preferred-Value.
 pub(crate) fn are_canonical_variants(variants: Variants<'_>) -> bool
     ensures { (result ≡ true) ↔ (canonical_variants (subtags (variants_text variants.entry)) ≡ subtags (variants_text variants.entry)) }
 {

@@ -17,8 +17,8 @@ use langtag_language::{ExtendedLangTag, PrimaryLanguage};
 use langtag_place::{Region, Variant};
 use langtag_scan::case_insensitive_eq;
 
-/// Returns whether a language is deprecated (RFC 5646 section 3.1.6): `true` for `iw`, `false` for `he` and for what is
-/// not registered.
+/// Returns whether a language is deprecated (RFC 5646 section 3.1.6): `true` for `iw`, `false` for `he` and for any
+/// language that is not registered.
 ///
 /// ```
 /// use langtag::PrimaryLanguage;
@@ -34,8 +34,8 @@ pub fn is_deprecated_language(language: PrimaryLanguage<'_>) -> bool
     is_among(&DEPRECATED_LANGUAGE_KEYS, language.as_bytes())
 }
 
-/// Returns whether an extended language is deprecated (RFC 5646 section 3.1.6): `true` for `yds`, `false` for `yue` and
-/// for what is not registered.
+/// Returns whether an extended language is deprecated (RFC 5646 section 3.1.6): `true` for `yds`, `false` for `yue`
+/// and for any extended language that is not registered.
 ///
 /// ```
 /// use langtag::ExtendedLangTag;
@@ -51,8 +51,8 @@ pub fn is_deprecated_extlang(extlang: ExtendedLangTag<'_>) -> bool
     is_among(&DEPRECATED_EXTLANG_KEYS, extlang.as_bytes())
 }
 
-/// Returns whether a region is deprecated (RFC 5646 section 3.1.6): `true` for `SU`, `false` for `FR` and for what is
-/// not registered.
+/// Returns whether a region is deprecated (RFC 5646 section 3.1.6): `true` for `SU`, `false` for `FR` and for any
+/// region that is not registered.
 ///
 /// ```
 /// use langtag::Region;
@@ -69,7 +69,7 @@ pub fn is_deprecated_region(region: Region<'_>) -> bool
 }
 
 /// Returns whether a variant is deprecated (RFC 5646 section 3.1.6): `true` for `heploc`, `false` for `rozaj` and for
-/// what is not registered.
+/// any variant that is not registered.
 ///
 /// ```
 /// use langtag::Variant;
@@ -102,7 +102,7 @@ pub fn is_deprecated_tag(tag: LangTag<'_>) -> bool
     is_listed(&DEPRECATED_TAGS, tag.as_bytes())
 }
 
-/// Returns whether some bytes are one of these texts, ignoring case.
+/// Returns whether bytes equal one of these texts, ignoring case.
 fn is_listed(texts: &[&str], bytes: &[u8]) -> bool
     ensures { result ≡ list_any (λ text. are_alike bytes.now text.now) texts.now }
 {

@@ -27,7 +27,7 @@ pub(crate) fn are_in_order(extensions: Extensions<'_>) -> bool
     true
 }
 
-/// Returns which bytes are singletons of extensions, as lowercase letters.
+/// Returns, for each byte, whether it is the lowercase singleton of one of the extensions.
 pub(crate) fn singletons_of(extensions: Extensions<'_>) -> [bool; 256]
     ensures { (es : List model.Extension) → SpellsExtensions es (extensions_text extensions.entry) → AreNoted result (map extension_spelling es) }
 {
@@ -38,7 +38,7 @@ pub(crate) fn singletons_of(extensions: Extensions<'_>) -> [bool; 256]
     present
 }
 
-/// Returns the singleton of an extension as a lowercase letter.
+/// Returns the singleton of an extension in lowercase.
 pub(crate) fn folded_singleton(extension: Extension<'_>) -> u8
     ensures { result ≡ small_singleton (extension_text extension.entry) }
 {

@@ -1,11 +1,11 @@
-//! What the canonical form of a tag is (RFC 5646 section 4.5).
+//! How the canonical form of a tag is made (RFC 5646 section 4.5).
 ghost use Rattle.std.specs.Prelude.{◌≡◌, ◌↔◌, true};
 ghost use Rattle.std.specs.Option.{option_map};
 ghost use Rattle.langtag_scan.specs.Record.{EachRecord};
 ghost use Rattle.langtag_place.specs.Text.{region_text};
 ghost use Rattle.langtag.specs.Text.{lang_tag_text, normal_lang_tag_text};
 ghost use Rattle.langtag_registry.specs.Canonical.{IsCanonicalForm, canonical_record, canonical_region};
-ghost use Rattle.langtag_registry.specs.Form.{IsForm};
+ghost use Rattle.langtag_registry.specs.Form.{IsCanonicalAs};
 ghost use Rattle.langtag_registry.specs.declared.form.Form.TheVariants.{Same};
 
 use crate::canonical_language::is_canonical_language;
@@ -15,22 +15,22 @@ use crate::preferred::{preferred_region, preferred_tag};
 use langtag::{LangTag, NormalLangTag};
 use langtag_place::Region;
 
-/// What the canonical form of a tag is.
+/// How the canonical form of a tag is made.
 #[derive(Drop)]
 pub(crate) enum Form<'a> {
     /// The tag itself.
     Same,
-    /// Another tag, which is preferred to the whole tag.
+    /// The Preferred-Value of the whole tag.
     Whole(LangTag<'static>),
-    /// This tag with its parts in their canonical forms, or the tag that is preferred to the whole of them.
+    /// This tag with its parts in their canonical forms, or the Preferred-Value of the tag that these parts make up.
     Parts(NormalLangTag<'a>),
 }
 
-/// Returns how the canonical form of a tag is made. It is inlined, so that no form is written to memory.
+/// Returns how the canonical form of a tag is made. It is inlined, so that the `Form` is not written to memory.
 #[inline(always)]
 #[tactic(auto, using(crate::proofs::CanonicalParts::kept_form, crate::proofs::CanonicalParts::preferred_goes, crate::proofs::CanonicalParts::record_form, crate::proofs::CanonicalParts::own_record, crate::proofs::TwiceLaws::itself), unfolding(langtag_scan::specs::Tag::IsNormal))]
 pub(crate) fn form_of(tag: LangTag<'_>) -> Form<'_>
-    ensures form { IsForm (lang_tag_text tag.entry) result }
+    ensures form { IsCanonicalAs (lang_tag_text tag.entry) result }
     ensures same { IsCanonicalForm (lang_tag_text tag.entry) (lang_tag_text tag.entry) → result ≡ Same }
 {
     if let Some(preferred) = preferred_tag(tag) {
@@ -63,7 +63,7 @@ fn has_canonical_parts(tag: NormalLangTag<'_>) -> bool
     are_in_order(tag.extensions())
 }
 
-/// Returns whether no region is preferred to this one.
+/// Returns whether the region has no Preferred-Value.
 fn is_canonical_region(region: Option<Region<'_>>) -> bool
     ensures { (result ≡ true) ↔ (canonical_region (option_map region_text region.entry) ≡ option_map region_text region.entry) }
 {

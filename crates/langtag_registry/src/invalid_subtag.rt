@@ -4,8 +4,8 @@ use langtag_language::{ExtendedLangTag, PrimaryLanguage};
 use langtag_place::{Region, Script, Variant};
 use thiserror::Error;
 
-/// The error for a tag that is not valid: its first subtag that is not registered, is a second extended language, or
-/// repeats an earlier one.
+/// The error for a tag that is not valid: the first subtag that is not registered, is a second extended language, or
+/// repeats an earlier subtag.
 ///
 /// The subtag is a slice of the tag, in its original case. Two values are equal if they have the same kind and their
 /// subtags are equal.

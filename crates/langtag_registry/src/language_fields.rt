@@ -1,4 +1,4 @@
-//! What the registry says of a language (RFC 5646 sections 3.1.7, 3.1.9 and 3.1.10).
+//! The fields of the registry's record for a language (RFC 5646 sections 3.1.7, 3.1.9 and 3.1.10).
 ghost use Rattle.std.specs.Prelude.{◌≡◌};
 ghost use Rattle.std.specs.Option.{option_map};
 ghost use Rattle.langtag_language.specs.Text.{primary_language_text};
@@ -13,8 +13,8 @@ use crate::tables::{
 use langtag_language::PrimaryLanguage;
 use langtag_place::Script;
 
-/// Returns the language that replaces a deprecated one (the field Preferred-Value, RFC 5646 section 3.1.7): `he` for
-/// `iw`. Returns `None` for `he`, and for languages that are not registered.
+/// Returns the language that replaces a deprecated language (the field Preferred-Value, RFC 5646 section 3.1.7): `he`
+/// for `iw`. Returns `None` for `he`, and for languages that are not registered.
 ///
 /// ```
 /// use langtag::PrimaryLanguage;

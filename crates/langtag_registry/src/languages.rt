@@ -9,7 +9,7 @@ use langtag_language::PrimaryLanguage;
 use langtag_tables::letter_number;
 
 /// Returns whether a language is registered, ignoring case (RFC 5646 section 2.2.1): `true` for `fr`, `FR` and the
-/// private use `qaa`, `false` for `qt`.
+/// private use subtag `qaa`, `false` for `qt`.
 ///
 /// ```
 /// use langtag::PrimaryLanguage;
@@ -29,7 +29,7 @@ pub fn is_registered_language(language: PrimaryLanguage<'_>) -> bool
     is_set(letter_number(bytes) - 27)
 }
 
-/// Returns a bit of the table.
+/// Returns whether the bit at an index of the table is set.
 #[tactic(auto, using(crate::proofs::LanguageTable::language_bit_at))]
 fn is_set(index: usize) -> bool
     requires { index < 18304 }

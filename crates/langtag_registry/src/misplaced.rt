@@ -1,31 +1,29 @@
 //! Variants and extended languages that follow none of their prefixes (RFC 5646 section 3.1.8).
-ghost use Rattle.std.specs.Prelude.{◌≡◌, map, IsTrue};
+ghost use Rattle.std.specs.Prelude.{◌≡◌, map};
 ghost use Rattle.std.specs.Option.{option_map};
 ghost use Rattle.langtag_scan.specs.Record.{EachRecord};
-ghost use Rattle.langtag_scan.specs.Tag.{IsTag};
 ghost use Rattle.langtag_language.specs.Text.{extended_lang_tag_text};
 ghost use Rattle.langtag_place.specs.Text.{variant_text};
 ghost use Rattle.langtag.specs.Text.{normal_lang_tag_text};
 ghost use Rattle.langtag_match.specs.Extended.{test_extended};
-ghost use Rattle.langtag_match.specs.Range.{is_language_range};
 ghost use Rattle.langtag_scan.specs.Case.{folded_number};
 ghost use Rattle.langtag_registry.specs.Prefix as spec;
 ghost use Rattle.langtag_registry.specs.Subtags as list;
 
 use crate::prefixes::extlang_prefix;
 use crate::tables::VARIANT_PREFIXES;
-use langtag::{LangTag, NormalLangTag};
+use langtag::NormalLangTag;
 use langtag_language::ExtendedLangTag;
-use langtag_match::LanguageRange;
+use langtag_match::matches_extended;
 use langtag_place::Variant;
 use langtag_scan::folded_number;
 
-/// Returns the first variant of a tag that follows none of its prefixes (the field Prefix, RFC 5646 section 3.1.8):
-/// `nedis` in `fr-nedis`, because its prefix is `sl`, and `1994` in `sl-1994-rozaj`, because its prefix is `sl-rozaj`.
-/// Returns `None` for `sl-IT-nedis`, and for `fr-fonipa`, because `fonipa` has no prefix.
+/// Returns the first variant of a tag that follows none of its prefixes (the field Prefix, RFC 5646 section 3.1.8).
+/// Such a variant is `nedis` in `fr-nedis`, because its prefix is `sl`, and `1994` in `sl-1994-rozaj`, because its
+/// prefix is `sl-rozaj`. Returns `None` for `sl-IT-nedis`, and for `fr-fonipa`, because `fonipa` has no prefix.
 ///
 /// A prefix is compared with the subtags before the variant by extended filtering (RFC 4647 section 3.3.2). The RFC
-/// only recommends prefixes, so a tag without them is valid. It does not allocate. The time may be quadratic in the
+/// only recommends prefixes, so a tag may be valid without them. It does not allocate. The time may be quadratic in the
 /// number of variants.
 ///
 /// ```
@@ -52,7 +50,8 @@ pub fn misplaced_variant<'a>(tag: NormalLangTag<'a>) -> Option<Variant<'a>>
 /// RFC 5646 section 3.1.8): `yue` in `de-yue`, because its prefix is `zh`. Returns `None` for `zh-yue`, and for
 /// `zh-fra`, because `fra` is not registered.
 ///
-/// A tag is valid without its prefix. A second extended language, which no valid tag has, is ignored.
+/// A tag may be valid even if its extended language follows another language. A second extended language, which no
+/// valid tag has, is ignored.
 ///
 /// ```
 /// use langtag::NormalLangTag;
@@ -73,16 +72,16 @@ pub fn misplaced_extlang<'a>(tag: NormalLangTag<'a>) -> Option<ExtendedLangTag<'
     Some(extlang)
 }
 
-/// Returns whether a prefix of a variant matches the tag before the variant, or the variant has no prefix.
+/// Returns whether a variant may follow the text before it: one of its prefixes matches this text, or it has no
+/// prefix.
 fn fits_after(before: &str, variant: Variant<'_>) -> bool
-    requires { IsTag before.now }
     ensures { result ≡ spec.fits_after before.now (variant_text variant.entry) }
 {
     let number = folded_number(variant.as_bytes());
     let mut has_none = true;
     for (key, prefix) in variant_prefixes() {
         if number == *key {
-            if matches_tag(prefix, before) {
+            if matches_prefix(prefix, before) {
                 return true;
             }
             has_none = false;
@@ -91,13 +90,11 @@ fn fits_after(before: &str, variant: Variant<'_>) -> bool
     has_none
 }
 
-/// Returns whether a prefix matches a tag by extended filtering.
-fn matches_tag(prefix: &str, tag: &str) -> bool
-    requires range { IsTrue (is_language_range prefix.now) }
-    requires tag { IsTag tag.now }
-    ensures { result ≡ test_extended prefix.now tag.now }
+/// Returns whether a prefix matches the text before a variant by extended filtering.
+fn matches_prefix(prefix: &str, before: &str) -> bool
+    ensures { result ≡ test_extended prefix.now before.now }
 {
-    LanguageRange::from_checked(prefix).matches_extended(&LangTag::from_checked(tag))
+    matches_extended(prefix, before)
 }
 
 #[tactic(auto, using(crate::proofs::PrefixTables::prefix_numbers, crate::proofs::PrefixTables::prefix_texts))]

@@ -16,7 +16,7 @@ use langtag::LangTag;
 use langtag_place::{Region, Variant};
 use langtag_scan::{case_insensitive_eq, folded_number};
 
-/// Returns the region that replaces a deprecated one (the field Preferred-Value, RFC 5646 section 3.1.7): `MM` for
+/// Returns the region that replaces a deprecated region (the field Preferred-Value, RFC 5646 section 3.1.7): `MM` for
 /// `BU`. Returns `None` for `MM`, and for regions that are not registered.
 ///
 /// ```
@@ -39,8 +39,8 @@ pub fn preferred_region(region: Region<'_>) -> Option<Region<'static>>
     }
 }
 
-/// Returns the variant that replaces a deprecated one (the field Preferred-Value, RFC 5646 section 3.1.7): `alalc97`
-/// for `heploc`. Returns `None` for `alalc97`, and for variants that are not registered.
+/// Returns the variant that replaces a deprecated variant (the field Preferred-Value, RFC 5646 section 3.1.7):
+/// `alalc97` for `heploc`. Returns `None` for `alalc97`, and for variants that are not registered.
 ///
 /// ```
 /// use langtag::Variant;
@@ -78,7 +78,7 @@ pub fn preferred_tag(tag: LangTag<'_>) -> Option<LangTag<'static>>
     preferred_for(tag.as_bytes())
 }
 
-/// Returns the tag that replaces a whole text.
+/// Returns the tag that replaces a whole tag with this text.
 #[tactic(auto, using(crate::proofs::FieldTables::tag_ends, crate::proofs::FieldTables::tag_entries, crate::proofs::WholeTags::preferred_is_tag), unfolding(crate::specs::Fields::preferred_tag))]
 pub(crate) fn preferred_for(text: &[u8]) -> Option<LangTag<'static>>
     ensures { option_map lang_tag_text result ≡ field.preferred_tag text.now }
@@ -89,8 +89,8 @@ pub(crate) fn preferred_for(text: &[u8]) -> Option<LangTag<'static>>
     }
 }
 
-/// Finds the pair whose first text equals the bytes, ignoring case, and returns its second text. `keys` has the ends of
-/// the first texts as numbers.
+/// Finds the pair whose first text equals the bytes, ignoring case, and returns its second text. `keys` has the number
+/// of the last eight bytes of each first text.
 fn value_beside(
     keys: &[u64],
     table: &'static [(&'static str, &'static str)],

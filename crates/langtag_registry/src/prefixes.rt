@@ -1,4 +1,4 @@
-//! What a subtag should follow (RFC 5646 section 3.1.8).
+//! Which language an extended language should follow (RFC 5646 section 3.1.8).
 ghost use Rattle.std.specs.Prelude.{◌≡◌};
 ghost use Rattle.std.specs.Option.{option_map};
 ghost use Rattle.langtag_language.specs.Text.{primary_language_text, extended_lang_tag_text};

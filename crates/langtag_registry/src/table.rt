@@ -1,4 +1,4 @@
-//! Tables of subtags, in which texts are found ignoring case.
+//! Tables of subtags, which are searched for a text, ignoring case.
 ghost use Rattle.std.specs.Prelude.{◌≡◌, ℕ, List, length, map};
 ghost use Rattle.std.specs.Option.{option_map};
 ghost use Rattle.langtag_scan.proofs.SubtagFacts.{IsSubtag};
@@ -8,15 +8,15 @@ ghost use Rattle.langtag_registry.specs.Tables.{AreKeysOf, IsTableOf};
 
 use langtag_scan::folded_number;
 
-/// Returns whether the number of a text is one of the keys.
+/// Returns whether a text is in a table, whose keys are the numbers of its texts.
 pub(crate) fn is_among(keys: &[u64], text: &[u8]) -> bool
     requires { IsSubtag text.now }
-    ensures { (list : List (List ℕ)) → AreKeysOf keys.now list → result ≡ registered.is_among list text.now }
+    ensures { (list : List (List ℕ)) → AreKeysOf keys.now list → result ≡ registered.contains_alike list text.now }
 {
     keys.binary_search(&folded_number(text)).is_ok()
 }
 
-/// Returns the value beside the key that is the number of a text.
+/// Returns the value for a text, which is at the same index as the text's key.
 pub(crate) fn value_of(
     keys: &[u64],
     values: &'static [&'static str],

@@ -21,14 +21,16 @@ use langtag::{LangTag, NormalLangTag, is_among_first};
 use langtag_language::Language;
 use langtag_place::{Region, Script, Variants};
 
-/// Checks whether a tag is valid by the registry (RFC 5646 section 2.2.9). All its subtags must be registered. It must
-/// have at most one extended language, and no variant or singleton twice. Grandfathered and private-use tags are valid:
-/// `fr-FR`, `zh-min` and `x-qt` are `Ok`. Prefixes of variants do not matter. It is proved which errors are equal, and
-/// that a clone is the same value.
+/// Checks whether a tag is valid by the registry (RFC 5646 section 2.2.9). All its subtags must be registered. It
+/// must have at most one extended language, and no variant or singleton may occur twice. Grandfathered and
+/// private-use tags are valid: `fr-FR`, `zh-min` and `x-qt` are `Ok`. Prefixes of variants do not matter. It is
+/// proved that errors are equal if their kinds and subtags are equal, and that a clone is the same value.
 ///
 /// # Errors
 ///
-/// Returns the first invalid subtag of the tag: the language `qt` in `qt-FQ`.
+/// Returns the first invalid subtag of the tag: the language `qt` in `qt-FQ`. `langtag_likely::suggested_language` and
+/// `langtag_likely::suggested_region` return the registered code that was probably meant: `de` for `ger`, `GB` for
+/// `UK`.
 ///
 /// ```
 /// use langtag::LangTag;
@@ -148,7 +150,8 @@ fn find_region_fault<'a>(region: Option<Region<'a>>) -> Option<InvalidSubtag<'a>
 }
 
 /// Returns the first fault among variants, and the index of that variant.
-// Each variant is compared with those before it. These are registered and all different, so they are few.
+// Each variant is compared with the variants before it. The earlier variants are registered and all different, so they
+// are few.
 fn find_variant_fault<'a>(variants: Variants<'a>) -> Option<(InvalidSubtag<'a>, usize)>
     ensures first { option_map (λ fault. told fault.0) result ≡ slice_get (variant_faults [] (subtags (variants_text variants.entry))) 0 }
     ensures index { IfSome result (λ fault. (r : Record) → r.variants ≡ subtags (variants_text variants.entry)

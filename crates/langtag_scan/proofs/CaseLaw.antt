@@ -36,6 +36,14 @@ pub fold_byte-twice : (b : ℕ) → fold_byte (fold_byte b) ≡ fold_byte b
 unfolding fold_byte
 fold_byte-twice b = grind (arith, nat_tests)
 
+module _ {X : Type 0} (f : X → X) (twice : (x : X) → f (f x) ≡ f x) where
+  pub map-twice : (xs : List X) → map f (map f xs) ≡ map f xs
+  map-twice [] = refl
+  map-twice (x ∷ xs) = ap (λ y. y ∷ map f (map f xs)) (twice x) ∙ ap (λ ys. f x ∷ ys) (map-twice xs)
+
+pub fold_text-twice : (s : List ℕ) → fold_text (fold_text s) ≡ fold_text s
+fold_text-twice = map-twice fold_byte fold_byte-twice
+
 pub hyphen-fold : (b : ℕ) → eqb (fold_byte b) 45 ≡ eqb b 45
 unfolding fold_byte
 hyphen-fold b = grind (arith, nat_tests)
@@ -146,6 +154,10 @@ spell-fold : (r : Record) → spell (fold_record r) ≡ fold_text (spell r)
 spell-fold r =
     let folded : flat (fold_record r) ≡ map fold_text (flat r) = simp (one_flat-fold, extensions-fold, private_part-fold, map-append) in
     ap join folded ∙ join-fold (flat r)
+
+-- alike records spell alike texts
+pub spelled_alike : (r q : Record) → AlikeRecords r q → Alike (spell r) (spell q)
+spelled_alike r q alike = sym (spell-fold r) ∙ ap spell alike ∙ spell-fold q
 
 -- what holds of the images of all members of a list, and of the one that may be there
 module _ {X Y : Type 0} (P : X → Type 0) (Q : Y → Type 0) (f : X → Y) (step : (x : X) → P x → Q (f x)) where

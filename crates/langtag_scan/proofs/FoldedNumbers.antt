@@ -69,8 +69,5 @@ among-folded = among-numbers folded_number are_alphanumeric folded_number-tells
 pub digit_fits : (number i byte : ℕ) → number < 256 ^ i → byte < 256 → number * 256 + byte < 256 ^ (i + 1)
 digit_fits number i byte below small = let more = pow_more 256 i in omega (arith, more, below, small)
 
-pub fits_32 : (number i : ℕ) → number < 256 ^ i → i ≤ 4 → number < 4294967296
-fits_32 number i below short = let most = pow-le-pow_right {n = 256} (omega arith) short in omega (arith, most, below)
-
 pub fits_64 : (number i : ℕ) → number < 256 ^ i → i ≤ 8 → number < 18446744073709551616
 fits_64 number i below short = let most = pow-le-pow_right {n = 256} (omega arith) short in omega (arith, most, below)

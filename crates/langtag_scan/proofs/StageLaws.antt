@@ -1,5 +1,5 @@
 -- The stages: what comes after a subtag, and where it ends.
-use Rattle.std.proofs.Common.{◌≡◌, ℕ, ◌+◌, Bool, true, false, ◌⊎◌, List, [], length, Some, inl, inr, refl, ap, arith}
+use Rattle.std.proofs.Common.{◌≡◌, ℕ, ◌+◌, Bool, true, false, List, [], length, Some, refl, ap, arith}
 use Rattle.langtag_scan.specs.Stage.{Stage, Start, Language, AfterFirstMark, InPrivateTag, classes_of, next_stage, after_stage}
 use Rattle.langtag_scan.specs.Machine.{end_at, index_after}
 use Rattle.langtag_scan.specs.declared.ends.Ends.{Ends}
@@ -40,10 +40,6 @@ after_not_start stage after s e first =
     let led = after_class stage after s e in
     let none = ap (λ x. leads_to x (classes_of s)) first in
     cc
-
-pub starting : (stage : Stage) → (stage ≡ Start) ⊎ (stage ≡ Start → ⊥)
-starting Start = inl refl
-starting _ = inr (λ h. cc)
 
 -- ---- where a subtag ends
 

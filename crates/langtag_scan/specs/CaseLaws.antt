@@ -1,6 +1,7 @@
--- The laws that `==`, the order and the hash of texts obey where case is ignored (RFC 5646 section 2.1.1): equality
--- is an equivalence, the order is total and ties exactly where texts are alike, and alike texts feed alike writes.
--- Each law is stated once over texts, and then over the values of a type K, f being the text of a value.
+-- The laws that `==`, the order and the hash of texts obey if case is ignored (RFC 5646 section 2.1.1). Equality is an
+-- equivalence, and the order is total. Two texts are equal in the order exactly if they are alike, and alike texts feed
+-- a hasher the same bytes. Each law is stated once for texts, and then for a type K, where `f` maps a value of K to its
+-- text.
 use Rattle.std.specs.Prelude.{◌≡◌, ℕ, IsTrue, List, [], ◌∷◌, ◌++◌, map, refl, ◌==◌, ◌&&◌}
 use Rattle.std.proofs.Common.{ap, sym, ◌∙◌}
 use Rattle.std.proofs.Math.Bool.{and-false}
@@ -21,7 +22,7 @@ are_alike-equivalence = on_equiv fold_text nat_list_eq_equiv
 case_cmp-total : IsTotalOrder case_cmp
 case_cmp-total = on_total order_key nat_list_cmp_total
 
--- one end after both texts changes nothing in whether they are equal
+-- appending the same number to two texts does not change whether they are equal
 bytes_eq-push : (end : ℕ) (xs ys : List ℕ) → bytes_eq (xs ++ end ∷ []) (ys ++ end ∷ []) ≡ bytes_eq xs ys
 bytes_eq-push end [] [] = nat_list_eq_equiv.refl (end ∷ [])
 bytes_eq-push end [] (y ∷ []) = and-false (end == y)
@@ -30,11 +31,11 @@ bytes_eq-push end (x ∷ []) [] = and-false (x == end)
 bytes_eq-push end (x ∷ z ∷ xs) [] = and-false (x == end)
 bytes_eq-push end (x ∷ xs) (y ∷ ys) = ap (λ rest. (x == y) && rest) (bytes_eq-push end xs ys)
 
--- the order ties exactly where texts are alike
+-- two texts are equal in the order exactly if they are alike
 pub case_cmp-ties : (a b : List ℕ) → are_alike a b ≡ eq_by_cmp case_cmp a b
 case_cmp-ties a b = sym (bytes_eq-push 256 (fold_text a) (fold_text b)) ∙ lists_ties nat_cmp unsigned_ties (order_key a) (order_key b)
 
--- what a text feeds to a hasher follows from its fold
+-- what a text feeds to a hasher depends only on the folded text
 case_writes-fold_text : (text : List ℕ) → case_writes text ≡ map (λ b. b ∷ []) (fold_text text)
 case_writes-fold_text [] = refl
 case_writes-fold_text (b ∷ text) = ap (λ rest. (fold_byte b ∷ []) ∷ rest) (case_writes-fold_text text)

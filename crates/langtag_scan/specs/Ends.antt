@@ -5,7 +5,8 @@ use Rattle.langtag_scan.specs.Subtags.{join}
 use Rattle.langtag_scan.specs.Record.{Record, Spells, extension_flat, one_flat, spell}
 use Rattle.langtag_scan.specs.declared.ends.Ends.{Ends}
 
--- the subtags of a record up to and with each part
+-- the subtags of a record, from its first subtag up to the last subtag of the language; the next four definitions do
+-- the same for the other parts
 abbrev pub to_language : Record → List (List ℕ)
 to_language r = r.primary ∷ r.extended
 
@@ -23,7 +24,7 @@ to_extensions r =
     r.primary
     ∷ (r.extended ++ (one_flat r.script ++ (one_flat r.region ++ (r.variants ++ flat_map extension_flat r.extensions))))
 
--- the end of each part is the length of their join
+-- the end of each part: the length of all subtags up to the end of that part, joined by hyphens
 abbrev pub ends_of : Record → Ends
 ends_of r = record {
   language = length (join (to_language r));
@@ -34,6 +35,6 @@ ends_of r = record {
   whole = length (spell r);
 }
 
--- a record spells the text, and its parts end there
+-- some record spells the text, and its parts end at these offsets
 unfoldable pub HasEnds : List ℕ → Ends → Type 0
 HasEnds text ends = (r : Record) × Spells r text × (ends ≡ ends_of r)

@@ -1,4 +1,4 @@
--- What a recogniser finds of a tag (RFC 5646 section 2.1).
+-- What a recogniser finds out about a tag (RFC 5646 section 2.1).
 use Rattle.std.specs.Prelude.{ℕ, Bool, true, false, List, Option, Some, None}
 use Rattle.langtag_scan.specs.Tag.{IsPrivate, IsIrregularAt}
 use Rattle.langtag_scan.specs.Ends.{HasEnds}
@@ -7,11 +7,12 @@ use Rattle.langtag_scan.specs.declared.finding.Finding.{Finding}
 use Rattle.langtag_scan.specs.declared.finding.Finding.TheVariants.{Normal, PrivateUse, Irregular}
 use Rattle.langtag_scan.specs.declared.found.Found.{Found}
 
--- what was found: normal with the ends of its parts, private use, or irregular with the index in the table
+-- what was found: a normal tag with the ends of its parts, a private use tag, or an irregular tag with its index in the
+-- table
 abbrev pub finding : Found → Finding
 finding found = found.finding
 
--- the text is a tag of this kind, with these ends or at this index
+-- the text is a tag of the kind that was found, with the ends or the index that was found
 abbrev pub IsFoundOf : List ℕ → Finding → Type 0
 IsFoundOf t (Normal ends) = HasEnds t ends
 IsFoundOf t PrivateUse = IsPrivate t
@@ -23,7 +24,7 @@ is_normal (Normal ends) = true
 is_normal PrivateUse = false
 is_normal (Irregular index) = false
 
--- a tag for private use as a whole was found
+-- a private use tag was found
 abbrev pub is_private_use : Finding → Bool
 is_private_use (Normal ends) = false
 is_private_use PrivateUse = true

@@ -1,10 +1,10 @@
 -- The grandfathered tags (RFC 5646 section 2.2.8), in the order in which section 2.1 lists them: first the irregular
--- ones, which no rule but their own admits, then the regular ones.
+-- tags, which fit no other rule of the grammar, and then the regular tags.
 use Rattle.std.specs.Prelude.{ℕ, List, [], ◌∷◌, map, codes, Option, Some, None}
 use Rattle.std.specs.List.{filter}
 use Rattle.std.specs.Option.{is_none}
 
--- the registered spelling, and the primary language subtag of a regular one
+-- a grandfathered tag: its registered spelling, and its primary language subtag if it is regular
 pub record Grandfathered : Type 0 where
   pub text : List ℕ
   pub language : Option (List ℕ)
@@ -45,6 +45,6 @@ grandfathered_tags =
     ∷ regular_tag (codes "zh-xiang") (codes "zh")
     ∷ []
 
--- the registered spellings of the irregular ones, which have no language
+-- the registered spellings of the irregular tags, which are the tags of the table without a primary language subtag
 unfoldable pub irregular_texts : List (List ℕ)
 irregular_texts = map (λ tag. tag.text) (filter (λ tag. is_none tag.language) grandfathered_tags)

@@ -1,10 +1,10 @@
--- Which irregular texts (RFC 5646 section 2.2.8) a text may still become.
--- Only contracts of private functions cite this page.
+-- Which irregular tags (RFC 5646 section 2.2.8) begin with the bytes that were read. Only contracts of private
+-- functions cite this page.
 use Rattle.std.specs.Prelude.{ℕ, ◌==◌, ◌&&◌, nat_lt, Bool, true, false, List, [], ◌∷◌, length, map, slice_index, slice_index_or}
 use Rattle.langtag_scan.specs.Case.{fold_text}
 use Rattle.langtag_scan.specs.Grandfathered.{irregular_texts}
 
--- the registered texts, folded
+-- the registered spellings in lowercase
 unfoldable pub folded_texts : List (List ℕ)
 folded_texts = map fold_text irregular_texts
 
@@ -21,6 +21,6 @@ is_prefix (b ∷ p) (c ∷ text) = (b == c) && is_prefix p text
 abbrev pub has_at : List ℕ → ℕ → ℕ → Bool
 has_at text index b = nat_lt index (length text) && (slice_index text index == b)
 
--- whether a text that equals the irregular one at an index of the table, ignoring case, may begin with a prefix
+-- whether the irregular tag at an index of the table begins with a prefix, ignoring case
 abbrev pub is_possible : List ℕ → ℕ → Bool
 is_possible p k = is_prefix (fold_text p) (folded_at k)

@@ -1,5 +1,5 @@
--- What is known of the bytes of a subtag, as far as its class depends on them (RFC 5646 section 2.1).
--- Only contracts of private functions cite this page.
+-- What the recogniser remembers about the bytes of a subtag: only what the class of the subtag depends on (RFC 5646
+-- section 2.1). Only contracts of private functions cite this page.
 use Rattle.std.specs.Prelude.{ℕ, ◌==◌, ◌&&◌, ◌||◌, not, nat_le, Bool, true, false, List, fold, if◌then◌else◌}
 use Rattle.langtag_scan.specs.Class.{is_letter, is_mark}
 use Rattle.langtag_scan.specs.Stage.{Classes}
@@ -28,7 +28,7 @@ with_digit Digits = Digits
 with_digit LetterFirst = LetterFirst
 with_digit DigitFirst = DigitFirst
 
--- of one letter or digit more
+-- the kind of a subtag after one more letter or digit
 abbrev pub kind_after : Kind → ℕ → Kind
 kind_after kind b = if is_letter b then with_letter kind b else with_digit kind
 
@@ -67,7 +67,7 @@ is_kind_of_mark Digits = false
 is_kind_of_mark LetterFirst = false
 is_kind_of_mark DigitFirst = false
 
--- the classes of a subtag of this kind, of so many letters and digits, eight at most
+-- the classes of a subtag of this kind that has `size` letters and digits, where `size` is at most eight
 abbrev pub classes_by : Kind → ℕ → Classes
 classes_by kind size = record {
   primary = nat_le 2 size && has_letters kind;

@@ -1,4 +1,4 @@
--- The record of a normal tag: its subtags by the parts of RFC 5646 section 2.1 that they stand in.
+-- The record of a normal tag: its subtags, sorted into the parts that RFC 5646 section 2.1 names.
 use Rattle.std.specs.Prelude.{◌≡◌, ℕ, ◌≤◌, ◌⊎◌, IsTrue, List, [], ◌∷◌, ◌++◌, length, Option, Some, None, IfSome}
 use Rattle.std.specs.List.{AllByRecursion, flat_map}
 use Rattle.langtag_scan.specs.Class.{is_primary, is_extended, is_script, is_region, is_variant, is_extension_subtag, is_private_subtag, is_mark, is_singleton}
@@ -14,7 +14,7 @@ pub record PrivateUse : Type 0 where
   pub mark : ℕ
   pub subtags : List (List ℕ)
 
--- langtag: the members of a normal tag, in the order in which they are written
+-- langtag: the parts of a normal tag, in the order in which they are written
 pub record Record : Type 0 where
   pub primary : List ℕ
   pub extended : List (List ℕ)
@@ -36,8 +36,8 @@ pub record IsWellFormedPrivateUse (p : PrivateUse) : Type 0 where
   pub some : 1 ≤ length p.subtags
   pub subtags : AllByRecursion (λ s. IsTrue (is_private_subtag s)) p.subtags
 
--- each member is of its class; there are at most three extended subtags, and none unless the primary subtag
--- has at most three letters
+-- each subtag has the class that its part requires; there are at most three extended subtags, and none if the primary
+-- subtag has four letters or more
 pub record IsWellFormed (r : Record) : Type 0 where
   pub primary : IsTrue (is_primary r.primary)
   pub extended : AllByRecursion (λ s. IsTrue (is_extended s)) r.extended
@@ -79,7 +79,7 @@ spell r = join (flat r)
 abbrev pub Spells : Record → List ℕ → Type 0
 Spells r text = IsWellFormed r × (spell r ≡ text)
 
--- P holds of each record that spells the text: there is at most one, and none of a text that is not a normal tag, of which
--- this says nothing
+-- P holds for each record that spells the text. A normal tag has exactly one record; for any other text there is no
+-- record, and the statement is trivially true
 abbrev pub EachRecord : List ℕ → (Record → Type 0) → Type 0
 EachRecord text P = (r : Record) → Spells r text → P r

@@ -1,10 +1,10 @@
--- The numbers of the states, by the positions that they stand for. Written by scan/generate.py. Do not edit.
+-- The number of the state for each position of the recogniser. Written by scan/generate.py. Do not edit.
 -- Only contracts of private functions cite this page.
 use Rattle.std.specs.Prelude.{ℕ, List, [], ◌∷◌, slice_index_or}
 use Rattle.langtag_scan.specs.Stage.{Stage, Start, Language, Extended, AfterScript, AfterRegion, AfterVariant, AfterSingleton, InExtension, AfterMark, InPrivate, AfterFirstMark, InPrivateTag}
 use Rattle.langtag_scan.specs.Kind.{Kind, Empty, Mark, Letters, Digits, LetterFirst, DigitFirst}
 
--- while a subtag of a kind is read after a stage, by how many bytes it has; no irregular text is possible
+-- the states while a subtag of this kind is read after this stage, one state for each number of bytes, if no irregular tag is possible
 unfoldable pub states_of : Stage → Kind → List ℕ
 states_of Start Empty = []
 states_of Start Mark = 164 ∷ 5 ∷ []
@@ -79,7 +79,7 @@ states_of InPrivateTag Digits = 164 ∷ 26 ∷ 45 ∷ 70 ∷ 89 ∷ 109 ∷ 128 
 states_of InPrivateTag LetterFirst = 164 ∷ 164 ∷ 45 ∷ 70 ∷ 89 ∷ 109 ∷ 128 ∷ 144 ∷ 151 ∷ []
 states_of InPrivateTag DigitFirst = 164 ∷ 164 ∷ 45 ∷ 70 ∷ 89 ∷ 109 ∷ 128 ∷ 144 ∷ 151 ∷ []
 
--- along each irregular text, in the order of the table: before its first byte, and after each
+-- the states along each irregular tag, in the order of the table: one before its first byte, and one after each byte
 unfoldable pub states_along : List (List ℕ)
 states_along =
     (0 ∷ 2 ∷ 7 ∷ 13 ∷ 31 ∷ 54 ∷ 81 ∷ 101 ∷ 120 ∷ 137 ∷ [])

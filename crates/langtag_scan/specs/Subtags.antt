@@ -6,20 +6,21 @@ use Rattle.std.specs.Borrow.{Bor}
 abbrev pub is_hyphen : ℕ → Bool
 is_hyphen b = b == 45
 
--- the subtags in order, with one hyphen between neighbours
+-- the subtags in order, with a hyphen between each two
 abbrev pub join : List (List ℕ) → List ℕ
 join subtags = join_with_byte 45 subtags
 
--- what stands between the hyphens of a text: one segment more than there are hyphens
+-- the segments of a text, which are the texts that its hyphens separate; there is one more segment than there are
+-- hyphens
 abbrev pub segments : List ℕ → List (List ℕ)
 segments text = slice_split is_hyphen text
 
--- the list of subtags whose join is the text; of the empty text it is the empty list
+-- the subtags of a text, which are its segments; the empty text has none
 abbrev pub subtags : List ℕ → List (List ℕ)
 subtags [] = []
 subtags (b ∷ text) = segments (b ∷ text)
 
--- the segments of what is left of a text: none where nothing is left
+-- the segments of the rest of a text, or the empty list if no rest is left
 abbrev pub segments_left : Option (Bor (List ℕ)) → List (List ℕ)
 segments_left None = []
 segments_left (Some text) = segments text.now

@@ -1,5 +1,5 @@
--- What a state of the tables knows of the bytes that were read.
--- Only contracts of private functions cite this page.
+-- What the number of a state in the tables says about the bytes that were read. Only contracts of private functions
+-- cite this page.
 use Rattle.std.specs.Prelude.{◌≡◌, ℕ, ◌<◌, ◌==◌, ◌||◌, not, ⊤, Bool, true, List, [], length, slice_index, slice_index_or}
 use Rattle.std.specs.Option.{option_map_or, is_some}
 use Rattle.langtag_scan.specs.Position.{Begun, Position, position_of, possible_index}
@@ -8,31 +8,31 @@ use Rattle.langtag_scan.specs.declared.state.Ending.{Ending}
 use Rattle.langtag_scan.specs.declared.state.Ending.TheVariants.{Normal}
 use Rattle.langtag_scan.specs.declared.states.TheConstants as table
 
--- the state after one byte of a class
+-- the state after one more byte, which has this class
 abbrev pub next_number : ℕ → ℕ → ℕ
 next_number class number = slice_index (slice_index_or table.NEXT.now class []) number
 
--- the number of the state that stands for a subtag that has begun: that of no state for one that is no part of a tag
+-- the number of the state for the subtag that is being read, or `NONE` if no such subtag may follow the stage
 abbrev pub begun_number : Begun → ℕ
 begun_number s = slice_index_or (states_of s.stage s.kind) s.size table.NONE
 
--- that of the bytes with which an irregular text begins
+-- the number of the state for the bytes with which an irregular tag begins
 abbrev pub irregular_number : List ℕ → ℕ
 irregular_number p = option_map_or (λ k. slice_index (slice_index_or states_along k []) (length p)) (possible_index p) table.NONE
 
 abbrev pub state_of : Position → ℕ
 state_of p = option_map_or irregular_number p.irregular (option_map_or begun_number p.begun table.NONE)
 
--- some bytes lead to this position
+-- whether some bytes lead to this position
 abbrev pub is_reached : Position → Bool
 is_reached p = is_some p.irregular || option_map_or (λ s. not (begun_number s == table.NONE)) p.begun true
 
--- the last part of a normal tag has a place among the ends
+-- the index of the last part of a normal tag is one of the six indices in `Ends`
 abbrev pub IsPlace : Ending → Type 0
 IsPlace (Normal place) = place < 6
 IsPlace _ = ⊤
 
--- the state with this number is that of the position after these bytes
+-- `number` is the number of the state for the position after the bytes q
 pub record Stands (q : List ℕ) (number : ℕ) : Type 0 where
   pub reached : is_reached (position_of q) ≡ true
   pub is : number ≡ state_of (position_of q)

@@ -1,4 +1,4 @@
--- Which prefixes of a text some tag begins with.
+-- Which prefixes of a text are viable, which means that some tag begins with them.
 use Rattle.std.specs.Prelude.{◌≡◌, ℕ, ◌-◌, ◌<◌, ◌≤◌, ◌⊎◌, List, ◌++◌, length, take, replicate, slice_get, Some}
 use Rattle.std.specs.List.{after_last}
 use Rattle.langtag_scan.specs.Subtags.{is_hyphen}
@@ -10,13 +10,13 @@ use Rattle.langtag_scan.specs.Tag.{IsTag}
 unfoldable pub IsViable : List ℕ → Type 0
 IsViable p = (u : List ℕ) × IsTag (p ++ u)
 
--- n is the length of the shortest prefix that is not viable, or the length of the text where all prefixes are
+-- n is the length of the shortest prefix that is not viable, or the length of the text if all its prefixes are viable
 pub record IsStop (t : List ℕ) (n : ℕ) : Type 0 where
   pub within : n ≤ length t
   pub before : (k : ℕ) → k < n → IsViable (take k t)
   pub at : (IsViable (take n t) × (n ≡ length t)) ⊎ (IsViable (take n t) → ⊥)
 
--- each prefix up to this length is viable, and no longer one is
+-- each prefix of at most this length is viable, and no longer prefix is
 pub record IsViableLength (t : List ℕ) (n : ℕ) : Type 0 where
   pub within : n ≤ length t
   pub viable : (k : ℕ) → k ≤ n → IsViable (take k t)
@@ -26,10 +26,11 @@ pub record IsViableLength (t : List ℕ) (n : ℕ) : Type 0 where
 abbrev pub filling : List ℕ → List ℕ
 filling s = replicate (5 - length s) 97
 
--- the text with its last subtag padded: a text begins a tag exactly if, so padded, it is one, or begins an irregular one
+-- the text with its last subtag padded. A text is viable exactly if the padded text is a tag, or the text itself is a
+-- prefix of an irregular tag
 abbrev pub fill : List ℕ → List ℕ
 fill p = p ++ filling (after_last is_hyphen p)
 
--- the text equals a prefix of an irregular one, ignoring case
+-- the text equals a prefix of an irregular tag, ignoring case
 unfoldable pub IsIrregularPrefix : List ℕ → Type 0
 IsIrregularPrefix p = (index : ℕ) × (name : List ℕ) × (slice_get irregular_texts index ≡ Some name) × Alike p (take (length p) name)

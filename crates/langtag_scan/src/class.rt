@@ -1,4 +1,5 @@
-//! The classes of subtags (RFC 5646 section 2.1), over any bytes. Letters and digits are those of ASCII.
+//! Tests for the classes of subtags (RFC 5646 section 2.1), which accept any bytes. Letters and digits are ASCII
+//! letters and ASCII digits.
 ghost use Rattle.std.specs.Prelude.{◌≡◌};
 ghost use Rattle.langtag_scan.specs.Class as class;
 
@@ -22,7 +23,7 @@ pub(crate) fn is_alphanumeric(byte: u8) -> bool
     is_letter(byte) || is_digit(byte)
 }
 
-/// Returns whether each byte is an ASCII letter. It is `true` for no bytes.
+/// Returns whether each byte is an ASCII letter. For an empty slice, it returns `true`.
 ///
 /// `are_letters(b"zh")` is `true`, and `are_letters(b"z4")` is `false`.
 pub fn are_letters(bytes: &[u8]) -> bool
@@ -114,8 +115,8 @@ pub fn is_region(bytes: &[u8]) -> bool
     (bytes.len() == 2 && are_letters(bytes)) || (bytes.len() == 3 && are_digits(bytes))
 }
 
-/// Returns whether the bytes are a variant subtag (section 2.2.5): five to eight letters and digits, or four of which
-/// the first is a digit.
+/// Returns whether the bytes are a variant subtag (section 2.2.5): five to eight letters and digits, or a digit
+/// followed by three letters or digits.
 ///
 /// ```
 /// use langtag_scan::is_variant;

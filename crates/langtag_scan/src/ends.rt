@@ -2,10 +2,10 @@
 ghost use Rattle.std.specs.Prelude.{◌≡◌};
 
 /// The end of each part of a normal tag (RFC 5646 section 2.1). Each is an offset in bytes from the start of the text,
-/// just after the part. If a part is absent, its end is that of the part before.
+/// just after the part. An absent part ends where the previous part ends.
 ///
-/// The language begins at 0. Any other part begins after the hyphen that follows the part before. In `en-Latn-x-a` the
-/// ends are 2, 7, 7, 7, 7 and 11, in the order of the fields.
+/// The language begins at 0. Every other part begins just after the hyphen that follows the previous part. In
+/// `en-Latn-x-a` the ends are 2, 7, 7, 7, 7 and 11, in the order of the fields.
 ///
 /// ```
 /// use langtag_scan::{Metered, recognise};
@@ -29,10 +29,11 @@ pub struct Ends {
     pub whole: usize,
 }
 
-/// Where each part of a tag has ended so far, in the order of [`Ends`]: 0 if it has not.
+/// Where each part of a tag has ended so far, in the order of [`Ends`], or 0 if it has not ended.
 #[derive(Drop)]
 pub(crate) struct Marks {
-    /// The last place takes what is no end, and that of private use, so that each byte sets one, without a test.
+    /// The end of each part, or 0. Every byte that is read sets one element, so the loop need not test whether the byte
+    /// ended a part. The last element, which is never read, is set by the bytes that end no part.
     places: [usize; 6],
 }
 
@@ -40,7 +41,7 @@ impl Marks {
     ghost use Rattle.std.specs.Prelude.{replicate, set, ◌<◌};
     ghost use Rattle.langtag_scan.specs.Machine.{ends_at};
 
-    /// Before the first byte.
+    /// Returns the marks before the first byte, when no part has ended.
     #[inline(always)]
     pub(crate) fn new() -> Self
         ensures { result.places ≡ replicate 6 0 }
@@ -57,7 +58,7 @@ impl Marks {
         self.places[part] = index;
     }
 
-    /// The ends in a text of this length. That of an absent part is the end of the part before.
+    /// Returns the ends in a text of this length. An absent part ends where the previous part ends.
     #[inline(always)]
     pub(crate) fn ends(&self, len: usize) -> Ends
         ensures { result ≡ ends_at self.now.places len }

@@ -1,7 +1,7 @@
-//! What is found of a tag, case by case.
+//! What a recogniser finds out about a tag, as an enum with a case for each kind.
 use crate::ends::Ends;
 
-/// One of the three kinds of tags (RFC 5646 section 2.1), with what is known of one of that kind.
+/// The kind of a tag (RFC 5646 section 2.1), with what a recogniser finds out about tags of that kind.
 #[derive(Clone, Copy)]
 pub(crate) enum Finding {
     /// A normal tag, with the ends of its parts.

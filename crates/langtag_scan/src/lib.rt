@@ -1,5 +1,5 @@
-//! Language tags over bytes (RFC 5646 section 2.1): comparison without case, the kinds of subtags, and the parser,
-//! which decides whether bytes are a tag.
+//! Language tags as bytes (RFC 5646 section 2.1): comparison ignoring case, tests for the classes of subtags, and the
+//! parser, which decides whether bytes are a tag.
 //!
 //! ```
 //! use langtag_scan::{ByteSource, Metered, recognise, viable_len};

@@ -16,7 +16,7 @@ use crate::source::ByteSource;
 #[derive(Drop)]
 pub struct Metered<'a> {
     bytes: &'a [u8],
-    /// What is read after the bytes: two more at most.
+    /// At most two bytes, which follow `bytes`.
     end: &'static [u8],
     reads: u128,
     reach: usize,
@@ -24,7 +24,7 @@ pub struct Metered<'a> {
 }
 
 impl<'a> Metered<'a> {
-    /// Returns the bytes of a text, with no reads yet.
+    /// Returns a source over the bytes of a text, with no reads yet.
     ///
     /// ```
     /// use langtag_scan::{ByteSource, Metered};
@@ -54,7 +54,7 @@ impl<'a> Metered<'a> {
         Metered::followed(bytes, b"")
     }
 
-    /// The bytes, and what is read after them.
+    /// Returns a source over `bytes` followed by `end`, with no reads yet.
     pub(crate) fn followed(bytes: &'a [u8], end: &'static [u8]) -> Self
         requires { length end.now ≤ 2 }
         ensures bytes { ⟦<Metered<'a> as ByteSource>⟧.bytes result ≡ bytes.now ++ end.now }

@@ -1,4 +1,4 @@
-//! The recognisers: one pass over a source of bytes.
+//! The recognisers, which read a source of bytes in one pass.
 ghost use Rattle.std.specs.Prelude.{◌≡◌, ◌↔◌, ◌⊎◌, ℕ, ◌≤◌, ◌+◌, ◌^◌, max, List, IsTrue, MatchOption};
 ghost use Rattle.langtag_scan.specs.Record.{Record, IsWellFormed, spell};
 ghost use Rattle.langtag_scan.specs.Tag.{IsNormal, IsPrivate, IsIrregularAt, IsIrregular, IsTag};
@@ -14,9 +14,9 @@ use crate::state::{Ending, State};
 /// Decides whether the bytes of a source are a tag (RFC 5646 section 2.1), and of which kind. Returns `None` if they
 /// are not a tag.
 ///
-/// It reads each byte once, in order, and stops after the first byte with which no tag can go on:
-/// `recognise(&mut Metered::new("i-notexist"))` is `None` after four reads. It does not allocate. It is proved that it
-/// accepts exactly the tags.
+/// It reads each byte once, in order, and stops after the first byte that makes a tag impossible: `recognise(&mut
+/// Metered::new("i-notexist"))` is `None` after four reads. It does not allocate. It is proved that it accepts
+/// exactly the tags.
 ///
 /// ```
 /// use langtag_scan::{Metered, recognise};
@@ -33,13 +33,28 @@ pub fn recognise<S: ByteSource>(source: &mut S) -> Option<Found>
     ensures reads { (n : ℕ) × IsStop (S.bytes source.old) n ×
         (S.reads source.new ≡ S.reads source.old + n) × (S.reach source.new ≡ max (S.reach source.old) n) }
 
-    // Laws of these words: a text has one kind, one index and one stop, and a prefix, filled, shows whether it begins a tag.
+    // Laws of the definitions. A tag has only one kind, an irregular tag only one index, and a text only one length at
+    // which the recogniser stops. A text is viable exactly if the padded text is a tag or the text is a prefix of an
+    // irregular tag.
     ensures normal_not_private { (t : List ℕ) → IsNormal t → IsPrivate t → ⊥ }
     ensures normal_not_irregular { (t : List ℕ) → IsNormal t → IsIrregular t → ⊥ }
     ensures private_not_irregular { (t : List ℕ) → IsPrivate t → IsIrregular t → ⊥ }
     ensures one_index { (j k : ℕ) (t : List ℕ) → IsIrregularAt j t → IsIrregularAt k t → j ≡ k }
     ensures one_stop { (t : List ℕ) (n m : ℕ) → IsStop t n → IsStop t m → n ≡ m }
     ensures viable { (p : List ℕ) → IsViable p ↔ (IsTag (fill p) ⊎ IsIrregularPrefix p) }
+{
+    read(source)
+}
+
+/// Does the work of [`recognise`]. Only `recognise` states the laws, since each law of a function has to be proved at
+/// each of its returns.
+#[inline(always)]
+fn read<S: ByteSource>(source: &mut S) -> Option<Found>
+    requires { S.reads source.old ≤ 2 ^ 126 }
+    ensures found { MatchOption result (IsTag (S.bytes source.old) → ⊥) (λ found. IsFoundOf (S.bytes source.old) (finding found)) }
+    ensures bytes { S.bytes source.new ≡ S.bytes source.old }
+    ensures reads { (n : ℕ) × IsStop (S.bytes source.old) n ×
+        (S.reads source.new ≡ S.reads source.old + n) × (S.reach source.new ≡ max (S.reach source.old) n) }
 {
     let len = source.len();
     let mut state = State::start();
@@ -81,7 +96,7 @@ pub fn recognise_normal<S: ByteSource>(source: &mut S) -> Option<Found>
     ensures reads { (n : ℕ) × IsStop (S.bytes source.old) n ×
         (S.reads source.new ≡ S.reads source.old + n) × (S.reach source.new ≡ max (S.reach source.old) n) }
 
-    // A law of these words: a text has one record.
+    // A law of the definitions: a text has at most one record.
     ensures one_record { (r q : Record) → IsWellFormed r → IsWellFormed q → spell r ≡ spell q → r ≡ q }
 {
     recognise(source).filter(|found| found.is_normal())

@@ -1,8 +1,9 @@
-//! A text taken apart at the first byte of a kind.
+//! Splitting a text at the first byte of a given value.
 ghost use Rattle.std.specs.Prelude.{◌≡◌, ◌==◌, ◌||◌, ◌+◌, ◌<◌, ◌≤◌, IfSome, drop, length, take, unwrap_or};
 ghost use Rattle.std.specs.List.{after_first, before_first, position, position_or_len};
 
-/// Returns the text before the first `mark` and the text after it, or the whole text and nothing if there is no `mark`.
+/// Returns the text before the first `mark` and the text after it. If there is no `mark`, returns the whole text and an
+/// empty text.
 ///
 /// `split_at_byte(b"fr;q=1", b';')` is `(b"fr", b"q=1")`.
 #[tactic(auto, using(crate::proofs::Places::first_or_length))]
@@ -13,8 +14,8 @@ pub fn split_at_byte(text: &[u8], mark: u8) -> (&[u8], &[u8])
     split_at(text, first_place(text, mark))
 }
 
-/// Returns the text before and after the first of two bytes: `split_at_either(b"zh_TW", b'-', b'_')` is
-/// `(b"zh", b"TW")`.
+/// Returns the text before and after the first byte that is `mark` or `other`: `split_at_either(b"zh_TW", b'-',
+/// b'_')` is `(b"zh", b"TW")`.
 #[tactic(auto, using(crate::proofs::Places::first_or_length))]
 pub fn split_at_either(text: &[u8], mark: u8, other: u8) -> (&[u8], &[u8])
     ensures before { result.0.now ≡ before_first (λ b. b == mark || b == other) text.now }
@@ -46,7 +47,8 @@ fn first_of_either(text: &[u8], mark: u8, other: u8) -> Option<usize>
     text.iter().position(|byte| *byte == mark || *byte == other)
 }
 
-/// Takes a text apart at an index, and leaves out the byte there; nothing is after it where there is no index.
+/// Returns the text before an index, and the text after the byte at that index. If the index is `None`, returns the
+/// whole text and an empty text.
 fn split_at(text: &[u8], index: Option<usize>) -> (&[u8], &[u8])
     requires { IfSome index (λ i. i < length text.now) }
     ensures before { result.0.now ≡ take (unwrap_or index (length text.now)) text.now }

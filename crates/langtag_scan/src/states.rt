@@ -3,10 +3,10 @@
 /// The state before the first byte.
 pub(crate) const START: usize = 0;
 
-/// The number of no state: no tag begins so. The numbers of states are smaller.
+/// The number that means that no tag begins with the bytes. All states have smaller numbers.
 pub(crate) const NONE: usize = 164;
 
-/// The class of each byte: a letter has its place in the alphabet, a digit 26, the hyphen 27, and a byte that no tag has 28.
+/// The class of each byte: 0 to 25 for the letters, 26 for a digit, 27 for the hyphen, and 28 for a byte that no tag contains.
 #[rattlefmt::skip]
 pub(crate) const CLASSES: &[u8; 256] = &[
     28, 28, 28, 28, 28, 28, 28, 28, 28, 28, 28, 28, 28, 28, 28, 28, 28, 28, 28, 28, 28, 28, 28, 28, 28, 28, 28, 28, 28,
@@ -20,7 +20,7 @@ pub(crate) const CLASSES: &[u8; 256] = &[
     28, 28, 28, 28, 28, 28, 28, 28, 28, 28, 28, 28, 28, 28, 28, 28, 28, 28, 28, 28,
 ];
 
-/// The state after one byte more, by its class and the state before it, or 164 if no tag begins so.
+/// The state after one more byte, indexed by the class of the byte and then by the state before it, or 164 if no tag begins with the bytes.
 #[rattlefmt::skip]
 pub(crate) const NEXT: &[[u8; 164]; 29] = &[
     [
@@ -287,7 +287,7 @@ pub(crate) const NEXT: &[[u8; 164]; 29] = &[
     ],
 ];
 
-/// The place of the part that has ended before the hyphen that led to a state, in the order of the ends, or 5 if none has.
+/// The index, in the order of `Ends`, of the part that ended before the hyphen that led to a state, or 5 if no part ended there.
 #[rattlefmt::skip]
 pub(crate) const PARTS: &[u8; 164] = &[
     5, 5, 5, 5, 5, 5, 5, 5, 5, 5, 5, 5, 0, 0, 5, 5, 5, 5, 5, 5, 5, 5, 5, 5, 5, 5, 5, 5, 5, 5, 5, 5, 5, 5, 5, 5, 5, 5, 5,
@@ -297,7 +297,7 @@ pub(crate) const PARTS: &[u8; 164] = &[
     5, 5, 5, 5, 5, 5, 5, 5,
 ];
 
-/// What a text is that ends in a state: a normal tag, by the place of its last part, 6 no tag, 7 a tag for private use, and from 8 on an irregular one.
+/// What a text is if it ends in a state. The numbers 0 to 5 mean a normal tag, and are the index of its last part in the order of `Ends`. 6 means no tag, 7 means a private use tag, and 8 or more an irregular tag.
 #[rattlefmt::skip]
 pub(crate) const KINDS: &[u8; 164] = &[
     6, 6, 6, 6, 6, 6, 0, 0, 6, 0, 6, 0, 6, 6, 6, 6, 6, 6, 6, 6, 6, 6, 6, 6, 6, 0, 7, 0, 6, 6, 6, 6, 6, 6, 6, 6, 6, 6, 6,

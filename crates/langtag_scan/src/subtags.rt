@@ -1,4 +1,4 @@
-//! The walk over the subtags of a text (RFC 5646 section 2.1), from both ends and without a copy.
+//! An iterator over the subtags of a text (RFC 5646 section 2.1), which works from both ends and copies nothing.
 ghost use Rattle.std.specs.Prelude.{◌≡◌, ◌++◌, ◌∷◌, List, ℕ, [], Some, All, MatchOption, ⊤};
 ghost use Rattle.std.specs.Iterator.{YieldsFirstRef, YieldsLastRef, item_count};
 ghost use Rattle.langtag_scan.specs.Subtags.{join, subtags, segments_left, IsHyphenFree};
@@ -7,10 +7,10 @@ use crate::segment::{segment_end, segment_start};
 use std::alloc::AllocError;
 use std::marker::Model;
 
-/// An iterator over the subtags of a text, from either end. Each is a slice of the text without hyphens.
+/// An iterator over the subtags of a text, from either end. Each subtag is a slice of the text, and contains no hyphen.
 ///
-/// A hyphen at an end of the text, and two hyphens in a row, give an empty subtag: `a--b-` has `a`, an empty subtag,
-/// `b` and another empty one.
+/// A hyphen at either end of the text gives an empty subtag, and so do two hyphens in a row: `a--b-` has `a`, an
+/// empty subtag, `b` and an empty subtag.
 ///
 /// ```
 /// use langtag::LangTag;
@@ -97,7 +97,8 @@ impl<'a> DoubleEndedIterator for Subtags<'a> {
     }
 }
 
-/// What stands before the first hyphen of a text, and what stands after it, where there is one.
+/// Returns the text before the first hyphen and the text after it. If there is no hyphen, returns the whole text and
+/// `None`.
 fn split_first<'a>(text: &'a str) -> (&'a str, Option<&'a str>)
     ensures hyphen_free { IsHyphenFree result.0.now }
     ensures joined { MatchOption result.1 (text.now ≡ result.0.now)
@@ -110,7 +111,8 @@ fn split_first<'a>(text: &'a str) -> (&'a str, Option<&'a str>)
     (&text[..end], Some(&text[end + 1..]))
 }
 
-/// What stands before the last hyphen of a text, where there is one, and what stands after it.
+/// Returns the text before the last hyphen and the text after it. If there is no hyphen, returns `None` and the whole
+/// text.
 fn split_last<'a>(text: &'a str) -> (Option<&'a str>, &'a str)
     ensures hyphen_free { IsHyphenFree result.1.now }
     ensures joined { MatchOption result.0 (text.now ≡ result.1.now)

@@ -1,13 +1,13 @@
 //! Answers each line of standard input: whether it is a language tag (RFC 5646), of which kind, and with which parts.
 //!
 //! A line ends at LF. A last line without LF is answered if it is not empty. CR is an ordinary byte. There are four
-//! answers, one for each form of a tag (section 2.1) and one for a line that is not a tag:
+//! answers, one for each kind of tag (section 2.1) and one for a line that is not a tag:
 //!
 //! - `normal language=L script=S region=R variants=V extensions=E private=P repeats=Q`, where an absent part is empty, and
 //!   Q is `yes` if a variant or a singleton occurs twice in the tag (section 2.2.9), and `no` otherwise;
 //! - `private` and the tag;
-//! - `irregular` and the tag as it is registered;
-//! - `refused`, also for a line that is not UTF-8.
+//! - `irregular` and the tag in its registered spelling;
+//! - `refused` for a line that is not a tag or not UTF-8.
 //!
 //! If a read, a write or an allocation fails, the program prints a message to standard error and exits with a status
 //! other than 0.

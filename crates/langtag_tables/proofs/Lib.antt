@@ -1,3 +1,2 @@
-pub mod AlikeTexts
 pub mod Letters
 pub mod Rising

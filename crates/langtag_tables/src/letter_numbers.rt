@@ -1,12 +1,13 @@
-//! The numbers of texts of letters.
+//! The number that stands for a text of two or three letters.
 ghost use Rattle.std.specs.Prelude.{◌≡◌, ◌≤◌, IsTrue, length};
 ghost use Rattle.langtag_scan.specs.Class as class;
 ghost use Rattle.langtag_tables.specs.Numbers.{letter, letter_number};
 
 use langtag_scan::into_smallcase;
 
-/// Returns the letters of a text as the digits of a number in base 26, in any case: 27 of `aa`, 31 of `ae` and `AE`, 18278 of
-/// `zzz`. The number tells texts of two and three letters apart, as languages (RFC 5646 section 2.2.1) mostly have.
+/// Returns the number whose digits in base 26 are the letters of a text, ignoring case: 27 for `aa`, 31 for `ae` and
+/// `AE`, 18278 for `zzz`. Texts of two or three letters have the same number only if they are equal, ignoring case.
+/// Most languages (RFC 5646 section 2.2.1) have two or three letters.
 ///
 /// The text has to be two or three ASCII letters.
 #[tactic(auto, using(crate::proofs::Letters::primary_length, crate::proofs::Letters::letter_at, crate::proofs::Letters::number_of_two, crate::proofs::Letters::number_of_three))]
@@ -24,7 +25,7 @@ pub fn letter_number(bytes: &[u8]) -> usize
     number * 26 + place(bytes[2])
 }
 
-/// Returns the place of a letter in the alphabet, from 1 on.
+/// Returns the position of a letter in the alphabet, which is 1 for `a`.
 #[tactic(auto, using(crate::proofs::Letters::letter_place))]
 fn place(byte: u8) -> usize
     requires { IsTrue (class.is_letter byte) }

@@ -1,5 +1,6 @@
-//! What tables of subtags rest on: the numbers by which they know texts of letters, as 31 for `ae`. Its definitions and proofs are
-//! about lists of numbers that rise, in which such a number is searched, and about the words of the lists that tables are made of.
+//! The base of the tables of subtags: numbers that stand for texts of letters, such as 31 for `ae`. The definitions and
+//! proofs cover rising lists of numbers, which are searched for such a number, and texts of data, which are split into
+//! words.
 #![tactic(auto)]
 
 mod letter_numbers;

@@ -1,4 +1,4 @@
-//! Parts put into a tag, or taken out of it.
+//! Setting and removing parts of a tag.
 use crate::support::{are_answered, cut};
 use langtag::{
     EditError, Extensions, LangTagBuf, Language, NormalLangTag, NormalLangTagBuf, PrivateUse,
@@ -70,8 +70,8 @@ impl<'a> Part<'a> {
     }
 }
 
-/// Returns the tag after a part is set. The question is `TAG|PART|TEXT`. A normal tag must give the same result, and
-/// has no spare capacity if it grew. If an allocation fails, the tag must be unchanged.
+/// Returns the tag after a part is set. The question is `TAG|PART|TEXT`. The setter of a normal tag must give the
+/// same result, and leave no spare capacity if the tag grew. If an allocation fails, the tag must be unchanged.
 fn edited(alloc: Global, question: &str) -> Result<String, AllocError> {
     let (text, part) = cut(question);
     let (name, given) = cut(part);
@@ -97,7 +97,7 @@ fn edited(alloc: Global, question: &str) -> Result<String, AllocError> {
     Ok(edited)
 }
 
-/// Returns an error if a tag is unchanged, so that the question is asked again.
+/// Returns an error if a tag is unchanged, so that the test repeats the call.
 fn unchanged(alloc: Global, text: &str, was: &str) -> Result<String, AllocError> {
     if text == was {
         return Err(AllocError);

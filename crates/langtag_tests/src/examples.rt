@@ -1,4 +1,4 @@
-//! The worked examples as their callers use them. The tests show what no clause says.
+//! Tests that call the worked examples, and show properties that no contract states.
 use crate::support::{are_answered, cut};
 use langtag::{GrandfatheredLangTag, LangTag, LangTagBuf, NormalLangTag, Script, ScriptBuf};
 use langtag_examples::{
@@ -77,7 +77,7 @@ const MOVES: &[(&str, &str)] = &[
 ];
 
 /// Counts 150 tags, each two bytes longer than the tag before it. Returns the first tag whose count is not found, or
-/// `all`.
+/// `all` if all counts are found.
 fn counted(alloc: Global, start: &str) -> Result<String, AllocError> {
     let mut counts = Counts::new(alloc);
     let mut text = String::from_str(alloc, start)?;
@@ -97,8 +97,8 @@ fn counted(alloc: Global, start: &str) -> Result<String, AllocError> {
 const COUNTS: &[(&str, &str)] = &[("x", "all"), ("x-aa", "all")];
 
 /// Sets the script of a tag to Latin, puts a text for that tag into a catalogue, and sets the old script back. Returns
-/// the start of the tag in Latin, and whether the old script gives the old tag. Then it returns the text that the
-/// catalogue finds, and whether the tag is unchanged. The piece after `+` is repeated 100 times.
+/// the start of the tag in Latin, and whether setting the old script gives the old tag. Then it returns the text that
+/// the catalogue finds, and whether the tag is unchanged. The piece after `+` is repeated 100 times.
 fn in_latin(alloc: Global, question: &str) -> Result<String, AllocError> {
     let (start, piece) = question.split_once('+').unwrap_or((question, ""));
     let mut text = String::from_str(alloc, start)?;

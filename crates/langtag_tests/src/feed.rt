@@ -22,7 +22,7 @@ impl<'a> Text<'a> {
         }
     }
 
-    /// Returns the next bytes, at most this many. They are empty only at the end.
+    /// Returns at most `most` of the next bytes. They are empty only at the end.
     pub(crate) fn next_bytes(&mut self, most: usize) -> &'a [u8] {
         if self.rest.is_empty() {
             if self.rounds > 0 {
@@ -40,8 +40,8 @@ impl<'a> Text<'a> {
     }
 }
 
-/// Gives a text, at most `step` bytes a read, and may fail at one read. It also records whether a line was unanswered
-/// at a read, which must not happen.
+/// A reader that returns a text, at most `step` bytes for each read, and may fail at one read. It also records
+/// whether the answer to a complete line was missing when a read began, which must not happen.
 #[derive(Clone, Copy)]
 pub(crate) struct Feed<'a> {
     text: Text<'a>,
@@ -51,7 +51,7 @@ pub(crate) struct Feed<'a> {
     pub(crate) reads: u64,
     /// The number of reads that returned 0.
     pub(crate) ends: u64,
-    /// Whether an answer was owed at a read.
+    /// Whether the answer to a complete line was missing when a read began.
     pub(crate) is_late: bool,
 }
 

@@ -1,4 +1,4 @@
-//! Calls that return a new tag or read a header. Each succeeds if there is memory.
+//! Calls that return a new tag or read a header. Each call succeeds if no allocation fails.
 use crate::support::{are_answered, cut};
 use langtag::{GrandfatheredLangTag, LangTag, NormalLangTagBuf};
 use langtag_likely::{PosixError, from_posix, maximized, minimized};
@@ -6,7 +6,7 @@ use langtag_match::{AcceptLanguage, AcceptLanguageError, tag_for_header};
 use langtag_registry::{canonical, extlang_form};
 use std::alloc::{AllocError, Global};
 
-/// Returns the answer of a call: `CALL|TEXT`.
+/// Returns the answer to a question of the form `CALL|TEXT`.
 fn told(alloc: Global, question: &str) -> Result<String, AllocError> {
     let (call, text) = cut(question);
     match call {
@@ -45,7 +45,7 @@ fn of_normal(alloc: Global, call: &str, tag: LangTag<'_>) -> Result<String, Allo
     Ok(form.into_string())
 }
 
-/// Returns the tag of a POSIX locale's name.
+/// Returns the tag for a POSIX locale name.
 fn posix(alloc: Global, name: &str) -> Result<String, AllocError> {
     match from_posix(alloc, name) {
         Ok(tag) => Ok(tag.into_string()),
@@ -54,7 +54,7 @@ fn posix(alloc: Global, name: &str) -> Result<String, AllocError> {
     }
 }
 
-/// Returns which of two tags a header asks for.
+/// Returns which of two tags is chosen for a header.
 fn header(alloc: Global, call: &str, header: &str) -> Result<String, AllocError> {
     let default = GrandfatheredLangTag::IDefault.as_lang_tag();
     let (Ok(english), Ok(german)) = (LangTag::new("en"), LangTag::new("de-CH")) else {

@@ -1,6 +1,6 @@
-//! Tests of what no clause says about the code that Rattle's compilers build. They show that a call succeeds if there
-//! is memory, how values are displayed, and how a run of the program ends. `rust/tests` tests everything else, on the
-//! Rust crate.
+//! Tests of the code that Rattle's compilers build, for properties that no contract states. They show that a call
+//! succeeds if no allocation fails, how values are displayed, and how a run of the program ends. `rust/tests` tests
+//! everything else, on the Rust crate.
 //!
 //! `.ci/refused` runs the tests and refuses each of their allocations in turn. A call whose allocation fails is made
 //! again.

@@ -10,8 +10,8 @@ use std::cell::Cell;
 use std::io::ErrorKind;
 use std::process::{Abort, ExitCode};
 
-/// The input and the expected output of a run. The input is a text, the most bytes of a read, and the read that fails.
-/// The output is the answers and the fault of the writer.
+/// The input and the expected output of a run. The input has a text, the greatest number of bytes for a read, and the
+/// number of the read that fails. The output has the answers and the fault of the writer.
 #[derive(Clone, Copy)]
 struct Given<'a> {
     text: Text<'a>,
@@ -60,8 +60,8 @@ impl Ended {
     }
 }
 
-/// Makes a run. If allocation fails, the output must consist of whole answers, and the run is made again. No answer may
-/// be owed at a read.
+/// Makes a run. If allocation fails, the output must consist of whole answers, and the run is made again. When a read
+/// begins, no answer to a complete line may be missing.
 fn ran(rt: &impl Abort, alloc: Global, given: Given<'_>) -> Ended {
     let (mut ended, mut are_whole) = run_once(rt, alloc, given);
     if ended.outcome == Err(ShowError::Memory) {
@@ -98,8 +98,9 @@ const THREE: &[u8] =
 
 const NO_READ: Option<(u64, ErrorKind)> = None;
 
-/// The text, the most bytes of a read, the read that fails, and the fault of the writer. Then come the answers, the
-/// outcome, and the numbers of reads, writes and flushes. A number that is `None` is not checked.
+/// The text, the greatest number of bytes for a read, the number of the read that fails, and the fault of the writer.
+/// Then come the answers, the outcome, and the numbers of reads, writes and flushes. A number that is `None` is not
+/// checked.
 type Run = (
     &'static [u8],
     &'static [usize],
@@ -112,9 +113,9 @@ type Run = (
     u64,
 );
 
-/// Runs on each kind of line, reads that fail, and writes and a flush that fail. They also show the number of writes:
-/// one for the lines of a read, and one more for a last line without LF. A read asks for 16,384 bytes. So 40,000 bytes
-/// take three reads, and one more read meets the end.
+/// Runs on each kind of line, reads that fail, and writes and a flush that fail. The expected results include the
+/// number of writes: one for the lines of a read, and one more for a last line without LF. A read returns at most
+/// 16,384 bytes. So 40,000 bytes take three reads, and one more read finds the end.
 const RUNS: &[Run] = &[
     (
         b"",
@@ -568,8 +569,8 @@ fn private_answer(alloc: Global, len: usize) -> Result<Vec<u8>, AllocError> {
     Ok(answer)
 }
 
-/// The length of a tag for private use, and the number of writes. The answers fill a page to its last byte, or pass its
-/// end: by the LF, by the text, or by a text that is longer than a page.
+/// The length of a tag for private use, and the number of writes. The answers fill a page to its last byte, or go
+/// over its end: by the LF, by the text, or by a text that is longer than a page.
 const PAGES: [(usize, u64); 4] = [(16_375, 1), (16_376, 2), (16_377, 2), (20_000, 3)];
 
 #[test]
@@ -605,7 +606,8 @@ const ANSWERS: &[u8] =
 
 const LONG_LINE: &[u8] = b"--------------------------------------------------\n";
 
-/// Lines and how often they are repeated, the most bytes of a read, and answers and how often they are repeated.
+/// Lines and how often they are repeated, the greatest number of bytes for a read, and answers and how often they are
+/// repeated.
 const MANY_LINES: &[(&[u8], u64, usize, &[u8], u64)] = &[
     (LINES, 1, 100, ANSWERS, 1),
     (LINES, 10, 2, ANSWERS, 10),
@@ -634,7 +636,7 @@ fn short_lines_are_gathered_one_by_one(rt: HostRuntime) {
     expect_true(&rt, ended.is(Ok(())), 1_500);
 }
 
-// A line that is wholly in one read needs no memory. .ci/refused refuses all memory for these lines.
+// A line that is wholly within one read needs no memory. .ci/refused refuses all memory for these lines.
 #[test]
 fn lines_within_a_read_without_memory(rt: HostRuntime) {
     for text in [b"fr\nx-a\n".as_slice(), b"fr\nx-a\n\n"] {
@@ -649,7 +651,8 @@ fn lines_within_a_read_without_memory(rt: HostRuntime) {
 
 const A: &[u8] = b"-a-a-a-a-a-a-a-a-a-a-a-a-a-a-a-a-a-a-a-a";
 
-/// The start of an input, and what follows it how often; then the start of the report, its repeated part and its end.
+/// An input: its start, a text, and how often that text follows. Then the report: its start, a text, how often that
+/// text follows, and its end.
 type Long<'a> = (&'a [u8], &'a [u8], u64, &'a [u8], &'a [u8], u64, &'a [u8]);
 
 const LONG_LINES: &[Long<'static>] = &[
@@ -667,8 +670,8 @@ const LONG_LINES: &[Long<'static>] = &[
     (b"", &[255; 10_000], 3, b"refused", b"", 0, b"\n"),
 ];
 
-// Lines of 60,000 and of 20,000 bytes, and one that is not UTF-8. If the buffer cannot grow, exactly the answers before
-// the line are written, because they do not allocate.
+// Lines of 60,000 bytes and of 20,000 bytes, and a line that is not UTF-8. If the buffer cannot grow, exactly the
+// answers before the long line are written, because they do not allocate.
 #[test]
 fn the_answers_before_a_long_line_stand(rt: HostRuntime) {
     for (first, again, rounds, start, part, parts, end) in LONG_LINES {

@@ -1,4 +1,5 @@
-//! Functions on bytes: what a hasher is fed (RFC 5646 section 2.1.1), and where subtags begin and end (section 2.1).
+//! Functions over bytes: what they feed to a hasher (RFC 5646 section 2.1.1), and where subtags begin and end
+//! (section 2.1).
 ghost use Rattle.std.specs.Prelude.{◌≡◌, ◌+◌, ◌*◌, ◌%◌, ◌^◌, length, fold};
 
 use crate::support::expect_true;

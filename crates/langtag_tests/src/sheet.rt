@@ -14,7 +14,8 @@ pub(crate) enum Fault {
     Flush,
 }
 
-/// Takes exactly the expected answers. A write of any other byte fails, and a write past the end takes nothing.
+/// A writer that accepts exactly the expected answers. A write of any other byte fails, and a write past the end writes
+/// nothing.
 #[derive(Clone, Copy)]
 pub(crate) struct Sheet<'a> {
     wanted: Text<'a>,

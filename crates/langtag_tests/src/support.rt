@@ -1,16 +1,17 @@
-//! How a test asks questions, and how it fails.
+//! How a test compares the answers to questions with the expected answers, and how it fails.
 use std::alloc::{AllocError, Global};
 use std::process::Abort;
 
 /// Fails the test if a condition does not hold for a case. A number names the case, such as the length of its text.
 ///
-/// It replaces `assert!`. A failure that is written out at each place has to be proved safe again, which costs ten times as much
-/// as a call.
+/// It replaces `assert!`. With `assert!`, each use would have to be proved safe separately, which takes ten times as
+/// long as the proof of a call.
 pub(crate) fn expect_true(rt: &impl Abort, holds: bool, case: usize) {
     assert!(rt; holds, "of {case}");
 }
 
-/// Asks each question, and asks again if allocation failed. Fails the test if the answer is not the expected one.
+/// Calls `answer` with each question, and calls it again if allocation failed. Fails the test if the result is not the
+/// expected answer.
 pub(crate) fn are_answered(
     rt: &impl Abort,
     alloc: Global,

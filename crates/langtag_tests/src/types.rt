@@ -1,5 +1,5 @@
-//! The text types: what each type says of the shortest, the longest and other long texts, and of texts of digits. The
-//! tests also show that each type displays and copies them.
+//! The text types: whether each type accepts the shortest text, the longest text, other long texts and texts of
+//! digits. The tests also show that each type displays and copies them.
 use crate::support::{are_answered, cut};
 use langtag::{
     ExtendedLangTag, Extension, ExtensionSubtag, Extensions, LangTag, Language, LanguageExtension,
@@ -10,7 +10,7 @@ use langtag_match::LanguageRange;
 use std::alloc::{AllocError, Global};
 use std::fmt::Display;
 
-/// The body of a function for each type, which says whether the type accepts a text. The owned form is a copy.
+/// The body of a function for each type, which returns whether the type accepts a text. The owned form is a copy.
 macro_rules! told {
     ($type:ident, $text:ident, $alloc:ident) => {
         match $type::new($text) {
@@ -99,7 +99,7 @@ fn range(text: &str, alloc: Global) -> Result<String, AllocError> {
     told!(LanguageRange, text, alloc)
 }
 
-/// Returns what a type says of a text. The piece after `+` is repeated 300 times.
+/// Returns whether a type accepts a text. The piece after `+` is repeated 300 times.
 fn told(alloc: Global, question: &str) -> Result<String, AllocError> {
     let (name, text) = cut(question);
     let (start, piece) = text.split_once('+').unwrap_or((text, ""));

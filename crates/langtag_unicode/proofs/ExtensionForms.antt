@@ -1,5 +1,5 @@
 -- Extensions in their forms, put one after the other.
-use Rattle.std.proofs.Common.{◌≡◌, ℕ, ◌≤◌, ◌||◌, ◌&&◌, not, Bool, true, false, cond, List, [], ◌∷◌, ◌++◌, length, fold, map, take, refl, sym, ap, ◌∙◌, arith, append_assoc}
+use Rattle.std.proofs.Common.{◌≡◌, ℕ, ◌≤◌, ◌||◌, ◌&&◌, not, Bool, false, cond, List, [], ◌∷◌, ◌++◌, length, fold, map, take, refl, sym, ap, ◌∙◌, arith, append_assoc}
 use Rattle.std.specs.List.{AllByRecursion, flat_map}
 use Rattle.std.proofs.lemmas.List.Splits.{length-slice_split}
 use Rattle.langtag_extension.specs.Spelling.{SpellsExtension, extension_spelling}
@@ -91,14 +91,19 @@ head-cut r =
 flat-head : (p : List ℕ) (a b c d e : List (List ℕ)) → (p ∷ (a ++ (b ++ (c ++ d)))) ++ e ≡ p ∷ (a ++ (b ++ (c ++ (d ++ e))))
 flat-head p a b c d e = simp append_assoc
 
+-- a tag with other extensions, put subtag by subtag
+pub extensions_joined :
+    (r : Record) → IsWellFormed r → (es : List Extension) → fold with_subtag [] (head r ++ (flat_map extension_flat es ++ private_part_flat r.private_use)) ≡ spell (record r { extensions = es })
+unfolding with_subtag
+extensions_joined r fits es =
+    ap (fold with_subtag []) (flat-head r.primary r.extended (one_flat r.script) (one_flat r.region) r.variants (flat_map extension_flat es ++ private_part_flat r.private_use))
+    ∙ sym (with_joined [] r.primary _ (of_primary r.primary fits.primary).some)
+
 pub form_joined :
     (r : Record) → IsWellFormed r →
     fold with_subtag [] (head r ++ (flat_map extension_flat (forms_after false false r.extensions) ++ private_part_flat r.private_use)) ≡ spell (extensions_record r)
-unfolding extensions_record with_subtag
-form_joined r fits =
-    ap (fold with_subtag [])
-    (flat-head r.primary r.extended (one_flat r.script) (one_flat r.region) r.variants (flat_map extension_flat (forms_after false false r.extensions) ++ private_part_flat r.private_use))
-    ∙ sym (with_joined [] r.primary _ (of_primary r.primary fits.primary).some)
+unfolding extensions_record
+form_joined r fits = extensions_joined r fits (forms_after false false r.extensions)
 
 pub head_inside : (r : Record) → (ends_of r).variants ≤ length (spell r)
 head_inside r =

@@ -1,15 +1,14 @@
 -- The form of a tag is a tag: its extensions are well-formed.
-use Rattle.std.proofs.Common.{◌≡◌, ℕ, ◌+◌, ◌<◌, ◌≤◌, ◌&&◌, ◌||◌, ◌==◌, not, leb, Bool, true, false, cond, IsTrue, List, [], ◌∷◌, ◌++◌, length, map, find, Option, None, Some, unwrap_or, refl, sym, ap, subst, ◌∙◌, arith, eqb-true, get_or, length-append, zero-add}
+use Rattle.std.proofs.Common.{◌≡◌, ℕ, ◌+◌, ◌<◌, ◌≤◌, ◌&&◌, ◌||◌, ◌==◌, not, Bool, true, false, cond, IsTrue, List, [], ◌∷◌, ◌++◌, length, map, find, Option, None, Some, unwrap_or, refl, sym, ap, subst, ◌∙◌, arith, eqb-true, get_or, length-append, zero-add}
 use Rattle.std.proofs.lemmas.Bool.{and_parts, false≢true}
 use Rattle.std.proofs.lemmas.Bool.Decides.{nat_tests}
 use Rattle.std.proofs.lemmas.List.FromFn.{get_or-range_with_len}
 use Rattle.std.specs.List.{AllByRecursion, flat_map, list_all, list_any, range_with_len}
 use Rattle.std.specs.Option.{option_map, option_map_or}
 use Rattle.std.specs.Prelude.{codes}
-use Rattle.langtag_scan.proofs.CaseLaw.{is_digit-fold, is_letter-fold, length-fold}
+use Rattle.langtag_scan.proofs.CaseLaw.{fold_text-twice, is_digit-fold, is_letter-fold, length-fold}
 use Rattle.langtag_scan.proofs.SubtagFacts.{of_extension_subtag}
 use Rattle.langtag_scan.proofs.SubtagLists.{each_from_test, each_subtag, subtags-joined}
-use Rattle.langtag_tables.proofs.AlikeTexts.{fold_text-twice}
 use Rattle.langtag_scan.specs.Case.{are_alike, fold_byte, fold_text}
 use Rattle.langtag_scan.specs.CaseLaws.{are_alike-decides}
 use Rattle.langtag_scan.specs.Class.{are_alphanumeric, has_length, is_alphanumeric, is_digit, is_extension_subtag, is_letter, is_mark, is_region, is_script, is_singleton}

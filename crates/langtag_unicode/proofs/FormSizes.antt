@@ -1,5 +1,5 @@
 -- How long the form of a tag may be: at most twice as long as the tag.
-use Rattle.std.proofs.Common.{◌≡◌, ℕ, ◌+◌, ◌*◌, ◌<◌, ◌≤◌, ◌^◌, ◌&&◌, ◌||◌, ◌==◌, not, leb, Bool, true, false, cond, List, [], ◌∷◌, ◌++◌, length, map, find, Option, None, Some, unwrap_or, inl, inr, refl, sym, ap, subst, ◌∙◌, arith, eqb-true}
+use Rattle.std.proofs.Common.{◌≡◌, ℕ, ◌+◌, ◌*◌, ◌≤◌, ◌&&◌, ◌||◌, ◌==◌, not, leb, Bool, true, false, cond, List, [], ◌∷◌, ◌++◌, length, map, find, Option, None, Some, unwrap_or, inl, inr, refl, sym, ap, subst, ◌∙◌, arith, eqb-true}
 use Rattle.std.proofs.lemmas.Bool.{and_parts, eq-eqb, false≢true, leb-true}
 use Rattle.std.specs.Prelude.{codes}
 use Rattle.std.specs.List.{flat_map, list_all}
@@ -12,7 +12,7 @@ use Rattle.langtag_scan.proofs.SubtagLists.{join-subtags}
 use Rattle.langtag_scan.specs.Case.{are_alike, fold_byte, fold_text}
 use Rattle.langtag_scan.specs.CaseLaws.{are_alike-decides}
 use Rattle.langtag_scan.specs.Class.{is_region, is_script}
-use Rattle.langtag_scan.specs.Record.{Extension, Record, IsWellFormed, extension_flat, one_flat, private_part_flat, spell}
+use Rattle.langtag_scan.specs.Record.{Extension, Record, extension_flat, one_flat, private_part_flat, spell}
 use Rattle.langtag_scan.specs.Subtags.{join, subtags}
 use Rattle.langtag_scan.specs.Tag.{IsNormal}
 use Rattle.langtag_unicode.specs.Alias.{Alias, TypeAlias, alias_for, type_alias_for}
@@ -26,10 +26,10 @@ use Rattle.langtag_unicode.proofs.ExtensionForms.{form_by, form_tested}
 use Rattle.langtag_unicode.proofs.SubtagTexts.{before-from, from_key, length-with_hyphens}
 
 -- the bytes of some subtags, each with a hyphen
-abbrev size : List (List ℕ) → ℕ
+abbrev pub size : List (List ℕ) → ℕ
 size ss = length_with_hyphens ss
 
-size-append : (xs ys : List (List ℕ)) → size (xs ++ ys) ≡ size xs + size ys
+pub size-append : (xs ys : List (List ℕ)) → size (xs ++ ys) ≡ size xs + size ys
 size-append [] ys = omega arith
 size-append (x ∷ xs) ys = let later = size-append xs ys in omega (arith, later)
 
@@ -60,7 +60,7 @@ alphabet-size (s ∷ ss) =
 
 -- ---- a text and its subtags
 
-subtags-size : (t : List ℕ) → 1 ≤ length t → size (subtags t) ≡ length t + 1
+pub subtags-size : (t : List ℕ) → 1 ≤ length t → size (subtags t) ≡ length t + 1
 subtags-size t some = by_list (subtags t) refl
   where
     by_list : (ss : List (List ℕ)) → subtags t ≡ ss → size (subtags t) ≡ length t + 1
@@ -389,19 +389,34 @@ size-parts a b c d e f =
     let five = size-append e f in
     omega (arith, one, two, three, four, five)
 
+-- a tag with other extensions is longer by what these have more
+pub extensions-length : (r : Record) (es : List Extension) → length (spell (record r { extensions = es })) + size (flat_map extension_flat r.extensions) ≡ length (spell r) + size (flat_map extension_flat es)
+extensions-length r es =
+    let private_use = private_part_flat r.private_use in
+    let old_all = length-join r.primary (r.extended ++ (one_flat r.script ++ (one_flat r.region ++ (r.variants ++ (flat_map extension_flat r.extensions ++ private_use))))) in
+    let new_all = length-join r.primary (r.extended ++ (one_flat r.script ++ (one_flat r.region ++ (r.variants ++ (flat_map extension_flat es ++ private_use))))) in
+    let old_same = length-with_hyphens (r.extended ++ (one_flat r.script ++ (one_flat r.region ++ (r.variants ++ (flat_map extension_flat r.extensions ++ private_use))))) in
+    let new_same = length-with_hyphens (r.extended ++ (one_flat r.script ++ (one_flat r.region ++ (r.variants ++ (flat_map extension_flat es ++ private_use))))) in
+    let old_parts = size-parts r.extended (one_flat r.script) (one_flat r.region) r.variants (flat_map extension_flat r.extensions) private_use in
+    let new_parts = size-parts r.extended (one_flat r.script) (one_flat r.region) r.variants (flat_map extension_flat es) private_use in
+    omega (arith, old_all, new_all, old_same, new_same, old_parts, new_parts)
+
+-- and no shorter than its extensions
+extensions-short : (r : Record) → size (flat_map extension_flat r.extensions) ≤ length (spell r)
+extensions-short r =
+    let private_use = private_part_flat r.private_use in
+    let all = length-join r.primary (r.extended ++ (one_flat r.script ++ (one_flat r.region ++ (r.variants ++ (flat_map extension_flat r.extensions ++ private_use))))) in
+    let same = length-with_hyphens (r.extended ++ (one_flat r.script ++ (one_flat r.region ++ (r.variants ++ (flat_map extension_flat r.extensions ++ private_use))))) in
+    let parts = size-parts r.extended (one_flat r.script) (one_flat r.region) r.variants (flat_map extension_flat r.extensions) private_use in
+    omega (arith, all, same, parts)
+
 pub form_length : (r : Record) → length (spell (extensions_record r)) ≤ 2 * length (spell r)
 unfolding extensions_record
 form_length r =
-    let new = forms_after false false r.extensions in
-    let private_use = private_part_flat r.private_use in
-    let old_all = length-join r.primary (r.extended ++ (one_flat r.script ++ (one_flat r.region ++ (r.variants ++ (flat_map extension_flat r.extensions ++ private_use))))) in
-    let new_all = length-join r.primary (r.extended ++ (one_flat r.script ++ (one_flat r.region ++ (r.variants ++ (flat_map extension_flat new ++ private_use))))) in
-    let old_same = length-with_hyphens (r.extended ++ (one_flat r.script ++ (one_flat r.region ++ (r.variants ++ (flat_map extension_flat r.extensions ++ private_use))))) in
-    let new_same = length-with_hyphens (r.extended ++ (one_flat r.script ++ (one_flat r.region ++ (r.variants ++ (flat_map extension_flat new ++ private_use))))) in
-    let old_parts = size-parts r.extended (one_flat r.script) (one_flat r.region) r.variants (flat_map extension_flat r.extensions) private_use in
-    let new_parts = size-parts r.extended (one_flat r.script) (one_flat r.region) r.variants (flat_map extension_flat new) private_use in
+    let whole = extensions-length r (forms_after false false r.extensions) in
+    let short = extensions-short r in
     let extensions = forms-size false false r.extensions in
-    omega (arith, old_all, new_all, old_same, new_same, old_parts, new_parts, extensions)
+    omega (arith, whole, short, extensions)
 
 pub form_bounded : (old new : List ℕ) → IsExtensionsForm old new → length new ≤ 2 * length old
 unfolding IsNormal

@@ -6,3 +6,7 @@ pub mod FormSizes
 pub mod KeywordForms
 pub mod SubtagTexts
 pub mod WalkLaws
+pub mod ExtensionsPut
+pub mod KeywordEdits
+pub mod KeywordSizes
+pub mod KeywordLaws

@@ -16,7 +16,7 @@ use Rattle.langtag_scan.proofs.SubtagLists.{each_subtag, subtags-joined, join-su
 use Rattle.langtag_scan.specs.Class.{is_extension_subtag}
 use Rattle.langtag_extension.specs.Spelling.{SpellsExtension, IsExtension, find_extension}
 use Rattle.langtag_extension.proofs.ExtensionLookUp.{extension_found}
-use Rattle.langtag_unicode.specs.Keys.{length_with_hyphens, opens}
+use Rattle.langtag_unicode.specs.Keys.{length_with_hyphens, opens_keyword}
 use Rattle.langtag_unicode.specs.Keywords.{before_key, subtags_of}
 use Rattle.langtag_unicode.specs.Transform.{some_text}
 use Rattle.langtag_unicode.specs.declared.keys.Keys.{Keys}
@@ -110,12 +110,12 @@ boundary-before_key test text n utf8 is =
     subst (IsCharBoundary text) (sym is) cut
 
 -- no key is empty
-opens-nothing : (keys : Keys) → opens keys [] ≡ false
+opens-nothing : (keys : Keys) → opens_keyword keys [] ≡ false
 opens-nothing Unicode = refl
 opens-nothing Transform = refl
 
 -- the empty text has one segment, which is no key and has no bytes
-pub before_key-segments : (keys : Keys) (text : List ℕ) → join (before_key (opens keys) (subtags text)) ≡ join (before_key (opens keys) (segments text))
+pub before_key-segments : (keys : Keys) (text : List ℕ) → join (before_key (opens_keyword keys) (subtags text)) ≡ join (before_key (opens_keyword keys) (segments text))
 before_key-segments keys [] = rw (opens-nothing keys) refl
 before_key-segments keys (b ∷ text) = refl
 
@@ -193,3 +193,9 @@ nothing-some (c ∷ t) none = absurd (omega (arith, ap length none, length-slice
 pub fits-after_singleton : (text : List ℕ) → IsExtension text → AllByRecursion IsSubtag (subtags (drop 2 text))
 fits-after_singleton text (e, spells) =
     subst (AllByRecursion IsSubtag) (sym (subtags-after_singleton e text spells)) (each_subtag is_extension_subtag of_extension_subtag e.subtags spells.member.subtags)
+
+-- no more bytes than the text and one hyphen
+pub length-all : (text : List ℕ) → length_with_hyphens (subtags text) ≤ length text + 1
+length-all text = omega (arith, length-before (subtags text) [], ap length (ap join (append-nil (subtags text)) ∙ join-subtags text))
+
+pub ruleset counted_subtags = (length-all)

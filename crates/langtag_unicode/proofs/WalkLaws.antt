@@ -11,7 +11,7 @@ use Rattle.langtag_scan.specs.CaseLaws.{are_alike-decides, on_alike_equiv}
 use Rattle.langtag_scan.specs.Subtags.{join}
 use Rattle.langtag_scan.proofs.CaseLaw.{is_letter-fold, is_digit-fold, length-fold}
 use Rattle.langtag.proofs.RepeatLaws.{IsAt-drop}
-use Rattle.langtag_unicode.specs.Keywords.{Keyword, before_key, value_among, value_of, is_key, is_new_key, keywords_after, keywords_of, first_after}
+use Rattle.langtag_unicode.specs.Keywords.{Keyword, before_key, value_among, value_of, is_key, is_new_key, keywords_after, keywords_of, each_once_after}
 use Rattle.langtag_unicode.specs.Transform.{is_field_key}
 
 -- ---- a step
@@ -44,18 +44,18 @@ module _ (test : List ℕ → Bool) where
 -- a new attribute
 pub first-new :
     (all : List (List ℕ)) (n : ℕ) (s : List ℕ) (rest : List (List ℕ)) → drop n all ≡ s ∷ rest → list_any (are_alike s) (take n all) ≡ false →
-    first_after (take n all) (s ∷ rest) ≡ s ∷ first_after (take (n + 1) all) rest
+    each_once_after (take n all) (s ∷ rest) ≡ s ∷ each_once_after (take (n + 1) all) rest
 first-new all n s rest left new =
-    ap (λ b. cond b (first_after (take n all ++ s ∷ []) rest) (s ∷ first_after (take n all ++ s ∷ []) rest)) new
-    ∙ ap (λ before. s ∷ first_after before rest) (take-turn all n s rest left)
+    ap (λ b. cond b (each_once_after (take n all ++ s ∷ []) rest) (s ∷ each_once_after (take n all ++ s ∷ []) rest)) new
+    ∙ ap (λ before. s ∷ each_once_after before rest) (take-turn all n s rest left)
 
 -- a repeated one
 pub first-other :
     (all : List (List ℕ)) (n : ℕ) (s : List ℕ) (rest : List (List ℕ)) → drop n all ≡ s ∷ rest → list_any (are_alike s) (take n all) ≡ true →
-    first_after (take n all) (s ∷ rest) ≡ first_after (take (n + 1) all) rest
+    each_once_after (take n all) (s ∷ rest) ≡ each_once_after (take (n + 1) all) rest
 first-other all n s rest left old =
-    ap (λ b. cond b (first_after (take n all ++ s ∷ []) rest) (s ∷ first_after (take n all ++ s ∷ []) rest)) old
-    ∙ ap (λ before. first_after before rest) (take-turn all n s rest left)
+    ap (λ b. cond b (each_once_after (take n all ++ s ∷ []) rest) (s ∷ each_once_after (take n all ++ s ∷ []) rest)) old
+    ∙ ap (λ before. each_once_after before rest) (take-turn all n s rest left)
 
 -- ---- the case of letters
 
@@ -77,9 +77,6 @@ is_field_key-alike a b same = sym (is_field_key-fold a) ∙ ap is_field_key same
 
 alike-right : (s k l : List ℕ) → Alike k l → are_alike s k ≡ are_alike s l
 alike-right s k l same = ap (λ t. bytes_eq (fold_text s) t) same
-
-alike-left : (s t k : List ℕ) → Alike s t → are_alike s k ≡ are_alike t k
-alike-left s t k same = ap (λ x. bytes_eq x (fold_text k)) same
 
 -- a key is looked up in any case
 pub value_of-alike : (test : List ℕ → Bool) (k l : List ℕ) (ss : List (List ℕ)) → Alike k l → value_of test k ss ≡ value_of test l ss

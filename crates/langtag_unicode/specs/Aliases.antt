@@ -4,7 +4,7 @@ use Rattle.std.specs.List.{flat_map}
 use Rattle.langtag_tables.specs.Words.{words}
 use Rattle.langtag_unicode.specs.Alias.{Alias, TypeAlias, aliases_of, type_aliases_of}
 
--- types of the extension u that are replaced: a key, a type, and what replaces it
+-- the types of the extension u that are replaced: a key, the old type and the new type
 unfoldable pub unicode_type_aliases : List TypeAlias
 unicode_type_aliases =
     flat_map (λ text. type_aliases_of (words text))
@@ -14,14 +14,14 @@ unicode_type_aliases =
     ∷ codes "tz prc cnsha tz pst8pdt uslax tz roc twtpe tz rok krsel tz turkey trist tz uaozh uaiev tz uauzh uaiev tz uct utc tz umjon ushnl tz usnavajo usden tz wet ptlis tz zulu utc"
     ∷ [])
 
--- those of the extension t
+-- the types of the extension t that are replaced: a key, the old type and the new type
 unfoldable pub transform_type_aliases : List TypeAlias
 transform_type_aliases =
     flat_map (λ text. type_aliases_of (words text))
     (codes "d0 name charname m0 beta-metsehaf betamets m0 ies-jes iesjes m0 names prprname m0 tekie-alibekit tekieali"
     ∷ [])
 
--- subdivisions that are replaced, and what replaces them: the first replacement, and `zzzz` after a region
+-- the subdivisions that are replaced: the old code, and the first code that replaces it, with `zzzz` after a code that is a region
 unfoldable pub subdivision_aliases : List Alias
 subdivision_aliases =
     flat_map (λ text. aliases_of (words text))

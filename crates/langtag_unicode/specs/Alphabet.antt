@@ -1,18 +1,18 @@
--- What a search for the next text in the order of the alphabet answers. Contracts of private functions alone speak of this page.
+-- What the search for the next text in alphabetical order returns. Only contracts of private functions cite this page.
 use Rattle.std.specs.Prelude.{ℕ, Bool, true, List, [], ◌∷◌, Option, None, Some, if◌then◌else◌}
 use Rattle.langtag_unicode.specs.Form.{is_before}
 
--- a text stands after another, if there is another
+-- whether a text comes after another text, or there is no other text
 abbrev pub is_after : List ℕ → Option (List ℕ) → Bool
 is_after text None = true
 is_after text (Some last) = is_before last text
 
--- a text stands before another, if there is another
+-- whether a text comes before another text, or there is no other text
 abbrev pub is_before_best : List ℕ → Option (List ℕ) → Bool
 is_before_best text None = true
 is_before_best text (Some best) = is_before text best
 
--- the first of some texts that stands after another
+-- the first of these texts, in alphabetical order, that comes after another text
 abbrev pub first_after : Option (List ℕ) → List (List ℕ) → Option (List ℕ)
 first_after last [] = None
 first_after last (text ∷ others) = if is_after text last then Some text else first_after last others

@@ -1,4 +1,4 @@
--- What precedes the extensions of a tag. Contracts of private functions alone speak of this page.
+-- The part of a tag before its extensions. Only contracts of private functions cite this page.
 use Rattle.std.specs.Prelude.{ℕ, List, ◌∷◌, ◌++◌}
 use Rattle.langtag_scan.specs.Record.{Record, one_flat}
 

@@ -8,3 +8,5 @@ pub mod Form
 pub mod Alphabet
 pub mod Head
 pub mod Marks
+pub mod Edit
+pub mod EditText

@@ -1,21 +1,21 @@
--- What a keyword says, and what a walk has still to yield.
+-- The text of a keyword, and what an iterator will still return.
 use Rattle.std.specs.Prelude.{ℕ, List, take}
 use Rattle.langtag_scan.specs.Subtags.{subtags, segments_left}
 use Rattle.langtag_unicode.specs.declared.attributes_iter.AttributesIter.{AttributesIter}
 use Rattle.langtag_unicode.specs.declared.unicode_extension.KeyValue.{KeyValue}
 use Rattle.langtag_unicode.specs.declared.keywords_iter.KeywordsIter.{KeywordsIter}
 use Rattle.langtag_unicode.specs.declared.transformation.Transformation.{Transformation}
-use Rattle.langtag_unicode.specs.Keys.{opens}
-use Rattle.langtag_unicode.specs.Keywords.{Keyword, keywords_after, first_after}
+use Rattle.langtag_unicode.specs.Keys.{opens_keyword}
+use Rattle.langtag_unicode.specs.Keywords.{Keyword, keywords_after, each_once_after}
 
 abbrev pub key_value_texts : KeyValue → Keyword
 key_value_texts pair = record { key = pair.key.now; value = pair.value.now }
 
 abbrev pub keywords_left : KeywordsIter → List Keyword
-keywords_left walk = keywords_after (opens walk.keys) (take walk.passed (subtags walk.text.now)) (segments_left walk.rest)
+keywords_left walk = keywords_after (opens_keyword walk.keys) (take walk.passed (subtags walk.text.now)) (segments_left walk.rest)
 
 abbrev pub attributes_left : AttributesIter → List (List ℕ)
-attributes_left walk = first_after (take walk.passed (subtags walk.text.now)) walk.rest
+attributes_left walk = each_once_after (take walk.passed (subtags walk.text.now)) walk.rest
 
 abbrev pub transformation_subtags : Transformation → List (List ℕ)
 transformation_subtags transformation = subtags transformation.text.now

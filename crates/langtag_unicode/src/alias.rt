@@ -1,4 +1,4 @@
-//! What replaces a type or a subdivision (UTS #35, part 1, Annex C).
+//! Replacing types and subdivisions (UTS #35, part 1, Annex C).
 ghost use Rattle.std.specs.Prelude.{◌≡◌, map};
 ghost use Rattle.std.specs.Option.{option_map};
 ghost use Rattle.langtag_unicode.specs.Alias.{alias_for, type_alias_for};
@@ -10,7 +10,7 @@ use crate::alias_tables as tables;
 use crate::keys::Keys;
 use langtag::case_insensitive_eq;
 
-/// Returns the canonical value of a key, which may have another case.
+/// Returns the canonical value of a key, except that its case may differ.
 pub(crate) fn canonical_value<'a>(keys: Keys, key: &[u8], value: &'a str) -> &'a str
     ensures { result.now ≡ canonical_value_of keys key.now value.now }
 {
@@ -20,7 +20,7 @@ pub(crate) fn canonical_value<'a>(keys: Keys, key: &[u8], value: &'a str) -> &'a
     }
 }
 
-/// Returns a value of `u`, or what replaces it.
+/// Returns a value of `u`, or its replacement.
 fn unicode_value<'a>(key: &[u8], value: &'a str) -> &'a str
     ensures { spec.without_true result.now ≡ spec.unicode_value key.now value.now }
 {
@@ -37,7 +37,7 @@ fn has_subdivision(key: &[u8]) -> bool
     case_insensitive_eq(key, b"rg") || case_insensitive_eq(key, b"sd")
 }
 
-/// Returns a value; nothing for `true`.
+/// Returns a value, or the empty text for `true`.
 fn without_true(value: &str) -> &str
     ensures { result.now ≡ spec.without_true value.now }
 {
@@ -77,7 +77,7 @@ fn transform_value<'a>(key: &[u8], value: &'a str) -> &'a str
     }
 }
 
-/// Returns what replaces a text.
+/// Returns the replacement of a text, if there is one.
 fn alias_for(rows: &'static [(&'static str, &'static str)], text: &[u8]) -> Option<&'static str>
     ensures { option_map (λ t. t.now) result ≡ alias_for (map (λ row. record { old = row.0.now; new = row.1.now }) rows.now) text.now }
 {
@@ -91,7 +91,7 @@ fn alias_for(rows: &'static [(&'static str, &'static str)], text: &[u8]) -> Opti
     None
 }
 
-/// Returns what replaces a type of a key.
+/// Returns the replacement of a type of a key, if there is one.
 fn type_alias_for(
     rows: &'static [(&'static str, &'static str, &'static str)],
     key: &[u8],

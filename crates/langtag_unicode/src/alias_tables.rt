@@ -1,6 +1,6 @@
 //! The aliases of Unicode's CLDR 48.2, in tables (the notice: unicode/LICENSE-UNICODE). Written by unicode/generate.py. Do not edit.
 
-/// The types of the extension `u` that are replaced, each after its key, and what each of them becomes.
+/// The types of the extension `u` that are replaced: a key, the old type and the new type.
 #[rattlefmt::skip]
 pub(crate) static UNICODE_TYPE_ALIASES: [(&str, &str, &str); 60] = [
     ("ca", "ethiopic-amete-alem", "ethioaa"), ("ca", "islamicc", "islamic-civil"), ("kb", "yes", "true"),
@@ -21,14 +21,14 @@ pub(crate) static UNICODE_TYPE_ALIASES: [(&str, &str, &str); 60] = [
     ("tz", "wet", "ptlis"), ("tz", "zulu", "utc"),
 ];
 
-/// Those of the extension `t`.
+/// The types of the extension `t` that are replaced: a key, the old type and the new type.
 #[rattlefmt::skip]
 pub(crate) static TRANSFORM_TYPE_ALIASES: [(&str, &str, &str); 5] = [
     ("d0", "name", "charname"), ("m0", "beta-metsehaf", "betamets"), ("m0", "ies-jes", "iesjes"),
     ("m0", "names", "prprname"), ("m0", "tekie-alibekit", "tekieali"),
 ];
 
-/// The subdivisions that are replaced, and what each of them becomes.
+/// The subdivisions that are replaced: the old code and the new code.
 #[rattlefmt::skip]
 pub(crate) static SUBDIVISION_ALIASES: [(&str, &str); 147] = [
     ("cn11", "cnbj"), ("cn12", "cntj"), ("cn13", "cnhe"), ("cn14", "cnsx"), ("cn15", "cnmn"), ("cn21", "cnln"),

@@ -13,7 +13,7 @@ use langtag_output::Output;
 
 /// Appends subtags in lowercase and in alphabetical order, each once.
 ///
-/// Each is found by a walk over all of them, so the time is quadratic in their number.
+/// Each subtag is found by a walk over all subtags, so the time is quadratic in the number of subtags.
 pub(crate) fn push_in_alphabet(out: &mut Output<'_>, rest: Option<&str>)
     ensures same_buffer { out.new.buffer.ghost_name ≡ out.old.buffer.ghost_name }
     ensures pushed { Pushes (spec.in_alphabet (segments_left rest.entry)) out.old out.new }
@@ -25,7 +25,7 @@ pub(crate) fn push_in_alphabet(out: &mut Output<'_>, rest: Option<&str>)
     }
 }
 
-/// Returns the first subtag, in the order of the alphabet, that stands after another.
+/// Returns the first subtag, in alphabetical order, that comes after `last`.
 #[tactic(auto, using(crate::proofs::AlphabetLaws::search_laws))]
 fn first_after<'a>(rest: Option<&'a str>, last: Option<&str>) -> Option<&'a str>
     ensures { option_map (λ t. fold_text t.now) result ≡ first_after (option_map (λ t. fold_text t.now) last.entry) (spec.in_alphabet (segments_left rest.entry)) }
@@ -42,7 +42,7 @@ fn first_after<'a>(rest: Option<&'a str>, last: Option<&str>) -> Option<&'a str>
     best
 }
 
-/// Returns whether a subtag stands after another, if there is another.
+/// Returns whether a subtag comes after `last`, or there is no `last`.
 fn is_after(subtag: &str, last: Option<&str>) -> bool
     ensures { result ≡ is_after (fold_text subtag.now) (option_map (λ t. fold_text t.now) last.entry) }
 {
@@ -52,7 +52,7 @@ fn is_after(subtag: &str, last: Option<&str>) -> bool
     }
 }
 
-/// Returns whether a subtag stands before another, if there is another.
+/// Returns whether a subtag comes before `best`, or there is no `best`.
 fn is_before_best(subtag: &str, best: Option<&str>) -> bool
     ensures { result ≡ is_before_best (fold_text subtag.now) (option_map (λ t. fold_text t.now) best.entry) }
 {
@@ -62,8 +62,8 @@ fn is_before_best(subtag: &str, best: Option<&str>) -> bool
     }
 }
 
-/// Returns whether a text stands before another in the order of the alphabet, without regard to case: `foo` before `foobar`.
-fn is_before(a: &[u8], b: &[u8]) -> bool
+/// Returns whether a text comes before another in alphabetical order, ignoring case: `foo` comes before `foobar`.
+pub(crate) fn is_before(a: &[u8], b: &[u8]) -> bool
     ensures { result ≡ spec.is_before (fold_text a.now) (fold_text b.now) }
 {
     let mut a = a;

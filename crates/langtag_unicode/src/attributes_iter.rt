@@ -1,4 +1,4 @@
-//! The attributes of a tag, one by one.
+//! An iterator over the attributes of a tag.
 ghost use Rattle.std.specs.Prelude.{◌≡◌, ◌<◌, ◌^◌, [], drop, length, ⊤};
 ghost use Rattle.std.specs.Iterator.{YieldsFirstRef, item_count};
 ghost use Rattle.langtag_scan.specs.Subtags.{subtags};
@@ -28,10 +28,10 @@ pub struct AttributesIter<'a> {
 impl<'a> AttributesIter<'a> {
     ghost use Rattle.langtag_unicode.specs.Text.{attributes_left};
 
-    /// The distinct subtags of a text.
+    /// Returns an iterator over the distinct subtags of a text.
     #[tactic(auto, using(crate::proofs::SubtagTexts::few_subtags))]
     pub(crate) fn new(text: &'a str) -> Self
-        ensures { attributes_left result ≡ spec.first_after [] (subtags text.now) }
+        ensures { attributes_left result ≡ spec.each_once_after [] (subtags text.now) }
     {
         AttributesIter {
             text,

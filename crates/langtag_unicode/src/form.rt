@@ -23,18 +23,19 @@ use crate::transform_form::{is_transform, push_transform};
 use langtag::{
     Extension, Extensions, LangTag, LangTagBuf, NormalLangTag, PrivateUse, into_smallcase,
 };
-use langtag_output::{Output, write_pieces};
+use langtag_output::{Output, write_text};
 use std::alloc::{AllocError, Global};
 
 /// Returns a tag with its extensions `u` and `t` in canonical form (UTS #35, part 1, Annex C): `en-u-nu-thai-ca-gregory-kn-true`
 /// becomes `en-u-ca-gregory-kn-nu-thai`.
 ///
-/// Attributes, keywords and fields are put in alphabetical order, each once and in lowercase. If one is repeated, the first counts.
-/// Types and subdivisions that CLDR has replaced become their replacements. The value `true` is left out of `u`. The variants in the
-/// language of `t` are put in alphabetical order.
+/// Attributes, keywords and fields are put in alphabetical order, each once and in lowercase. If a key is repeated,
+/// its first value counts. Types and subdivisions that CLDR replaces become their replacements. The value `true` is
+/// left out of `u`. The variants in the language of `t` are put in alphabetical order.
 ///
-/// All other bytes of the tag stay, and so does a tag without these extensions. Only the first `u` and the first `t` have a form. A `t`
-/// that UTS #35 does not allow stays, such as `t-m0` or `t-zh-yue`. `langtag_registry::canonical` orders the extensions.
+/// All other bytes of the tag stay, and so does a tag without these extensions. Only the first `u` and the first `t`
+/// are changed. A `t` that UTS #35 does not allow, such as `t-m0` or `t-zh-yue`, stays as it is. The order of the
+/// extensions stays, too; `langtag_registry::canonical` sorts them.
 ///
 /// The time is quadratic in the number of attributes, and of variants in the language of `t`.
 ///
@@ -72,9 +73,9 @@ fn form_bytes(alloc: Global, tag: LangTag<'_>) -> Result<Vec<u8>, AllocError>
     Ok(bytes)
 }
 
-/// Writes a tag with its extensions `u` and `t` in canonical form to a buffer, as [`extensions_form`] returns it, and returns its
-/// length in bytes. If the buffer is too short, it stays unchanged, and the length says how much room is needed. A buffer of twice
-/// the length of the tag is always long enough. It does not allocate.
+/// Writes a tag with its extensions `u` and `t` in canonical form to a buffer, as [`extensions_form`] returns it, and
+/// returns its length in bytes. If the buffer is too short, it stays unchanged, and the length says how long a buffer
+/// must be. A buffer of twice the length of the tag is always long enough. It does not allocate.
 ///
 /// ```
 /// use langtag::LangTag;
@@ -95,14 +96,7 @@ pub fn write_extensions_form(tag: LangTag<'_>, buffer: &mut [u8]) -> usize
     }
 }
 
-/// Writes a text.
-fn write_text(text: &[u8], buffer: &mut [u8]) -> usize
-    ensures { Writes (λ new. new ≡ text.now) buffer.old buffer.new result }
-{
-    write_pieces(&[text], buffer)
-}
-
-/// Writes a tag with its extensions in their forms.
+/// Writes a tag with its extensions in canonical form.
 #[tactic(auto, using(crate::proofs::FormSizes::form_length))]
 fn write_parts(tag: NormalLangTag<'_>, buffer: &mut [u8]) -> usize
     ensures { model.EachRecord (normal_lang_tag_text tag.entry) (λ r. Writes (λ form. form ≡ model.spell (spec.extensions_record r)) buffer.old buffer.new result) }
@@ -114,7 +108,8 @@ fn write_parts(tag: NormalLangTag<'_>, buffer: &mut [u8]) -> usize
     len
 }
 
-/// Puts a tag with its extensions in their forms into a buffer, as far as it has room. Returns how long that tag is.
+/// Writes as much of a tag with its extensions in canonical form as fits into a buffer, and returns the length of
+/// that tag.
 fn put_parts(tag: NormalLangTag<'_>, buffer: &mut [u8]) -> usize
     ensures { model.EachRecord (normal_lang_tag_text tag.entry) (λ r. IsCounted (model.spell (spec.extensions_record r)) buffer.old buffer.new result) }
 {
@@ -125,8 +120,8 @@ fn put_parts(tag: NormalLangTag<'_>, buffer: &mut [u8]) -> usize
     out.len()
 }
 
-/// Puts what precedes the extensions.
-fn push_head(out: &mut Output<'_>, tag: NormalLangTag<'_>)
+/// Appends the part of a tag before its extensions.
+pub(crate) fn push_head(out: &mut Output<'_>, tag: NormalLangTag<'_>)
     ensures same_buffer { out.new.buffer.ghost_name ≡ out.old.buffer.ghost_name }
     ensures pushed { model.EachRecord (normal_lang_tag_text tag.entry) (λ r. Pushes (head r) out.old out.new) }
 {
@@ -148,7 +143,8 @@ fn push_extensions(out: &mut Output<'_>, extensions: Extensions<'_>)
     }
 }
 
-/// Puts an extension in its form, unless it stands after another of its singleton.
+/// Appends an extension: in canonical form if it is the first `u`, or the first `t` and well-formed, and otherwise
+/// unchanged.
 fn push_extension(out: &mut Output<'_>, extension: Extension<'_>, after_u: bool, after_t: bool)
     ensures same_buffer { out.new.buffer.ghost_name ≡ out.old.buffer.ghost_name }
     ensures pushed { (e : model.Extension) → SpellsExtension e (extension_text extension.entry)
@@ -171,29 +167,29 @@ fn is_first_transform(extension: Extension<'_>, after_t: bool) -> bool
     is_first(b't', extension, after_t) && is_transform(subtags_of(extension))
 }
 
-/// Returns whether an extension is the first of a singleton.
+/// Returns whether an extension is the first extension with the given singleton.
 fn is_first(singleton: u8, extension: Extension<'_>, is_after: bool) -> bool
     ensures { (e : model.Extension) → SpellsExtension e (extension_text extension.entry) → result ≡ (spec.is_of singleton e && not is_after) }
 {
     is_of(singleton, extension) && !is_after
 }
 
-/// Returns whether what follows an extension stands after one of a singleton.
+/// Returns whether an extension with the singleton has occurred, up to and including this extension.
 fn is_after(singleton: u8, extension: Extension<'_>, is_after: bool) -> bool
     ensures { (e : model.Extension) → SpellsExtension e (extension_text extension.entry) → result ≡ (is_after || spec.is_of singleton e) }
 {
     is_after || is_of(singleton, extension)
 }
 
-/// Returns the subtags after the singleton, joined.
-fn subtags_of<'a>(extension: Extension<'a>) -> &'a str
+/// Returns the subtags after the singleton, joined by hyphens.
+pub(crate) fn subtags_of<'a>(extension: Extension<'a>) -> &'a str
     ensures subtags { (e : model.Extension) → SpellsExtension e (extension_text extension.entry) → subtags result.now ≡ e.subtags }
     ensures each { AllByRecursion IsSubtag (subtags result.now) }
 {
     &extension.as_str()[2..]
 }
 
-/// Puts the form of the extension `u` that has these subtags.
+/// Appends the canonical form of the extension `u` with these subtags.
 fn push_unicode(out: &mut Output<'_>, text: &str)
     requires { AllByRecursion IsSubtag (subtags text.now) }
     ensures same_buffer { out.new.buffer.ghost_name ≡ out.old.buffer.ghost_name }
@@ -204,14 +200,14 @@ fn push_unicode(out: &mut Output<'_>, text: &str)
     push_keywords(out, text, Keys::Unicode);
 }
 
-/// Returns whether an extension is of a singleton, in any case.
+/// Returns whether an extension begins with a singleton, ignoring case.
 fn is_of(singleton: u8, extension: Extension<'_>) -> bool
     ensures { (e : model.Extension) → SpellsExtension e (extension_text extension.entry) → result ≡ spec.is_of singleton e }
 {
     into_smallcase(extension.singleton().unwrap()) == singleton
 }
 
-fn push_private_use(out: &mut Output<'_>, private_use: Option<PrivateUse<'_>>)
+pub(crate) fn push_private_use(out: &mut Output<'_>, private_use: Option<PrivateUse<'_>>)
     ensures same_buffer { out.new.buffer.ghost_name ≡ out.old.buffer.ghost_name }
     ensures pushed { (part : Option model.PrivateUse) → option_map private_use_text private_use.entry
         ≡ option_map (λ p. join (model.private_use_flat p)) part → Pushes (model.private_part_flat part) out.old out.new }

@@ -1,9 +1,9 @@
 //! Which subtags of an extension are keys.
 ghost use Rattle.std.specs.Prelude.{◌≡◌};
-ghost use Rattle.langtag_unicode.specs.Keys.{opens};
+ghost use Rattle.langtag_unicode.specs.Keys.{opens_keyword};
 ghost use Rattle.langtag_unicode.specs.Transform as spec;
 
-/// The extension whose keys are looked for.
+/// An extension that has keys.
 ///
 /// ```
 /// use langtag_unicode::Keys;
@@ -23,7 +23,7 @@ pub enum Keys {
 impl Keys {
     /// Returns whether a subtag is a key of the extension: `Keys::Transform.has(b"m0")` is `true`.
     pub fn has(self, subtag: &[u8]) -> bool
-        ensures is_key { result ≡ opens self subtag.now }
+        ensures is_key { result ≡ opens_keyword self subtag.now }
         ensures cloned { (keys copy : Keys) → ⟦<Keys as Clone>⟧.is_clone keys copy → copy ≡ keys }
         ensures clone_succeeds { (keys : Keys) → ⟦<Keys as Clone>⟧.is_infallible keys }
     {

@@ -4,8 +4,8 @@ ghost use Rattle.langtag_output.specs.Output.{Pushes};
 ghost use Rattle.langtag_scan.specs.Case.{fold_byte, fold_text};
 ghost use Rattle.langtag_scan.specs.Subtags.{subtags};
 ghost use Rattle.langtag_unicode.specs.Form as spec;
-ghost use Rattle.langtag_unicode.specs.Keys.{canonical_value_of, opens};
-ghost use Rattle.langtag_unicode.specs.Marks.{AreMarked, digit, first_index, key_index};
+ghost use Rattle.langtag_unicode.specs.Keys.{canonical_value_of, opens_keyword};
+ghost use Rattle.langtag_unicode.specs.Marks.{AreMarked, digit, first_letter_index, key_index};
 
 use crate::alias::canonical_value;
 use crate::alphabet::push_each_lowercase;
@@ -14,18 +14,18 @@ use crate::subtags::value_in;
 use langtag::{Subtags, into_smallcase};
 use langtag_output::Output;
 
-/// What may stand in a key, in order.
+/// The bytes that a key may have, in order.
 const LETTERS_AND_DIGITS: [u8; 36] = *b"0123456789abcdefghijklmnopqrstuvwxyz";
 
-/// How many keys there are.
+/// The number of possible keys.
 const KEY_COUNT: usize = 1296;
 
 /// Appends the keywords of a text, each once, in the order of their keys.
 ///
-/// The text is read twice for all keys, and once for each key in it, of which there are at most 1,296.
+/// The text is read twice, and then once for each key in it. There are at most 1,296 keys.
 pub(crate) fn push_keywords(out: &mut Output<'_>, text: &str, keys: Keys)
     ensures same_buffer { out.new.buffer.ghost_name ≡ out.old.buffer.ghost_name }
-    ensures pushed { Pushes (spec.keywords_form (opens keys) (canonical_value_of keys) (subtags text.now)) out.old out.new }
+    ensures pushed { Pushes (spec.keywords_form (opens_keyword keys) (canonical_value_of keys) (subtags text.now)) out.old out.new }
 {
     let marks = marked_keys(text, keys);
     let firsts = marked_firsts(text, keys);
@@ -37,7 +37,7 @@ pub(crate) fn push_keywords(out: &mut Output<'_>, text: &str, keys: Keys)
     }
 }
 
-/// Puts the keywords whose keys begin with a letter or a digit.
+/// Appends the keywords whose keys begin with one letter or digit.
 fn push_keywords_from(
     out: &mut Output<'_>,
     text: &str,
@@ -45,9 +45,9 @@ fn push_keywords_from(
     marks: &[bool; KEY_COUNT],
     first: u8,
 )
-    requires { AreMarked key_index (opens keys) marks.now (subtags text.now) }
+    requires { AreMarked key_index (opens_keyword keys) marks.now (subtags text.now) }
     ensures same_buffer { out.new.buffer.ghost_name ≡ out.old.buffer.ghost_name }
-    ensures pushed { Pushes (spec.keywords_from (opens keys) (canonical_value_of keys) (subtags text.now) first) out.old out.new }
+    ensures pushed { Pushes (spec.keywords_from (opens_keyword keys) (canonical_value_of keys) (subtags text.now) first) out.old out.new }
 {
     for second in LETTERS_AND_DIGITS {
         let key = [first, second];
@@ -58,10 +58,10 @@ fn push_keywords_from(
     }
 }
 
-/// Puts a key with its canonical value, if the key stands in the text.
+/// Appends a key with its canonical value, if the key occurs in the text.
 fn push_keyword(out: &mut Output<'_>, text: &str, keys: Keys, key: &[u8])
     ensures same_buffer { out.new.buffer.ghost_name ≡ out.old.buffer.ghost_name }
-    ensures pushed { Pushes (spec.keyword_form (opens keys) (canonical_value_of keys) (subtags text.now) key.now) out.old out.new }
+    ensures pushed { Pushes (spec.keyword_form (opens_keyword keys) (canonical_value_of keys) (subtags text.now) key.now) out.old out.new }
 {
     if let Some(value) = value_in(text, keys, key) {
         out.push_subtag(key);
@@ -69,9 +69,9 @@ fn push_keyword(out: &mut Output<'_>, text: &str, keys: Keys, key: &[u8])
     }
 }
 
-/// Returns which keys may stand in a text.
+/// Returns which keys may occur in a text.
 fn marked_keys(text: &str, keys: Keys) -> [bool; KEY_COUNT]
-    ensures { AreMarked key_index (opens keys) result (subtags text.now) }
+    ensures { AreMarked key_index (opens_keyword keys) result (subtags text.now) }
 {
     let mut marks = [false; KEY_COUNT];
     for subtag in Subtags::new(text) {
@@ -85,7 +85,7 @@ fn marked_keys(text: &str, keys: Keys) -> [bool; KEY_COUNT]
 
 /// Returns which letters and digits may begin a key in a text.
 fn marked_firsts(text: &str, keys: Keys) -> [bool; 36]
-    ensures { AreMarked first_index (opens keys) result (subtags text.now) }
+    ensures { AreMarked first_letter_index (opens_keyword keys) result (subtags text.now) }
 {
     let mut marks = [false; 36];
     for subtag in Subtags::new(text) {
@@ -97,10 +97,10 @@ fn marked_firsts(text: &str, keys: Keys) -> [bool; 36]
     marks
 }
 
-/// Returns the index of the first letter or digit of a key among all of them, in any case.
+/// Returns the index of a key's first byte among all digits and letters, ignoring case.
 fn first_index(key: &[u8]) -> usize
     ensures within { result < 36 }
-    ensures index { result ≡ first_index (fold_text key.now) }
+    ensures index { result ≡ first_letter_index (fold_text key.now) }
 {
     match key {
         [first, _] => digit(*first),
@@ -108,7 +108,7 @@ fn first_index(key: &[u8]) -> usize
     }
 }
 
-/// Returns the index of a key among all of them, in any case.
+/// Returns the index of a key among all keys, ignoring case.
 fn key_index(key: &[u8]) -> usize
     ensures within { result < 1296 }
     ensures index { result ≡ key_index (fold_text key.now) }
@@ -119,7 +119,7 @@ fn key_index(key: &[u8]) -> usize
     }
 }
 
-/// Returns the index of a letter or a digit among all of them, in any case.
+/// Returns the index of a byte among all digits and letters, ignoring case.
 fn digit(byte: u8) -> usize
     ensures within { result < 36 }
     ensures index { result ≡ digit (fold_byte byte) }

@@ -1,8 +1,8 @@
-//! The keywords of a tag, one by one.
+//! An iterator over the keywords of a tag.
 ghost use Rattle.std.specs.Prelude.{◌≡◌, ◌<◌, ◌^◌, [], drop, length, take, ⊤};
 ghost use Rattle.std.specs.Iterator.{YieldsFirstBy, item_count};
 ghost use Rattle.langtag_scan.specs.Subtags.{segments_left, subtags};
-ghost use Rattle.langtag_unicode.specs.Keys.{opens};
+ghost use Rattle.langtag_unicode.specs.Keys.{opens_keyword};
 ghost use Rattle.langtag_unicode.specs.Keywords as spec;
 
 use crate::keys::Keys;
@@ -12,7 +12,7 @@ use std::alloc::AllocError;
 
 /// An iterator over the keywords of the extension `u`, or the fields of the extension `t`, in the order of the tag.
 ///
-/// Each key comes once, with its first value.
+/// Each key is returned once, with its first value.
 ///
 /// ```
 /// use langtag::LangTag;
@@ -33,10 +33,10 @@ pub struct KeywordsIter<'a> {
 impl<'a> KeywordsIter<'a> {
     ghost use Rattle.langtag_unicode.specs.Text.{keywords_left};
 
-    /// The keywords among the subtags of a text.
+    /// Returns an iterator over the keywords among the subtags of a text.
     #[tactic(auto, using(crate::proofs::SubtagTexts::few_subtags))]
     pub(crate) fn new(text: &'a str, keys: Keys) -> Self
-        ensures { keywords_left result ≡ spec.keywords_of (opens keys) (subtags text.now) }
+        ensures { keywords_left result ≡ spec.keywords_of (opens_keyword keys) (subtags text.now) }
     {
         KeywordsIter {
             text,
@@ -46,9 +46,9 @@ impl<'a> KeywordsIter<'a> {
         }
     }
 
-    /// Whether the next subtag is a key, and none before it is equal to it.
+    /// Returns whether the next subtag is a key that equals no subtag before it.
     fn is_new_key(&self, subtag: &str) -> bool
-        ensures { result ≡ spec.is_new_key (opens self.now.keys) (take self.now.passed (subtags self.now.text.now)) subtag.now }
+        ensures { result ≡ spec.is_new_key (opens_keyword self.now.keys) (take self.now.passed (subtags self.now.text.now)) subtag.now }
     {
         self.keys.has(subtag.as_bytes()) && !is_among_first(self.text, self.passed, subtag)
     }

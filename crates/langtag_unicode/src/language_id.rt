@@ -14,7 +14,8 @@ use crate::subtags::split_first;
 use langtag::{case_insensitive_eq, is_primary, is_region, is_script, is_variant};
 use langtag_output::Output;
 
-/// Returns whether a text is a language with an optional script, region and variants, none of them twice.
+/// Returns whether a text is a language with an optional script, an optional region, and any number of different
+/// variants.
 pub(crate) fn is_language_id(text: &str) -> bool
     ensures { result ≡ spec.is_language_id (segments text.now) }
 {
@@ -24,7 +25,7 @@ pub(crate) fn is_language_id(text: &str) -> bool
     is_unicode_language(language) && are_variants(variants)
 }
 
-/// Appends such a text in lowercase, with its variants in order.
+/// Appends a language with its script, region and variants in lowercase, and with the variants in order.
 pub(crate) fn push_language_id(out: &mut Output<'_>, text: &str)
     ensures same_buffer { out.new.buffer.ghost_name ≡ out.old.buffer.ghost_name }
     ensures pushed { Pushes (spec.language_form (segments text.now)) out.old out.new }
@@ -53,7 +54,7 @@ fn is_unicode_language(subtag: &str) -> bool
     is_primary(subtag.as_bytes()) && subtag.len() != 4
 }
 
-/// Returns the script at the beginning, if there is one, and what follows.
+/// Returns the script at the start, if there is one, and the rest.
 fn take_script<'a>(rest: Option<&'a str>) -> (Option<&'a str>, Option<&'a str>)
     ensures script { one_flat (option_map (λ t. t.now) result.0) ≡ spec.one_of is_script (segments_left rest.entry) }
     ensures others { segments_left result.1 ≡ spec.after_one is_script (segments_left rest.entry) }
@@ -67,7 +68,7 @@ fn take_script<'a>(rest: Option<&'a str>) -> (Option<&'a str>, Option<&'a str>)
     (None, rest)
 }
 
-/// Returns the region at the beginning, if there is one, and what follows.
+/// Returns the region at the start, if there is one, and the rest.
 fn take_region<'a>(rest: Option<&'a str>) -> (Option<&'a str>, Option<&'a str>)
     ensures region { one_flat (option_map (λ t. t.now) result.0) ≡ spec.one_of is_region (segments_left rest.entry) }
     ensures others { segments_left result.1 ≡ spec.after_one is_region (segments_left rest.entry) }
@@ -81,9 +82,10 @@ fn take_region<'a>(rest: Option<&'a str>) -> (Option<&'a str>, Option<&'a str>)
     (None, rest)
 }
 
-/// Returns whether all subtags are variants, none of them twice. Each is compared with those after it.
+/// Returns whether all subtags are variants, and no two of them are equal. Each variant is compared with the variants
+/// after it.
 fn are_variants(rest: Option<&str>) -> bool
-    ensures { result ≡ spec.are_variants (segments_left rest.entry) }
+    ensures { result ≡ spec.are_different_variants (segments_left rest.entry) }
 {
     let mut rest = rest;
     while let Some(text) = rest {

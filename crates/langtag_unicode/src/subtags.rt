@@ -1,4 +1,4 @@
-//! The subtags of an extension, as one text that is taken apart from its front.
+//! The subtags of an extension, as one text that is read from its start.
 ghost use Rattle.std.specs.Prelude.{◌≡◌, ◌∷◌, [], take};
 ghost use Rattle.std.specs.List.{AllByRecursion, list_any};
 ghost use Rattle.std.specs.Option.{option_map};
@@ -8,14 +8,15 @@ ghost use Rattle.langtag_scan.specs.Case.{are_alike};
 ghost use Rattle.langtag_scan.proofs.SubtagFacts.{IsSubtag};
 ghost use Rattle.langtag_scan.specs.Subtags.{join, segments, segments_left, subtags};
 ghost use Rattle.langtag_extension.specs.Text.{singleton_byte};
-ghost use Rattle.langtag_unicode.specs.Keys.{length_with_hyphens, opens};
+ghost use Rattle.langtag_unicode.specs.Keys.{length_with_hyphens, opens_keyword};
 ghost use Rattle.langtag_unicode.specs.Keywords as spec;
 ghost use Rattle.langtag_unicode.specs.Transform.{some_text};
 
 use crate::keys::Keys;
 use langtag::{LangTag, Singleton, Subtags, case_insensitive_eq, segment_end};
 
-/// Returns the subtags of the first extension with a singleton, joined, or nothing if there is no such extension.
+/// Returns the subtags of the first extension with a singleton, joined by hyphens, or the empty text if there is no
+/// such extension.
 pub(crate) fn extension_text<'a>(tag: LangTag<'a>, singleton: Singleton) -> &'a str
     ensures { PartOf (lang_tag_text tag.entry) (spec.subtags_of (singleton_byte singleton)) [] (subtags result.now) }
 {
@@ -25,7 +26,7 @@ pub(crate) fn extension_text<'a>(tag: LangTag<'a>, singleton: Singleton) -> &'a 
     }
 }
 
-/// Returns the subtags of the first extension `u` of a tag, joined.
+/// Returns the subtags of the first extension `u` of a tag, joined by hyphens.
 pub(crate) fn unicode_text<'a>(tag: LangTag<'a>) -> &'a str
     ensures { PartOf (lang_tag_text tag.entry) (spec.subtags_of 117) [] (subtags result.now) }
 {
@@ -35,7 +36,7 @@ pub(crate) fn unicode_text<'a>(tag: LangTag<'a>) -> &'a str
     }
 }
 
-/// Returns a text to take apart, or `None` if it has no subtags.
+/// Returns a text, or `None` if it is empty and so has no subtags.
 pub(crate) fn nonempty(text: &str) -> Option<&str>
     ensures same_text { option_map (λ t. t.now) result ≡ some_text text.now }
     ensures segments { segments_left result ≡ subtags text.now }
@@ -46,7 +47,7 @@ pub(crate) fn nonempty(text: &str) -> Option<&str>
     Some(text)
 }
 
-/// Returns the first subtag of a text, and the rest after a hyphen, if there is more.
+/// Returns the first subtag of a text and, if there are more subtags, the rest of the text after the hyphen.
 pub(crate) fn split_first(text: &str) -> (&str, Option<&str>)
     ensures { segments text.now ≡ result.0.now ∷ segments_left result.1 }
 {
@@ -60,7 +61,7 @@ pub(crate) fn split_first(text: &str) -> (&str, Option<&str>)
 /// Returns the text before the first key.
 #[tactic(auto, using(crate::proofs::SubtagTexts::cut_before_key))]
 pub(crate) fn before_key<'a>(rest: Option<&'a str>, keys: Keys) -> &'a str
-    ensures { result.now ≡ join (spec.before_key (opens keys) (segments_left rest.entry)) }
+    ensures { result.now ≡ join (spec.before_key (opens_keyword keys) (segments_left rest.entry)) }
 {
     match rest {
         Some(text) => cut_before_key(text, keys),
@@ -71,24 +72,24 @@ pub(crate) fn before_key<'a>(rest: Option<&'a str>, keys: Keys) -> &'a str
 /// Returns the subtags before the first key of a text, if there are any.
 pub(crate) fn preceding(text: &str, keys: Keys) -> Option<&str>
     requires { AllByRecursion IsSubtag (subtags text.now) }
-    ensures { segments_left result ≡ spec.before_key (opens keys) (subtags text.now) }
+    ensures { segments_left result ≡ spec.before_key (opens_keyword keys) (subtags text.now) }
 {
     nonempty(before_key(nonempty(text), keys))
 }
 
-/// Returns what stands before the first key of a text.
+/// Returns the text before the first key of a text.
 #[tactic(auto, using(crate::proofs::SubtagTexts::cut_before_key))]
 fn cut_before_key(text: &str, keys: Keys) -> &str
-    ensures { result.now ≡ join (spec.before_key (opens keys) (subtags text.now)) }
+    ensures { result.now ≡ join (spec.before_key (opens_keyword keys) (subtags text.now)) }
 {
     let len = len_before_key(text, keys);
     &text[..len.saturating_sub(1)]
 }
 
-/// Returns how many bytes the subtags before the first key take, each with a hyphen after it.
+/// Returns the number of bytes that the subtags before the first key take, each with a hyphen after it.
 #[tactic(auto, using(crate::proofs::SubtagTexts::counted_before_key))]
 fn len_before_key(text: &str, keys: Keys) -> usize
-    ensures { result ≡ length_with_hyphens (spec.before_key (opens keys) (subtags text.now)) }
+    ensures { result ≡ length_with_hyphens (spec.before_key (opens_keyword keys) (subtags text.now)) }
 {
     let mut len = 0;
     for subtag in Subtags::new(text) {
@@ -112,7 +113,7 @@ pub(crate) fn is_among_first(text: &str, count: usize, subtag: &str) -> bool
 
 /// Returns the value of a key among subtags.
 pub(crate) fn value_in<'a>(text: &'a str, keys: Keys, key: &[u8]) -> Option<&'a str>
-    ensures { option_map (λ v. v.now) result ≡ option_map join (spec.value_of (opens keys) key.now (subtags text.now)) }
+    ensures { option_map (λ v. v.now) result ≡ option_map join (spec.value_of (opens_keyword keys) key.now (subtags text.now)) }
 {
     let mut rest = nonempty(text);
     while let Some(text) = rest {

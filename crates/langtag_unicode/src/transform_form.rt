@@ -15,7 +15,7 @@ use crate::subtags::preceding;
 use langtag::Subtags;
 use langtag_output::Output;
 
-/// Returns whether the subtags after the singleton are as UTS #35 has them: a language, fields, or both.
+/// Returns whether the subtags after the singleton are what UTS #35 allows: a language, fields, or both.
 pub(crate) fn is_transform(text: &str) -> bool
     requires { AllByRecursion IsSubtag (subtags text.now) }
     ensures { result ≡ spec.is_transform (subtags text.now) }
@@ -23,7 +23,7 @@ pub(crate) fn is_transform(text: &str) -> bool
     is_language_or_none(text) && are_fields(text)
 }
 
-/// Returns whether what precedes the fields is a language, or absent.
+/// Returns whether the text before the fields is a language or empty.
 fn is_language_or_none(text: &str) -> bool
     requires { AllByRecursion IsSubtag (subtags text.now) }
     ensures { result ≡ spec.is_language_or_none (before_key is_field_key (subtags text.now)) }
@@ -34,7 +34,7 @@ fn is_language_or_none(text: &str) -> bool
     }
 }
 
-/// Appends the form of the extension `t` that has these subtags.
+/// Appends the canonical form of the extension `t` with these subtags.
 pub(crate) fn push_transform(out: &mut Output<'_>, text: &str)
     requires { AllByRecursion IsSubtag (subtags text.now) }
     ensures same_buffer { out.new.buffer.ghost_name ≡ out.old.buffer.ghost_name }
@@ -45,7 +45,7 @@ pub(crate) fn push_transform(out: &mut Output<'_>, text: &str)
     push_keywords(out, text, Keys::Transform);
 }
 
-/// Puts the form of what precedes the fields.
+/// Appends the canonical form of the language before the fields.
 fn push_language(out: &mut Output<'_>, text: &str)
     requires { AllByRecursion IsSubtag (subtags text.now) }
     ensures same_buffer { out.new.buffer.ghost_name ≡ out.old.buffer.ghost_name }
@@ -56,7 +56,7 @@ fn push_language(out: &mut Output<'_>, text: &str)
     }
 }
 
-/// Returns whether each field has a value, of subtags of three characters or more.
+/// Returns whether each field has a value, and all subtags of values have three characters or more.
 fn are_fields(text: &str) -> bool
     ensures { result ≡ spec.are_fields false false (subtags text.now) }
 {
@@ -72,7 +72,7 @@ fn are_fields(text: &str) -> bool
     !after_key
 }
 
-/// Returns whether a subtag may stand after others.
+/// Returns whether a subtag may follow the subtags before it.
 fn may_follow(in_fields: bool, after_key: bool, subtag: &str) -> bool
     ensures { result ≡ spec.may_follow in_fields after_key subtag.now }
 {

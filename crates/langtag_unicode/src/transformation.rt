@@ -1,4 +1,4 @@
-//! The extension `t` of a tag: how its text was transformed.
+//! The extension `t` of a tag, which says how a text was transformed.
 ghost use Rattle.std.specs.Prelude.{◌≡◌, ℕ, List, None, IsTrue};
 ghost use Rattle.std.specs.Option.{option_map};
 ghost use Rattle.langtag.specs.Part.{PartOf};
@@ -15,7 +15,8 @@ use crate::keywords_iter::KeywordsIter;
 use crate::subtags::{before_key, extension_text, nonempty, value_in};
 use langtag::{LangTag, Singleton};
 
-/// The extension `t` of a tag (RFC 6497 section 2.2): what the text was before it was transformed, and how it was transformed.
+/// The extension `t` of a tag (RFC 6497 section 2.2): the language of the text before it was transformed, and how it
+/// was transformed.
 ///
 /// ```
 /// use langtag::LangTag;
@@ -66,7 +67,7 @@ impl<'a> Transformation<'a> {
     /// found.and_then(|it| it.language()); // None
     /// ```
     pub fn language(&self) -> Option<&'a str>
-        ensures { option_map (λ text. text.now) result ≡ spec.language_of (transformation_subtags self.now) }
+        ensures { option_map (λ text. text.now) result ≡ spec.transform_language (transformation_subtags self.now) }
     {
         nonempty(before_key(nonempty(self.text), Keys::Transform))
     }
@@ -90,7 +91,7 @@ impl<'a> Transformation<'a> {
         value_in(self.text, Keys::Transform, key.as_bytes())
     }
 
-    /// Returns an iterator over the fields, in the order of the tag, each key once with its first value.
+    /// Returns an iterator over the fields, in the order of the tag. Each key is returned once, with its first value.
     ///
     /// ```
     /// use langtag::LangTag;

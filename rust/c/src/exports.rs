@@ -1,8 +1,9 @@
-//! The functions of `bindings/include/langtag.h`, in its order. Each takes what a program lends, and calls the function of its name.
+//! The functions of `bindings/include/langtag.h`, in the order of the header. Each function turns its pointers into slices and references, and calls the function of the same name in `calls`.
 //!
-//! What the header asks of a program makes these calls safe: as many bytes can be read at a pointer as the length behind it says,
-//! and written if it is not const; a struct to write to is there; what is written is no part of another argument. Of what the header
-//! calls "out" nothing is read. An empty text may have any pointer, NULL too.
+//! The rules of the header make these calls safe. A pointer with a length after it points to that many bytes, which are
+//! writable if the pointer is not const. A pointer to a struct is valid for writing. Written memory does not overlap
+//! the memory of another argument. An argument that the header marks with "(out)" is never read. An empty text may have
+//! any pointer, even NULL.
 #![allow(unsafe_code, unsafe_op_in_unsafe_fn)]
 #![warn(clippy::all)]
 #![allow(clippy::missing_safety_doc)]
@@ -14,13 +15,13 @@ use crate::calls::span::Span;
 use crate::calls::{
     accepted, best_match, canonical, choice, compare, direction, fallback, grandfathered, keyword,
     likely, look_up, parse, posix, range as ranges, recommend, refused, registry_date, repeats,
-    transform, validity, viable, walk, with_part,
+    suggestion, transform, validity, viable, walk, with_part,
 };
 use core::slice;
 
 const NO_SPAN: Span = Span { start: 0, len: 0 };
 
-/// Returns what a program lends to read.
+/// Returns the slice at a pointer, for reading.
 unsafe fn lent<'a, T>(start: *const T, len: usize) -> &'a [T] {
     if len == 0 {
         return &[];
@@ -28,7 +29,7 @@ unsafe fn lent<'a, T>(start: *const T, len: usize) -> &'a [T] {
     slice::from_raw_parts(start, len)
 }
 
-/// Returns what a program lends to write.
+/// Returns the slice at a pointer, for writing.
 unsafe fn taken<'a>(start: *mut u8, len: usize) -> &'a mut [u8] {
     if len == 0 {
         return &mut [];
@@ -282,6 +283,17 @@ pub unsafe extern "C" fn langtag_validity(bytes: *const u8, len: usize, invalid:
 }
 
 #[no_mangle]
+pub unsafe extern "C" fn langtag_suggestion(
+    fault: u32,
+    subtag: *const u8,
+    subtag_len: usize,
+    buffer: *mut u8,
+    buffer_len: usize,
+) -> usize {
+    suggestion::langtag_suggestion(fault, lent(subtag, subtag_len), taken(buffer, buffer_len))
+}
+
+#[no_mangle]
 pub unsafe extern "C" fn langtag_canonical(
     bytes: *const u8,
     len: usize,
@@ -403,6 +415,20 @@ pub unsafe extern "C" fn langtag_from_posix(
     buffer_len: usize,
 ) -> usize {
     posix::langtag_from_posix(lent(name, name_len), taken(buffer, buffer_len))
+}
+
+#[no_mangle]
+pub unsafe extern "C" fn langtag_unknown_modifier(
+    name: *const u8,
+    name_len: usize,
+    modifier: *mut Span,
+) -> bool {
+    let mut found = NO_SPAN;
+    let is_unknown = posix::langtag_unknown_modifier(lent(name, name_len), &mut found);
+    if is_unknown {
+        modifier.write(found);
+    }
+    is_unknown
 }
 
 #[no_mangle]

@@ -1,14 +1,15 @@
-//! The library that `bindings/include/langtag.h` declares, for each target that Rust has. In this folder
+//! The library that `bindings/include/langtag.h` declares, for every target of Rust. Build it in this folder:
 //!
 //! ```sh
 //! cargo build --release
 //! ```
 //!
-//! writes `target/release/liblangtag_verified.a` and the shared library beside it. The modules are those of the Rust crate, and `calls`,
-//! which C alone has: `rust/erase` wrote them from the proved sources. `exports` is written by hand.
+//! This writes `target/release/liblangtag_verified.a`, and the shared library beside it. All modules except `calls`,
+//! `exports` and `panic` are shared with the Rust crate. `rust/erase` made the modules from the proved sources, except
+//! `exports`, `panic`, `shim` and `suggestion`, which are written by hand.
 #![no_std]
 #![deny(unsafe_code)]
-#![allow(dead_code, unused_imports, unused_macros, clippy::all)] // The Rust crate has more callers, and lints of its own.
+#![allow(dead_code, unused_imports, unused_macros, clippy::all)] // The Rust crate uses more items, and has its own lints.
 
 #[cfg(feature = "std")]
 extern crate std;
@@ -42,6 +43,8 @@ mod private;
 mod registry;
 #[path = "../../src/scan/mod.rs"]
 mod scan;
+#[path = "../../src/suggestion.rs"]
+mod suggestion;
 #[path = "../../src/tables/mod.rs"]
 mod tables;
 #[path = "../../src/tag/mod.rs"]

@@ -1,4 +1,4 @@
-//! What a panic does where there is no std. It is proved that no function comes to one.
+//! The panic handler of a build without std. It is proved that no function panics.
 #![allow(unsafe_code)]
 
 extern "C" {

@@ -30,7 +30,7 @@ impl LanguageTag {
         Ok(LanguageTag { text: form.into_string() })
     }
 
-    /// Extended filtering, with the tag for a range.
+    /// Returns whether extended filtering with this tag as the range matches the other tag.
     pub fn matches(&self, other: &LanguageTag) -> bool {
         LanguageRange::new(&self.text).unwrap().matches_extended(&tag(&other.text))
     }

@@ -1,5 +1,6 @@
-//! What the tests of oxilangtag and language-tags call, over `langtag`: for the first the module that it has, and for
-//! the second types with its names and methods. What language-tags does beyond it or in another way stands behind two features.
+//! What the tests of oxilangtag and language-tags call, implemented with `langtag`. For oxilangtag, it is the module
+//! `langtag::oxilangtag`. For language-tags, it is a type with the same name and methods, and two features select the
+//! behaviour of language-tags where it differs.
 mod parts;
 
 pub mod language_tags;

@@ -1,4 +1,4 @@
-//! The parts as both peers name them: of what is not made of parts, the whole text is the language.
+//! The parts as both crates name them. For a tag that is not made of parts, the whole text is the language.
 use langtag::{LangTag, LangTagBuf, NormalLangTag};
 
 use crate::ParseError;
@@ -7,7 +7,7 @@ pub fn tag(text: &str) -> LangTag<'_> {
     LangTag::new(text).unwrap()
 }
 
-/// The text of a tag, in the recommended case where that is asked for.
+/// Returns the text of a tag, in the recommended case if the feature `recommended_case` is set.
 pub fn parsed(text: &str) -> Result<String, ParseError> {
     let mut tag: LangTagBuf = text.parse().map_err(|_| ParseError)?;
     if cfg!(feature = "recommended_case") {
@@ -16,7 +16,7 @@ pub fn parsed(text: &str) -> Result<String, ParseError> {
     Ok(tag.into_string())
 }
 
-/// The tag, where it is to be read as having parts.
+/// Returns the tag if it is read as having parts.
 pub fn normal(text: &str) -> Option<NormalLangTag<'_>> {
     let tag = tag(text);
     let is_whole = cfg!(feature = "grandfathered_first") && tag.is_grandfathered();

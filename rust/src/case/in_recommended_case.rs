@@ -10,8 +10,8 @@ use core::fmt::Write as _;
 /// An ASCII text that is displayed in the case that [RFC 5646 section 2.1.1] recommends for tags: `MN-cYRL-mn` is
 /// displayed as `mn-Cyrl-MN`.
 ///
-/// It does not allocate. A text that is already in its recommended case is written at once, and any other text byte by
-/// byte.
+/// It does not allocate. A text that is already in its recommended case is written in one call, and any other text
+/// byte by byte.
 ///
 /// ```
 /// # fn main() -> Result<(), Box<dyn std::error::Error>> {

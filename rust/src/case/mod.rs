@@ -1,6 +1,6 @@
 // Made by rust/erase from crates/langtag_case/src/lib.rt. Change that file, not this one.
 
-//! The case that RFC 5646 section 2.1.1 recommends for the letters of a language tag, over bytes.
+//! Functions over byte slices for the case that RFC 5646 section 2.1.1 recommends for the letters of a language tag.
 //!
 //! ```
 //! use langtag::{is_in_recommended_case, make_recommended_case};

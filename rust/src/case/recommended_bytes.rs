@@ -11,14 +11,14 @@ use crate::case::piece::Piece;
 pub(crate) struct RecommendedBytes<'a> {
     /// What is left of the current piece.
     piece: &'a [u8],
-    /// The number of bytes at its start whose letters are capitals.
+    /// The number of bytes at the start of `piece` whose letters are uppercase.
     capitals: usize,
     /// What follows the piece: nothing, or a hyphen and the next pieces.
     rest: &'a [u8],
 }
 
 impl<'a> RecommendedBytes<'a> {
-    /// Iterates over all bytes of a text.
+    /// Returns an iterator over all bytes of a text in its recommended case.
     #[inline]
     pub(crate) fn new(text: &'a [u8]) -> Self {
         let Piece { len, capitals } = Piece::first(text);

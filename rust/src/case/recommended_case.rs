@@ -1,6 +1,6 @@
 // Made by rust/erase from crates/langtag_case/src/recommended_case.rt. Change that file, not this one.
 
-//! Putting a text into its recommended case, and testing for it.
+//! Changes a text to its recommended case, or tests whether it has that case.
 
 use crate::case::piece::Piece;
 use crate::case::recommended_bytes::RecommendedBytes;
@@ -8,8 +8,9 @@ use crate::case::recommended_bytes::RecommendedBytes;
 /// Changes the letters of a text to the case that [RFC 5646 section 2.1.1] recommends for a tag, as in `mn-Cyrl-MN`,
 /// `en-CA-x-ca` and `az-Latn-x-latn`.
 ///
-/// The first subtag, and each subtag after one of a single byte, becomes lowercase. Of the others, those of two bytes become
-/// uppercase, those of four bytes titlecase, and the rest lowercase. A byte that is not an ASCII letter stays as it is.
+/// The first subtag, and every subtag anywhere after a single-byte subtag, becomes lowercase. Other subtags become
+/// uppercase if they have two bytes, titlecase if they have four bytes, and lowercase otherwise. A byte that is not an
+/// ASCII letter stays as it is.
 ///
 /// Texts that differ only in case become the same bytes, so the result can be a key in a store that compares bytes.
 ///
@@ -39,7 +40,8 @@ fn capitalise_pieces(text: &mut [u8]) {
     }
 }
 
-/// Capitalises the first letters of a lowercase text. There is nearly always one letter or none, which needs no loop.
+/// Changes the letters among the first `capitals` bytes of a lowercase text to uppercase. If `capitals` is at most 1,
+/// which is usual, this needs no loop.
 #[inline]
 fn capitalise(text: &mut [u8], capitals: usize) {
     match capitals {

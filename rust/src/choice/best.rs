@@ -1,6 +1,6 @@
 // Made by rust/erase from crates/langtag_choice/src/best.rt. Change that file, not this one.
 
-//! The tag that a reader wants.
+//! Choosing the best tag for a reader.
 
 use crate::choice::best_match::BestMatch;
 use crate::choice::by_ranges::first_by_ranges;
@@ -59,9 +59,9 @@ pub fn best_for_accept_language(
     best_among(accepted.ranges(), &Tags(tags))
 }
 
-/// Returns the index of the best tag for a list of language ranges, the most wanted first, as [`best_for_header`] does:
-/// 1 for the ranges `nn` and `de`, and the tags `en` and `nb`. An extended range counts without its `*`: `zh-*-Hant`
-/// as `zh-Hant`.
+/// Returns the index of the best tag for a list of language ranges, the most wanted first, as [`best_for_header`] does.
+/// For the ranges `nn` and `de`, and the tags `en` and `nb`, it is 1. An extended range is read without its `*`:
+/// `zh-*-Hant` is read as `zh-Hant`.
 ///
 /// ```
 /// # fn main() -> Result<(), Box<dyn std::error::Error>> {
@@ -132,7 +132,7 @@ pub fn match_among<'a, R: RangeList<'a>, T: TagList>(ranges: R, tags: &T) -> Opt
     }
 }
 
-/// Returns the match for a chosen candidate.
+/// Converts the chosen candidate to a [`BestMatch`].
 #[inline]
 fn match_of<'a>(found: Candidate<'a, '_>) -> BestMatch<'a> {
     BestMatch {

@@ -18,9 +18,9 @@
 pub struct BestMatch<'a> {
     /// The index of the tag.
     pub index: usize,
-    /// The range as the reader wrote it. `_` may be in its bytes instead of a hyphen.
+    /// The range as the reader wrote it. It may contain `_` instead of a hyphen.
     pub range: &'a [u8],
-    /// The number of ranges before it, including those of weight 0.
+    /// The number of ranges before `range`, including ranges of weight 0.
     pub place: usize,
     /// The distance from the range to the tag, as `distance` returns it for two tags.
     pub distance: u8,

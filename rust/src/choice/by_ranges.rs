@@ -1,6 +1,6 @@
 // Made by rust/erase from crates/langtag_choice/src/by_ranges.rt. Change that file, not this one.
 
-//! The choice range by range, which skips lighter ranges if a heavier one has a tag.
+//! Making the choice range by range. Ranges of lower weight are skipped if a tag serves a range of higher weight.
 
 use crate::choice::candidate::Candidate;
 use crate::choice::improve::{improve, limit};
@@ -9,7 +9,7 @@ use crate::choice::tag_list::TagList;
 use crate::choice::wish::Wish;
 use crate::matching::WantedRange;
 
-/// Returns the first of all candidates, even if it is refused or not a tag, and whether a range has the weight 0.
+/// Returns the best of all candidates, even if it is refused or not a tag, and whether a range has the weight 0.
 pub(crate) fn first_by_ranges<'a, 't, R: RangeList<'a>, T: TagList>(
     ranges: R,
     tags: &'t T,
@@ -27,7 +27,7 @@ pub(crate) fn first_by_ranges<'a, 't, R: RangeList<'a>, T: TagList>(
     (first, has_zero)
 }
 
-/// Replaces what was found by the first candidate for a range, if it goes before.
+/// Replaces the candidate by the best candidate for a range, if that is better.
 fn improve_for_range<'a, 't, T: TagList>(
     found: &mut Option<Candidate<'a, 't>>,
     wanted: WantedRange<'a>,

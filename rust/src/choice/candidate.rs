@@ -7,7 +7,8 @@ use crate::choice::nearness::kept;
 use crate::likely::{basic_len, TagFields};
 use core::cmp::Ordering;
 
-/// How a tag serves a range: its distance is below 16, or below 50, or only look-up finds it. The first is the best.
+/// How well a tag serves a range, the best first: at a distance below 16, at a distance below 50, or because only
+/// look-up finds it.
 #[derive(Clone, Copy, PartialEq, Eq, PartialOrd, Ord)]
 pub(crate) enum Service {
     Near,
@@ -16,7 +17,7 @@ pub(crate) enum Service {
 }
 
 impl Service {
-    /// Returns how a tag serves a range at a distance, which is 50 if only look-up finds it.
+    /// Returns how well a tag serves a range at a distance, which is 50 if only look-up finds the tag.
     #[inline]
     pub(crate) fn at(distance: u8) -> Service {
         if distance < 16 {
@@ -39,27 +40,29 @@ impl Service {
     }
 }
 
-/// What is compared first: the lesser of two is the better, by the first field in which they differ.
+/// The part of a candidate that is compared first. The lesser of two ranks is better, and the first field in which they
+/// differ decides.
 #[derive(Clone, Copy, PartialEq, Eq, PartialOrd, Ord)]
 pub(crate) struct Rank {
     pub(crate) service: Service,
     /// 1 minus the weight of the range, in thousandths.
     pub(crate) lack: u32,
-    /// The number of ranges before it.
+    /// The number of ranges before the range.
     pub(crate) place: usize,
-    /// The distance of the tag, which is 50 if only look-up finds it.
+    /// The distance of the tag, which is 50 if only look-up finds the tag.
     pub(crate) distance: u8,
 }
 
 impl Rank {
-    /// Returns whether the range is heavier than another at a place, or as heavy and before it.
+    /// Returns whether the range has more weight than another range, or the same weight and fewer ranges before it. The
+    /// other range is given by its own `lack` and `place`.
     #[inline]
     pub(crate) fn is_wanted_more(self, lack: u32, place: usize) -> bool {
         self.lack < lack || (self.lack == lack && self.place < place)
     }
 }
 
-/// A tag that may serve a range, at an index, with its matching form.
+/// A tag that may serve a range, with the tag's index and matching form.
 #[derive(Clone, Copy)]
 pub(crate) struct Candidate<'a, 't> {
     pub(crate) rank: Rank,
@@ -70,7 +73,7 @@ pub(crate) struct Candidate<'a, 't> {
 }
 
 impl Candidate<'_, '_> {
-    /// Returns whether this candidate goes before another.
+    /// Returns whether this candidate is better than another.
     pub(crate) fn goes_before(&self, other: &Candidate<'_, '_>) -> bool {
         match self.rank.cmp(&other.rank) {
             Ordering::Less => true,
@@ -79,8 +82,8 @@ impl Candidate<'_, '_> {
         }
     }
 
-    /// Returns whether this candidate goes before another of the same rank. It compares what look-up loses, then the
-    /// likely region, and then the index.
+    /// Returns whether this candidate is better than another of the same rank. It compares how much look-up removes
+    /// from the range, then how likely the region is, and then the index.
     fn breaks_tie(&self, other: &Candidate<'_, '_>) -> bool {
         let (lost, others_lost) = (self.lost(), other.lost());
         if lost != others_lost {
@@ -93,8 +96,8 @@ impl Candidate<'_, '_> {
         self.index < other.index
     }
 
-    /// Returns how many bytes look-up removes from the range to find the tag. If look-up does not find the tag, it is
-    /// the whole length.
+    /// Returns how many bytes look-up removes from the range to find the tag, or the length of the range if look-up
+    /// does not find the tag.
     #[inline]
     fn lost(&self) -> usize {
         basic_len(self.range).saturating_sub(kept(self.range, self.tag))

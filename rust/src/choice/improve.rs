@@ -1,13 +1,13 @@
 // Made by rust/erase from crates/langtag_choice/src/improve.rt. Change that file, not this one.
 
-//! What was found, made better by one more tag.
+//! Improving the candidate by one more tag.
 
 use crate::choice::candidate::{Candidate, Rank, Service};
 use crate::choice::nearness::measured;
 use crate::choice::wish::Wish;
 
-/// Returns the distance below which a tag may be better than what was found, for a range with a weight at a place. It
-/// is 0 if no tag can be better, and 51 if a tag that only look-up finds may be.
+/// Returns the distance below which a tag may be better than the candidate, for a range with this `weight` and `place`.
+/// It is 0 if no tag can be better, and 51 if even a tag that only look-up finds may be better.
 pub(crate) fn limit(found: &Option<Candidate<'_, '_>>, weight: u32, place: usize) -> u8 {
     match found {
         Some(found) if found.rank.is_wanted_more(lack(weight), place) => {
@@ -23,8 +23,8 @@ fn lack(weight: u32) -> u32 {
     1000_u32.saturating_sub(weight)
 }
 
-/// Replaces what was found by the text at an index, if that may serve a range and ranks higher. It does not check that
-/// the text is a tag.
+/// Replaces the candidate by the text at an index, if the text may serve a range and is better. It does not check
+/// that the text is a tag.
 #[inline]
 pub(crate) fn improve<'a, 't>(
     found: &mut Option<Candidate<'a, 't>>,
@@ -37,8 +37,8 @@ pub(crate) fn improve<'a, 't>(
     }
 }
 
-/// Does the same as [`improve`], by the distance. It is a separate function, so that the loops over tags test the first
-/// letters themselves.
+/// Does what [`improve`] does, without testing the first letters. It is a separate function, so that this test can be
+/// inlined in the loops over tags.
 #[inline(never)]
 fn improve_near<'a, 't>(
     found: &mut Option<Candidate<'a, 't>>,
@@ -55,7 +55,7 @@ fn improve_near<'a, 't>(
     }
 }
 
-/// Returns whether a candidate goes before what was found.
+/// Returns whether a candidate is better than the found candidate, or no candidate was found.
 #[inline]
 fn is_first(next: &Candidate<'_, '_>, found: &Option<Candidate<'_, '_>>) -> bool {
     match found {
@@ -64,7 +64,8 @@ fn is_first(next: &Candidate<'_, '_>, found: &Option<Candidate<'_, '_>>) -> bool
     }
 }
 
-/// Returns the text at an index as a candidate for a range, if it may serve it and is nearer than a limit.
+/// Returns the text at an index as a candidate for a range, if the text may serve the range and is nearer than a
+/// limit.
 fn as_candidate<'a, 't>(
     limit: u8,
     wish: &Wish<'a>,

@@ -5,8 +5,8 @@
 use crate::likely::{suffices, TagFields};
 use crate::scan::case_insensitive_eq;
 
-/// Returns 0 for the form of a tag whose region is the likely one of its language and script, 1 for a paradigm, which
-/// represents many tags, and 2 for all others.
+/// Returns 0 if the region of a matching form is the likely region for its language and script, 1 if the form is one of
+/// CLDR's paradigm locales, and 2 otherwise.
 #[inline]
 pub(crate) fn unlikely(form: Option<TagFields<'_>>) -> u32 {
     match form {

@@ -1,26 +1,29 @@
 // Made by rust/erase from crates/langtag_choice/src/lone.rt. Change that file, not this one.
 
-//! Languages that have no other language near them, recognised by the first letters of a tag.
+//! Languages to which no other language is near. For such a language, the first letters of a tag show whether the tag
+//! has a different language.
 
 use crate::choice::matching_tables as tables;
 use crate::choice::read_range::starts;
-use crate::likely::{hyphened, language_number, TagFields};
+use crate::likely::{language_number, TagFields};
+use crate::matching::is_separator;
 use crate::scan::into_smallcase;
 
-/// Returns the first two bytes of a text, in lowercase letters.
+/// Returns the first two bytes of a text, in lowercase.
 #[inline]
-pub(crate) fn head(text: &[u8]) -> Option<(u8, u8)> {
+pub(crate) fn first_two(text: &[u8]) -> Option<(u8, u8)> {
     match text {
         [first, second, ..] => Some((into_smallcase(*first), into_smallcase(*second))),
         _ => None,
     }
 }
 
-/// Returns whether a text has a language of two letters and no extended language, if it begins with a language.
+/// Returns `true` only if the language of a text has two letters and no extended language follows it, or the text does
+/// not begin with a language.
 pub(crate) fn is_short(text: &[u8]) -> bool {
     match text {
         [_, _] => true,
-        [_, _, mark, rest @ ..] => is_mark(*mark) && has_no_extended(rest),
+        [_, _, mark, rest @ ..] => is_separator(*mark) && has_no_extended(rest),
         _ => false,
     }
 }
@@ -35,7 +38,7 @@ fn has_no_extended(text: &[u8]) -> bool {
 #[inline]
 fn begins_counted(text: &[u8]) -> bool {
     match text {
-        [first, ..] => !is_mark(*first) && *first != b'*',
+        [first, ..] => !is_separator(*first) && *first != b'*',
         [] => true,
     }
 }
@@ -44,7 +47,7 @@ fn begins_counted(text: &[u8]) -> bool {
 fn may_be_extended(text: &[u8]) -> bool {
     match text {
         [first, _, _] => is_letter(*first),
-        [first, _, _, mark, ..] => is_mark(*mark) && is_letter(*first),
+        [first, _, _, mark, ..] => is_separator(*mark) && is_letter(*first),
         _ => false,
     }
 }
@@ -54,19 +57,14 @@ fn is_letter(byte: u8) -> bool {
     byte.is_ascii_alphabetic()
 }
 
-#[inline]
-fn is_mark(byte: u8) -> bool {
-    hyphened(byte) == b'-'
-}
-
-/// Returns the letters of a form's language if it has two, the range begins with them, and no other language is near
-/// it.
+/// Returns the letters of a matching form's language if there are exactly two, the range begins with them, and no other
+/// language is near that language.
 pub(crate) fn lone_letters(range: &[u8], form: Option<TagFields<'_>>) -> Option<(u8, u8)> {
     let Some(form) = form else { return None };
     if form.language.len() != 2 || is_related(form.language) || !starts(range, form.language) {
         return None;
     }
-    head(form.language)
+    first_two(form.language)
 }
 
 /// Returns whether a language of two letters is the desired language of a rule, or replaces a language of two letters.

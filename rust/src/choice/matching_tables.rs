@@ -1,8 +1,8 @@
 // Made by rust/erase from crates/langtag_choice/src/matching_tables.rt. Change that file, not this one.
 
-//! What Unicode's CLDR 48.2 says of language matching, in tables (the notice: likely/LICENSE-UNICODE). Written by likely/generate.py. Do not edit.
+//! The rules of language matching of Unicode's CLDR 48.2, in tables (the notice: likely/LICENSE-UNICODE). Written by likely/generate.py. Do not edit.
 
-/// A desired and a supported language as one number, in rising order.
+/// The desired and the supported language of each rule, as one number, in rising order.
 #[rustfmt::skip]
 pub(crate) static LANGUAGE_RULE_KEYS: [u32; 321] = [
     0x000DB433, 0x000E01E9, 0x00100090, 0x00128090, 0x00138090, 0x00198095, 0x001A01E9, 0x001C81E9, 0x001E00D9,
@@ -43,7 +43,7 @@ pub(crate) static LANGUAGE_RULE_KEYS: [u32; 321] = [
     0x20640159, 0x20648159, 0x217B0293, 0x221582AC, 0x22F68165, 0x23018165,
 ];
 
-/// The distance of each such pair.
+/// The distance that each rule of `LANGUAGE_RULE_KEYS` gives.
 #[rustfmt::skip]
 pub(crate) static LANGUAGE_RULE_DISTANCES: [u8; 321] = [
     0x04, 0x1E, 0x14, 0x1E, 0x1E, 0x14, 0x1E, 0x14, 0x1E, 0x1E, 0x14, 0x14, 0x04, 0x04, 0x14, 0x14, 0x14, 0x14,
@@ -66,7 +66,7 @@ pub(crate) static LANGUAGE_RULE_DISTANCES: [u8; 321] = [
     0x0A, 0x0A, 0x0A, 0x0A, 0x0A, 0x0A, 0x0A, 0x0A, 0x0A, 0x0A, 0x0A, 0x0A, 0x0A, 0x0A, 0x0A,
 ];
 
-/// The languages of two letters that a rule desires, or that replace one of two letters: their letters as the digits of a number, in rising order.
+/// The keys, in rising order, of the two-letter languages that are the desired language of a rule, or replace a two-letter language.
 #[rustfmt::skip]
 pub(crate) static RELATED_KEYS: [u16; 102] = [
     0x001B, 0x001C, 0x0020, 0x0025, 0x0027, 0x0033, 0x0034, 0x0039, 0x003C, 0x0042, 0x0043, 0x0046, 0x0047, 0x004F,
@@ -79,7 +79,7 @@ pub(crate) static RELATED_KEYS: [u16; 102] = [
     0x0293, 0x0299, 0x02A5, 0x02B9,
 ];
 
-/// A desired and a supported language, each with its script, as one number, in rising order.
+/// The desired and the supported language of each rule, both with their scripts, as one number, in rising order.
 #[rustfmt::skip]
 pub(crate) static SCRIPT_RULE_KEYS: [u64; 50] = [
     0x004E4A010120A401, 0x0058A40100580801, 0x0068A40103D23A01, 0x008418010120A401, 0x0084A40100841801,
@@ -94,7 +94,7 @@ pub(crate) static SCRIPT_RULE_KEYS: [u64; 50] = [
     0x052670010120A401, 0x054AA40105586A01, 0x0558660105586A01, 0x0558660105586C01, 0x0558A40105586A01,
 ];
 
-/// The distance of each such pair.
+/// The distance that each rule of `SCRIPT_RULE_KEYS` gives.
 #[rustfmt::skip]
 pub(crate) static SCRIPT_RULE_DISTANCES: [u8; 50] = [
     0x0A, 0x14, 0x0A, 0x0A, 0x14, 0x0A, 0x14, 0x14, 0x0A, 0x05, 0x05, 0x05, 0x05, 0x05, 0x05, 0x05, 0x0A, 0x0A,
@@ -102,33 +102,33 @@ pub(crate) static SCRIPT_RULE_DISTANCES: [u8; 50] = [
     0x05, 0x14, 0x0A, 0x14, 0x0A, 0x0A, 0x0A, 0x0A, 0x0A, 0x0A, 0x0A, 0x14, 0x14, 0x14,
 ];
 
-/// The regions that lie inside maghreb: their lowercase bytes as the digits of a number, in rising order.
+/// The keys, in rising order, of the regions that are wholly in maghreb.
 #[rustfmt::skip]
 pub(crate) static MAGHREB_INSIDE: [u32; 6] = [
     0x0000647A, 0x00006568, 0x00006C79, 0x00006D61, 0x00006D72, 0x0000746E,
 ];
 
-/// The regions that lie partly maghreb: their lowercase bytes as the digits of a number, in rising order.
+/// The keys, in rising order, of the regions that are partly in maghreb.
 #[rustfmt::skip]
 pub(crate) static MAGHREB_PARTLY: [u32; 6] = [
     0x0000756E, 0x00303031, 0x00303032, 0x00303131, 0x00303135, 0x00323032,
 ];
 
-/// The regions that lie inside enUS: their lowercase bytes as the digits of a number, in rising order.
+/// The keys, in rising order, of the regions that are wholly in enUS.
 #[rustfmt::skip]
 pub(crate) static EN_US_INSIDE: [u32; 10] = [
     0x00006173, 0x00006361, 0x00006775, 0x00006D68, 0x00006D70, 0x00007068, 0x00007072, 0x0000756D, 0x00007573,
     0x00007669,
 ];
 
-/// The regions that lie partly enUS: their lowercase bytes as the digits of a number, in rising order.
+/// The keys, in rising order, of the regions that are partly in enUS.
 #[rustfmt::skip]
 pub(crate) static EN_US_PARTLY: [u32; 12] = [
     0x0000756E, 0x00303031, 0x00303033, 0x00303039, 0x00303139, 0x00303231, 0x00303239, 0x00303335, 0x00303537,
     0x00303631, 0x00313432, 0x00343139,
 ];
 
-/// The regions that lie inside americas: their lowercase bytes as the digits of a number, in rising order.
+/// The keys, in rising order, of the regions that are wholly in americas.
 #[rustfmt::skip]
 pub(crate) static AMERICAS_INSIDE: [u32; 64] = [
     0x00006167, 0x00006169, 0x00006172, 0x00006177, 0x00006262, 0x0000626C, 0x0000626D, 0x0000626F, 0x00006271,
@@ -141,19 +141,19 @@ pub(crate) static AMERICAS_INSIDE: [u32; 64] = [
     0x00343139,
 ];
 
-/// The regions that lie partly americas: their lowercase bytes as the digits of a number, in rising order.
+/// The keys, in rising order, of the regions that are partly in americas.
 #[rustfmt::skip]
 pub(crate) static AMERICAS_PARTLY: [u32; 2] = [
     0x0000756E, 0x00303031,
 ];
 
-/// The regions that lie inside cnsar: their lowercase bytes as the digits of a number, in rising order.
+/// The keys, in rising order, of the regions that are wholly in cnsar.
 #[rustfmt::skip]
 pub(crate) static CNSAR_INSIDE: [u32; 2] = [
     0x0000686B, 0x00006D6F,
 ];
 
-/// The regions that lie partly cnsar: their lowercase bytes as the digits of a number, in rising order.
+/// The keys, in rising order, of the regions that are partly in cnsar.
 #[rustfmt::skip]
 pub(crate) static CNSAR_PARTLY: [u32; 3] = [
     0x00303031, 0x00303330, 0x00313432,

@@ -6,16 +6,17 @@ use crate::choice::rule_distance::language_distance;
 use crate::choice::tag_distance::places_distance;
 use crate::choice::wish::Wish;
 use crate::likely::{after_common, are_alike, completed, matching_form, replaced_form, TagFields};
+use crate::matching::ends_in_single;
 
-/// How far a tag is from a range, and its matching form.
+/// The distance of a tag from a range, and the tag's matching form.
 #[derive(Clone, Copy)]
 pub(crate) struct Nearness<'t> {
     pub(crate) distance: u8,
     pub(crate) form: Option<TagFields<'t>>,
 }
 
-/// Returns how near a tag is to a range that it may serve, if its distance is below a limit. The distance is 50 if only
-/// look-up finds it.
+/// Returns how near a tag is to a range that the tag may serve, if the distance is below a limit. The distance is 50
+/// if only look-up finds the tag.
 pub(crate) fn measured<'t>(limit: u8, wish: &Wish<'_>, tag: &'t [u8]) -> Option<Nearness<'t>> {
     if let Some(near) = nearer_than(limit.min(50), wish, tag) {
         return Some(near);
@@ -59,7 +60,7 @@ fn nearer_fields<'t>(
     })
 }
 
-/// Returns the fields, completed with likely subtags if they have no language.
+/// Returns the fields; if they have no language, likely subtags are added first.
 #[inline]
 fn with_language<'t>(fields: TagFields<'t>) -> TagFields<'t> {
     if fields.language.is_empty() {
@@ -69,7 +70,7 @@ fn with_language<'t>(fields: TagFields<'t>) -> TagFields<'t> {
     }
 }
 
-/// Returns how near a tag is to a range if one of them has no matching form.
+/// Returns how near a tag is to a range if the tag or the range has no matching form.
 #[inline]
 fn equal_text<'t>(limit: u8, range: &[u8], tag: &'t [u8]) -> Option<Nearness<'t>> {
     if limit == 0 || !are_alike(range, tag) {
@@ -81,7 +82,7 @@ fn equal_text<'t>(limit: u8, range: &[u8], tag: &'t [u8]) -> Option<Nearness<'t>
     })
 }
 
-/// Returns how much of a range look-up keeps, if it finds a tag.
+/// Returns the number of bytes of a range that look-up keeps when it finds a tag, or 0 if it does not find the tag.
 #[inline]
 pub(crate) fn kept(range: &[u8], tag: &[u8]) -> usize {
     if is_fallback(range, tag) {
@@ -91,16 +92,16 @@ pub(crate) fn kept(range: &[u8], tag: &[u8]) -> usize {
     }
 }
 
-/// Returns whether a tag equals a range, or equals what precedes a hyphen of the range and does not end in a single
-/// character.
+/// Returns whether a tag equals a range, or equals the text before one of the range's hyphens and does not end in a
+/// subtag of a single character.
 #[inline]
 fn is_fallback(range: &[u8], tag: &[u8]) -> bool {
     let (left, rest) = after_common(range, tag);
     rest.is_empty() && may_go(left, tag)
 }
 
-/// Returns whether look-up removes what follows a tag in a range. The rest must be empty, or be subtags after a tag
-/// that does not end in a single character.
+/// Returns whether look-up can remove `left`, the rest of a range after a tag. This holds if `left` is empty, or if it
+/// begins with a hyphen and the tag does not end in a subtag of a single character.
 #[inline]
 fn may_go(left: &[u8], tag: &[u8]) -> bool {
     goes_on(left) && (left.is_empty() || !ends_in_single(tag))
@@ -110,9 +111,4 @@ fn may_go(left: &[u8], tag: &[u8]) -> bool {
 #[inline]
 fn goes_on(rest: &[u8]) -> bool {
     matches!(rest, [] | [b'-' | b'_', ..])
-}
-
-#[inline]
-fn ends_in_single(text: &[u8]) -> bool {
-    matches!(text, [_] | [.., b'-', _])
 }

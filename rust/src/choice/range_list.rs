@@ -1,12 +1,12 @@
 // Made by rust/erase from crates/langtag_choice/src/range_list.rt. Change that file, not this one.
 
-//! Language ranges for which a tag is chosen.
+//! The lists of language ranges for which a tag can be chosen.
 
 use crate::matching::{split_wanted, LanguageRange, WantedRange, WeightedRange};
 
 /// Language ranges with their weights, in the reader's order. It is implemented for an Accept-Language header in a
-/// slice of bytes, and for slices of [`WeightedRange`] and of [`LanguageRange`]. A value walks over the ranges, and
-/// does not allocate.
+/// slice of bytes, and for slices of [`WeightedRange`] and of [`LanguageRange`]. Walking over the ranges does not
+/// allocate.
 ///
 /// ```
 /// # fn main() -> Result<(), Box<dyn std::error::Error>> {

@@ -1,6 +1,6 @@
 // Made by rust/erase from crates/langtag_choice/src/region_distance.rt. Change that file, not this one.
 
-//! The distance of regions: for some languages, by the sets in which they lie.
+//! The distance of regions, which for some languages depends on CLDR's sets of regions.
 
 use crate::choice::matching_tables as tables;
 use crate::likely::{index_of, TagFields};
@@ -39,7 +39,7 @@ fn by_language(desired: TagFields<'_>, supported: TagFields<'_>) -> u8 {
     4
 }
 
-/// Returns the distance of two regions by whether they lie on the same side of a set.
+/// Returns the distance of two regions by a set: it is smaller if both are in the set, or both are outside it.
 #[inline]
 fn by_side(set: SetName, a: TagFields<'_>, b: TagFields<'_>) -> u8 {
     if on_one_side(set, a, b) {
@@ -49,7 +49,8 @@ fn by_side(set: SetName, a: TagFields<'_>, b: TagFields<'_>) -> u8 {
     }
 }
 
-/// Returns the distance of two regions of English. `GB` is nearer to a region outside the set of the United States.
+/// Returns the distance of two regions for English: `GB` is nearer to the regions outside the set `$enUS` than other
+/// regions are.
 #[inline]
 fn english(a: TagFields<'_>, b: TagFields<'_>) -> u8 {
     if is_british(a, b) || is_british(b, a) {

@@ -34,13 +34,13 @@ pub(crate) fn script_distance(desired: TagFields<'_>, supported: TagFields<'_>) 
     }
 }
 
-/// Returns two languages as one number.
+/// Returns the number that stands for two languages.
 #[inline]
 fn language_pair(desired: TagFields<'_>, supported: TagFields<'_>) -> u32 {
     language_number(desired.language) * 32768 + language_number(supported.language)
 }
 
-/// Returns two languages, each with its script, as one number.
+/// Returns the number that stands for two languages with their scripts.
 #[inline]
 fn script_pair(desired: TagFields<'_>, supported: TagFields<'_>) -> u64 {
     let supported = key_number(supported.without_region());
@@ -57,13 +57,13 @@ fn script_rule_keys() -> &'static [u64] {
     &tables::SCRIPT_RULE_KEYS
 }
 
-/// Returns the distance of a rule, which is never 0.
+/// Returns the distance of the rule at an index. The distance is never 0.
 #[inline]
 fn language_rule_distance(index: usize) -> u8 {
     tables::LANGUAGE_RULE_DISTANCES[index]
 }
 
-/// Returns the distance of a rule, which is never 0.
+/// Returns the distance of the rule at an index. The distance is never 0.
 #[inline]
 fn script_rule_distance(index: usize) -> u8 {
     tables::SCRIPT_RULE_DISTANCES[index]

@@ -1,6 +1,6 @@
 // Made by rust/erase from crates/langtag_choice/src/tag_distance.rt. Change that file, not this one.
 
-//! The distance from a desired tag to another (UTS #35, part 1, section 'Language Matching').
+//! The distance from a desired tag to a supported tag (UTS #35, part 1, section 'Language Matching').
 
 use crate::choice::region_distance::region_distance;
 use crate::choice::rule_distance::{language_distance, script_distance};
@@ -8,8 +8,8 @@ use crate::likely::{are_alike, matching_form, TagFields};
 use crate::scan::case_insensitive_eq;
 use crate::tag::LangTag;
 
-/// The distance of two different tags of which one has no known language: it is only `und`, or is for private use, or
-/// begins with `i-`.
+/// The distance of two different tags if one of them has no known language. Such a tag is `und`, a private-use tag,
+/// or a tag that begins with `i-`.
 ///
 /// ```
 /// # fn main() -> Result<(), Box<dyn std::error::Error>> {
@@ -22,16 +22,17 @@ use crate::tag::LangTag;
 /// ```
 pub const FORMLESS_DISTANCE: u8 = 255;
 
-/// Returns the distance from a desired tag to a supported tag (UTS #35, Language Matching): 0 from `zh-TW` to
-/// `zh-Hant`, 4 from `de-AT` to `de`, 10 from `yue` to `zh-HK`, 84 from `de` to `en`.
+/// Returns the distance from a desired tag to a supported tag (UTS #35, Language Matching). It is 0 from `zh-TW` to
+/// `zh-Hant`, 4 from `de-AT` to `de`, 10 from `yue` to `zh-HK`, and 84 from `de` to `en`.
 ///
 /// First, deprecated subtags are replaced and likely subtags are added. The distance is then the sum of the distances
-/// of the languages (80 unless a rule says less), the scripts (50) and the regions (at most 5). Up to 15 the languages
-/// are nearly the same, and below 50 most readers understand the other language. Case, variants, extensions and private
-/// use do not count, nor does anything else after the region, as in `en-GB-oed`. If a tag has no known language, it is
-/// [`FORMLESS_DISTANCE`], or 0 if the tags are equal, ignoring case.
+/// of the languages (80 if no rule gives a smaller distance), the scripts (50) and the regions (at most 5). Up to 15
+/// the languages are nearly the same, and below 50 most readers understand the other language. Case is ignored, and so
+/// is everything after the region, such as variants, extensions and the `oed` of `en-GB-oed`. If one of the tags has no
+/// known language, the distance is [`FORMLESS_DISTANCE`], or 0 if the tags are equal, ignoring case.
 ///
-/// A language that CLDR replaces is read as what replaces it, such as `ger`, `deu` and `iw`, and so is a deprecated region.
+/// A language that CLDR replaces, such as `ger`, `deu` or `iw`, is read as its replacement, and so is a deprecated
+/// region.
 ///
 /// ```
 /// # fn main() -> Result<(), Box<dyn std::error::Error>> {
@@ -64,7 +65,7 @@ pub(crate) fn range_distance(range: &[u8], tag: &[u8]) -> u8 {
     }
 }
 
-/// Returns the distance from a range to a tag if one of them has no matching form.
+/// Returns the distance from a range to a tag if the range or the tag has no matching form.
 #[inline]
 fn formless_range_distance(range: &[u8], tag: &[u8]) -> u8 {
     if are_alike(range, tag) {

@@ -1,10 +1,10 @@
 // Made by rust/erase from crates/langtag_choice/src/tag_list.rt. Change that file, not this one.
 
-//! Tags among which one is chosen.
+//! The lists of tags from which one can be chosen.
 
 use crate::tag::LangTag;
 
-/// A list of tags, each at an index. An entry need not be a tag; if it is not, it is never chosen.
+/// A list of tags with an index for each. An entry that is not a tag is allowed, but never chosen.
 ///
 /// ```
 /// use langtag::LangTag;

@@ -1,15 +1,15 @@
 // Made by rust/erase from crates/langtag_choice/src/wish.rt. Change that file, not this one.
 
-//! A range of a header that tags may serve.
+//! A range that a tag can serve.
 
-use crate::choice::lone::{head, is_short, lone_letters};
+use crate::choice::lone::{first_two, is_short, lone_letters};
 use crate::choice::read_range::is_star;
 use crate::likely::{matching_form, TagFields};
 use crate::matching::WantedRange;
 
-/// A range other than `*`, its weight, which is not 0, and the number of ranges before it. Its matching form is made
-/// once for all tags. The letters of its language are kept if the range begins with them and no other language is near
-/// that.
+/// A range other than `*`, its weight, which is not 0, and the number of ranges before it. The matching form of the
+/// range is made once, and used for all tags. The two letters of the range's language are stored if the range begins
+/// with them and no other language is near that language.
 #[derive(Clone, Copy)]
 pub(crate) struct Wish<'a> {
     pub(crate) range: &'a [u8],
@@ -20,7 +20,7 @@ pub(crate) struct Wish<'a> {
 }
 
 impl<'a> Wish<'a> {
-    /// Reads the range at a place, or returns `None` if it is `*` or has the weight 0.
+    /// Reads the range with `place` ranges before it, or returns `None` if it is `*` or has the weight 0.
     pub(crate) fn new(wanted: WantedRange<'a>, place: usize) -> Option<Wish<'a>> {
         if wanted.weight == 0 || is_star(wanted.bytes) {
             return None;
@@ -35,13 +35,13 @@ impl<'a> Wish<'a> {
         })
     }
 
-    /// Returns whether the first letters of a tag show that it cannot serve the range: no other language is near that
-    /// of the range, and the tag has another language of two letters.
+    /// Returns whether the first letters of a tag show that it cannot serve the range: the tag has another two-letter
+    /// language, and no other language is near the language of the range.
     pub(crate) fn is_far_from(&self, tag: &[u8]) -> bool {
         let Some(letters) = self.lone else {
             return false;
         };
-        let Some(begins) = head(tag) else {
+        let Some(begins) = first_two(tag) else {
             return false;
         };
         begins != letters && is_short(tag)

@@ -59,7 +59,8 @@ impl<'a> Extension<'a> {
     /// # Errors
     ///
     /// Returns the text if it is not one extension: `Extension::new("a")`, which has no subtag, is
-    /// `Err(InvalidExtension("a"))`. `a-bb-b-cc` has two singletons, and `x-bb` is a private use part.
+    /// `Err(InvalidExtension("a"))`. Other examples are `a-bb-b-cc`, which is two extensions, and `x-bb`, which is a
+    /// private use part.
     ///
     /// ```
     /// use langtag::Extension;
@@ -74,7 +75,7 @@ impl<'a> Extension<'a> {
         Ok(Extension::from_checked(text))
     }
 
-    /// Returns the extension of a text that is known to be one, without checking it.
+    /// Wraps a text that is known to be an extension, without checking it.
     /// `Extension::from_checked(extension.as_str())` is equal to `extension`.
     #[inline]
     pub(crate) fn from_checked(text: &'a str) -> Extension<'a> {
@@ -113,8 +114,8 @@ impl<'a> Extension<'a> {
         self.as_str().as_bytes()
     }
 
-    /// Returns whether another text is equal, ignoring the case of ASCII letters. It is proved that comparisons and
-    /// hashes also ignore case, and that a clone is the same value.
+    /// Returns whether another text equals this text, ignoring the case of ASCII letters. It is proved that
+    /// comparisons and hashes also ignore case, and that a clone is the same value.
     ///
     /// ```
     /// # fn main() -> Result<(), Box<dyn std::error::Error>> {
@@ -167,7 +168,7 @@ impl<'a> Extension<'a> {
         Singleton::from_checked(self.as_bytes()[0])
     }
 
-    /// Whether the extension is opened by the singleton, without regard to case.
+    /// Returns whether the extension begins with the singleton, ignoring case.
     #[inline]
     pub(crate) fn has_singleton(&self, singleton: Singleton) -> bool {
         into_smallcase(self.singleton().unwrap()) == into_smallcase(singleton.unwrap())
@@ -298,7 +299,7 @@ impl fmt::Display for ExtensionBuf {
     }
 }
 
-/// Whether the text is a singleton and at least one subtag of an extension, joined by hyphens.
+/// Returns whether the text is a singleton and at least one subtag of an extension, joined by hyphens.
 pub(crate) fn is_extension(text: &str) -> bool {
     let mut subtags = Subtags::new(text);
     if let Some(opening) = subtags.next() {
@@ -315,7 +316,7 @@ pub(crate) fn is_extension(text: &str) -> bool {
     false
 }
 
-/// Whether all that is left is subtags of an extension.
+/// Returns whether all subtags that are left are subtags of an extension.
 #[inline]
 fn all_are_extension_subtags(mut subtags: Subtags<'_>) -> bool {
     subtags.all(|subtag| is_extension_subtag(subtag.as_bytes()))

@@ -1,6 +1,6 @@
 // Made by rust/erase from crates/langtag_extension/src/extension_iter.rt. Change that file, not this one.
 
-//! The walk over the subtags of an extension.
+//! An iterator over the subtags of an extension.
 
 use crate::extension::extension_subtag::ExtensionSubtag;
 use crate::scan::Subtags;
@@ -41,7 +41,7 @@ impl<'a> ExtensionIter<'a> {
         }
     }
 
-    /// The subtags of an extension, without its singleton.
+    /// Returns an iterator over the subtags of an extension, without its singleton.
     #[inline]
     pub(crate) fn new(text: &'a str) -> Self {
         ExtensionIter {
@@ -50,7 +50,7 @@ impl<'a> ExtensionIter<'a> {
     }
 }
 
-/// The subtags of a text but for the first, which is the singleton.
+/// Returns the subtags of a text except the first, which is the singleton.
 #[inline]
 fn after_singleton<'a>(text: &'a str) -> Subtags<'a> {
     let mut rest = Subtags::new(text);

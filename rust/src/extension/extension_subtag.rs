@@ -72,7 +72,7 @@ impl<'a> ExtensionSubtag<'a> {
         Ok(ExtensionSubtag::from_checked(text))
     }
 
-    /// Returns the subtag of a text that is known to be one, without checking it.
+    /// Wraps a text that is known to be a subtag of an extension, without checking it.
     /// `ExtensionSubtag::from_checked(subtag.as_str())` is equal to `subtag`.
     #[inline]
     pub(crate) fn from_checked(text: &'a str) -> ExtensionSubtag<'a> {
@@ -111,8 +111,8 @@ impl<'a> ExtensionSubtag<'a> {
         self.as_str().as_bytes()
     }
 
-    /// Returns whether another text is equal, ignoring the case of ASCII letters. It is proved that comparisons and
-    /// hashes also ignore case, and that a clone is the same value.
+    /// Returns whether another text equals this text, ignoring the case of ASCII letters. It is proved that
+    /// comparisons and hashes also ignore case, and that a clone is the same value.
     ///
     /// ```
     /// # fn main() -> Result<(), Box<dyn std::error::Error>> {

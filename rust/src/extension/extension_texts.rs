@@ -1,17 +1,17 @@
 // Made by rust/erase from crates/langtag_extension/src/extension_texts.rt. Change that file, not this one.
 
-//! The walk over a text from one extension to the next.
+//! An iterator over the texts of the extensions in a text.
 
 use crate::scan::segment_end;
 
-/// The texts of the extensions that are still to come: a text is cut before each subtag of one byte.
+/// An iterator over the texts of extensions. The whole text is split before each subtag of one byte.
 #[derive(Debug)]
 pub(crate) struct ExtensionTexts<'a> {
     rest: Option<&'a str>,
 }
 
 impl<'a> ExtensionTexts<'a> {
-    /// The texts from one subtag of one byte up to the next. The empty text has none.
+    /// Returns an iterator over the extensions of a text. The empty text has none.
     #[inline]
     pub(crate) fn new(text: &'a str) -> Self {
         if text.is_empty() {
@@ -40,7 +40,8 @@ impl<'a> Iterator for ExtensionTexts<'a> {
     }
 }
 
-/// The text of the first extension, and what stands after it and a hyphen, where there is more.
+/// Returns the text of the first extension, and the text of the other extensions if there are any, without the hyphen
+/// in between.
 fn split_extension<'a>(text: &'a str) -> (&'a str, Option<&'a str>) {
     let end = first_extension_end(text.as_bytes());
     if end == text.len() {
@@ -49,8 +50,8 @@ fn split_extension<'a>(text: &'a str) -> (&'a str, Option<&'a str>) {
     (&text[..end], Some(&text[end + 1..]))
 }
 
-/// Returns where the first extension of a text ends: at the first hyphen before a subtag of one byte, or at the end.
-/// The first subtag of the text does not count.
+/// Returns where the first extension of a text ends: at the first hyphen that is followed by a subtag of one byte, or
+/// at the end of the text. The first subtag, which is the singleton, does not end the extension.
 pub fn first_extension_end(text: &[u8]) -> usize {
     let mut end = segment_end(text, 0);
     while end < text.len() {

@@ -14,7 +14,7 @@ use crate::shim::{try_string, AllocError};
 use alloc::string::String;
 use core::fmt;
 
-/// The error for a text that is not extensions. It contains the text.
+/// The error for a text that is not a list of extensions. It contains the text.
 ///
 /// ```
 /// use langtag::Extensions;
@@ -37,8 +37,8 @@ impl<T: fmt::Debug> core::error::Error for InvalidExtensions<T> {}
 /// The extensions of a tag ([RFC 5646 section 2.2.6]), joined by hyphens, such as `a-ext1-ext2-u-co-phonebk`. The empty
 /// text means no extensions.
 ///
-/// A singleton may occur twice: such a tag is well formed but not valid (section 2.2.9). Two lists are equal if their
-/// texts differ only in the case of ASCII letters, such as `u-co` and `U-CO`.
+/// A singleton may occur twice: a tag with such a list is well formed but not valid (section 2.2.9). Two lists of
+/// extensions are equal if their texts differ only in the case of ASCII letters, such as `u-co` and `U-CO`.
 ///
 /// ```
 /// # fn main() -> Result<(), Box<dyn std::error::Error>> {
@@ -71,7 +71,7 @@ impl<'a> Extensions<'a> {
     ///
     /// # Errors
     ///
-    /// Returns the text if it is not extensions joined by hyphens.
+    /// Returns the text if it is not a list of extensions joined by hyphens.
     ///
     /// ```
     /// use langtag::{Extensions, InvalidExtensions};
@@ -86,7 +86,7 @@ impl<'a> Extensions<'a> {
         Ok(Extensions::from_checked(text))
     }
 
-    /// Returns the extensions of a text that is known to be extensions, without checking it.
+    /// Wraps a text that is known to be a list of extensions, without checking it.
     /// `Extensions::from_checked(extensions.as_str())` is equal to `extensions`.
     #[inline]
     pub(crate) fn from_checked(text: &'a str) -> Extensions<'a> {
@@ -125,8 +125,8 @@ impl<'a> Extensions<'a> {
         self.as_str().as_bytes()
     }
 
-    /// Returns whether another text is equal, ignoring the case of ASCII letters. It is proved that comparisons and
-    /// hashes also ignore case, and that a clone is the same value.
+    /// Returns whether another text equals this text, ignoring the case of ASCII letters. It is proved that
+    /// comparisons and hashes also ignore case, and that a clone is the same value.
     ///
     /// ```
     /// # fn main() -> Result<(), Box<dyn std::error::Error>> {
@@ -164,7 +164,7 @@ impl<'a> Extensions<'a> {
         })
     }
 
-    /// Returns an iterator over the extensions, including those with a repeated singleton: `a-bb` and `A-cc` for
+    /// Returns an iterator over the extensions, including extensions with a repeated singleton: `a-bb` and `A-cc` for
     /// `a-bb-A-cc`.
     ///
     /// ```
@@ -199,8 +199,8 @@ impl<'a> Extensions<'a> {
             .find(|extension| extension.has_singleton(singleton))
     }
 
-    /// Returns an iterator over the subtags of the extension that `get` returns, and over nothing if there is none:
-    /// `co` and `phonebk` for the singleton `u` in `a-bb-u-co-phonebk`.
+    /// Returns an iterator over the subtags of the extension that `get` returns, or over no subtags if `get` returns
+    /// `None`: `co` and `phonebk` for the singleton `u` in `a-bb-u-co-phonebk`.
     ///
     /// ```
     /// # fn main() -> Result<(), Box<dyn std::error::Error>> {
@@ -234,7 +234,7 @@ impl fmt::Display for Extensions<'_> {
     }
 }
 
-/// The extensions of a tag, which own their text.
+/// Extensions that own their text.
 ///
 /// ```
 /// # fn main() -> Result<(), Box<dyn std::error::Error>> {
@@ -258,7 +258,7 @@ impl ExtensionsBuf {
     ///
     /// # Errors
     ///
-    /// Returns the same `String` if it is not extensions joined by hyphens, such as `u-`.
+    /// Returns the same `String` if it is not a list of extensions joined by hyphens, such as `u-`.
     ///
     /// ```
     /// # fn main() -> Result<(), Box<dyn std::error::Error>> {
@@ -334,7 +334,7 @@ impl fmt::Display for ExtensionsBuf {
     }
 }
 
-/// Whether the text is extensions joined by hyphens, or nothing.
+/// Returns whether the text is empty or a list of extensions joined by hyphens.
 #[inline]
 fn are_extensions(text: &str) -> bool {
     ExtensionTexts::new(text).all(|text| is_extension(text))

@@ -1,6 +1,6 @@
 // Made by rust/erase from crates/langtag_extension/src/extensions_iter.rt. Change that file, not this one.
 
-//! The walk over the extensions of a tag.
+//! An iterator over the extensions of a tag.
 
 use crate::extension::extension::Extension;
 use crate::extension::extension_texts::ExtensionTexts;
@@ -27,7 +27,7 @@ pub struct ExtensionsIter<'a> {
 }
 
 impl<'a> ExtensionsIter<'a> {
-    /// The extensions of a text.
+    /// Returns an iterator over the extensions of a text.
     #[inline]
     pub(crate) fn new(text: &'a str) -> Self {
         ExtensionsIter {

@@ -28,8 +28,8 @@ impl<T: fmt::Debug> core::error::Error for InvalidSingleton<T> {}
 /// The letter or digit, other than `x` and `X`, that begins an extension ([RFC 5646 section 2.2.6]), such as `u` in
 /// `u-co-phonebk`.
 ///
-/// It stores the exact byte, and compares and hashes by it: `u` and `U` begin the same extension, but are different
-/// singletons.
+/// It stores the exact byte, and compares and hashes by that byte: `u` and `U` begin the same extension, but are
+/// different singletons.
 ///
 /// ```
 /// # fn main() -> Result<(), Box<dyn std::error::Error>> {
@@ -48,7 +48,7 @@ pub struct Singleton {
 }
 
 impl Singleton {
-    /// Returns the singleton with a byte. It is proved that singletons compare and hash by their exact bytes, and
+    /// Returns the singleton for a byte. It is proved that singletons compare and hash by their exact bytes, and
     /// that a clone is the same value.
     ///
     /// # Errors
@@ -69,13 +69,13 @@ impl Singleton {
         Ok(Singleton { byte: c })
     }
 
-    /// The singleton of a byte that is known to be one.
+    /// Wraps a byte that is known to be a singleton, without checking it.
     #[inline]
     pub(crate) fn from_checked(byte: u8) -> Self {
         Singleton { byte }
     }
 
-    /// Returns the singleton with a text of one byte.
+    /// Returns the singleton for a text of one byte.
     ///
     /// # Errors
     ///

@@ -31,7 +31,8 @@ impl<T: fmt::Debug> core::error::Error for InvalidExtendedLangTag<T> {}
 
 /// An extended language subtag ([RFC 5646 section 2.2.2]): three letters, such as `yue` in `zh-yue`.
 ///
-/// Two of them are equal if their texts differ only in the case of ASCII letters, such as `yue` and `YUE`.
+/// Two extended language subtags are equal if their texts differ only in the case of ASCII letters, such as `yue` and
+/// `YUE`.
 ///
 /// ```
 /// # fn main() -> Result<(), Box<dyn std::error::Error>> {
@@ -71,7 +72,7 @@ impl<'a> ExtendedLangTag<'a> {
         Ok(ExtendedLangTag::from_checked(text))
     }
 
-    /// Returns the subtag of a text that is known to be one, without checking it.
+    /// Wraps a text that is known to be an extended language subtag, without checking it.
     /// `ExtendedLangTag::from_checked(extended.as_str())` is equal to `extended`.
     #[inline]
     pub(crate) fn from_checked(text: &'a str) -> ExtendedLangTag<'a> {
@@ -110,8 +111,8 @@ impl<'a> ExtendedLangTag<'a> {
         self.as_str().as_bytes()
     }
 
-    /// Returns whether another text is equal, ignoring the case of ASCII letters. It is proved that comparisons and
-    /// hashes also ignore case, and that a clone is the same value.
+    /// Returns whether another text equals this text, ignoring the case of ASCII letters. It is proved that
+    /// comparisons and hashes also ignore case, and that a clone is the same value.
     ///
     /// ```
     /// # fn main() -> Result<(), Box<dyn std::error::Error>> {

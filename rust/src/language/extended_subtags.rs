@@ -4,7 +4,7 @@
 
 use crate::scan::{is_extended, Subtags};
 
-/// Whether at most so many subtags are left, all of them extended.
+/// Returns whether at most `room` subtags are left, and all of them are extended language subtags.
 #[inline]
 pub(crate) fn are_extended_within(room: usize, subtags: Subtags<'_>) -> bool {
     let mut free = room;

@@ -33,7 +33,8 @@ impl<T: fmt::Debug> core::error::Error for InvalidLanguageExtension<T> {}
 
 /// The extended subtags of a language ([RFC 5646 section 2.2.2]): one to three, joined by hyphens, such as `min-nan`.
 ///
-/// Two of them are equal if their texts differ only in the case of ASCII letters, such as `min-nan` and `MIN-NAN`.
+/// Two language extensions are equal if their texts differ only in the case of ASCII letters, such as `min-nan` and
+/// `MIN-NAN`.
 ///
 /// ```
 /// # fn main() -> Result<(), Box<dyn std::error::Error>> {
@@ -57,7 +58,7 @@ impl<'a> LanguageExtension<'a> {
     ///
     /// # Errors
     ///
-    /// Returns the text if it is not one to three extended subtags with one hyphen between neighbours.
+    /// Returns the text if it is not one to three extended subtags joined by hyphens.
     ///
     /// ```
     /// use langtag::{InvalidLanguageExtension, LanguageExtension};
@@ -73,7 +74,7 @@ impl<'a> LanguageExtension<'a> {
         Ok(LanguageExtension::from_checked(text))
     }
 
-    /// Returns the language extension of a text that is known to be one, without checking it.
+    /// Wraps a text that is known to be a language extension, without checking it.
     /// `LanguageExtension::from_checked(extension.as_str())` is equal to `extension`.
     #[inline]
     pub(crate) fn from_checked(text: &'a str) -> LanguageExtension<'a> {
@@ -112,8 +113,8 @@ impl<'a> LanguageExtension<'a> {
         self.as_str().as_bytes()
     }
 
-    /// Returns whether another text is equal, ignoring the case of ASCII letters. It is proved that comparisons and
-    /// hashes also ignore case, and that a clone is the same value.
+    /// Returns whether another text equals this text, ignoring the case of ASCII letters. It is proved that
+    /// comparisons and hashes also ignore case, and that a clone is the same value.
     ///
     /// ```
     /// # fn main() -> Result<(), Box<dyn std::error::Error>> {
@@ -169,7 +170,7 @@ impl<'a> LanguageExtension<'a> {
     }
 }
 
-/// Whether the text is one to three extended subtags, joined by hyphens.
+/// Returns whether the text is one to three extended subtags, joined by hyphens.
 #[inline]
 fn is_language_extension(text: &str) -> bool {
     !text.is_empty() && are_extended_within(3, Subtags::new(text))
@@ -206,8 +207,7 @@ impl LanguageExtensionBuf {
     ///
     /// # Errors
     ///
-    /// Returns the same `String` if it is not one to three extended subtags with one hyphen between neighbours, such as
-    /// `min-`.
+    /// Returns the same `String` if it is not one to three extended subtags joined by hyphens, such as `min-`.
     ///
     /// ```
     /// # fn main() -> Result<(), Box<dyn std::error::Error>> {

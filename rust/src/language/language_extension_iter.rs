@@ -1,6 +1,6 @@
 // Made by rust/erase from crates/langtag_language/src/language_extension_iter.rt. Change that file, not this one.
 
-//! The extended subtags of a language one by one.
+//! An iterator over the extended subtags of a language.
 
 use crate::language::extended_lang_tag::ExtendedLangTag;
 use crate::scan::Subtags;
@@ -40,7 +40,7 @@ impl<'a> LanguageExtensionIter<'a> {
         }
     }
 
-    /// The subtags of a language extension.
+    /// Returns an iterator over the subtags of a language extension.
     #[inline]
     pub(crate) fn new(text: &'a str) -> Self {
         LanguageExtensionIter {

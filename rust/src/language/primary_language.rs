@@ -31,7 +31,8 @@ impl<T: fmt::Debug> core::error::Error for InvalidPrimaryLanguage<T> {}
 
 /// A primary language subtag ([RFC 5646 section 2.2.1]): two to eight letters, such as `fr`.
 ///
-/// Two of them are equal if their texts differ only in the case of ASCII letters, such as `fr` and `FR`.
+/// Two primary language subtags are equal if their texts differ only in the case of ASCII letters, such as `fr` and
+/// `FR`.
 ///
 /// ```
 /// # fn main() -> Result<(), Box<dyn std::error::Error>> {
@@ -71,7 +72,7 @@ impl<'a> PrimaryLanguage<'a> {
         Ok(PrimaryLanguage::from_checked(text))
     }
 
-    /// Returns the subtag of a text that is known to be one, without checking it.
+    /// Wraps a text that is known to be a primary language subtag, without checking it.
     /// `PrimaryLanguage::from_checked(primary.as_str())` is equal to `primary`.
     #[inline]
     pub(crate) fn from_checked(text: &'a str) -> PrimaryLanguage<'a> {
@@ -110,8 +111,8 @@ impl<'a> PrimaryLanguage<'a> {
         self.as_str().as_bytes()
     }
 
-    /// Returns whether another text is equal, ignoring the case of ASCII letters. It is proved that comparisons and
-    /// hashes also ignore case, and that a clone is the same value.
+    /// Returns whether another text equals this text, ignoring the case of ASCII letters. It is proved that
+    /// comparisons and hashes also ignore case, and that a clone is the same value.
     ///
     /// ```
     /// # fn main() -> Result<(), Box<dyn std::error::Error>> {

@@ -1,6 +1,6 @@
 // Made by rust/erase from crates/langtag_likely/src/aliases.rt. Change that file, not this one.
 
-//! What is deprecated in the fields of a tag, replaced.
+//! Replacing deprecated languages and regions in the fields of a tag.
 
 use crate::likely::alias_tables as tables;
 use crate::likely::fields::or_other;
@@ -9,7 +9,8 @@ use crate::likely::names::{name_at, name_in};
 use crate::likely::rows::language_number;
 use crate::likely::tag_fields::TagFields;
 
-/// Returns fields with another language in place of one that CLDR replaces, and with the script or the region that it brings.
+/// Returns the fields with the language replaced if CLDR replaces it, and with the script or the region that comes
+/// with the new language.
 #[inline]
 pub(crate) fn language_replaced<'a>(fields: TagFields<'a>) -> TagFields<'a> {
     match language_alias(fields) {
@@ -18,7 +19,7 @@ pub(crate) fn language_replaced<'a>(fields: TagFields<'a>) -> TagFields<'a> {
     }
 }
 
-/// Returns fields with another region in place of one that is deprecated.
+/// Returns the fields with the region replaced if it is deprecated.
 #[inline]
 pub(crate) fn region_replaced<'a>(fields: TagFields<'a>) -> TagFields<'a> {
     match region_alias(fields) {
@@ -27,8 +28,8 @@ pub(crate) fn region_replaced<'a>(fields: TagFields<'a>) -> TagFields<'a> {
     }
 }
 
-/// Returns what the language is replaced by.
-fn language_alias(fields: TagFields<'_>) -> Option<TagFields<'static>> {
+/// Returns the replacement of the language, if there is one.
+pub(crate) fn language_alias(fields: TagFields<'_>) -> Option<TagFields<'static>> {
     if fields.language.len() > 3 {
         return None;
     }
@@ -41,7 +42,7 @@ fn language_alias(fields: TagFields<'_>) -> Option<TagFields<'static>> {
     })
 }
 
-/// Returns what the region is replaced by.
+/// Returns the replacement of the region, if there is one.
 fn region_alias(fields: TagFields<'_>) -> Option<TagFields<'static>> {
     let index = index_of(region_alias_keys(), fields.region)?;
     Some(TagFields {
@@ -62,7 +63,8 @@ fn region_alias_keys() -> &'static [u32] {
 }
 
 impl<'a> TagFields<'a> {
-    /// Returns another language with what it brings where these fields have no script or no region.
+    /// Returns these fields with another language. The script or region that comes with the language is added if these
+    /// fields have none.
     #[inline]
     fn with_language(self, other: TagFields<'a>) -> TagFields<'a> {
         TagFields {
@@ -72,7 +74,7 @@ impl<'a> TagFields<'a> {
         }
     }
 
-    /// Returns these fields with the region of others.
+    /// Returns these fields with the region of `other`.
     #[inline]
     fn with_region(self, other: TagFields<'a>) -> TagFields<'a> {
         TagFields {

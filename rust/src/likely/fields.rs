@@ -1,12 +1,12 @@
 // Made by rust/erase from crates/langtag_likely/src/fields.rt. Change that file, not this one.
 
-//! The texts of fields: the empty text if the field is absent or unknown.
+//! The text of each field of a tag, which is empty if the field is absent or unknown.
 
 use crate::language::Language;
 use crate::place::{Region, Script};
 use crate::scan::case_insensitive_eq;
 
-/// Returns a text, or another if it is empty.
+/// Returns the first text, or the second text if the first is empty.
 #[inline]
 pub(crate) fn or_other<'a>(text: &'a [u8], other: &'a [u8]) -> &'a [u8] {
     if text.is_empty() {
@@ -16,7 +16,7 @@ pub(crate) fn or_other<'a>(text: &'a [u8], other: &'a [u8]) -> &'a [u8] {
     }
 }
 
-/// Returns a text, or the empty one if the text means that its field is unknown.
+/// Returns a text, or the empty text if it is the code for an unknown field.
 #[inline]
 pub(crate) fn known<'a>(unknown: &[u8], text: &'a [u8]) -> &'a [u8] {
     if case_insensitive_eq(unknown, text) {
@@ -26,7 +26,7 @@ pub(crate) fn known<'a>(unknown: &[u8], text: &'a [u8]) -> &'a [u8] {
     }
 }
 
-/// Returns the last of at most three extended subtags, or else the primary one; the empty text for `und`.
+/// Returns the last extended subtag, or the primary subtag if there is none. Returns the empty text for `und`.
 pub(crate) fn language_field<'a>(language: Language<'a>) -> &'a [u8] {
     let mut extlangs = language.extension_subtags();
     let Some(first) = extlangs.next() else {
@@ -41,7 +41,7 @@ pub(crate) fn language_field<'a>(language: Language<'a>) -> &'a [u8] {
     }
 }
 
-/// Returns a script, or the empty text for none and for `Zzzz`.
+/// Returns the text of a script, or the empty text if there is none or it is `Zzzz`.
 #[inline]
 pub(crate) fn script_field<'a>(script: Option<Script<'a>>) -> &'a [u8] {
     match script {
@@ -50,7 +50,7 @@ pub(crate) fn script_field<'a>(script: Option<Script<'a>>) -> &'a [u8] {
     }
 }
 
-/// Returns a region, or the empty text for none and for `ZZ`.
+/// Returns the text of a region, or the empty text if there is none or it is `ZZ`.
 #[inline]
 pub(crate) fn region_field<'a>(region: Option<Region<'a>>) -> &'a [u8] {
     match region {

@@ -1,10 +1,11 @@
 // Made by rust/erase from crates/langtag_likely/src/forms.rt. Change that file, not this one.
 
-//! The maximal and the minimal form of a tag (UTS #35, part 1, section 'Likely Subtags').
+//! The maximal and minimal forms of a tag (UTS #35, part 1, section 'Likely Subtags').
 
 use crate::likely::likely::{add_likely, remove_likely};
-use crate::likely::put::{write_changed, write_text};
+use crate::likely::put::write_changed;
 use crate::likely::tag_fields::TagFields;
+use crate::output::write_text;
 #[cfg(feature = "alloc")]
 use crate::shim::{try_vec, AllocError};
 use crate::tag::LangTag;
@@ -18,9 +19,10 @@ use alloc::vec::Vec;
 /// Adds the likely subtags to a tag (UTS #35, Add Likely Subtags): `zh-TW` becomes `zh-Hant-TW`, `en` and `und` become
 /// `en-Latn-US`, and `de-1996` becomes `de-Latn-DE-1996`.
 ///
-/// Subtags of the tag stay, with their case, except `und`, `Zzzz` and `ZZ`, which mean that something is unknown.
-/// Deprecated subtags stay, too: to replace them, call `langtag::registry::canonical` first. Variants, extensions and
-/// private use stay. A tag about which nothing is known, such as `x-a` or `qaa`, stays as it is.
+/// Subtags of the tag stay, with their case. Only `und`, `Zzzz` and `ZZ`, which mean an unknown language, script or
+/// region, are replaced. Deprecated subtags stay, too: to replace them, call `langtag::registry::canonical` first.
+/// Variants, extensions and private use stay. A tag without known likely subtags, such as `x-a` or `qaa`, stays
+/// unchanged.
 ///
 /// # Errors
 ///
@@ -42,7 +44,7 @@ pub fn maximized(tag: LangTag<'_>) -> Result<LangTagBuf, AllocError> {
 }
 
 /// Removes the likely subtags from a tag (UTS #35, Remove Likely Subtags): `zh-Hant-TW` becomes `zh-TW`, and
-/// `en-Latn-US` becomes `en`. If either the script or the region would be enough, the region is kept.
+/// `en-Latn-US` becomes `en`. If it is enough to keep either the script or the region, the region is kept.
 ///
 /// # Errors
 ///
@@ -64,7 +66,7 @@ pub fn minimized(tag: LangTag<'_>) -> Result<LangTagBuf, AllocError> {
 }
 
 /// Writes a tag with its likely subtags to a buffer, as [`maximized`] returns it, and returns its length in bytes. If
-/// the buffer is too short, it stays unchanged, and the length says how much room is needed. It does not allocate.
+/// the buffer is too short, it stays unchanged, and the length says how long a buffer must be. It does not allocate.
 ///
 /// ```
 /// # fn main() -> Result<(), Box<dyn std::error::Error>> {
@@ -105,7 +107,7 @@ pub fn write_minimized(tag: LangTag<'_>, buffer: &mut [u8]) -> usize {
     write_changed(normal, remove_likely(TagFields::of(normal)), buffer)
 }
 
-/// Returns a buffer that has room for each form of a tag.
+/// Returns a buffer that is long enough for the maximal and the minimal form of a tag.
 #[cfg(feature = "alloc")]
 #[inline]
 fn form_buffer(tag: LangTag<'_>) -> Result<Vec<u8>, AllocError> {
@@ -131,7 +133,7 @@ fn minimal_bytes(tag: LangTag<'_>) -> Result<Vec<u8>, AllocError> {
     Ok(bytes)
 }
 
-/// Returns the tag that these bytes are.
+/// Converts bytes that are known to be a tag into that tag.
 #[cfg(feature = "alloc")]
 pub(crate) fn tag_of(bytes: Vec<u8>) -> LangTagBuf {
     let Ok(text) = String::from_utf8(bytes) else {

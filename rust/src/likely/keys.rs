@@ -1,18 +1,18 @@
 // Made by rust/erase from crates/langtag_likely/src/keys.rt. Change that file, not this one.
 
-//! The places of texts in the tables, which have their numbers.
+//! Finds the positions of texts in the tables, which contain numbers for the texts.
 
 use crate::scan::folded_number;
 
-/// Returns the index of a text's number among others in rising order.
+/// Returns the index of a text's number in a list of rising numbers.
 #[inline]
 pub fn index_of(keys: &[u32], text: &[u8]) -> Option<usize> {
     keys.binary_search_by_key(&folded_number(text), |key| u64::from(*key))
         .ok()
 }
 
-/// Returns the place of a text among those whose numbers are keys, counted from 1. It is 0 for the empty text, and the
-/// place after the last for a text that is not among them.
+/// Returns the position of a text among the texts whose numbers are `keys`, counted from 1. It is 0 for the empty text,
+/// and the position after the last for a text that is not among them.
 pub(crate) fn place(keys: &[u32], text: &[u8]) -> u32 {
     if text.is_empty() {
         return 0;

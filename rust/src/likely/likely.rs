@@ -1,11 +1,11 @@
 // Made by rust/erase from crates/langtag_likely/src/likely.rt. Change that file, not this one.
 
-//! Likely subtags of fields, added and removed (UTS #35, part 1, section 'Likely Subtags').
+//! Adding and removing the likely subtags of fields (UTS #35, part 1, section 'Likely Subtags').
 
 use crate::likely::rows::likely_for;
 use crate::likely::tag_fields::TagFields;
 
-/// Returns the fields with what is likely in place of each that is empty; `None` if nothing is known.
+/// Returns the fields with the likely subtag in place of each empty field, or `None` if no row fits.
 #[inline]
 pub(crate) fn add_likely<'a>(fields: TagFields<'a>) -> Option<TagFields<'a>> {
     match looked_up(fields) {
@@ -29,7 +29,7 @@ fn looked_up(fields: TagFields<'_>) -> Option<TagFields<'static>> {
     likely_for(fields.language_alone())
 }
 
-/// Returns the fewest fields that have the same maximal form; `None` if nothing is known.
+/// Returns the fewest fields that have the same maximal form, or `None` if no row fits.
 #[inline]
 pub(crate) fn remove_likely<'a>(fields: TagFields<'a>) -> Option<TagFields<'a>> {
     match add_likely(fields) {
@@ -38,7 +38,7 @@ pub(crate) fn remove_likely<'a>(fields: TagFields<'a>) -> Option<TagFields<'a>> 
     }
 }
 
-/// Returns the fewest fields of a maximal form that have it too: a region goes before a script.
+/// Returns the fewest fields of a maximal form that have the same maximal form. A region is preferred to a script.
 fn least<'a>(most: TagFields<'a>) -> TagFields<'a> {
     let known = most.known();
     if suffices(most, known.language_alone()) {
@@ -53,7 +53,7 @@ fn least<'a>(most: TagFields<'a>) -> TagFields<'a> {
     most
 }
 
-/// Returns whether few fields have this maximal form.
+/// Returns whether the fields `few` have the maximal form `most`.
 #[inline]
 pub fn suffices(most: TagFields<'_>, few: TagFields<'_>) -> bool {
     match add_likely(few) {

@@ -7,8 +7,8 @@ use crate::likely::likely::add_likely;
 use crate::likely::read_text::are_alike;
 use crate::likely::tag_fields::TagFields;
 
-/// Returns the matching form of a text: its fields, of which what is deprecated is replaced, with the likely ones in place of those
-/// that are empty. A text `und` has none, nor has one that does not begin with a language.
+/// Returns the matching form of a text: its fields, with deprecated subtags replaced and likely subtags added.
+/// Returns `None` for `und`, and for a text that does not begin with a language.
 #[inline]
 pub fn matching_form(text: &[u8]) -> Option<TagFields<'_>> {
     match replaced_form(text) {
@@ -28,14 +28,14 @@ pub fn replaced_form(text: &[u8]) -> Option<TagFields<'_>> {
     }
 }
 
-/// Returns fields with another region in place of one that is deprecated, and with likely subtags.
+/// Returns the fields with a deprecated region replaced, and with likely subtags added.
 #[inline]
 pub fn completed<'a>(fields: TagFields<'a>) -> TagFields<'a> {
     most_likely(region_replaced(fields))
 }
 
-/// Returns fields with the likely ones in place of those that are empty. Where nothing is known of a language, script and region
-/// are as if there were none.
+/// Returns the fields with likely subtags added. If no likely subtags of the language are known, script and region
+/// are what they would be without the language.
 fn most_likely<'a>(fields: TagFields<'a>) -> TagFields<'a> {
     if let Some(most) = add_likely(fields) {
         return most;
@@ -57,7 +57,7 @@ impl<'a> TagFields<'a> {
         }
     }
 
-    /// Returns the language of these fields, and the script and the region of others.
+    /// Returns the language of these fields, with the script and the region of `others`.
     #[inline]
     fn keeping_language(self, others: TagFields<'a>) -> TagFields<'a> {
         TagFields {

@@ -1,8 +1,8 @@
 // Made by rust/erase from crates/langtag_likely/src/lib.rt. Change that file, not this one.
 
 //! Likely subtags (UTS #35, part 1, section 'Likely Subtags') from Unicode's CLDR. They are the most likely script and
-//! region of a language, which can be added to a tag or removed from it. Also the direction of writing, and the tags of
-//! POSIX locale names.
+//! region of a language, which can be added to a tag or removed from it. The crate also finds the writing direction of
+//! a tag, and the tags for POSIX locale names.
 //!
 //! ```
 //! # fn main() -> Result<(), Box<dyn std::error::Error>> {
@@ -30,6 +30,7 @@ mod posix_error;
 mod put;
 mod read_text;
 mod rows;
+mod suggestion;
 mod tables;
 mod tag_fields;
 mod text_fields;
@@ -44,12 +45,13 @@ pub use posix::from_posix;
 pub use posix::write_from_posix;
 #[cfg(feature = "alloc")]
 pub use posix_error::PosixError;
+pub use suggestion::{suggested_language, suggested_region};
 pub use tables::CLDR_VERSION;
 
 // For langtag_choice.
 pub(crate) use keys::index_of;
 pub(crate) use likely::suffices;
 pub(crate) use matching::{completed, matching_form, replaced_form};
-pub(crate) use read_text::{after_common, are_alike, basic_len, hyphened};
+pub(crate) use read_text::{after_common, are_alike, basic_len};
 pub(crate) use rows::{key_number, language_number};
 pub(crate) use tag_fields::TagFields;

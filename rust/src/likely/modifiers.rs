@@ -1,16 +1,17 @@
 // Made by rust/erase from crates/langtag_likely/src/modifiers.rt. Change that file, not this one.
 
-//! What the modifiers of locales' names say.
+//! What the modifiers of locale names mean.
 
 use crate::likely::tables;
 use crate::place::Script;
 use crate::scan::{is_script, split_at_byte};
 use crate::tag::case_insensitive_eq;
 
-/// Returns the modifier of a locale's name if [`write_from_posix`] and [`from_posix`] drop it without knowing what it says: `b"foo"`
-/// for `de_DE@foo`.
+/// Returns the modifier of a locale name if [`write_from_posix`] and [`from_posix`] drop it because they do not know
+/// it: `b"foo"` for `de_DE@foo`.
 ///
-/// Returns `None` without a modifier, if it says a script or a variant, and if it says nothing of the language, such as `euro`.
+/// Returns `None` if there is no modifier, if the modifier names a script or a variant, or if it is not about the
+/// language, such as `euro`.
 ///
 /// ```
 /// use langtag::likely::unknown_modifier;
@@ -39,7 +40,7 @@ fn is_known(modifier: &[u8]) -> bool {
         || says_nothing(modifier)
 }
 
-/// Returns the script that a modifier says.
+/// Returns the script that a modifier names.
 pub(crate) fn modifier_script(modifier: &[u8]) -> Option<Script<'_>> {
     if says_latin(modifier) {
         return script_of(b"Latn");
@@ -78,14 +79,14 @@ fn scripts() -> &'static [[u8; 4]] {
     &tables::SCRIPT_NAMES
 }
 
-/// Returns the script that a text is.
+/// Returns a text as a script, or `None` if it is not one.
 #[inline]
 pub(crate) fn script_of(text: &[u8]) -> Option<Script<'_>> {
     let text = core::str::from_utf8(text).ok()?;
     Script::new(text).ok()
 }
 
-/// Returns the variant that a modifier says.
+/// Returns the variant that a modifier names.
 pub(crate) fn modifier_variant(modifier: &[u8]) -> Option<&'static str> {
     if case_insensitive_eq(b"ijekavian", modifier)
         || case_insensitive_eq(b"ijekavianlatin", modifier)
@@ -101,7 +102,7 @@ pub(crate) fn modifier_variant(modifier: &[u8]) -> Option<&'static str> {
     None
 }
 
-/// Returns whether a modifier says how to sort, to quote or to pay, and nothing of the language.
+/// Returns whether a modifier is about sorting, quotation marks or currency, and not about the language.
 fn says_nothing(modifier: &[u8]) -> bool {
     case_insensitive_eq(b"euro", modifier)
         || case_insensitive_eq(b"preeuro", modifier)

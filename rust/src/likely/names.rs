@@ -1,6 +1,6 @@
 // Made by rust/erase from crates/langtag_likely/src/names.rt. Change that file, not this one.
 
-//! The names of languages, scripts and regions, by their places in the tables.
+//! The names of languages, scripts and regions, by their positions in the tables.
 
 /// Returns the name at an index.
 pub(crate) fn name_at(names: &'static [[u8; 4]], index: usize) -> &'static [u8] {
@@ -8,7 +8,7 @@ pub(crate) fn name_at(names: &'static [[u8; 4]], index: usize) -> &'static [u8] 
     &name[..name_length(name)]
 }
 
-/// Returns the name that a column of a table says at an index.
+/// Reads the index of a name from a column of a table, and returns the name.
 pub(crate) fn name_in(
     names: &'static [[u8; 4]],
     column: &'static [u8],
@@ -17,7 +17,7 @@ pub(crate) fn name_in(
     name_at(names, usize::from(column[index]))
 }
 
-/// Returns how many letters a name has before the zeros that fill it up.
+/// Returns the number of letters in a name, without the zeros that fill it up to four bytes.
 fn name_length(name: &[u8; 4]) -> usize {
     if name[1] == 0 {
         return 0;

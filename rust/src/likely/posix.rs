@@ -1,50 +1,50 @@
 // Made by rust/erase from crates/langtag_likely/src/posix.rt. Change that file, not this one.
 
-//! The tag of a POSIX locale's name.
+//! The tag for a POSIX locale name.
 
 #[cfg(feature = "alloc")]
 use crate::likely::forms::tag_of;
 use crate::likely::modifiers::{modifier_script, modifier_variant, script_of};
 #[cfg(feature = "alloc")]
 use crate::likely::posix_error::PosixError;
-use crate::likely::put::write_text;
-use crate::output::write_pieces;
+use crate::matching::locale_place;
+use crate::output::write_text;
 use crate::place::{Script, Variants};
-use crate::scan::split_at_byte;
+use crate::scan::{split_at_byte, split_at_either};
 #[cfg(feature = "alloc")]
 use crate::shim::{try_vec, AllocError};
 #[cfg(feature = "alloc")]
 use crate::tag::LangTagBuf;
-use crate::tag::{put_part, LangTag, NormalLangTag, Part};
+use crate::tag::{write_part, LangTag, Part};
 #[cfg(feature = "alloc")]
 use alloc::vec::Vec;
 
 /// The greatest length of a language and a territory, in bytes.
 const MOST: usize = 255;
 
-/// The greatest length of these with a script.
+/// The greatest length of a language and a territory with a script, in bytes.
 const MOST_WITH_SCRIPT: usize = MOST + 5;
 
-/// Returns the tag of a POSIX locale's name (IEEE Std 1003.1, section 8.2),
+/// Returns the tag for a POSIX locale name (IEEE Std 1003.1, section 8.2),
 /// `language[_territory][.codeset][@modifier]`: `pt-BR` for `pt_BR.UTF-8`, `sr-Latn-RS` for `sr_RS@latin`,
 /// `ca-ES-valencia` for `ca_ES.UTF-8@valencia`.
 ///
 /// The codeset is dropped. These modifiers name a script or a variant, ignoring case:
 ///
 /// - `latin`, `cyrillic`, `devanagari`, `iqtelif`, and the code of a script, such as `Cyrl` and `shaw`;
-/// - `valencia`, `tarask`, `ijekavian`, and `ijekavianlatin`, which names both.
+/// - `valencia`, `tarask`, `ijekavian`, and `ijekavianlatin`, which names both a script and a variant.
 ///
-/// Other modifiers are dropped, such as `euro`; [`unknown_modifier`] returns one whose meaning is not known. A script
-/// behind `_#` is read as Java and Android print it: `zh-Hant-TW` for `zh_TW_#Hant`. Each `_` is read as a hyphen. Case
-/// and deprecated subtags stay as they are.
+/// Other modifiers are dropped, such as `euro`; [`unknown_modifier`] returns a modifier whose meaning is not known. A
+/// script after `_#`, as Java and Android print it, is read, too: `zh-Hant-TW` for `zh_TW_#Hant`. Each `_` is read as a
+/// hyphen. Case and deprecated subtags stay as they are.
 ///
 /// [`unknown_modifier`]: crate::likely::unknown_modifier
 ///
 /// # Errors
 ///
-/// Returns `NoTag` with the name if its language and territory are not a tag, as in `C`, `en_` and the empty text, or
-/// are `POSIX`, ignoring case, or have more than 255 bytes, which no system's names have. Returns `Memory` if
-/// allocation fails.
+/// Returns `NoTag` with the name if its language and territory are not a tag, as in `C`, `en_` and the empty text.
+/// `NoTag` is also returned for `POSIX`, ignoring case, and for a language and territory of more than 255 bytes.
+/// Returns `Memory` if allocation fails.
 ///
 /// ```
 /// # fn main() -> Result<(), Box<dyn std::error::Error>> {
@@ -63,7 +63,7 @@ pub fn from_posix(name: &str) -> Result<LangTagBuf, PosixError<'_>> {
     }
 }
 
-/// Returns the bytes of the tag of a name; None of a name that says none.
+/// Returns the bytes of the tag for a name, or `None` if the name has no tag.
 #[cfg(feature = "alloc")]
 fn bytes_of(name: &[u8]) -> Result<Option<Vec<u8>>, AllocError> {
     let Some(len) = write_from_posix(name, &mut []) else {
@@ -74,9 +74,9 @@ fn bytes_of(name: &[u8]) -> Result<Option<Vec<u8>>, AllocError> {
     Ok(Some(bytes))
 }
 
-/// Writes the tag of a POSIX locale's name to a buffer, as [`from_posix`] returns it, and returns its length in bytes,
-/// or `None` if the name has no tag. If the buffer is too short, it stays unchanged, and the length says how much room
-/// is needed. It does not allocate.
+/// Writes the tag for a POSIX locale name to a buffer, as [`from_posix`] returns it, and returns its length in bytes,
+/// or `None` if the name has no tag. If the buffer is too short, it stays unchanged, and the length says how long a
+/// buffer must be. It does not allocate.
 ///
 /// ```
 /// use langtag::likely::write_from_posix;
@@ -87,43 +87,32 @@ fn bytes_of(name: &[u8]) -> Result<Option<Vec<u8>>, AllocError> {
 /// assert_eq!(write_from_posix(b"C", &mut buffer), None);
 /// ```
 pub fn write_from_posix(name: &[u8], buffer: &mut [u8]) -> Option<usize> {
-    let (front, modifier) = front_and_modifier(name);
-    let (place, script) = place_and_script(front);
     let mut room = [0; MOST];
-    let tag = tag_of_place(place, &mut room)?;
+    let tag = tag_of_place(locale_place(name), &mut room)?;
+    let (front, modifier) = front_and_modifier(name);
+    let script = script_behind(front);
     let mut longer = [0; MOST_WITH_SCRIPT];
     let tag = tag_with_script(tag, modifier_script(modifier).or(script), &mut longer);
     Some(write_with_variant(tag, modifier_variant(modifier), buffer))
 }
 
-/// Returns what stands before the modifier and before the codeset, and the modifier.
+/// Returns the text before the codeset and the modifier, and the modifier.
 #[inline]
 fn front_and_modifier(name: &[u8]) -> (&[u8], &[u8]) {
-    let (place_and_codeset, modifier) = split_at_byte(name, b'@');
-    let (front, _codeset) = split_at_byte(place_and_codeset, b'.');
+    let (front, _codeset) = split_at_either(name, b'.', b'@');
+    let (_, modifier) = split_at_byte(name, b'@');
     (front, modifier)
 }
 
-/// Returns the language and the territory, and the script behind `#`.
-fn place_and_script(front: &[u8]) -> (&[u8], Option<Script<'_>>) {
-    let (before, behind) = split_at_byte(front, b'#');
-    if before.len() == front.len() {
-        return (front, None);
-    }
-    let (script, _extensions) = split_at_byte(behind, b'_');
-    (without_mark(without_mark(before)), script_of(script))
-}
-
-/// Returns a text without a `_` at its end.
+/// Returns the script after `#`.
 #[inline]
-fn without_mark(text: &[u8]) -> &[u8] {
-    match text {
-        [front @ .., b'_'] => front,
-        _ => text,
-    }
+fn script_behind(front: &[u8]) -> Option<Script<'_>> {
+    let (_, behind) = split_at_byte(front, b'#');
+    let (script, _extensions) = split_at_byte(behind, b'_');
+    script_of(script)
 }
 
-/// Returns the tag that a language and a territory are, written into this room.
+/// Writes a language and a territory into `room`, and returns them as a tag.
 fn tag_of_place<'a>(place: &[u8], room: &'a mut [u8; MOST]) -> Option<LangTag<'a>> {
     let bytes = room.get_mut(..place.len())?;
     bytes.copy_from_slice(place);
@@ -145,7 +134,7 @@ fn hyphenate(bytes: &mut [u8]) {
     }
 }
 
-/// Returns a tag with a script, written into this room.
+/// Writes a tag with a script into `room`, and returns it as a tag.
 fn tag_with_script<'a>(
     tag: LangTag<'a>,
     script: Option<Script<'_>>,
@@ -155,14 +144,14 @@ fn tag_with_script<'a>(
     let Some(normal) = tag.as_normal() else {
         return tag;
     };
-    let len = write_with(normal, Part::Script(Some(script)), room);
+    let len = write_part(normal, Part::Script(Some(script)), room);
     match LangTag::from_bytes(&room[..len]) {
         Ok(tag) => tag,
         Err(_) => unreachable!(),
     }
 }
 
-/// Writes a tag with a variant in place of its variants.
+/// Writes a tag with its variants replaced by the given variant.
 fn write_with_variant(tag: LangTag<'_>, variant: Option<&'static str>, buffer: &mut [u8]) -> usize {
     let Some(variant) = variant else {
         return write_text(tag.as_bytes(), buffer);
@@ -170,24 +159,14 @@ fn write_with_variant(tag: LangTag<'_>, variant: Option<&'static str>, buffer: &
     let Some(normal) = tag.as_normal() else {
         return write_text(tag.as_bytes(), buffer);
     };
-    write_with(normal, variants_part(variant), buffer)
+    write_part(normal, variants_part(variant), buffer)
 }
 
-/// Returns the part that variants are.
+/// Returns variants as a part of a tag.
 #[inline]
 fn variants_part(variants: &str) -> Part<'_> {
     match Variants::new(variants) {
         Ok(variants) => Part::Variants(variants),
         Err(_) => unreachable!(),
     }
-}
-
-/// Writes a tag with a part into a buffer, where it has room, and returns how long that tag is.
-fn write_with<'a>(tag: NormalLangTag<'a>, part: Part<'a>, buffer: &mut [u8]) -> usize {
-    let text = tag.as_str().as_bytes();
-    let new = put_part(tag, part);
-    let hyphen: &'a [u8] = new.hyphen.as_bytes();
-    let part = new.part.as_bytes();
-    let pieces = [&text[..new.start], hyphen, part, &text[new.end..]];
-    write_pieces(&pieces, buffer)
 }

@@ -1,12 +1,12 @@
 // Made by rust/erase from crates/langtag_likely/src/posix_error.rt. Change that file, not this one.
 
-//! Why a POSIX locale's name gave no tag.
+//! Why a POSIX locale name has no tag.
 
 #[cfg(feature = "alloc")]
 use crate::shim::AllocError;
 use core::fmt;
 
-/// The error for a POSIX locale's name: why it has no tag.
+/// The error for a POSIX locale name: why it has no tag.
 ///
 /// ```
 /// use langtag::likely::{PosixError, from_posix};
@@ -16,7 +16,7 @@ use core::fmt;
 #[cfg(feature = "alloc")]
 #[derive(Debug)]
 pub enum PosixError<'a> {
-    /// The name, which has no language: `C`, `POSIX`, the empty text, or a text that is not a tag, such as `en_`.
+    /// The name, which gives no tag: `C`, `POSIX`, the empty text, or a text that is not a tag, such as `en_`.
     NoTag(&'a str),
     /// Allocation failed.
     Memory(AllocError),

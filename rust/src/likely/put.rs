@@ -1,14 +1,14 @@
 // Made by rust/erase from crates/langtag_likely/src/put.rt. Change that file, not this one.
 
-//! A tag with other fields.
+//! Writes a tag with other fields.
 
 use crate::language::Language;
 use crate::likely::fields::or_other;
 use crate::likely::tag_fields::TagFields;
-use crate::output::write_pieces;
+use crate::output::{write_pieces, write_text};
 use crate::tag::NormalLangTag;
 
-/// Writes a tag with other fields to a buffer, or unchanged if there are none.
+/// Writes a tag with the given fields to a buffer, or the unchanged tag if `None` is given.
 #[inline]
 pub(crate) fn write_changed(
     tag: NormalLangTag<'_>,
@@ -21,7 +21,7 @@ pub(crate) fn write_changed(
     }
 }
 
-/// Writes a tag with these fields into a buffer, where it has room, and returns how long that tag is.
+/// Writes a tag with these fields into a buffer, if it fits, and returns the length of that tag.
 #[inline(always)]
 fn write_fields<'a>(tag: NormalLangTag<'a>, fields: TagFields<'a>, buffer: &mut [u8]) -> usize {
     let pieces = [
@@ -35,13 +35,7 @@ fn write_fields<'a>(tag: NormalLangTag<'a>, fields: TagFields<'a>, buffer: &mut 
     write_pieces(&pieces, buffer)
 }
 
-/// Writes a text.
-#[inline]
-pub(crate) fn write_text(text: &[u8], buffer: &mut [u8]) -> usize {
-    write_pieces(&[text], buffer)
-}
-
-/// Returns the hyphen before a subtag; nothing, if there is none.
+/// Returns the hyphen before a subtag, or nothing if the subtag is empty.
 #[inline]
 fn hyphen_before(subtag: &[u8]) -> &[u8] {
     if subtag.is_empty() {
@@ -51,14 +45,14 @@ fn hyphen_before(subtag: &[u8]) -> &[u8] {
     }
 }
 
-/// Returns what stands in a tag after its region, with the hyphen before it.
+/// Returns the rest of a tag after its region, with the hyphen before it.
 #[inline]
 fn after_region<'a>(tag: NormalLangTag<'a>) -> &'a [u8] {
     let text = tag.as_str();
     &text.as_bytes()[tag.ends().region..]
 }
 
-/// Returns the language of a tag, or another in place of `und`.
+/// Returns the language of a tag, or `other` in place of `und`.
 #[inline]
 fn put_language<'a>(language: Language<'a>, other: &'a [u8]) -> &'a [u8] {
     if language.eq_str("und") {

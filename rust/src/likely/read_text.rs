@@ -1,17 +1,17 @@
 // Made by rust/erase from crates/langtag_likely/src/read_text.rt. Change that file, not this one.
 
-//! Language ranges as they are read: `_` as `-`, and without each `-*`.
+//! Language ranges as a look-up reads them: `_` is read as `-`, and each `-*` is left out.
 
 use crate::scan::into_smallcase;
 
-/// Returns whether a range, read in this way, equals a text, ignoring case.
+/// Returns whether a range, with `_` read as `-` and without each `-*`, equals a text, ignoring case.
 #[inline]
 pub fn are_alike(range: &[u8], text: &[u8]) -> bool {
     let (left, rest) = after_common(range, text);
     left.is_empty() && rest.is_empty()
 }
 
-/// Returns what is left of a range and of a text after their common beginning.
+/// Returns what remains of a range and of a text after their common beginning.
 pub fn after_common<'a, 't>(range: &'a [u8], text: &'t [u8]) -> (&'a [u8], &'t [u8]) {
     let mut left = without_stars(range);
     let mut rest = text;
@@ -25,7 +25,7 @@ pub fn after_common<'a, 't>(range: &'a [u8], text: &'t [u8]) -> (&'a [u8], &'t [
     (left, rest)
 }
 
-/// Returns the length of a range, as it is read.
+/// Returns the length of a range without each `-*`.
 pub fn basic_len(range: &[u8]) -> usize {
     let mut len = 0;
     let mut left = without_stars(range);
@@ -36,7 +36,7 @@ pub fn basic_len(range: &[u8]) -> usize {
     len
 }
 
-/// Returns a range without each `-*` in front.
+/// Returns a range without each `-*` at its start.
 #[inline]
 fn without_stars(range: &[u8]) -> &[u8] {
     let mut left = range;
@@ -52,9 +52,9 @@ fn begins_with_star(range: &[u8]) -> bool {
     matches!(range, [b'-' | b'_', b'*', ..])
 }
 
-/// Returns a byte as it is read.
+/// Returns `-` for `_`, and any other byte unchanged.
 #[inline]
-pub fn hyphened(byte: u8) -> u8 {
+fn hyphened(byte: u8) -> u8 {
     if byte == b'_' {
         b'-'
     } else {

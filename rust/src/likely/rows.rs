@@ -1,6 +1,7 @@
 // Made by rust/erase from crates/langtag_likely/src/rows.rt. Change that file, not this one.
 
-//! The rows of likely subtags, in tables: those of a language alone, and the others.
+//! The rows of likely subtags, in tables: one table for rows with only a language on the left, and one for all other
+//! rows.
 
 use crate::likely::keys::place;
 use crate::likely::names::name_in;
@@ -8,7 +9,8 @@ use crate::likely::tables;
 use crate::likely::tag_fields::TagFields;
 use crate::tables::letter_number;
 
-/// Returns the right side of the row with this left side. Its language is empty if the left side has one.
+/// Returns the right side of the row with this left side. The language of the right side is empty if the left side has a
+/// language.
 pub(crate) fn likely_for(key: TagFields<'_>) -> Option<TagFields<'static>> {
     if key.language.len() > 3 {
         return None;
@@ -19,14 +21,15 @@ pub(crate) fn likely_for(key: TagFields<'_>) -> Option<TagFields<'static>> {
     other_row(key)
 }
 
-/// Returns the script and the region of a language alone.
+/// Returns the likely script and region of a language.
 #[inline]
 fn language_row(language: &[u8]) -> Option<TagFields<'static>> {
     let index = language_index(letter_number(language))?;
     Some(language_places(index))
 }
 
-/// Returns where the language with a number stands among those with a row: how many bits are set before its own, if that is set.
+/// Returns the index of a language, given by its number, among the languages with a row. If the language's bit is set,
+/// the index is the number of set bits before it.
 fn language_index(number: usize) -> Option<usize> {
     let place = number - 27;
     let bits = tables::LANGUAGE_BITS[place / 64] >> (place % 64);
@@ -37,20 +40,20 @@ fn language_index(number: usize) -> Option<usize> {
     Some(end - bits.count_ones() as usize)
 }
 
-/// Returns the right side of a row whose left side is no language alone.
+/// Returns the right side of a row whose left side is not only a language.
 #[inline]
 fn other_row(key: TagFields<'_>) -> Option<TagFields<'static>> {
     let index = other_keys().binary_search(&key_number(key)).ok()?;
     Some(other_fields(index))
 }
 
-/// Returns fields as one number, which is not 0.
+/// Returns the number that stands for three fields, which is never 0.
 pub fn key_number(key: TagFields<'_>) -> u32 {
     let places = place(script_keys(), key.script) * 512 + (place(region_keys(), key.region) + 1);
     language_number(key.language) * 131072 + places
 }
 
-/// Returns the letters of a language as the digits of a number in base 26, or 0 if there is no language.
+/// Returns the number whose digits in base 26 are the letters of a language, or 0 if there is no language.
 #[inline]
 pub fn language_number(language: &[u8]) -> u32 {
     if language.is_empty() {
@@ -83,7 +86,8 @@ fn language_places(index: usize) -> TagFields<'static> {
     }
 }
 
-/// Returns the right side at an index. Its language is empty where none is known.
+/// Returns the right side of the row at an index. The language of the right side is empty if the left side has a
+/// language.
 fn other_fields(index: usize) -> TagFields<'static> {
     TagFields {
         language: name_in(&tables::LANGUAGE_NAMES, &tables::OTHER_LANGUAGES, index),

@@ -1,6 +1,6 @@
 // Made by rust/erase from crates/langtag_likely/src/tag_fields.rt. Change that file, not this one.
 
-//! The fields of a tag that likely subtags are about: its language, its script and its region.
+//! The fields of a tag that likely subtags fill in: its language, its script and its region.
 
 use crate::likely::fields::{known, language_field, or_other, region_field, script_field};
 use crate::scan::case_insensitive_eq;
@@ -25,7 +25,7 @@ impl<'a> TagFields<'a> {
         }
     }
 
-    /// Returns the language alone.
+    /// Returns the language, without script and region.
     #[inline]
     pub(crate) fn language_alone(self) -> TagFields<'a> {
         TagFields {
@@ -65,7 +65,7 @@ impl<'a> TagFields<'a> {
         }
     }
 
-    /// Returns these fields, with each empty one replaced by that of `others`.
+    /// Returns these fields, with each empty field replaced by the same field of `others`.
     pub(crate) fn filled(self, others: TagFields<'a>) -> TagFields<'a> {
         TagFields {
             language: or_other(self.language, others.language),

@@ -7,7 +7,7 @@ use crate::likely::tag_fields::TagFields;
 use crate::scan::{is_extended, is_primary, is_region, is_script, split_at_either};
 
 impl<'a> TagFields<'a> {
-    /// Returns the fields of a text in which `_` is read as `-`: `None` if it does not begin with a language.
+    /// Returns the fields of a text in which `_` is read as `-`, or `None` if it does not begin with a language.
     pub(crate) fn of_text(text: &'a [u8]) -> Option<TagFields<'a>> {
         let (first, rest) = split_at_either(text, b'-', b'_');
         if !is_primary(first) {
@@ -24,7 +24,7 @@ impl<'a> TagFields<'a> {
     }
 }
 
-/// Returns the last of the extended subtags in front, or else the language before them, and what follows.
+/// Returns the last of the extended subtags at the start, or else the language before them, and the rest of the text.
 fn last_extended<'a>(language: &'a [u8], text: &'a [u8]) -> (&'a [u8], &'a [u8]) {
     let mut language = language;
     let mut left = text;
@@ -38,7 +38,7 @@ fn last_extended<'a>(language: &'a [u8], text: &'a [u8]) -> (&'a [u8], &'a [u8])
     (language, left)
 }
 
-/// Returns the script in front, and what follows.
+/// Returns the script at the start, and the rest of the text.
 #[inline]
 fn script_before<'a>(text: &'a [u8]) -> (&'a [u8], &'a [u8]) {
     match next_subtag(text) {
@@ -47,7 +47,7 @@ fn script_before<'a>(text: &'a [u8]) -> (&'a [u8], &'a [u8]) {
     }
 }
 
-/// Returns the region in front.
+/// Returns the region at the start.
 #[inline]
 fn region_before(text: &[u8]) -> &[u8] {
     match next_subtag(text) {
@@ -56,7 +56,7 @@ fn region_before(text: &[u8]) -> &[u8] {
     }
 }
 
-/// Returns the first subtag that counts, and what stands after it.
+/// Returns the first subtag that counts, and the text after it.
 fn next_subtag(text: &[u8]) -> Option<(&[u8], &[u8])> {
     let mut left = text;
     while !left.is_empty() {

@@ -4,13 +4,13 @@
 
 use crate::tag::case_insensitive_eq;
 
-/// Returns whether a range is `*`, or equals a tag, or equals the beginning of a tag before a hyphen. Case is ignored.
+/// Returns whether a range is `*`, equals a tag, or equals the text before some hyphen of a tag. Case is ignored.
 #[inline]
 pub(crate) fn matches_basic(range: &str, tag: &str) -> bool {
     range == "*" || begins_with(tag.as_bytes(), range.as_bytes())
 }
 
-/// Returns whether a tag equals a range, or begins with it and continues with a hyphen. Case is ignored.
+/// Returns whether a tag equals a range, or begins with the range followed by a hyphen. Case is ignored.
 fn begins_with(tag: &[u8], range: &[u8]) -> bool {
     if range.len() > tag.len() || !case_insensitive_eq(range, &tag[..range.len()]) {
         return false;

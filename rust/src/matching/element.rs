@@ -31,7 +31,7 @@ pub struct Element<'a> {
 /// # Errors
 ///
 /// Returns the part that is malformed if the text is not an element: the range in `fr_FR`, the weight in `fr;q=2`. If
-/// both are malformed, or if the text is empty or only white space, it is the range. See [`is_empty_element`].
+/// both are malformed, or if the text is empty or only white space, the error is the range. See [`is_empty_element`].
 ///
 /// ```
 /// use langtag::matching::element_at;
@@ -81,7 +81,7 @@ fn weight_after(item: &[u8], semicolon: usize) -> Option<u32> {
     weight_of(&text[start..end])
 }
 
-/// Returns the bytes as a basic language range, or `None` if they are not one.
+/// Returns the bytes as a basic language range, or `None` if they are not a basic language range.
 fn basic_range(bytes: &[u8]) -> Option<LanguageRange<'_>> {
     let text = core::str::from_utf8(bytes).ok()?;
     if !is_basic_range(text) {
@@ -90,7 +90,7 @@ fn basic_range(bytes: &[u8]) -> Option<LanguageRange<'_>> {
     Some(LanguageRange::from_checked(text))
 }
 
-/// Returns where a text begins and ends without the white space around it.
+/// Returns the offsets at which a text begins and ends without the white space around it.
 #[inline]
 pub(crate) fn trimmed_place(text: &[u8]) -> (usize, usize) {
     let start = leading_spaces(text);

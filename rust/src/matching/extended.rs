@@ -4,8 +4,9 @@
 
 use crate::tag::{case_insensitive_eq, Subtags};
 
-/// Returns whether the first subtags match, and the other subtags of the range are among those of the tag.
-pub(crate) fn matches_extended(range: &str, tag: &str) -> bool {
+/// Returns whether the first subtag of a range matches the first subtag of a tag, and the other subtags of the range
+/// occur among the other subtags of the tag.
+pub fn matches_extended(range: &str, tag: &str) -> bool {
     let mut wanted = Subtags::new(range);
     let mut subtags = Subtags::new(tag);
     let (Some(first), Some(subtag)) = (wanted.next(), subtags.next()) else {
@@ -20,8 +21,8 @@ fn matches_first(range: &str, subtag: &str) -> bool {
     range == "*" || case_insensitive_eq(range.as_bytes(), subtag.as_bytes())
 }
 
-/// Returns whether the subtags of a range are among those of a tag, in the same order. Each `*` is ignored. No
-/// singleton may be skipped.
+/// Returns whether the subtags of a range occur among the subtags of a tag, in the same order. Each `*` in the range is
+/// ignored. No single-character subtag of the tag may be skipped.
 #[inline]
 fn stand_among(wanted: Subtags<'_>, mut subtags: Subtags<'_>) -> bool {
     for subtag in wanted {
@@ -32,8 +33,8 @@ fn stand_among(wanted: Subtags<'_>, mut subtags: Subtags<'_>) -> bool {
     true
 }
 
-/// Skips to what follows the next subtag that equals the wanted subtag, ignoring case. Returns `false` if there is none
-/// before the next singleton.
+/// Reads subtags until one equals `wanted`, ignoring case, and then returns `true`. Returns `false` if it reads another
+/// single-character subtag first, or if no subtags are left.
 fn pass(subtags: &mut Subtags<'_>, wanted: &str) -> bool {
     while let Some(subtag) = subtags.next() {
         if case_insensitive_eq(wanted.as_bytes(), subtag.as_bytes()) {

@@ -1,6 +1,6 @@
 // Made by rust/erase from crates/langtag_match/src/fallbacks.rt. Change that file, not this one.
 
-//! What is left of a language range when subtags are removed from its end (RFC 4647 section 3.4).
+//! The fallbacks of a language range, which are made by removing subtags from its end (RFC 4647 section 3.4).
 
 use crate::matching::language_range::LanguageRange;
 use crate::tag::segment_start;
@@ -48,29 +48,39 @@ impl<'a> Iterator for Fallbacks<'a> {
     }
 }
 
-/// Returns a range without its last subtag, and without each single character that would then be last.
+/// Returns a range without its last subtag, and then without any single-character subtags at its end.
+#[inline]
 fn shortened(range: LanguageRange<'_>) -> Option<LanguageRange<'_>> {
-    let mut text = range.as_str();
-    while let Some(before) = without_last(text) {
-        if !ends_in_single(before) {
-            return Some(LanguageRange::from_checked(before));
+    let text = range.as_str();
+    let len = shortened_len(text.as_bytes())?;
+    Some(LanguageRange::from_checked(&text[..len]))
+}
+
+/// Returns the length of a range without its last subtag, and then without any single-character subtags at its end.
+/// Returns `None` if nothing is left.
+pub fn shortened_len(range: &[u8]) -> Option<usize> {
+    let mut left = range;
+    while let Some(len) = len_without_last(left) {
+        left = &left[..len];
+        if !ends_in_single(left) {
+            return Some(len);
         }
-        text = before;
     }
     None
 }
 
-/// Returns the text before the last hyphen.
-fn without_last(text: &str) -> Option<&str> {
-    let start = segment_start(text.as_bytes(), text.len());
+/// Returns the number of bytes before the last hyphen.
+#[inline]
+fn len_without_last(range: &[u8]) -> Option<usize> {
+    let start = segment_start(range, range.len());
     if start == 0 {
         return None;
     }
-    Some(&text[..start - 1])
+    Some(start - 1)
 }
 
 /// Returns whether the last subtag of a text is a single character.
 #[inline]
-fn ends_in_single(text: &str) -> bool {
-    matches!(text.as_bytes(), [_] | [.., b'-', _])
+pub fn ends_in_single(text: &[u8]) -> bool {
+    matches!(text, [_] | [.., b'-', _])
 }

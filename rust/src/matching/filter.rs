@@ -7,13 +7,14 @@ use crate::matching::language_range::LanguageRange;
 use crate::tag::LangTag;
 
 /// Returns an iterator over the tags that basic filtering finds for a language priority list (RFC 4647 sections 3.3 and
-/// 3.3.1). The tags of the first range come first, and then, for each later range, those that no earlier range matches.
+/// 3.3.1). The tags that the first range matches come first. Then, for each later range, come the tags that this range
+/// matches and no earlier range matches.
 ///
-/// For the ranges `de-CH` and `de` and the tags `en`, `de-AT` and `de-CH-1996` these are `de-CH-1996` and `de-AT`. A
-/// tag that is in the list twice is found twice.
+/// For the ranges `de-CH` and `de`, and the tags `en`, `de-AT` and `de-CH-1996`, the iterator yields `de-CH-1996` and
+/// `de-AT`. A tag that is in the list twice is found twice.
 ///
-/// Each tag is compared with each range. For each range that matches, it is compared again with the earlier ranges. So
-/// if many ranges match one tag, the time is quadratic in their number.
+/// Each tag is compared with each range. For each range that matches, the tag is compared again with the earlier
+/// ranges. So if many ranges match one tag, the time is quadratic in the number of ranges.
 ///
 /// ```
 /// # fn main() -> Result<(), Box<dyn std::error::Error>> {
@@ -37,7 +38,7 @@ pub fn filter_basic<'a, 't>(
 }
 
 /// Returns an iterator over the tags that extended filtering finds ([RFC 4647 section 3.3.2]), in the same order and time
-/// as [`filter_basic`]: for `*-CH` and the tags `de-AT` and `de-Latn-CH` it is `de-Latn-CH`.
+/// as [`filter_basic`]: for `*-CH` and the tags `de-AT` and `de-Latn-CH`, it yields `de-Latn-CH`.
 ///
 /// ```
 /// # fn main() -> Result<(), Box<dyn std::error::Error>> {
@@ -119,7 +120,8 @@ impl<'a, 't> Iterator for Filtered<'a, 't> {
     }
 }
 
-/// Returns the indices of the next range that finds a tag, and of that tag. The search starts at a range and a tag.
+/// Returns the index of the next range that finds a tag, and the index of that tag. The search starts at the given
+/// range and tag.
 fn next_place(
     rule: FilterRule,
     ranges: &[LanguageRange<'_>],
@@ -137,7 +139,8 @@ fn next_place(
     None
 }
 
-/// Returns the index of the first tag that a range matches and no earlier range matches. The search starts at an index.
+/// Returns the index of the first tag that a range matches and no earlier range matches. The search starts at the given
+/// index.
 #[inline]
 fn next_found(
     rule: FilterRule,

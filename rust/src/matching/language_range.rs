@@ -35,9 +35,9 @@ impl<T: fmt::Debug> core::error::Error for InvalidLanguageRange<T> {}
 
 /// A language range, basic or extended (RFC 4647 sections 2.1 and 2.2): `de-CH`, `*`, `*-CH`, `de-*-DE`.
 ///
-/// A range has one or more subtags, each of which is `*` or up to eight letters and digits. The first has letters only.
-/// A range need not be a tag: `de-x` and `a-1` are ranges. Two ranges are equal if their texts differ only in the case
-/// of ASCII letters.
+/// A range has one or more subtags. Each subtag is `*`, or one to eight letters and digits. The first subtag has no
+/// digits. A range need not be a tag: `de-x` and `a-1` are ranges. Two ranges are equal if their texts differ only in
+/// the case of ASCII letters.
 ///
 /// ```
 /// # fn main() -> Result<(), Box<dyn std::error::Error>> {
@@ -76,7 +76,7 @@ impl<'a> LanguageRange<'a> {
         Ok(LanguageRange::from_checked(text))
     }
 
-    /// Returns the range of a text that is known to be one, without checking it.
+    /// Wraps a text that is known to be a language range, without checking it.
     /// `LanguageRange::from_checked(range.as_str())` is equal to `range`.
     #[inline]
     pub(crate) fn from_checked(text: &'a str) -> LanguageRange<'a> {
@@ -100,8 +100,8 @@ impl<'a> LanguageRange<'a> {
         self.text.0
     }
 
-    /// Returns whether another text is equal, ignoring the case of ASCII letters. It is proved that comparisons and
-    /// hashes also ignore case, and that a clone is the same value.
+    /// Returns whether another text equals this text, ignoring the case of ASCII letters. It is proved that
+    /// comparisons and hashes also ignore case, and that a clone is the same value.
     ///
     /// ```
     /// # fn main() -> Result<(), Box<dyn std::error::Error>> {
@@ -116,7 +116,8 @@ impl<'a> LanguageRange<'a> {
         self.text == Caseless(other)
     }
 
-    /// Returns whether the range is a basic one ([RFC 4647 section 2.1]): `true` for `de-CH` and `*`, `false` for `*-CH`.
+    /// Returns whether the range is a basic range ([RFC 4647 section 2.1]): `true` for `de-CH` and `*`, `false` for
+    /// `*-CH`.
     ///
     /// ```
     /// # fn main() -> Result<(), Box<dyn std::error::Error>> {
@@ -137,7 +138,7 @@ impl<'a> LanguageRange<'a> {
     /// Returns whether the range matches a tag by basic filtering ([RFC 4647 section 3.3.1]): `de-DE` matches
     /// `de-DE-1996`, but neither `de-Deva` nor `de-Latn-DE`.
     ///
-    /// It is meant for basic ranges. In other ranges `*` equals no subtag, so `de-*` matches nothing.
+    /// This method is meant for basic ranges. In other ranges, `*` equals no subtag, so `de-*` matches nothing.
     ///
     /// ```
     /// # fn main() -> Result<(), Box<dyn std::error::Error>> {

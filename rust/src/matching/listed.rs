@@ -1,23 +1,25 @@
 // Made by rust/erase from crates/langtag_match/src/listed.rt. Change that file, not this one.
 
-//! A language range in a list of ranges of a program.
+//! A language range in a list that the caller has, such as the user's settings.
 
+use crate::matching::locale::locale_place;
 use crate::matching::range_text::{is_first_subtag, is_range_subtag};
 use crate::matching::wanted::WantedRange;
-use crate::matching::wanted_element::{is_mark, is_star, trimmed};
+use crate::matching::wanted_element::{is_separator, is_star, trimmed};
 use crate::scan::split_at_either;
 
-/// Returns the range of a text in a list of ranges, basic or extended, with the weight 1. As in a header, `_` is read
-/// as `-`. White space around the range is dropped, and so is everything after `.` or `@`. Returns `None` if the rest
-/// is not a range, such as `de;q=0`.
+/// Reads a text as a language range, basic or extended, with the weight 1. As in a header, `_` is read as `-`. White
+/// space around the range is dropped, and so is everything from the first `.`, `@` or `_#` on. Returns `None` if the
+/// rest is not a range, such as `de;q=0`.
 ///
 /// ```
 /// use langtag::matching::listed_range;
 ///
 /// assert_eq!(listed_range(b" zh_TW.UTF-8").map(|range| range.bytes), Some(&b"zh_TW"[..]));
 /// ```
+#[inline]
 pub fn listed_range(text: &[u8]) -> Option<WantedRange<'_>> {
-    let (bytes, _codeset) = split_at_either(trimmed(text), b'.', b'@');
+    let bytes = locale_place(trimmed(text));
     if !is_listed_range(bytes) {
         return None;
     }
@@ -37,6 +39,6 @@ fn is_listed_range(text: &[u8]) -> bool {
 /// Returns whether each subtag is `*`, or 1 to 8 letters or digits.
 #[inline]
 fn are_listed_subtags(text: &[u8]) -> bool {
-    text.split(|byte| is_mark(*byte))
+    text.split(|byte| is_separator(*byte))
         .all(|subtag| is_range_subtag(subtag))
 }

@@ -5,14 +5,15 @@
 use crate::matching::language_range::LanguageRange;
 use crate::tag::LangTag;
 
-/// Returns the tag of the first range that finds one, or the default ([RFC 4647 section 3.4]). A range finds the tag that
-/// equals it, or else the longest of its [`fallbacks`](LanguageRange::fallbacks).
+/// Returns the tag that the first successful range finds, or the default if no range finds a tag (RFC 4647 section
+/// 3.4). A range finds the tag that equals the range. If no tag equals it, its [`fallbacks`](LanguageRange::fallbacks)
+/// are tried, the longest first.
 ///
-/// For the ranges `nl` and `zh-Hant-CN` it tries `nl`, `zh-Hant-CN`, `zh-Hant` and `zh` in this order, and then returns
-/// the default.
+/// For the ranges `nl` and `zh-Hant-CN` it tries `nl`, `zh-Hant-CN`, `zh-Hant` and `zh` in this order. If none of them
+/// equals a tag, it returns the default.
 ///
-/// An extended range is looked up without its `*` (section 3.2): `de-*-DE` as `de-DE`. A range that begins with `*`
-/// finds no tag, and the next range is tried.
+/// An extended range is looked up without its `*` (section 3.2): `de-*-DE` is looked up as `de-DE`. A range that
+/// begins with `*` finds no tag, and the next range is tried.
 ///
 /// ```
 /// # fn main() -> Result<(), Box<dyn std::error::Error>> {
@@ -25,8 +26,6 @@ use crate::tag::LangTag;
 /// # Ok(())
 /// # }
 /// ```
-///
-/// [RFC 4647 section 3.4]: https://www.rfc-editor.org/rfc/rfc4647#section-3.4
 #[inline]
 pub fn look_up<'a>(
     ranges: &[LanguageRange<'_>],

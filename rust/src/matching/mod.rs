@@ -32,6 +32,7 @@ mod filter;
 mod filter_rule;
 mod language_range;
 mod listed;
+mod locale;
 mod lookup;
 mod range_text;
 mod wanted;
@@ -51,7 +52,13 @@ pub use filter::{filter_basic, filter_extended, Filtered};
 pub use language_range::LanguageRangeBuf;
 pub use language_range::{InvalidLanguageRange, LanguageRange};
 pub use listed::listed_range;
+pub use locale::locale_place;
 pub use lookup::look_up;
 pub use wanted::{split_wanted, wanted_ranges, WantedRange, WantedRanges};
 pub use weight::weight_of;
 pub use weighted_range::WeightedRange;
+
+// For langtag_registry, langtag_choice and langtag_c.
+pub(crate) use extended::matches_extended;
+pub(crate) use fallbacks::{ends_in_single, shortened_len};
+pub(crate) use wanted_element::is_separator;

@@ -33,14 +33,14 @@ pub struct WantedRanges<'a> {
     rest: &'a [u8],
 }
 
-/// Returns an iterator over the language ranges of an Accept-Language header, in its order. It includes those of weight
-/// 0, and accepts any header. For `de_CH, zh_CN.UTF-8;q=1.5, german language;q=0.3, en;level=1;Q=.5` the ranges are
-/// `de-CH` and `zh-CN`, of weight 1000, and `en`, of weight 500.
+/// Returns an iterator over the language ranges of an Accept-Language header, in the header's order. It accepts any
+/// header, and includes ranges of weight 0. For `de_CH, zh_CN.UTF-8;q=1.5, german language;q=0.3, en;level=1;Q=.5`
+/// the ranges are `de-CH` and `zh-CN`, of weight 1000, and `en`, of weight 500.
 ///
-/// In a range, `_` is read as `-`, and everything after `.` or `@` is dropped. If the rest is not a range, the element
-/// is skipped. Parameters other than `q` are ignored. A weight that is not a number, or is above 1, counts as 1. A
-/// weight may have a decimal comma: `fr;q=0,8` has the weight 800. [`AcceptLanguage`] reads a header by the letter of
-/// RFC 9110.
+/// In a range, `_` is read as `-`, and everything from the first `.`, `@` or `_#` on is dropped, as in `zh_TW_#Hant`.
+/// If the rest is not a range, the element is skipped. Parameters other than `q` are ignored. A weight that is not a
+/// number, or is above 1, counts as 1. A weight may have a decimal comma: `fr;q=0,8` has the weight 800. In contrast,
+/// [`AcceptLanguage`] follows RFC 9110 strictly.
 ///
 /// [`AcceptLanguage`]: crate::matching::AcceptLanguage
 ///
@@ -71,7 +71,7 @@ impl<'a> Iterator for WantedRanges<'a> {
 }
 
 /// Returns the first range of a header, as [`wanted_ranges`] reads it, and the text after its comma. Returns `None` if
-/// there is no range. Use it to walk over the ranges with a `Copy` value.
+/// there is no range. Use it instead of the iterator if the state of your loop has to be a `Copy` value.
 ///
 /// ```
 /// use langtag::matching::split_wanted;

@@ -3,6 +3,7 @@
 //! An element of a header, read leniently.
 
 use crate::matching::element::trimmed_place;
+use crate::matching::locale::locale_place;
 use crate::matching::range_text::is_first_subtag;
 use crate::matching::wanted::WantedRange;
 use crate::matching::weight::{are_digits, digit_at};
@@ -12,7 +13,7 @@ use crate::tag::is_private_subtag;
 /// Returns the range of an item of a header, with its weight. `behind` is what follows the comma after the item.
 pub(crate) fn wanted_at<'a>(item: &'a [u8], behind: &[u8]) -> Option<WantedRange<'a>> {
     let (before, parameters) = split_at_byte(item, b';');
-    let (bytes, _codeset) = split_at_either(trimmed(before), b'.', b'@');
+    let bytes = locale_place(trimmed(before));
     if !is_wanted_range(bytes) {
         return None;
     }
@@ -35,12 +36,13 @@ pub(crate) fn is_star(text: &[u8]) -> bool {
 /// Returns whether each subtag is 1 to 8 letters or digits.
 #[inline]
 fn are_wanted_subtags(text: &[u8]) -> bool {
-    text.split(|byte| is_mark(*byte))
+    text.split(|byte| is_separator(*byte))
         .all(|subtag| is_private_subtag(subtag))
 }
 
+/// Returns whether a byte separates subtags, if `_` is read as `-`.
 #[inline]
-pub(crate) fn is_mark(byte: u8) -> bool {
+pub fn is_separator(byte: u8) -> bool {
     byte == b'-' || byte == b'_'
 }
 
@@ -73,7 +75,8 @@ fn is_q_name(name: &[u8]) -> bool {
     matches!(name, [b'q' | b'Q'])
 }
 
-/// Returns the weight of a value. If the value has no point, the digits after the comma are its fraction.
+/// Returns the weight of a value. If the value has no point, the digits at the start of `behind`, which is the text
+/// after the next comma, are its fraction.
 fn value_weight(value: &[u8], behind: &[u8]) -> u32 {
     let (whole, fraction) = split_at_byte(value, b'.');
     if whole.len() < value.len() {
@@ -82,7 +85,8 @@ fn value_weight(value: &[u8], behind: &[u8]) -> u32 {
     number_weight(whole, digits_behind(behind))
 }
 
-/// Returns the digits at the start of a text if a comma or the end follows them, and otherwise an empty text.
+/// Returns the digits at the start of a text if a comma or the end of the text follows them. Otherwise it returns an
+/// empty text.
 #[inline]
 fn digits_behind(text: &[u8]) -> &[u8] {
     let (item, _rest) = split_at_byte(text, b',');
@@ -93,8 +97,8 @@ fn digits_behind(text: &[u8]) -> &[u8] {
     }
 }
 
-/// Returns the weight of a number, by the texts before and after its decimal mark. It is 1 if this is not a number, or
-/// if the number is above 1.
+/// Returns the weight of a number, given the texts before and after its decimal mark. It is 1000 if the texts are not a
+/// number, or if the number is above 1.
 fn number_weight(whole: &[u8], fraction: &[u8]) -> u32 {
     if !is_number(whole, fraction) || !are_zeros(whole) {
         return 1000;
@@ -102,7 +106,7 @@ fn number_weight(whole: &[u8], fraction: &[u8]) -> u32 {
     100 * digit_at(fraction, 0) + 10 * digit_at(fraction, 1) + digit_at(fraction, 2)
 }
 
-/// Returns whether the texts before and after a decimal mark are digits, and not both empty.
+/// Returns whether the texts before and after a decimal mark have only digits, and at least one of them has a digit.
 #[inline]
 fn is_number(whole: &[u8], fraction: &[u8]) -> bool {
     are_digits(whole, b'9') && are_digits(fraction, b'9') && whole.len() + fraction.len() > 0

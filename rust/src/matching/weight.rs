@@ -28,7 +28,7 @@ fn is_qvalue(text: &[u8]) -> bool {
     }
 }
 
-/// Returns whether a text is empty, or a point and up to three digits that are at most the greatest digit.
+/// Returns whether a text is empty, or is a point and up to three digits, each at most `greatest`.
 fn is_fraction(text: &[u8], greatest: u8) -> bool {
     match text {
         [] => true,
@@ -37,7 +37,7 @@ fn is_fraction(text: &[u8], greatest: u8) -> bool {
     }
 }
 
-/// Returns whether the bytes are digits that are at most the greatest digit.
+/// Returns whether each byte is a digit that is at most `greatest`.
 #[inline]
 pub(crate) fn are_digits(bytes: &[u8], greatest: u8) -> bool {
     bytes.iter().all(|digit| (b'0'..=greatest).contains(digit))

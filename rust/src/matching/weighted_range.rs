@@ -3,8 +3,8 @@
 //! A language range with its weight (RFC 9110 section 12.5.4).
 use crate::matching::language_range::LanguageRange;
 
-/// A language range and its weight: `fr;q=0.25` in a header is the range `fr` with the weight 250. Two of them are
-/// equal if their weights are equal, and their ranges are equal, ignoring case.
+/// A language range and its weight: `fr;q=0.25` in a header is the range `fr` with the weight 250. Two weighted
+/// ranges are equal if their weights are equal, and their ranges are equal, ignoring case.
 ///
 /// ```
 /// # fn main() -> Result<(), Box<dyn std::error::Error>> {

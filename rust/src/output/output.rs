@@ -1,6 +1,6 @@
 // Made by rust/erase from crates/langtag_output/src/output.rt. Change that file, not this one.
 
-//! A text that is written into a buffer of the caller's, subtag by subtag.
+//! A text that is written into the caller's buffer subtag by subtag.
 
 /// A buffer, and the length of the text so far. Bytes that do not fit are counted, but not written.
 pub struct Output<'a> {
@@ -9,7 +9,7 @@ pub struct Output<'a> {
 }
 
 impl<'a> Output<'a> {
-    /// Returns the output that begins at the start of a buffer.
+    /// Returns an empty output, which writes from the start of a buffer.
     #[inline]
     pub fn new(buffer: &'a mut [u8]) -> Output<'a> {
         Output { buffer, len: 0 }
@@ -21,7 +21,7 @@ impl<'a> Output<'a> {
         self.len
     }
 
-    /// Appends a subtag, or several joined ones, after a hyphen if there is text before them.
+    /// Appends a subtag, or several subtags joined by hyphens. A hyphen comes first, unless the text is still empty.
     #[inline]
     pub fn push_subtag(&mut self, subtag: &[u8]) {
         if self.len > 0 {
@@ -30,7 +30,7 @@ impl<'a> Output<'a> {
         self.push(subtag);
     }
 
-    /// Appends bytes. The length stops at its maximum if a text has more bytes.
+    /// Appends bytes. The length stays at `usize::MAX` if the text has more bytes than that.
     pub fn push(&mut self, bytes: &[u8]) {
         let end = self.len.saturating_add(bytes.len());
         if end <= self.buffer.len() {

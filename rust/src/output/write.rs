@@ -1,6 +1,6 @@
 // Made by rust/erase from crates/langtag_output/src/write.rt. Change that file, not this one.
 
-//! Pieces of a text that are written into a buffer of the caller.
+//! Writing the pieces of a text into the caller's buffer.
 
 use crate::output::output::Output;
 
@@ -8,7 +8,7 @@ use crate::output::output::Output;
 /// `MM`. If the buffer is too short, it stays unchanged, and the length says how much room is needed. It does not
 /// allocate.
 ///
-/// The length is at most `usize::MAX`, even if overlapping pieces have more bytes in all.
+/// The length is at most `usize::MAX`, even if the pieces overlap and have more bytes in total.
 #[inline]
 pub fn write_pieces(pieces: &[&[u8]], buffer: &mut [u8]) -> usize {
     let len = put_pieces(pieces, &mut []);
@@ -18,7 +18,13 @@ pub fn write_pieces(pieces: &[&[u8]], buffer: &mut [u8]) -> usize {
     len
 }
 
-/// Puts pieces into a buffer, as far as it has room. Returns how long their text is.
+/// Writes a text to a buffer, like [`write_pieces`] with a single piece, and returns its length in bytes.
+#[inline]
+pub fn write_text(text: &[u8], buffer: &mut [u8]) -> usize {
+    write_pieces(&[text], buffer)
+}
+
+/// Writes as much of some pieces as fits into a buffer, and returns their total length.
 #[inline]
 fn put_pieces(pieces: &[&[u8]], buffer: &mut [u8]) -> usize {
     let mut out = Output::new(buffer);

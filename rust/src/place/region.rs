@@ -71,8 +71,8 @@ impl<'a> Region<'a> {
         Ok(Region::from_checked(text))
     }
 
-    /// Returns the region of a text that is known to be one, without checking it.
-    /// `Region::from_checked(region.as_str())` is equal to `region`.
+    /// Wraps a text that is known to be a region, without checking it. `Region::from_checked(region.as_str())` is
+    /// equal to `region`.
     #[inline]
     pub(crate) fn from_checked(text: &'a str) -> Region<'a> {
         Region {
@@ -110,8 +110,8 @@ impl<'a> Region<'a> {
         self.as_str().as_bytes()
     }
 
-    /// Returns whether another text is equal, ignoring the case of ASCII letters. It is proved that comparisons and
-    /// hashes also ignore case, and that a clone is the same value.
+    /// Returns whether another text equals this text, ignoring the case of ASCII letters. It is proved that
+    /// comparisons and hashes also ignore case, and that a clone is the same value.
     ///
     /// ```
     /// # fn main() -> Result<(), Box<dyn std::error::Error>> {

@@ -29,8 +29,8 @@ impl<T> fmt::Display for InvalidVariant<T> {
 
 impl<T: fmt::Debug> core::error::Error for InvalidVariant<T> {}
 
-/// A variant subtag ([RFC 5646 section 2.2.5]): five to eight letters and digits, such as `rozaj`, or four of which the
-/// first is a digit, such as `1996`.
+/// A variant subtag ([RFC 5646 section 2.2.5]): five to eight letters and digits, such as `rozaj`, or a digit followed by
+/// three letters or digits, such as `1996`.
 ///
 /// Two variants are equal if their texts differ only in the case of ASCII letters, such as `rozaj` and `ROZAJ`.
 ///
@@ -56,7 +56,8 @@ impl<'a> Variant<'a> {
     ///
     /// # Errors
     ///
-    /// Returns the text if it is neither five to eight letters and digits nor four of which the first is a digit.
+    /// Returns the text if it is neither five to eight letters and digits nor a digit followed by three letters or
+    /// digits.
     ///
     /// ```
     /// use langtag::{InvalidVariant, Variant};
@@ -72,8 +73,8 @@ impl<'a> Variant<'a> {
         Ok(Variant::from_checked(text))
     }
 
-    /// Returns the variant of a text that is known to be one, without checking it.
-    /// `Variant::from_checked(variant.as_str())` is equal to `variant`.
+    /// Wraps a text that is known to be a variant, without checking it. `Variant::from_checked(variant.as_str())` is
+    /// equal to `variant`.
     #[inline]
     pub(crate) fn from_checked(text: &'a str) -> Variant<'a> {
         Variant {
@@ -111,8 +112,8 @@ impl<'a> Variant<'a> {
         self.as_str().as_bytes()
     }
 
-    /// Returns whether another text is equal, ignoring the case of ASCII letters. It is proved that comparisons and
-    /// hashes also ignore case, and that a clone is the same value.
+    /// Returns whether another text equals this text, ignoring the case of ASCII letters. It is proved that
+    /// comparisons and hashes also ignore case, and that a clone is the same value.
     ///
     /// ```
     /// # fn main() -> Result<(), Box<dyn std::error::Error>> {
@@ -182,8 +183,8 @@ impl VariantBuf {
     ///
     /// # Errors
     ///
-    /// Returns the same `String` if it is neither five to eight letters and digits nor four of which the first is a
-    /// digit, such as `roza`.
+    /// Returns the same `String` if it is neither five to eight letters and digits nor a digit followed by three
+    /// letters or digits. An example is `roza`.
     ///
     /// ```
     /// # fn main() -> Result<(), Box<dyn std::error::Error>> {

@@ -11,7 +11,7 @@ use crate::shim::{try_string, AllocError};
 use alloc::string::String;
 use core::fmt;
 
-/// The error for a text that is not variants. It contains the text.
+/// The error for a text that is not a list of variants. It contains the text.
 ///
 /// ```
 /// use langtag::Variants;
@@ -34,8 +34,8 @@ impl<T: fmt::Debug> core::error::Error for InvalidVariants<T> {}
 /// The variants of a tag, joined by hyphens ([RFC 5646 section 2.2.5]), such as `rozaj-1994`. The empty text means no
 /// variants.
 ///
-/// A variant may occur twice: such a tag is well formed but not valid (section 2.2.9). Two lists are equal if their
-/// texts differ only in the case of ASCII letters, such as `rozaj` and `ROZAJ`.
+/// A variant may occur twice: a tag with such a list is well formed but not valid (section 2.2.9). Two lists of
+/// variants are equal if their texts differ only in the case of ASCII letters, such as `rozaj` and `ROZAJ`.
 ///
 /// ```
 /// # fn main() -> Result<(), Box<dyn std::error::Error>> {
@@ -68,7 +68,7 @@ impl<'a> Variants<'a> {
     ///
     /// # Errors
     ///
-    /// Returns the text if it is not variants with one hyphen between neighbours.
+    /// Returns the text if it is not a list of variants joined by hyphens.
     ///
     /// ```
     /// use langtag::{InvalidVariants, Variants};
@@ -83,7 +83,7 @@ impl<'a> Variants<'a> {
         Ok(Variants::from_checked(text))
     }
 
-    /// Returns the variants of a text that is known to be variants, without checking it.
+    /// Wraps a text that is known to be a list of variants, without checking it.
     /// `Variants::from_checked(variants.as_str())` is equal to `variants`.
     #[inline]
     pub(crate) fn from_checked(text: &'a str) -> Variants<'a> {
@@ -122,8 +122,8 @@ impl<'a> Variants<'a> {
         self.as_str().as_bytes()
     }
 
-    /// Returns whether another text is equal, ignoring the case of ASCII letters. It is proved that comparisons and
-    /// hashes also ignore case, and that a clone is the same value.
+    /// Returns whether another text equals this text, ignoring the case of ASCII letters. It is proved that
+    /// comparisons and hashes also ignore case, and that a clone is the same value.
     ///
     /// ```
     /// # fn main() -> Result<(), Box<dyn std::error::Error>> {
@@ -247,7 +247,7 @@ impl VariantsBuf {
     ///
     /// # Errors
     ///
-    /// Returns the same `String` if it is not variants with one hyphen between neighbours, such as `rozaj-`.
+    /// Returns the same `String` if it is not a list of variants joined by hyphens, such as `rozaj-`.
     ///
     /// ```
     /// # fn main() -> Result<(), Box<dyn std::error::Error>> {
@@ -323,7 +323,7 @@ impl fmt::Display for VariantsBuf {
     }
 }
 
-/// Whether a text is variants with one hyphen between neighbours, or nothing.
+/// Returns whether a text is empty or a list of variants joined by hyphens.
 #[inline]
 fn all_variants(text: &str) -> bool {
     Subtags::new(text).all(|subtag| is_variant(subtag.as_bytes()))

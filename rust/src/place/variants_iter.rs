@@ -1,6 +1,6 @@
 // Made by rust/erase from crates/langtag_place/src/variants_iter.rt. Change that file, not this one.
 
-//! The variants of a tag one by one, from either end.
+//! An iterator over the variants of a tag, from either end.
 
 use crate::place::variant::Variant;
 use crate::place::variants::Variants;
@@ -40,7 +40,7 @@ impl<'a> VariantsIter<'a> {
         Variants::EMPTY.iter()
     }
 
-    /// The walk over the variants of a text that is known to be spelled by a list of them.
+    /// Returns an iterator over the variants of a text that is known to be a list of variants.
     #[inline]
     pub(crate) fn new(text: &'a str) -> Self {
         VariantsIter {

@@ -33,7 +33,8 @@ impl<T: fmt::Debug> core::error::Error for InvalidPrivateUse<T> {}
 /// A private use part ([RFC 5646 section 2.2.7]): `x` or `X`, and one or more subtags after it, joined by hyphens, such
 /// as `x-twain`. It may be the end of a tag, or a whole tag.
 ///
-/// Two of them are equal if their texts differ only in the case of ASCII letters, such as `x-twain` and `X-TWAIN`.
+/// Two private use parts are equal if their texts differ only in the case of ASCII letters, such as `x-twain` and
+/// `X-TWAIN`.
 ///
 /// ```
 /// # fn main() -> Result<(), Box<dyn std::error::Error>> {
@@ -73,7 +74,7 @@ impl<'a> PrivateUse<'a> {
         Ok(PrivateUse::from_checked(text))
     }
 
-    /// Returns the private use part of a text that is known to be one, without checking it.
+    /// Wraps a text that is known to be a private use part, without checking it.
     /// `PrivateUse::from_checked(private_use.as_str())` is equal to `private_use`.
     #[inline]
     pub(crate) fn from_checked(text: &'a str) -> PrivateUse<'a> {
@@ -112,8 +113,8 @@ impl<'a> PrivateUse<'a> {
         self.as_str().as_bytes()
     }
 
-    /// Returns whether another text is equal, ignoring the case of ASCII letters. It is proved that comparisons and
-    /// hashes also ignore case, and that a clone is the same value.
+    /// Returns whether another text equals this text, ignoring the case of ASCII letters. It is proved that
+    /// comparisons and hashes also ignore case, and that a clone is the same value.
     ///
     /// ```
     /// # fn main() -> Result<(), Box<dyn std::error::Error>> {
@@ -169,7 +170,7 @@ impl<'a> PrivateUse<'a> {
     }
 }
 
-/// Whether the text is a mark and private use subtags, at least one, joined by hyphens.
+/// Returns whether the text is `x` or `X` and at least one private use subtag, joined by hyphens.
 fn is_private_use(text: &str) -> bool {
     let mut subtags = Subtags::new(text);
     let marked = subtags
@@ -181,7 +182,7 @@ fn is_private_use(text: &str) -> bool {
     marked && followed && are_private(subtags)
 }
 
-/// Whether the bytes are the mark alone.
+/// Returns whether the bytes are only `x` or `X`.
 #[inline]
 fn is_mark_alone(bytes: &[u8]) -> bool {
     match bytes {
@@ -190,7 +191,7 @@ fn is_mark_alone(bytes: &[u8]) -> bool {
     }
 }
 
-/// Whether all subtags that are left are private use subtags.
+/// Returns whether all subtags that are left are private use subtags.
 #[inline]
 fn are_private(mut subtags: Subtags<'_>) -> bool {
     subtags.all(|subtag| is_private_subtag(subtag.as_bytes()))

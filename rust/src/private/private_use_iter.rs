@@ -1,6 +1,6 @@
 // Made by rust/erase from crates/langtag_private/src/private_use_iter.rt. Change that file, not this one.
 
-//! The subtags of a private use part one by one.
+//! An iterator over the subtags of a private use part.
 
 use crate::private::private_use_subtag::PrivateUseSubtag;
 use crate::scan::Subtags;
@@ -40,7 +40,7 @@ impl<'a> PrivateUseIter<'a> {
         }
     }
 
-    /// The subtags of a private use part, without its mark.
+    /// Returns an iterator over the subtags of a private use part, without the `x` or `X` that begins it.
     #[inline]
     pub(crate) fn new(text: &'a str) -> Self {
         PrivateUseIter {
@@ -49,7 +49,7 @@ impl<'a> PrivateUseIter<'a> {
     }
 }
 
-/// The subtags of a text but for the first, which is the mark.
+/// Returns the subtags of a text except the first, which is `x` or `X`.
 #[inline]
 fn after_mark<'a>(text: &'a str) -> Subtags<'a> {
     let mut rest = Subtags::new(text);

@@ -31,7 +31,8 @@ impl<T: fmt::Debug> core::error::Error for InvalidPrivateUseSubtag<T> {}
 
 /// A private use subtag ([RFC 5646 section 2.2.7]): one to eight letters and digits, such as `twain` in `en-x-twain`.
 ///
-/// Two of them are equal if their texts differ only in the case of ASCII letters, such as `twain` and `TWAIN`.
+/// Two private use subtags are equal if their texts differ only in the case of ASCII letters, such as `twain` and
+/// `TWAIN`.
 ///
 /// ```
 /// # fn main() -> Result<(), Box<dyn std::error::Error>> {
@@ -71,7 +72,7 @@ impl<'a> PrivateUseSubtag<'a> {
         Ok(PrivateUseSubtag::from_checked(text))
     }
 
-    /// Returns the subtag of a text that is known to be one, without checking it.
+    /// Wraps a text that is known to be a private use subtag, without checking it.
     /// `PrivateUseSubtag::from_checked(subtag.as_str())` is equal to `subtag`.
     #[inline]
     pub(crate) fn from_checked(text: &'a str) -> PrivateUseSubtag<'a> {
@@ -110,8 +111,8 @@ impl<'a> PrivateUseSubtag<'a> {
         self.as_str().as_bytes()
     }
 
-    /// Returns whether another text is equal, ignoring the case of ASCII letters. It is proved that comparisons and
-    /// hashes also ignore case, and that a clone is the same value.
+    /// Returns whether another text equals this text, ignoring the case of ASCII letters. It is proved that
+    /// comparisons and hashes also ignore case, and that a clone is the same value.
     ///
     /// ```
     /// # fn main() -> Result<(), Box<dyn std::error::Error>> {

@@ -2,7 +2,7 @@
 
 //! The canonical form of a tag (RFC 5646 section 4.5).
 
-use crate::output::write_pieces;
+use crate::output::write_text;
 use crate::registry::canonical_parts::put_canonical_parts;
 use crate::registry::form::{form_of, Form};
 use crate::registry::preferred::preferred_for;
@@ -16,23 +16,23 @@ use alloc::string::String;
 #[cfg(feature = "alloc")]
 use alloc::vec::Vec;
 
-/// An upper bound on the number of bytes of a text that is replaced as a whole.
+/// An upper bound on the number of bytes of a whole tag that has a Preferred-Value.
 const LONGEST_REPLACED: usize = 16;
 
-/// An upper bound on the number of bytes of a text that replaces a whole text.
+/// An upper bound on the number of bytes of the Preferred-Value of a whole tag.
 const LONGEST_PREFERRED: usize = 14;
 
 /// Returns the canonical form of a tag ([RFC 5646 section 4.5]): `he` for `iw`, `yue` for `zh-yue`, `en-MM` for `en-BU`,
 /// `jbo` for `art-lojban`, and `en-a-aaa-b-ccc` for `en-b-ccc-a-aaa`.
 ///
-/// Replacements have the case of the registry, and everything else keeps its case. Variants keep their order. The tag
+/// Replacements are in the case of the registry, and everything else keeps its case. Variants keep their order. The tag
 /// need not be valid: subtags that are not registered stay, and so do two extended languages with the language before
-/// them. This is the form of RFC 5646, while Unicode's CLDR replaces more. The form of a form is itself: step 2 is
-/// repeated after step 3 (`sgn-DD` becomes `gsg`), and an extended language is replaced repeatedly (`ar-ajp` becomes
-/// `apc`).
+/// them. This is the form of RFC 5646; Unicode's CLDR replaces more. Canonicalizing the result again does not change
+/// it. For this, step 2 is repeated after step 3 (`sgn-DD` becomes `gsg`), and a language that replaces an extended
+/// language may be replaced, too (`ar-ajp` becomes `apc`).
 ///
-/// The form of a valid tag is valid, unless two variants become the same, as in `ja-heploc-alalc97`. It has no extended
-/// language, unless it is `zh-min`.
+/// The form of a valid tag is valid, unless two variants become the same, as in `ja-heploc-alalc97`. The form of a
+/// valid tag has no extended language, unless it is `zh-min`.
 ///
 /// # Errors
 ///
@@ -76,8 +76,8 @@ pub fn is_canonical(tag: LangTag<'_>) -> bool {
     matches!(form_of(tag), Form::Same)
 }
 
-/// Writes the canonical form of a tag to a buffer, as [`canonical`] returns it, and returns its length in bytes. If the
-/// buffer is too short, it stays unchanged, and the length says how much room is needed. A buffer of
+/// Writes the canonical form of a tag to a buffer, as [`canonical`] returns it, and returns its length in bytes. If
+/// the buffer is too short, it stays unchanged, and the length says how long a buffer must be. A buffer of
 /// [`canonical_bound`] bytes is always long enough. It does not allocate.
 ///
 /// ```
@@ -99,8 +99,8 @@ pub fn write_canonical(tag: LangTag<'_>, buffer: &mut [u8]) -> usize {
     }
 }
 
-/// Returns the greatest length in bytes of the canonical form of a tag of a given length, as the size of a buffer for
-/// [`write_canonical`]. It is twice the length plus 14.
+/// Returns the greatest length in bytes that the canonical form of a tag of a given length can have. It is twice the
+/// length plus 14. A buffer of this size is long enough for [`write_canonical`].
 ///
 /// ```
 /// use langtag::registry::canonical_bound;
@@ -112,7 +112,7 @@ pub fn canonical_bound(tag_len: usize) -> usize {
     tag_len.saturating_mul(2).saturating_add(LONGEST_PREFERRED)
 }
 
-/// Returns the canonical form of a tag. If it is a copy of the tag or of a preferred tag, it is not parsed again.
+/// Returns the canonical form of a tag. If it is a copy of the tag or of a Preferred-Value, it is not parsed again.
 #[cfg(feature = "alloc")]
 fn form_as_tag(tag: LangTag<'_>) -> Result<LangTagBuf, AllocError> {
     match form_of(tag) {
@@ -122,8 +122,8 @@ fn form_as_tag(tag: LangTag<'_>) -> Result<LangTagBuf, AllocError> {
     }
 }
 
-/// Returns the canonical form of a tag: its parts in their canonical forms, or the tag that is preferred to the whole
-/// of them.
+/// Returns the canonical form of a tag: its parts in their canonical forms, or the Preferred-Value of the tag that
+/// these parts make up.
 #[cfg(feature = "alloc")]
 fn parts_as_tag(tag: LangTag<'_>, normal: NormalLangTag<'_>) -> Result<LangTagBuf, AllocError> {
     let Ok(text) = String::from_utf8(parts_as_bytes(tag, normal)?) else {
@@ -144,7 +144,7 @@ fn parts_as_bytes(tag: LangTag<'_>, normal: NormalLangTag<'_>) -> Result<Vec<u8>
     Ok(bytes)
 }
 
-/// Writes a tag with its parts in their canonical forms, or the tag that is preferred to the whole of them.
+/// Writes a tag with its parts in their canonical forms, or the Preferred-Value of the tag that these parts make up.
 fn write_parts(tag: NormalLangTag<'_>, buffer: &mut [u8]) -> usize {
     let mut start = [0; LONGEST_REPLACED];
     let len = put_canonical_parts(tag, &mut start);
@@ -157,18 +157,12 @@ fn write_parts(tag: NormalLangTag<'_>, buffer: &mut [u8]) -> usize {
     len
 }
 
-/// Returns the tag that is preferred to a whole text, or the text itself if there is none: `gsg` for `sgn-DE`. The
-/// parts of `sgn-DD` give `sgn-DE`.
+/// Returns the Preferred-Value of a whole tag, or the text itself if it has none: `gsg` for `sgn-DE`, which is `sgn-DD`
+/// with its parts in their canonical forms.
 #[inline]
 fn preferred_to(parts: &[u8]) -> &[u8] {
     match preferred_for(parts) {
         Some(preferred) => preferred.as_bytes(),
         None => parts,
     }
-}
-
-/// Writes a text, if the buffer has room for it. Returns its length.
-#[inline]
-fn write_text(text: &[u8], buffer: &mut [u8]) -> usize {
-    write_pieces(&[text], buffer)
 }

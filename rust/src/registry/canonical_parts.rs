@@ -14,8 +14,8 @@ use crate::registry::subtags::is_registered_extlang;
 use crate::scan::into_smallcase;
 use crate::tag::NormalLangTag;
 
-/// Writes a tag with its parts in their canonical forms into a buffer, as far as there is room. Returns the length of
-/// that tag.
+/// Writes a tag with its parts in their canonical forms into a buffer, as far as it fits, and returns the length of
+/// the form.
 #[inline]
 pub(crate) fn put_canonical_parts(tag: NormalLangTag<'_>, buffer: &mut [u8]) -> usize {
     let mut out = Output::new(buffer);
@@ -58,7 +58,7 @@ fn push_extlang(out: &mut Output<'_>, extlang: ExtendedLangTag<'_>) {
     }
 }
 
-/// Returns an extended subtag in lowercase letters, as the registry has it.
+/// Returns an extended subtag in lowercase, which is its case in the registry.
 fn in_small_letters(extlang: ExtendedLangTag<'_>) -> [u8; 3] {
     let mut small = [0; 3];
     small.copy_from_slice(extlang.as_bytes());
@@ -80,7 +80,7 @@ fn push_region(out: &mut Output<'_>, region: Option<Region<'_>>) {
     }
 }
 
-/// Adds the canonical form of each variant in turn, even if that repeats a variant.
+/// Adds the canonical form of each variant, even if the form equals another variant.
 #[inline]
 fn push_variants(out: &mut Output<'_>, variants: Variants<'_>) {
     for variant in variants.iter() {

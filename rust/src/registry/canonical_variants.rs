@@ -5,7 +5,7 @@
 use crate::place::Variants;
 use crate::registry::preferred::preferred_variant;
 
-/// Returns whether no variant is preferred to any of these.
+/// Returns whether none of these variants has a Preferred-Value.
 #[inline]
 pub(crate) fn are_canonical_variants(variants: Variants<'_>) -> bool {
     for variant in variants.iter() {

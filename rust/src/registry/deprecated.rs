@@ -12,8 +12,8 @@ use crate::registry::tables::{
 use crate::scan::case_insensitive_eq;
 use crate::tag::LangTag;
 
-/// Returns whether a language is deprecated ([RFC 5646 section 3.1.6]): `true` for `iw`, `false` for `he` and for what is
-/// not registered.
+/// Returns whether a language is deprecated ([RFC 5646 section 3.1.6]): `true` for `iw`, `false` for `he` and for any
+/// language that is not registered.
 ///
 /// ```
 /// # fn main() -> Result<(), Box<dyn std::error::Error>> {
@@ -32,8 +32,8 @@ pub fn is_deprecated_language(language: PrimaryLanguage<'_>) -> bool {
     is_among(&DEPRECATED_LANGUAGE_KEYS, language.as_bytes())
 }
 
-/// Returns whether an extended language is deprecated ([RFC 5646 section 3.1.6]): `true` for `yds`, `false` for `yue` and
-/// for what is not registered.
+/// Returns whether an extended language is deprecated ([RFC 5646 section 3.1.6]): `true` for `yds`, `false` for `yue`
+/// and for any extended language that is not registered.
 ///
 /// ```
 /// # fn main() -> Result<(), Box<dyn std::error::Error>> {
@@ -52,8 +52,8 @@ pub fn is_deprecated_extlang(extlang: ExtendedLangTag<'_>) -> bool {
     is_among(&DEPRECATED_EXTLANG_KEYS, extlang.as_bytes())
 }
 
-/// Returns whether a region is deprecated ([RFC 5646 section 3.1.6]): `true` for `SU`, `false` for `FR` and for what is
-/// not registered.
+/// Returns whether a region is deprecated ([RFC 5646 section 3.1.6]): `true` for `SU`, `false` for `FR` and for any
+/// region that is not registered.
 ///
 /// ```
 /// # fn main() -> Result<(), Box<dyn std::error::Error>> {
@@ -73,7 +73,7 @@ pub fn is_deprecated_region(region: Region<'_>) -> bool {
 }
 
 /// Returns whether a variant is deprecated ([RFC 5646 section 3.1.6]): `true` for `heploc`, `false` for `rozaj` and for
-/// what is not registered.
+/// any variant that is not registered.
 ///
 /// ```
 /// # fn main() -> Result<(), Box<dyn std::error::Error>> {
@@ -113,7 +113,7 @@ pub fn is_deprecated_tag(tag: LangTag<'_>) -> bool {
     is_listed(&DEPRECATED_TAGS, tag.as_bytes())
 }
 
-/// Returns whether some bytes are one of these texts, ignoring case.
+/// Returns whether bytes equal one of these texts, ignoring case.
 #[inline]
 fn is_listed(texts: &[&str], bytes: &[u8]) -> bool {
     texts

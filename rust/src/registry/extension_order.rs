@@ -24,7 +24,7 @@ pub(crate) fn are_in_order(extensions: Extensions<'_>) -> bool {
     true
 }
 
-/// Returns which bytes are singletons of extensions, as lowercase letters.
+/// Returns, for each byte, whether it is the lowercase singleton of one of the extensions.
 pub(crate) fn singletons_of(extensions: Extensions<'_>) -> [bool; 256] {
     let mut present = [false; 256];
     for extension in extensions.iter() {
@@ -33,7 +33,7 @@ pub(crate) fn singletons_of(extensions: Extensions<'_>) -> [bool; 256] {
     present
 }
 
-/// Returns the singleton of an extension as a lowercase letter.
+/// Returns the singleton of an extension in lowercase.
 #[inline]
 pub(crate) fn folded_singleton(extension: Extension<'_>) -> u8 {
     into_smallcase(extension.singleton().unwrap())

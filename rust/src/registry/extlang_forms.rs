@@ -14,9 +14,9 @@ use crate::tag::{LangTagBuf, NormalLangTagBuf};
 #[cfg(feature = "alloc")]
 use alloc::string::String;
 
-/// Returns the extlang form of a tag ([RFC 5646 section 4.5]). It is the canonical form, with the prefix before a
-/// language that is also an extended language: `zh-hak-CN` for `hak-CN` and `zh-hak-CN`, `he` for `iw`. A language with
-/// three extended subtags, which no valid tag has, stays.
+/// Returns the extlang form of a tag ([RFC 5646 section 4.5]). It is the canonical form, with a prefix before a
+/// language that is also registered as an extended language: `zh-hak-CN` for `hak-CN` and `zh-hak-CN`, `he` for `iw`.
+/// A language with three extended subtags, which no valid tag has, stays as it is.
 ///
 /// # Errors
 ///

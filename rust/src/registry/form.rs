@@ -1,6 +1,6 @@
 // Made by rust/erase from crates/langtag_registry/src/form.rt. Change that file, not this one.
 
-//! What the canonical form of a tag is (RFC 5646 section 4.5).
+//! How the canonical form of a tag is made (RFC 5646 section 4.5).
 
 use crate::place::Region;
 use crate::registry::canonical_language::is_canonical_language;
@@ -9,17 +9,17 @@ use crate::registry::extension_order::are_in_order;
 use crate::registry::preferred::{preferred_region, preferred_tag};
 use crate::tag::{LangTag, NormalLangTag};
 
-/// What the canonical form of a tag is.
+/// How the canonical form of a tag is made.
 pub(crate) enum Form<'a> {
     /// The tag itself.
     Same,
-    /// Another tag, which is preferred to the whole tag.
+    /// The Preferred-Value of the whole tag.
     Whole(LangTag<'static>),
-    /// This tag with its parts in their canonical forms, or the tag that is preferred to the whole of them.
+    /// This tag with its parts in their canonical forms, or the Preferred-Value of the tag that these parts make up.
     Parts(NormalLangTag<'a>),
 }
 
-/// Returns how the canonical form of a tag is made. It is inlined, so that no form is written to memory.
+/// Returns how the canonical form of a tag is made. It is inlined, so that the `Form` is not written to memory.
 #[inline(always)]
 pub(crate) fn form_of(tag: LangTag<'_>) -> Form<'_> {
     if let Some(preferred) = preferred_tag(tag) {
@@ -49,7 +49,7 @@ fn has_canonical_parts(tag: NormalLangTag<'_>) -> bool {
     are_in_order(tag.extensions())
 }
 
-/// Returns whether no region is preferred to this one.
+/// Returns whether the region has no Preferred-Value.
 #[inline]
 fn is_canonical_region(region: Option<Region<'_>>) -> bool {
     match region {

@@ -7,8 +7,8 @@ use crate::language::{ExtendedLangTag, PrimaryLanguage};
 use crate::place::{Region, Script, Variant};
 use core::fmt;
 
-/// The error for a tag that is not valid: its first subtag that is not registered, is a second extended language, or
-/// repeats an earlier one.
+/// The error for a tag that is not valid: the first subtag that is not registered, is a second extended language, or
+/// repeats an earlier subtag.
 ///
 /// The subtag is a slice of the tag, in its original case. Two values are equal if they have the same kind and their
 /// subtags are equal.
@@ -58,7 +58,8 @@ impl fmt::Display for InvalidSubtag<'_> {
             InvalidSubtag::Variant(value) => write!(f, "variant {value} is not registered"),
             InvalidSubtag::RepeatedVariant(value) => write!(f, "variant {value} is repeated"),
             InvalidSubtag::RepeatedSingleton(value) => write!(f, "singleton {value} is repeated"),
-        }
+        }?;
+        self.write_suggestion(f)
     }
 }
 

@@ -1,6 +1,6 @@
 // Made by rust/erase from crates/langtag_registry/src/language_fields.rt. Change that file, not this one.
 
-//! What the registry says of a language (RFC 5646 sections 3.1.7, 3.1.9 and 3.1.10).
+//! The fields of the registry's record for a language (RFC 5646 sections 3.1.7, 3.1.9 and 3.1.10).
 
 use crate::language::PrimaryLanguage;
 use crate::place::Script;
@@ -10,8 +10,8 @@ use crate::registry::tables::{
     SUPPRESS_SCRIPT_KEYS, SUPPRESS_SCRIPT_VALUES,
 };
 
-/// Returns the language that replaces a deprecated one (the field Preferred-Value, [RFC 5646 section 3.1.7]): `he` for
-/// `iw`. Returns `None` for `he`, and for languages that are not registered.
+/// Returns the language that replaces a deprecated language (the field Preferred-Value, [RFC 5646 section 3.1.7]): `he`
+/// for `iw`. Returns `None` for `he`, and for languages that are not registered.
 ///
 /// ```
 /// # fn main() -> Result<(), Box<dyn std::error::Error>> {

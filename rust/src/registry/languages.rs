@@ -7,7 +7,7 @@ use crate::registry::tables::LANGUAGE_BITS;
 use crate::tables::letter_number;
 
 /// Returns whether a language is registered, ignoring case ([RFC 5646 section 2.2.1]): `true` for `fr`, `FR` and the
-/// private use `qaa`, `false` for `qt`.
+/// private use subtag `qaa`, `false` for `qt`.
 ///
 /// ```
 /// # fn main() -> Result<(), Box<dyn std::error::Error>> {
@@ -30,7 +30,7 @@ pub fn is_registered_language(language: PrimaryLanguage<'_>) -> bool {
     is_set(letter_number(bytes) - 27)
 }
 
-/// Returns a bit of the table.
+/// Returns whether the bit at an index of the table is set.
 #[inline]
 fn is_set(index: usize) -> bool {
     (LANGUAGE_BITS[index / 64] >> (index % 64)) % 2 == 1

@@ -3,19 +3,19 @@
 //! Variants and extended languages that follow none of their prefixes (RFC 5646 section 3.1.8).
 
 use crate::language::ExtendedLangTag;
-use crate::matching::LanguageRange;
+use crate::matching::matches_extended;
 use crate::place::Variant;
 use crate::registry::prefixes::extlang_prefix;
 use crate::registry::tables::VARIANT_PREFIXES;
 use crate::scan::folded_number;
-use crate::tag::{LangTag, NormalLangTag};
+use crate::tag::NormalLangTag;
 
-/// Returns the first variant of a tag that follows none of its prefixes (the field Prefix, [RFC 5646 section 3.1.8]):
-/// `nedis` in `fr-nedis`, because its prefix is `sl`, and `1994` in `sl-1994-rozaj`, because its prefix is `sl-rozaj`.
-/// Returns `None` for `sl-IT-nedis`, and for `fr-fonipa`, because `fonipa` has no prefix.
+/// Returns the first variant of a tag that follows none of its prefixes (the field Prefix, [RFC 5646 section 3.1.8]).
+/// Such a variant is `nedis` in `fr-nedis`, because its prefix is `sl`, and `1994` in `sl-1994-rozaj`, because its
+/// prefix is `sl-rozaj`. Returns `None` for `sl-IT-nedis`, and for `fr-fonipa`, because `fonipa` has no prefix.
 ///
 /// A prefix is compared with the subtags before the variant by extended filtering ([RFC 4647 section 3.3.2]). The RFC
-/// only recommends prefixes, so a tag without them is valid. It does not allocate. The time may be quadratic in the
+/// only recommends prefixes, so a tag may be valid without them. It does not allocate. The time may be quadratic in the
 /// number of variants.
 ///
 /// ```
@@ -46,7 +46,8 @@ pub fn misplaced_variant<'a>(tag: NormalLangTag<'a>) -> Option<Variant<'a>> {
 /// [RFC 5646 section 3.1.8]): `yue` in `de-yue`, because its prefix is `zh`. Returns `None` for `zh-yue`, and for
 /// `zh-fra`, because `fra` is not registered.
 ///
-/// A tag is valid without its prefix. A second extended language, which no valid tag has, is ignored.
+/// A tag may be valid even if its extended language follows another language. A second extended language, which no
+/// valid tag has, is ignored.
 ///
 /// ```
 /// # fn main() -> Result<(), Box<dyn std::error::Error>> {
@@ -70,13 +71,14 @@ pub fn misplaced_extlang<'a>(tag: NormalLangTag<'a>) -> Option<ExtendedLangTag<'
     Some(extlang)
 }
 
-/// Returns whether a prefix of a variant matches the tag before the variant, or the variant has no prefix.
+/// Returns whether a variant may follow the text before it: one of its prefixes matches this text, or it has no
+/// prefix.
 fn fits_after(before: &str, variant: Variant<'_>) -> bool {
     let number = folded_number(variant.as_bytes());
     let mut has_none = true;
     for (key, prefix) in variant_prefixes() {
         if number == *key {
-            if matches_tag(prefix, before) {
+            if matches_prefix(prefix, before) {
                 return true;
             }
             has_none = false;
@@ -85,10 +87,10 @@ fn fits_after(before: &str, variant: Variant<'_>) -> bool {
     has_none
 }
 
-/// Returns whether a prefix matches a tag by extended filtering.
+/// Returns whether a prefix matches the text before a variant by extended filtering.
 #[inline]
-fn matches_tag(prefix: &str, tag: &str) -> bool {
-    LanguageRange::from_checked(prefix).matches_extended(&LangTag::from_checked(tag))
+fn matches_prefix(prefix: &str, before: &str) -> bool {
+    matches_extended(prefix, before)
 }
 
 #[inline]

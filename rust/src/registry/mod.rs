@@ -1,8 +1,8 @@
 // Made by rust/erase from crates/langtag_registry/src/lib.rt. Change that file, not this one.
 
-//! The IANA Language Subtag Registry: which subtags are registered and what their records say (RFC 5646 section 3.1),
-//! which tags are valid (section 2.2.9), the canonical form of a tag (section 4.5), and which variants and extended
-//! languages follow none of their prefixes (section 3.1.8).
+//! The IANA Language Subtag Registry: which subtags are registered and what their records say (RFC 5646 section 3.1).
+//! It decides which tags are valid (section 2.2.9), what the canonical form of a tag is (section 4.5), and which
+//! variants and extended languages follow none of their prefixes (section 3.1.8).
 //!
 //! ```
 //! # fn main() -> Result<(), Box<dyn std::error::Error>> {

@@ -11,7 +11,7 @@ use crate::registry::tables::{
 use crate::scan::{case_insensitive_eq, folded_number};
 use crate::tag::LangTag;
 
-/// Returns the region that replaces a deprecated one (the field Preferred-Value, [RFC 5646 section 3.1.7]): `MM` for
+/// Returns the region that replaces a deprecated region (the field Preferred-Value, [RFC 5646 section 3.1.7]): `MM` for
 /// `BU`. Returns `None` for `MM`, and for regions that are not registered.
 ///
 /// ```
@@ -36,8 +36,8 @@ pub fn preferred_region(region: Region<'_>) -> Option<Region<'static>> {
     }
 }
 
-/// Returns the variant that replaces a deprecated one (the field Preferred-Value, [RFC 5646 section 3.1.7]): `alalc97`
-/// for `heploc`. Returns `None` for `alalc97`, and for variants that are not registered.
+/// Returns the variant that replaces a deprecated variant (the field Preferred-Value, [RFC 5646 section 3.1.7]):
+/// `alalc97` for `heploc`. Returns `None` for `alalc97`, and for variants that are not registered.
 ///
 /// ```
 /// # fn main() -> Result<(), Box<dyn std::error::Error>> {
@@ -81,7 +81,7 @@ pub fn preferred_tag(tag: LangTag<'_>) -> Option<LangTag<'static>> {
     preferred_for(tag.as_bytes())
 }
 
-/// Returns the tag that replaces a whole text.
+/// Returns the tag that replaces a whole tag with this text.
 #[inline]
 pub(crate) fn preferred_for(text: &[u8]) -> Option<LangTag<'static>> {
     match value_beside(&PREFERRED_TAG_KEYS, &PREFERRED_TAGS, text) {
@@ -90,8 +90,8 @@ pub(crate) fn preferred_for(text: &[u8]) -> Option<LangTag<'static>> {
     }
 }
 
-/// Finds the pair whose first text equals the bytes, ignoring case, and returns its second text. `keys` has the ends of
-/// the first texts as numbers.
+/// Finds the pair whose first text equals the bytes, ignoring case, and returns its second text. `keys` has the number
+/// of the last eight bytes of each first text.
 fn value_beside(
     keys: &[u64],
     table: &'static [(&'static str, &'static str)],

@@ -1,6 +1,6 @@
 // Made by rust/erase from crates/langtag_registry/src/prefixes.rt. Change that file, not this one.
 
-//! What a subtag should follow (RFC 5646 section 3.1.8).
+//! Which language an extended language should follow (RFC 5646 section 3.1.8).
 
 use crate::language::{ExtendedLangTag, PrimaryLanguage};
 use crate::registry::table::value_of;

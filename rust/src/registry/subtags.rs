@@ -28,7 +28,7 @@ pub fn is_registered_extlang(extlang: ExtendedLangTag<'_>) -> bool {
 }
 
 /// Returns whether a script is registered, ignoring case ([RFC 5646 section 2.2.3]): `true` for `Latn`, `latn` and the
-/// private use `Qaaa`, `false` for `Abcd`.
+/// private use subtag `Qaaa`, `false` for `Abcd`.
 ///
 /// ```
 /// # fn main() -> Result<(), Box<dyn std::error::Error>> {
@@ -47,8 +47,8 @@ pub fn is_registered_script(script: Script<'_>) -> bool {
     is_among(&SCRIPT_KEYS, script.as_bytes())
 }
 
-/// Returns whether a region is registered, ignoring case ([RFC 5646 section 2.2.4]): `true` for `FR`, `fr`, `419` and the
-/// private use `XA`, `false` for `FQ`.
+/// Returns whether a region is registered, ignoring case ([RFC 5646 section 2.2.4]): `true` for `FR`, `fr`, `419` and
+/// the private use subtag `XA`, `false` for `FQ`.
 ///
 /// ```
 /// # fn main() -> Result<(), Box<dyn std::error::Error>> {

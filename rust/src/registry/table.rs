@@ -1,16 +1,16 @@
 // Made by rust/erase from crates/langtag_registry/src/table.rt. Change that file, not this one.
 
-//! Tables of subtags, in which texts are found ignoring case.
+//! Tables of subtags, which are searched for a text, ignoring case.
 
 use crate::scan::folded_number;
 
-/// Returns whether the number of a text is one of the keys.
+/// Returns whether a text is in a table, whose keys are the numbers of its texts.
 #[inline]
 pub(crate) fn is_among(keys: &[u64], text: &[u8]) -> bool {
     keys.binary_search(&folded_number(text)).is_ok()
 }
 
-/// Returns the value beside the key that is the number of a text.
+/// Returns the value for a text, which is at the same index as the text's key.
 #[inline]
 pub(crate) fn value_of(
     keys: &[u64],

@@ -11,14 +11,16 @@ use crate::registry::subtags::{
 };
 use crate::tag::{is_among_first, LangTag, NormalLangTag};
 
-/// Checks whether a tag is valid by the registry ([RFC 5646 section 2.2.9]). All its subtags must be registered. It must
-/// have at most one extended language, and no variant or singleton twice. Grandfathered and private-use tags are valid:
-/// `fr-FR`, `zh-min` and `x-qt` are `Ok`. Prefixes of variants do not matter. It is proved which errors are equal, and
-/// that a clone is the same value.
+/// Checks whether a tag is valid by the registry ([RFC 5646 section 2.2.9]). All its subtags must be registered. It
+/// must have at most one extended language, and no variant or singleton may occur twice. Grandfathered and
+/// private-use tags are valid: `fr-FR`, `zh-min` and `x-qt` are `Ok`. Prefixes of variants do not matter. It is
+/// proved that errors are equal if their kinds and subtags are equal, and that a clone is the same value.
 ///
 /// # Errors
 ///
-/// Returns the first invalid subtag of the tag: the language `qt` in `qt-FQ`.
+/// Returns the first invalid subtag of the tag: the language `qt` in `qt-FQ`. `langtag::likely::suggested_language` and
+/// `langtag::likely::suggested_region` return the registered code that was probably meant: `de` for `ger`, `GB` for
+/// `UK`.
 ///
 /// ```
 /// # fn main() -> Result<(), Box<dyn std::error::Error>> {
@@ -122,7 +124,8 @@ fn find_region_fault<'a>(region: Option<Region<'a>>) -> Option<InvalidSubtag<'a>
 }
 
 /// Returns the first fault among variants, and the index of that variant.
-// Each variant is compared with those before it. These are registered and all different, so they are few.
+// Each variant is compared with the variants before it. The earlier variants are registered and all different, so they
+// are few.
 fn find_variant_fault<'a>(variants: Variants<'a>) -> Option<(InvalidSubtag<'a>, usize)> {
     for (index, variant) in variants.iter().enumerate() {
         if !is_registered_variant(variant) {

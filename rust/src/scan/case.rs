@@ -35,8 +35,8 @@ pub fn case_insensitive_eq(a: &[u8], b: &[u8]) -> bool {
     a.eq_ignore_ascii_case(b)
 }
 
-/// Compares two texts by their lowercase bytes ([RFC 5646 section 2.1.1]). If one begins the other, the shorter is
-/// greater.
+/// Compares two texts by their lowercase bytes ([RFC 5646 section 2.1.1]). If one text is a prefix of the other, the
+/// shorter text is greater.
 ///
 /// ```
 /// use langtag::case_insensitive_cmp;
@@ -57,8 +57,8 @@ pub fn case_insensitive_cmp(a: &[u8], b: &[u8]) -> Ordering {
     b.len().cmp(&a.len())
 }
 
-/// Feeds a hasher the lowercase bytes ([RFC 5646 section 2.1.1]), each in a separate write, and nothing else: neither
-/// their number nor an end.
+/// Feeds a hasher the lowercase bytes of a text ([RFC 5646 section 2.1.1]), each in a separate write. It feeds nothing
+/// else: neither the length nor an end marker.
 ///
 /// For `b"FR"` it writes `b'f'` and then `b'r'`.
 ///
@@ -81,11 +81,11 @@ pub fn case_insensitive_hash<H: Hasher>(bytes: &[u8], hasher: &mut H) {
     }
 }
 
-/// Returns the lowercase bytes ([RFC 5646 section 2.1.1]) of a text of at most eight bytes as the digits of a number in
-/// base 256: `folded_number(b"FR")` is 26,226, which is 256 times `b'f'` plus `b'r'`.
+/// Returns the number whose digits in base 256 are the lowercase bytes ([RFC 5646 section 2.1.1]) of a text of at most
+/// eight bytes. `folded_number(b"FR")` is 26,226, which is 256 times `b'f'` plus `b'r'`.
 ///
-/// It is proved that the numbers of two texts of letters and digits, such as subtags, are equal if the texts are equal,
-/// ignoring case.
+/// It is proved that two texts of letters and digits, such as subtags, have the same number exactly if the texts are
+/// equal, ignoring case.
 ///
 /// [RFC 5646 section 2.1.1]: https://www.rfc-editor.org/rfc/rfc5646#section-2.1.1
 #[inline]

@@ -10,15 +10,15 @@ use core::hash::{Hash, Hasher};
 /// A text, borrowed (`&str`) or owned (`String`), whose comparisons and hash ignore the case of ASCII letters
 /// ([RFC 5646 section 2.1.1]): `Caseless("zh-Latn") == Caseless("ZH-LATN")`.
 ///
-/// The text keeps its case. A type that holds one derives `PartialEq`, `Eq`, `PartialOrd`, `Ord` and `Hash` over it, as
-/// each text type of the crates above does.
+/// The text keeps its case. The text types of the other crates contain a `Caseless`, from which they derive
+/// `PartialEq`, `Eq`, `PartialOrd`, `Ord` and `Hash`.
 ///
 /// [RFC 5646 section 2.1.1]: https://www.rfc-editor.org/rfc/rfc5646#section-2.1.1
 #[derive(Clone, Copy)]
 pub struct Caseless<T>(pub T);
 
 impl<T: AsStr> Caseless<T> {
-    /// The bytes of the text. It is proved that a clone of a lent text is the text itself.
+    /// Returns the bytes of the text. It is proved that a clone of a borrowed text is the text itself.
     #[inline]
     fn as_bytes(&self) -> &[u8] {
         self.0.as_str().as_bytes()

@@ -1,6 +1,7 @@
 // Made by rust/erase from crates/langtag_scan/src/class.rt. Change that file, not this one.
 
-//! The classes of subtags (RFC 5646 section 2.1), over any bytes. Letters and digits are those of ASCII.
+//! Tests for the classes of subtags (RFC 5646 section 2.1), which accept any bytes. Letters and digits are ASCII
+//! letters and ASCII digits.
 
 #[inline]
 pub(crate) fn is_letter(byte: u8) -> bool {
@@ -17,7 +18,7 @@ pub(crate) fn is_alphanumeric(byte: u8) -> bool {
     is_letter(byte) || is_digit(byte)
 }
 
-/// Returns whether each byte is an ASCII letter. It is `true` for no bytes.
+/// Returns whether each byte is an ASCII letter. For an empty slice, it returns `true`.
 ///
 /// `are_letters(b"zh")` is `true`, and `are_letters(b"z4")` is `false`.
 #[inline]
@@ -97,8 +98,8 @@ pub fn is_region(bytes: &[u8]) -> bool {
     (bytes.len() == 2 && are_letters(bytes)) || (bytes.len() == 3 && are_digits(bytes))
 }
 
-/// Returns whether the bytes are a variant subtag (section 2.2.5): five to eight letters and digits, or four of which
-/// the first is a digit.
+/// Returns whether the bytes are a variant subtag (section 2.2.5): five to eight letters and digits, or a digit
+/// followed by three letters or digits.
 ///
 /// ```
 /// use langtag::is_variant;

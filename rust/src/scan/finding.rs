@@ -1,9 +1,9 @@
 // Made by rust/erase from crates/langtag_scan/src/finding.rt. Change that file, not this one.
 
-//! What is found of a tag, case by case.
+//! What a recogniser finds out about a tag, as an enum with a case for each kind.
 use crate::scan::ends::Ends;
 
-/// One of the three kinds of tags ([RFC 5646 section 2.1]), with what is known of one of that kind.
+/// The kind of a tag ([RFC 5646 section 2.1]), with what a recogniser finds out about tags of that kind.
 ///
 /// [RFC 5646 section 2.1]: https://www.rfc-editor.org/rfc/rfc5646#section-2.1
 #[derive(Clone, Copy)]

@@ -6,9 +6,9 @@ use crate::scan::ends::Ends;
 use crate::scan::finding::Finding;
 
 /// What [`recognise`](crate::recognise) finds in a tag ([RFC 5646 section 2.1]): its kind, with the ends of the parts of
-/// a normal tag, or the index of an irregular one.
+/// a normal tag, or the index of an irregular tag.
 ///
-/// For `x-a`, `is_private_use()` is `true`. It does not contain the text.
+/// For `x-a`, `is_private_use()` is `true`. A `Found` does not contain the text.
 ///
 /// ```
 /// use langtag::{Metered, recognise};
@@ -24,7 +24,8 @@ pub struct Found {
 }
 
 impl Found {
-    /// Returns whether the text is a normal tag: `true` for `zh-min`, which is regular, `false` for `i-lux` and `x-a`.
+    /// Returns whether the text is a normal tag: `true` for `zh-min`, a regular grandfathered tag, and `false` for
+    /// `i-lux` and `x-a`.
     ///
     /// ```
     /// use langtag::{recognise, Metered};
@@ -51,7 +52,7 @@ impl Found {
     }
 
     /// Returns the index of an irregular grandfathered tag (section 2.2.8), from 0 to 16 in the order of section 2.1:
-    /// `Some(1)` for `i-AMI`, and `None` for `zh-min`, which is regular.
+    /// `Some(1)` for `i-AMI`, and `None` for `zh-min`, a regular grandfathered tag.
     ///
     /// ```
     /// use langtag::{recognise, Metered};

@@ -16,14 +16,14 @@ use crate::scan::source::ByteSource;
 /// ```
 pub struct Metered<'a> {
     bytes: &'a [u8],
-    /// What is read after the bytes: two more at most.
+    /// At most two bytes, which follow `bytes`.
     end: &'static [u8],
     reads: u128,
     reach: usize,
 }
 
 impl<'a> Metered<'a> {
-    /// Returns the bytes of a text, with no reads yet.
+    /// Returns a source over the bytes of a text, with no reads yet.
     ///
     /// ```
     /// use langtag::{ByteSource, Metered};
@@ -47,7 +47,7 @@ impl<'a> Metered<'a> {
         Metered::followed(bytes, b"")
     }
 
-    /// The bytes, and what is read after them.
+    /// Returns a source over `bytes` followed by `end`, with no reads yet.
     #[inline]
     pub(crate) fn followed(bytes: &'a [u8], end: &'static [u8]) -> Self {
         Metered {

@@ -1,7 +1,7 @@
 // Made by rust/erase from crates/langtag_scan/src/lib.rt. Change that file, not this one.
 
-//! Language tags over bytes (RFC 5646 section 2.1): comparison without case, the kinds of subtags, and the parser,
-//! which decides whether bytes are a tag.
+//! Language tags as bytes (RFC 5646 section 2.1): comparison ignoring case, tests for the classes of subtags, and the
+//! parser, which decides whether bytes are a tag.
 //!
 //! ```
 //! # fn main() -> Result<(), Box<dyn std::error::Error>> {

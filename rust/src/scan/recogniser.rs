@@ -1,6 +1,6 @@
 // Made by rust/erase from crates/langtag_scan/src/recogniser.rt. Change that file, not this one.
 
-//! The recognisers: one pass over a source of bytes.
+//! The recognisers, which read a source of bytes in one pass.
 
 use crate::scan::ends::Marks;
 use crate::scan::finding::Finding;
@@ -11,9 +11,9 @@ use crate::scan::state::{Ending, State};
 /// Decides whether the bytes of a source are a tag ([RFC 5646 section 2.1]), and of which kind. Returns `None` if they
 /// are not a tag.
 ///
-/// It reads each byte once, in order, and stops after the first byte with which no tag can go on:
-/// `recognise(&mut Metered::new("i-notexist"))` is `None` after four reads. It does not allocate. It is proved that it
-/// accepts exactly the tags.
+/// It reads each byte once, in order, and stops after the first byte that makes a tag impossible: `recognise(&mut
+/// Metered::new("i-notexist"))` is `None` after four reads. It does not allocate. It is proved that it accepts
+/// exactly the tags.
 ///
 /// ```
 /// use langtag::{Metered, recognise};
@@ -27,6 +27,13 @@ use crate::scan::state::{Ending, State};
 ///
 /// A source that counts wrongly or that changes its bytes gets a wrong answer or a panic, and nothing worse.
 pub fn recognise<S: ByteSource>(source: &mut S) -> Option<Found> {
+    read(source)
+}
+
+/// Does the work of [`recognise`]. Only `recognise` states the laws, since each law of a function has to be proved at
+/// each of its returns.
+#[inline(always)]
+fn read<S: ByteSource>(source: &mut S) -> Option<Found> {
     let len = source.len();
     let mut state = State::start();
     let mut marks = Marks::new();

@@ -1,8 +1,9 @@
 // Made by rust/erase from crates/langtag_scan/src/split.rt. Change that file, not this one.
 
-//! A text taken apart at the first byte of a kind.
+//! Splitting a text at the first byte of a given value.
 
-/// Returns the text before the first `mark` and the text after it, or the whole text and nothing if there is no `mark`.
+/// Returns the text before the first `mark` and the text after it. If there is no `mark`, returns the whole text and an
+/// empty text.
 ///
 /// `split_at_byte(b"fr;q=1", b';')` is `(b"fr", b"q=1")`.
 #[inline]
@@ -10,8 +11,8 @@ pub fn split_at_byte(text: &[u8], mark: u8) -> (&[u8], &[u8]) {
     split_at(text, first_place(text, mark))
 }
 
-/// Returns the text before and after the first of two bytes: `split_at_either(b"zh_TW", b'-', b'_')` is
-/// `(b"zh", b"TW")`.
+/// Returns the text before and after the first byte that is `mark` or `other`: `split_at_either(b"zh_TW", b'-',
+/// b'_')` is `(b"zh", b"TW")`.
 #[inline]
 pub fn split_at_either(text: &[u8], mark: u8, other: u8) -> (&[u8], &[u8]) {
     split_at(text, first_of_either(text, mark, other))
@@ -35,7 +36,8 @@ fn first_of_either(text: &[u8], mark: u8, other: u8) -> Option<usize> {
     text.iter().position(|byte| *byte == mark || *byte == other)
 }
 
-/// Takes a text apart at an index, and leaves out the byte there; nothing is after it where there is no index.
+/// Returns the text before an index, and the text after the byte at that index. If the index is `None`, returns the
+/// whole text and an empty text.
 #[inline]
 fn split_at(text: &[u8], index: Option<usize>) -> (&[u8], &[u8]) {
     match index {

@@ -1,6 +1,6 @@
 // Made by rust/erase from crates/langtag_scan/src/state.rt. Change that file, not this one.
 
-//! What the recogniser knows of the bytes that it has read: a state of the tables (RFC 5646 section 2.1).
+//! What the recogniser knows about the bytes that it has read: a state of the tables (RFC 5646 section 2.1).
 //!
 //! ```text
 //! langtag    = language ["-" script] ["-" region] *("-" variant) *("-" extension) ["-" privateuse]
@@ -22,11 +22,11 @@
 //! AfterFirstMark, InPrivateTag  private use subtag      InPrivateTag
 //! ```
 //!
-//! A tag may end after any stage but `Start`, `AfterSingleton`, `AfterMark` and `AfterFirstMark`.
+//! A tag may end after any stage except `Start`, `AfterSingleton`, `AfterMark` and `AfterFirstMark`.
 //!
-//! A state stands for the positions after which the same bytes may follow and the same parts end. A position is a stage, what
-//! is known of the subtag after it, and the irregular tag that the bytes may become. So the tables are this machine: each
-//! step of a state is proved to be that of the positions that it stands for.
+//! A state represents all positions after which the same bytes may follow and the same parts end. A position consists
+//! of a stage, what is known about the subtag after that stage, and the irregular tag that the bytes may become. It is
+//! proved that each step from one state to the next matches the step between the positions that the states represent.
 
 use crate::scan::states::{CLASSES, KINDS, NEXT, NONE, PARTS, START};
 
@@ -36,11 +36,11 @@ pub(crate) struct State {
     number: usize,
 }
 
-/// What a text is that ends in a state.
+/// What a text is, by the state in which the recogniser is at the end of the text.
 #[derive(Clone, Copy)]
 pub(crate) enum Ending {
     NoTag,
-    /// A normal tag, with the place of its last part.
+    /// A normal tag, with the index of its last part in the order of `Ends`.
     Normal(usize),
     PrivateUse,
     /// An irregular tag, with its index in the table.
@@ -48,19 +48,19 @@ pub(crate) enum Ending {
 }
 
 impl State {
-    /// Before the first byte.
+    /// Returns the state before the first byte.
     #[inline]
     pub(crate) fn start() -> Self {
         State { number: START }
     }
 
-    /// The state after one byte more, or None if no tag begins so.
+    /// Returns the state after one more byte, or `None` if no tag begins with these bytes.
     #[inline(always)]
     pub(crate) fn after(self, byte: u8) -> Option<Self> {
         self.after_class(CLASSES[byte as usize] as usize)
     }
 
-    /// The state after one byte of a class, or None if no tag begins so.
+    /// Returns the state after one more byte, which has this class, or `None` if no tag begins with these bytes.
     #[inline(always)]
     fn after_class(self, class: usize) -> Option<Self> {
         let number = NEXT[class][self.number] as usize;
@@ -71,13 +71,14 @@ impl State {
         }
     }
 
-    /// The place of the part that has ended, if the last byte is the hyphen after it, and 5 if none has.
+    /// Returns the index, in the order of `Ends`, of the part that the last byte ended. Returns 5
+    /// if that byte is not a hyphen after a part.
     #[inline(always)]
     pub(crate) fn part_before(self) -> usize {
         PARTS[self.number] as usize
     }
 
-    /// What the bytes that were read are, as a whole text.
+    /// Returns what the text is if it ends after the bytes that were read.
     #[inline(always)]
     pub(crate) fn ending(self) -> Ending {
         match KINDS[self.number] {

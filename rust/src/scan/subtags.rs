@@ -1,13 +1,13 @@
 // Made by rust/erase from crates/langtag_scan/src/subtags.rt. Change that file, not this one.
 
-//! The walk over the subtags of a text (RFC 5646 section 2.1), from both ends and without a copy.
+//! An iterator over the subtags of a text (RFC 5646 section 2.1), which works from both ends and copies nothing.
 
 use crate::scan::segment::{segment_end, segment_start};
 
-/// An iterator over the subtags of a text, from either end. Each is a slice of the text without hyphens.
+/// An iterator over the subtags of a text, from either end. Each subtag is a slice of the text, and contains no hyphen.
 ///
-/// A hyphen at an end of the text, and two hyphens in a row, give an empty subtag: `a--b-` has `a`, an empty subtag,
-/// `b` and another empty one.
+/// A hyphen at either end of the text gives an empty subtag, and so do two hyphens in a row: `a--b-` has `a`, an
+/// empty subtag, `b` and an empty subtag.
 ///
 /// ```
 /// # fn main() -> Result<(), Box<dyn std::error::Error>> {
@@ -83,7 +83,8 @@ impl<'a> DoubleEndedIterator for Subtags<'a> {
     }
 }
 
-/// What stands before the first hyphen of a text, and what stands after it, where there is one.
+/// Returns the text before the first hyphen and the text after it. If there is no hyphen, returns the whole text and
+/// `None`.
 fn split_first<'a>(text: &'a str) -> (&'a str, Option<&'a str>) {
     let end = segment_end(text.as_bytes(), 0);
     if end == text.len() {
@@ -92,7 +93,8 @@ fn split_first<'a>(text: &'a str) -> (&'a str, Option<&'a str>) {
     (&text[..end], Some(&text[end + 1..]))
 }
 
-/// What stands before the last hyphen of a text, where there is one, and what stands after it.
+/// Returns the text before the last hyphen and the text after it. If there is no hyphen, returns `None` and the whole
+/// text.
 fn split_last<'a>(text: &'a str) -> (Option<&'a str>, &'a str) {
     let start = segment_start(text.as_bytes(), text.len());
     if start == 0 {

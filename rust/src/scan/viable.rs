@@ -1,16 +1,16 @@
 // Made by rust/erase from crates/langtag_scan/src/viable.rt. Change that file, not this one.
 
-//! How far bytes are the beginning of a tag.
+//! The length of the longest prefix of a text with which some tag begins.
 
 use crate::scan::metered::Metered;
 use crate::scan::recogniser::recognise;
 use crate::scan::source::ByteSource;
 
-/// Returns the length in bytes of the longest prefix with which some tag begins ([RFC 5646 section 2.1]), for example to
-/// complete what a user types.
+/// Returns the length in bytes of the longest prefix with which some tag begins ([RFC 5646 section 2.1]). For example, a
+/// program can use it to complete what a user types.
 ///
-/// For a tag it is the whole length. Otherwise it is the index of the first wrong byte, or the length if the bytes end
-/// too soon. It does not allocate.
+/// For a tag, this is the whole length. Otherwise it is the index of the first wrong byte, or the whole length if the
+/// bytes end too soon. The function does not allocate.
 ///
 /// ```
 /// use langtag::viable_len;
@@ -28,13 +28,15 @@ pub fn viable_len(bytes: &[u8]) -> usize {
     len_before_stop(&mut Metered::followed(bytes, b"\xFF"))
 }
 
-/// Returns the same for the bytes followed by a hyphen, which shows whether another subtag may follow: 3 for `zh`.
+/// Returns what [`viable_len`] returns for the bytes followed by a hyphen: 3 for `zh`. The result shows whether another
+/// subtag may follow.
 #[inline]
 pub fn viable_len_with_hyphen(bytes: &[u8]) -> usize {
     len_before_stop(&mut Metered::followed(bytes, b"-\xFF"))
 }
 
-/// How many bytes stand before the one with which a source stops. Its last byte is one that no tag has, but any other would serve.
+/// Returns the index of the byte at which the recogniser stops. The source has to end with a byte that no tag contains,
+/// so that the recogniser stops.
 #[inline]
 fn len_before_stop<'a>(source: &mut Metered<'a>) -> usize {
     let _ = recognise(source);

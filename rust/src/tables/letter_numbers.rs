@@ -1,11 +1,12 @@
 // Made by rust/erase from crates/langtag_tables/src/letter_numbers.rt. Change that file, not this one.
 
-//! The numbers of texts of letters.
+//! The number that stands for a text of two or three letters.
 
 use crate::scan::into_smallcase;
 
-/// Returns the letters of a text as the digits of a number in base 26, in any case: 27 of `aa`, 31 of `ae` and `AE`, 18278 of
-/// `zzz`. The number tells texts of two and three letters apart, as languages ([RFC 5646 section 2.2.1]) mostly have.
+/// Returns the number whose digits in base 26 are the letters of a text, ignoring case: 27 for `aa`, 31 for `ae` and
+/// `AE`, 18278 for `zzz`. Texts of two or three letters have the same number only if they are equal, ignoring case.
+/// Most languages ([RFC 5646 section 2.2.1]) have two or three letters.
 ///
 /// The text has to be two or three ASCII letters.
 ///
@@ -18,7 +19,7 @@ pub fn letter_number(bytes: &[u8]) -> usize {
     number * 26 + place(bytes[2])
 }
 
-/// Returns the place of a letter in the alphabet, from 1 on.
+/// Returns the position of a letter in the alphabet, which is 1 for `a`.
 #[inline]
 fn place(byte: u8) -> usize {
     usize::from(into_smallcase(byte)) - 96

@@ -1,7 +1,8 @@
 // Made by rust/erase from crates/langtag_tables/src/lib.rt. Change that file, not this one.
 
-//! What tables of subtags rest on: the numbers by which they know texts of letters, as 31 for `ae`. Its definitions and proofs are
-//! about lists of numbers that rise, in which such a number is searched, and about the words of the lists that tables are made of.
+//! The base of the tables of subtags: numbers that stand for texts of letters, such as 31 for `ae`. The definitions and
+//! proofs cover rising lists of numbers, which are searched for such a number, and texts of data, which are split into
+//! words.
 
 mod letter_numbers;
 

@@ -6,7 +6,7 @@
 use crate::shim::AllocError;
 use core::fmt;
 
-/// The error of a setter: why a part was neither put into a tag nor removed from it. The tag is unchanged.
+/// The error of a setter: why the part was neither set nor removed. The tag is unchanged.
 ///
 /// ```
 /// # fn main() -> Result<(), Box<dyn std::error::Error>> {
@@ -20,7 +20,7 @@ use core::fmt;
 #[cfg(feature = "alloc")]
 #[derive(Clone, Copy, Debug, PartialEq, Eq)]
 pub enum EditError {
-    /// The tag is not a normal one, such as `x-a` or `i-klingon`, and so has no parts (RFC 5646 section 2.1).
+    /// The tag is not a normal tag, so it has no parts: `x-a` and `i-klingon`, for example (RFC 5646 section 2.1).
     NotNormal,
     /// Allocation failed.
     Memory(AllocError),

@@ -27,9 +27,9 @@ impl<T> fmt::Display for InvalidGrandfatheredTag<T> {
 
 impl<T: fmt::Debug> core::error::Error for InvalidGrandfatheredTag<T> {}
 
-/// A grandfathered tag: one of the 26 tags that were registered before the present grammar ([RFC 5646 section 2.2.8]), in
+/// A grandfathered tag: one of the 26 tags that were registered before the current grammar ([RFC 5646 section 2.2.8]), in
 /// the order of section 2.1. The first 17 are irregular: they do not follow the grammar of other tags. The nine regular
-/// ones, from `art-lojban` on, are normal tags too.
+/// tags, from `art-lojban` on, are normal tags, too.
 ///
 /// Comparisons and hashes use the position in this declaration.
 ///
@@ -43,13 +43,13 @@ impl<T: fmt::Debug> core::error::Error for InvalidGrandfatheredTag<T> {}
 /// [RFC 5646 section 2.2.8]: https://www.rfc-editor.org/rfc/rfc5646#section-2.2.8
 #[derive(Clone, Copy, Debug, PartialEq, Eq, PartialOrd, Ord, Hash)]
 pub enum GrandfatheredLangTag {
-    /// `en-GB-oed`, English, by the spelling of the Oxford English Dictionary.
+    /// `en-GB-oed`, English in the spelling of the Oxford English Dictionary.
     EnGbOed,
     /// `i-ami`, Amis.
     IAmi,
     /// `i-bnn`, Bunun.
     IBnn,
-    /// `i-default`, the language of messages if no language is known.
+    /// `i-default`, the default language of messages, for use when no language is known.
     IDefault,
     /// `i-enochian`, Enochian.
     IEnochian,
@@ -135,10 +135,11 @@ pub const GRANDFATHERED: [GrandfatheredLangTag; 26] = [
 ];
 
 impl GrandfatheredLangTag {
-    /// Returns the grandfathered tag with these bytes, ignoring case.
+    /// Returns the grandfathered tag that equals these bytes, ignoring case.
     ///
-    /// It is proved that no two of them are equal, ignoring case, that all are tags, that they compare and hash as
-    /// their indices do, that a clone is the same value, and that [`GRANDFATHERED`] has each at its index.
+    /// It is proved that no two grandfathered tags are equal, ignoring case, and that all are language tags. It is also
+    /// proved that they compare and hash by their indices, that a clone is the same value, and that [`GRANDFATHERED`]
+    /// has each tag at its index.
     ///
     /// # Errors
     ///
@@ -157,13 +158,13 @@ impl GrandfatheredLangTag {
         }
     }
 
-    /// The tag at an index of the table.
+    /// Returns the tag at an index of [`GRANDFATHERED`].
     #[inline]
     pub(crate) fn at(index: usize) -> Self {
         GRANDFATHERED[index]
     }
 
-    /// The registered spelling, and the primary language subtag of a regular tag.
+    /// Returns the registered spelling, and the primary language subtag if the tag is regular.
     fn registered(&self) -> (&'static str, Option<&'static str>) {
         match self {
             GrandfatheredLangTag::EnGbOed => ("en-GB-oed", None),
@@ -246,7 +247,7 @@ impl GrandfatheredLangTag {
     }
 }
 
-/// The index of the first of some tags that is equal to these bytes but for the case of ASCII letters.
+/// Returns the index of the first tag that is equal to these bytes, ignoring the case of ASCII letters.
 #[inline]
 fn first_alike(tags: &[GrandfatheredLangTag], bytes: &[u8]) -> Option<usize> {
     tags.iter()

@@ -90,8 +90,8 @@ impl<'a> LangTag<'a> {
         Ok(LangTag::with_found(text, found))
     }
 
-    /// Parses bytes as a language tag. The bytes need not be UTF-8, and nothing checks that first, because each tag is
-    /// ASCII.
+    /// Parses bytes as a language tag. The bytes need not be UTF-8. They are not checked for UTF-8 first, because every
+    /// tag is ASCII.
     ///
     /// # Errors
     ///
@@ -116,7 +116,7 @@ impl<'a> LangTag<'a> {
         Ok(LangTag::with_found(ascii, found))
     }
 
-    /// Returns the tag of a text that is known to be one: `LangTag::from_checked(tag.as_str())` equals `tag`. It parses
+    /// Wraps a text that is known to be a language tag: `LangTag::from_checked(tag.as_str())` equals `tag`. It parses
     /// the text again to find the parts.
     #[inline]
     pub(crate) fn from_checked(text: &'a str) -> LangTag<'a> {
@@ -126,7 +126,7 @@ impl<'a> LangTag<'a> {
         LangTag::with_found(text, found)
     }
 
-    /// Returns the tag with a text in which this was found, without parsing it again.
+    /// Makes a tag from a text and what the parser found in the text, without parsing the text again.
     #[inline]
     pub(crate) fn with_found(text: &'a str, found: Recognised) -> LangTag<'a> {
         LangTag {
@@ -186,11 +186,12 @@ impl<'a> LangTag<'a> {
         Subtags::new(self.as_str())
     }
 
-    /// Returns whether another text equals this tag, ignoring the case of ASCII letters. Then the text is a tag of the
-    /// same kind. If that is a normal tag, its parts are at the same offsets and are equal, ignoring case.
+    /// Returns whether another text equals this tag, ignoring the case of ASCII letters. A text that is equal is a
+    /// tag of the same kind. If both are normal tags, their parts are equal, ignoring case, and are at the same
+    /// offsets.
     ///
-    /// It is proved that comparisons and hashes of tags also ignore case, and that a clone is the same tag. A tag sorts
-    /// after every longer tag that begins with it: `zh` after `zh-Latn`.
+    /// It is proved that comparisons and hashes of tags also ignore case, and that a clone is the same tag. A tag
+    /// sorts after every longer tag that begins with its text: `zh` sorts after `zh-Latn`.
     ///
     /// ```
     /// # fn main() -> Result<(), Box<dyn std::error::Error>> {
@@ -207,7 +208,7 @@ impl<'a> LangTag<'a> {
     }
 
     /// Returns the kind of the tag. The regular grandfathered tags are normal. It is proved that kinds compare and hash
-    /// in the order of their declaration, and that a clone is the same kind.
+    /// by their position in the declaration of [`Kind`], and that a clone is the same kind.
     ///
     /// ```
     /// # fn main() -> Result<(), Box<dyn std::error::Error>> {
@@ -224,7 +225,8 @@ impl<'a> LangTag<'a> {
         self.as_typed().kind()
     }
 
-    /// Returns the tag as an enum with one variant for each kind, to match on. The value inside has the same text.
+    /// Returns the tag as an enum with one variant for each kind, for use in `match`. The value inside has the same
+    /// text.
     ///
     /// ```
     /// # fn main() -> Result<(), Box<dyn std::error::Error>> {
@@ -247,7 +249,7 @@ impl<'a> LangTag<'a> {
         }
     }
 
-    /// Returns whether the tag is a normal one, which is made of parts. The regular grandfathered tags are normal, too.
+    /// Returns whether the tag is a normal tag, which is made of parts. The regular grandfathered tags are normal, too.
     ///
     /// ```
     /// # fn main() -> Result<(), Box<dyn std::error::Error>> {
@@ -281,8 +283,8 @@ impl<'a> LangTag<'a> {
 
     /// Returns whether the tag is one of the 26 grandfathered tags, ignoring case ([RFC 5646 section 2.2.8]).
     ///
-    /// The regular ones are normal tags, too. For example, this is `true` for `art-lojban`, whose kind is normal, while
-    /// [`as_typed().is_grandfathered()`](TypedLangTag::is_grandfathered) is `false`.
+    /// The regular grandfathered tags are normal tags, too. For example, this is `true` for `art-lojban`, whose kind is
+    /// normal, while [`as_typed().is_grandfathered()`](TypedLangTag::is_grandfathered) is `false`.
     ///
     /// ```
     /// # fn main() -> Result<(), Box<dyn std::error::Error>> {
@@ -301,7 +303,8 @@ impl<'a> LangTag<'a> {
         self.as_grandfathered().is_some()
     }
 
-    /// Returns the tag as a [`NormalLangTag`] if it is one: `Some` for `zh-Latn` and `art-lojban`, `None` for `x-a`.
+    /// Returns the tag as a [`NormalLangTag`] if it is a normal tag: `Some` for `zh-Latn` and `art-lojban`, `None` for
+    /// `x-a`.
     ///
     /// ```
     /// # fn main() -> Result<(), Box<dyn std::error::Error>> {
@@ -340,8 +343,8 @@ impl<'a> LangTag<'a> {
         Some(PrivateUse::from_checked(self.text.0))
     }
 
-    /// Returns the grandfathered tag if the tag is one of the 26, ignoring case: `Some` for `I-Lux` and `art-lojban`,
-    /// `None` for `fr`.
+    /// Returns the tag as a [`GrandfatheredLangTag`] if it is one of the 26 grandfathered tags, ignoring case: `Some`
+    /// for `I-Lux` and `art-lojban`, `None` for `fr`.
     ///
     /// ```
     /// # fn main() -> Result<(), Box<dyn std::error::Error>> {
@@ -358,7 +361,7 @@ impl<'a> LangTag<'a> {
         GrandfatheredLangTag::new(self.as_bytes()).ok()
     }
 
-    /// Copies the tag into one that owns its text.
+    /// Copies the tag into a tag that owns its text.
     ///
     /// # Errors
     ///
@@ -416,7 +419,7 @@ impl<'a> LangTag<'a> {
         is_in_recommended_case(self.as_bytes())
     }
 
-    /// Copies the tag into an owned one, in the case that [RFC 5646 section 2.1.1] recommends.
+    /// Copies the tag into an owned tag, in the case that [RFC 5646 section 2.1.1] recommends.
     ///
     /// # Errors
     ///
@@ -551,8 +554,8 @@ impl<'a> LangTag<'a> {
         self.as_normal()?.private_use()
     }
 
-    /// Returns an iterator over the subtags of the private use part: `x` and `y` for `en-x-x-y`, and nothing if there
-    /// is no such part.
+    /// Returns an iterator over the subtags of the private use part, or over no subtags if there is no such part: `x`
+    /// and `y` for `en-x-x-y`.
     ///
     /// ```
     /// # fn main() -> Result<(), Box<dyn std::error::Error>> {

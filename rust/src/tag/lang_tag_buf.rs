@@ -72,7 +72,7 @@ impl LangTagBuf {
         Ok(LangTagBuf::with_found(text, found))
     }
 
-    /// Returns the tag with a text in which this was found, without parsing it again.
+    /// Makes a tag from a text and what the parser found in the text, without parsing the text again.
     #[inline]
     pub(crate) fn with_found(text: String, found: Recognised) -> LangTagBuf {
         LangTagBuf {
@@ -156,7 +156,7 @@ impl LangTagBuf {
     /// `EN-ca-X-CA` becomes `en-CA-x-ca`.
     ///
     /// In a normal tag, the script becomes titlecase, the region uppercase, and everything else lowercase. The tag
-    /// still equals the old one, and its parts keep their offsets. It neither allocates nor parses. Equal tags become
+    /// still equals the old tag, and its parts keep their offsets. It neither allocates nor parses. Equal tags become
     /// the same bytes, so the text can be a key in a store that compares bytes.
     ///
     /// ```
@@ -183,7 +183,7 @@ impl LangTagBuf {
     ///
     /// # Errors
     ///
-    /// Returns `EditError::NotNormal` if the tag is not a normal one, such as `x-a`, and `EditError::Memory` if
+    /// Returns `EditError::NotNormal` if the tag is not a normal tag, such as `x-a`, and `EditError::Memory` if
     /// allocation fails. The tag is then unchanged.
     ///
     /// ```
@@ -205,7 +205,7 @@ impl LangTagBuf {
     ///
     /// # Errors
     ///
-    /// Returns `EditError::NotNormal` if the tag is not a normal one, such as `x-a`, and `EditError::Memory` if
+    /// Returns `EditError::NotNormal` if the tag is not a normal tag, such as `x-a`, and `EditError::Memory` if
     /// allocation fails. The tag is then unchanged.
     ///
     /// ```
@@ -228,7 +228,7 @@ impl LangTagBuf {
     ///
     /// # Errors
     ///
-    /// Returns `EditError::NotNormal` if the tag is not a normal one, such as `x-a`, and `EditError::Memory` if
+    /// Returns `EditError::NotNormal` if the tag is not a normal tag, such as `x-a`, and `EditError::Memory` if
     /// allocation fails. The tag is then unchanged.
     ///
     /// ```
@@ -251,7 +251,7 @@ impl LangTagBuf {
     ///
     /// # Errors
     ///
-    /// Returns `EditError::NotNormal` if the tag is not a normal one, such as `x-a`, and `EditError::Memory` if
+    /// Returns `EditError::NotNormal` if the tag is not a normal tag, such as `x-a`, and `EditError::Memory` if
     /// allocation fails. The tag is then unchanged.
     ///
     /// ```
@@ -274,7 +274,7 @@ impl LangTagBuf {
     ///
     /// # Errors
     ///
-    /// Returns `EditError::NotNormal` if the tag is not a normal one, such as `x-a`, and `EditError::Memory` if
+    /// Returns `EditError::NotNormal` if the tag is not a normal tag, such as `x-a`, and `EditError::Memory` if
     /// allocation fails. The tag is then unchanged.
     ///
     /// ```
@@ -297,7 +297,7 @@ impl LangTagBuf {
     ///
     /// # Errors
     ///
-    /// Returns `EditError::NotNormal` if the tag is not a normal one, such as `x-a`, and `EditError::Memory` if
+    /// Returns `EditError::NotNormal` if the tag is not a normal tag, such as `x-a`, and `EditError::Memory` if
     /// allocation fails. The tag is then unchanged.
     ///
     /// ```
@@ -321,7 +321,7 @@ impl LangTagBuf {
 
 #[cfg(feature = "alloc")]
 impl LangTagBuf {
-    /// Puts a part into a normal tag, or takes it out.
+    /// Sets a part of a normal tag, or removes it.
     fn put(&mut self, part: Part<'_>) -> Result<(), EditError> {
         let Some(ends) = self.found.ends() else {
             return Err(EditError::NotNormal);

@@ -28,7 +28,7 @@ pub(crate) fn length_with_hyphen(part: &str) -> usize {
 }
 
 impl Lengths {
-    /// The lengths of parts that end at these offsets.
+    /// Returns the lengths of parts that end at these offsets.
     pub(crate) fn of(ends: Ends) -> Lengths {
         Lengths {
             language: ends.language,
@@ -40,7 +40,7 @@ impl Lengths {
         }
     }
 
-    /// Returns the same lengths except that of one part.
+    /// Returns these lengths with another length for one part.
     pub(crate) fn with(self, part: &Part<'_>, len: usize) -> Lengths {
         match part {
             Part::Language(_) => Lengths {
@@ -70,7 +70,7 @@ impl Lengths {
         }
     }
 
-    /// Where parts of these lengths end.
+    /// Returns where parts of these lengths end.
     pub(crate) fn ends(self) -> Ends {
         let script = self.language + self.script;
         let region = script + self.region;

@@ -18,7 +18,8 @@
 //! # }
 //! ```
 //!
-//! A [`NormalLangTag`] is a tag that is made of parts. It stores where they end, so each part is a slice of the text:
+//! A [`NormalLangTag`] is a tag that is made of parts. It stores where the parts end, so each part is a slice of the
+//! text:
 //!
 //! ```
 //! # fn main() -> Result<(), Box<dyn std::error::Error>> {
@@ -38,8 +39,8 @@
 //! # }
 //! ```
 //!
-//! Each part has a borrowed and an owned type, such as [`Script`] and [`ScriptBuf`]. This crate exports them all, and
-//! also the parser over bytes, [`recognise`].
+//! Each part has a borrowed and an owned type, such as [`Script`] and [`ScriptBuf`]. This crate exports all these
+//! types, and also the parser over bytes, [`recognise`].
 
 mod edit;
 mod edit_error;
@@ -111,3 +112,6 @@ pub use private_use_lang_tag::PrivateUseLangTagBuf;
 pub use refusal::{Refusal, RefusalKind};
 pub use repeats::is_among_first;
 pub use typed_lang_tag::TypedLangTag;
+
+// For langtag_likely and langtag_c.
+pub(crate) use part::write_part;

@@ -38,8 +38,8 @@ impl<T> fmt::Display for InvalidNormalLangTag<T> {
 
 impl<T: fmt::Debug> core::error::Error for InvalidNormalLangTag<T> {}
 
-/// A normal language tag, the rule `langtag` of [RFC 5646 section 2.1]. It has a language, and may have a script, a
-/// region, variants, extensions and a private use part, as `sl-Latn-IT-rozaj-u-co-phonebk-x-mine` does.
+/// A normal language tag, which follows the rule `langtag` of [RFC 5646 section 2.1]. It has a language, and may have a
+/// script, a region, variants, extensions and a private use part, as `sl-Latn-IT-rozaj-u-co-phonebk-x-mine` does.
 ///
 /// It stores where its parts end, so each part is a slice of the text. Two tags are equal if their texts differ only in
 /// the case of ASCII letters.
@@ -89,8 +89,8 @@ impl<'a> NormalLangTag<'a> {
         Ok(NormalLangTag::with_ends(text, ends))
     }
 
-    /// Returns the normal tag of a text that is known to be one: `NormalLangTag::from_checked(tag.as_str())` equals
-    /// `tag`. It parses the text again to find the parts.
+    /// Wraps a text that is known to be a normal tag: `NormalLangTag::from_checked(tag.as_str())` equals `tag`. It
+    /// parses the text again to find the parts.
     #[inline]
     pub(crate) fn from_checked(text: &'a str) -> NormalLangTag<'a> {
         let Some(ends) = normal_ends(text) else {
@@ -99,7 +99,7 @@ impl<'a> NormalLangTag<'a> {
         NormalLangTag::with_ends(text, ends)
     }
 
-    /// Returns the normal tag with a text whose parts are known to end at these offsets, without parsing it again.
+    /// Makes a normal tag from a text whose parts are known to end at these offsets, without parsing the text again.
     #[inline]
     pub(crate) fn with_ends(text: &'a str, ends: Ends) -> NormalLangTag<'a> {
         NormalLangTag {
@@ -156,11 +156,11 @@ impl<'a> NormalLangTag<'a> {
         Subtags::new(self.as_str())
     }
 
-    /// Returns whether another text equals this tag, ignoring the case of ASCII letters. Then the text is a normal tag,
-    /// too. Its parts are at the same offsets and are equal, ignoring case.
+    /// Returns whether another text equals this tag, ignoring the case of ASCII letters. A text that is equal is a
+    /// normal tag, too. The parts of both are equal, ignoring case, and are at the same offsets.
     ///
     /// It is proved that comparisons and hashes of normal tags also ignore case, and that a clone is the same tag. A
-    /// tag sorts after every longer tag that begins with it: `sl` after `sl-IT`.
+    /// tag sorts after every longer tag that begins with its text: `sl` sorts after `sl-IT`.
     ///
     /// ```
     /// # fn main() -> Result<(), Box<dyn std::error::Error>> {
@@ -308,8 +308,8 @@ impl<'a> NormalLangTag<'a> {
         Some(PrivateUse::from_checked(private_use))
     }
 
-    /// Returns an iterator over the subtags of the private use part: `x` and `y` for `en-x-x-y`, and nothing if there
-    /// is no such part.
+    /// Returns an iterator over the subtags of the private use part, or over no subtags if there is no such part: `x`
+    /// and `y` for `en-x-x-y`.
     ///
     /// ```
     /// # fn main() -> Result<(), Box<dyn std::error::Error>> {
@@ -329,11 +329,11 @@ impl<'a> NormalLangTag<'a> {
         }
     }
 
-    /// Returns the first variant that equals an earlier one, ignoring case: the second `1996` in `de-1996-1996`.
+    /// Returns the first variant that equals an earlier variant, ignoring case: the second `1996` in `de-1996-1996`.
     ///
-    /// A tag with a repeated variant is well formed but not valid ([RFC 5646 section 2.2.5]). This does not allocate, and
-    /// uses less than 92 kB of stack. Up to 8,192 variants, the time grows little faster than their number; beyond
-    /// that, it is quadratic.
+    /// A tag with a repeated variant is well formed but not valid ([RFC 5646 section 2.2.5]). The search does not
+    /// allocate, and uses less than 92 kB of stack. For up to 8,192 variants, the time grows little faster than the
+    /// number of variants. For more variants, it is quadratic.
     ///
     /// ```
     /// # fn main() -> Result<(), Box<dyn std::error::Error>> {
@@ -353,7 +353,7 @@ impl<'a> NormalLangTag<'a> {
         self.variants().iter().nth(index)
     }
 
-    /// Returns the index, among the variants, of the one that [`repeated_variant`](NormalLangTag::repeated_variant)
+    /// Returns the index, among the variants, of the variant that [`repeated_variant`](NormalLangTag::repeated_variant)
     /// returns: `Some(1)` for `de-1996-1996`.
     ///
     /// ```
@@ -369,8 +369,8 @@ impl<'a> NormalLangTag<'a> {
         first_repeated_variant(self.variants())
     }
 
-    /// Returns the first singleton that equals an earlier one, ignoring case: the `A` in `fr-a-bb-A-cc`. It has the
-    /// case of the text.
+    /// Returns the first singleton that equals an earlier singleton, ignoring case: the `A` in `fr-a-bb-A-cc`. It is
+    /// returned in the case of the text.
     ///
     /// A tag with a repeated singleton is well formed but not valid ([RFC 5646 section 2.2.6]). This does not allocate.
     ///
@@ -391,7 +391,7 @@ impl<'a> NormalLangTag<'a> {
         Some(self.extensions().iter().nth(index)?.singleton())
     }
 
-    /// Returns the index, among the extensions, of the one whose singleton
+    /// Returns the index, among the extensions, of the extension whose singleton
     /// [`repeated_singleton`](NormalLangTag::repeated_singleton) returns: `Some(1)` for `fr-a-bb-A-cc`.
     ///
     /// ```
@@ -407,7 +407,7 @@ impl<'a> NormalLangTag<'a> {
         first_repeated_singleton(self.extensions())
     }
 
-    /// Copies the tag into one that owns its text.
+    /// Copies the tag into a tag that owns its text.
     ///
     /// # Errors
     ///
@@ -465,7 +465,7 @@ impl<'a> NormalLangTag<'a> {
         is_in_recommended_case(self.as_bytes())
     }
 
-    /// Copies the tag into an owned one, in the case that [RFC 5646 section 2.1.1] recommends.
+    /// Copies the tag into an owned tag, in the case that [RFC 5646 section 2.1.1] recommends.
     ///
     /// # Errors
     ///
@@ -490,13 +490,14 @@ impl<'a> NormalLangTag<'a> {
         Ok(owned)
     }
 
-    /// What stands before the first end.
+    /// Returns the text of the language.
     #[inline]
     fn language_str(&self) -> &'a str {
         &self.as_str()[..self.ends.language]
     }
 
-    /// Returns the span between the end of one part and the end of the next, without the hyphen.
+    /// Returns the text of a part, which begins after the hyphen at `before` and ends at `end`. Returns `None` if both
+    /// offsets are equal, since the part is then absent.
     #[inline]
     fn part(&self, before: usize, end: usize) -> Option<&'a str> {
         if before == end {
@@ -505,7 +506,7 @@ impl<'a> NormalLangTag<'a> {
         Some(&self.as_str()[before + 1..end])
     }
 
-    /// The same, and the empty text where there is no such part.
+    /// Returns what [`part`](NormalLangTag::part) returns, or the empty text if there is no such part.
     #[inline]
     fn part_or_empty(&self, before: usize, end: usize) -> &'a str {
         self.part(before, end).unwrap_or("")

@@ -111,7 +111,7 @@ impl NormalLangTagBuf {
         Ok(NormalLangTagBuf::with_ends(whole, ends))
     }
 
-    /// Returns the normal tag with a text whose parts are known to end at these offsets, without parsing it again.
+    /// Makes a normal tag from a text whose parts are known to end at these offsets, without parsing the text again.
     #[inline]
     pub(crate) fn with_ends(text: String, ends: Ends) -> NormalLangTagBuf {
         NormalLangTagBuf {
@@ -230,7 +230,7 @@ impl NormalLangTagBuf {
     /// Sets the script, or removes it if `None` is given ([RFC 5646 section 2.2.3]): with `Latn`, `sl-IT` becomes
     /// `sl-Latn-IT`.
     ///
-    /// The new text is complete before the old one is dropped. To remove the script does not allocate. The stored ends
+    /// The new text is complete before the old text is dropped. Removing the script does not allocate. The stored ends
     /// of the parts are adjusted, so nothing is parsed again.
     ///
     /// # Errors
@@ -364,7 +364,7 @@ impl NormalLangTagBuf {
 
 #[cfg(feature = "alloc")]
 impl NormalLangTagBuf {
-    /// Puts a part into the tag, or takes it out.
+    /// Sets a part of the tag, or removes it.
     #[inline]
     fn put(&mut self, part: Part<'_>) -> Result<(), AllocError> {
         self.ends = set_part(&mut self.text.0, self.ends, part)?;

@@ -1,6 +1,6 @@
 // Made by rust/erase from crates/langtag/src/recognise_text.rt. Change that file, not this one.
 
-//! The only place where this crate runs a recogniser.
+//! The only file in which this crate calls a recogniser.
 
 use crate::scan::{recognise, Ends, Found, Metered};
 use crate::tag::grandfathered::GrandfatheredLangTag;
@@ -8,7 +8,7 @@ use crate::tag::recognised::Recognised;
 
 /// Returns what the recogniser finds in bytes, or `None` if they are not a tag.
 ///
-/// Each constructor of the crate calls this function. It is inlined: the recogniser is one short loop.
+/// Every constructor that parses a tag calls this function. It is inlined, since the recogniser is only one short loop.
 #[inline(always)]
 pub(crate) fn recognise_bytes(bytes: &[u8]) -> Option<Recognised> {
     let found = found_in(bytes)?;
@@ -21,19 +21,19 @@ pub(crate) fn recognise_bytes(bytes: &[u8]) -> Option<Recognised> {
     }
 }
 
-/// Returns what the recogniser finds in bytes, in its own form.
+/// Returns what the recogniser finds in bytes, as langtag_scan returns it.
 #[inline]
 fn found_in(bytes: &[u8]) -> Option<Found> {
     recognise(&mut Metered::of_bytes(bytes))
 }
 
-/// The same of a text.
+/// Returns what the recogniser finds in a text, or `None` if it is not a tag.
 #[inline]
 pub(crate) fn recognise_text(text: &str) -> Option<Recognised> {
     recognise_bytes(text.as_bytes())
 }
 
-/// Where the parts of a normal tag end; `None` if the text is not a normal tag.
+/// Returns where the parts of a normal tag end, or `None` if the text is not a normal tag.
 #[inline]
 pub(crate) fn normal_ends(text: &str) -> Option<Ends> {
     recognise_text(text)?.ends()

@@ -5,7 +5,8 @@
 use crate::scan::Ends;
 use crate::tag::grandfathered::GrandfatheredLangTag;
 
-/// The kind of a tag ([RFC 5646 section 2.1]), with what was found in its text, so that the text is not parsed again.
+/// The kind of a tag ([RFC 5646 section 2.1]), with what was found in its text, so that no call has to parse the text
+/// again.
 ///
 /// [RFC 5646 section 2.1]: https://www.rfc-editor.org/rfc/rfc5646#section-2.1
 #[derive(Clone, Copy)]
@@ -19,19 +20,19 @@ pub(crate) enum Recognised {
 }
 
 impl Recognised {
-    /// Whether this is a normal tag.
+    /// Returns whether this is a normal tag.
     #[inline]
     pub(crate) fn is_normal(&self) -> bool {
         matches!(self, Recognised::Normal(_))
     }
 
-    /// Whether this is a tag for private use as a whole.
+    /// Returns whether this is a private-use tag.
     #[inline]
     pub(crate) fn is_private_use(&self) -> bool {
         matches!(self, Recognised::PrivateUse)
     }
 
-    /// Where the parts of a normal tag end.
+    /// Returns where the parts of a normal tag end, or `None` for a tag of another kind.
     #[inline]
     pub(crate) fn ends(&self) -> Option<Ends> {
         match self {

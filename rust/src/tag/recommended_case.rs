@@ -7,7 +7,7 @@ use crate::case::make_recommended_case;
 use alloc::string::String;
 use core::mem;
 
-/// Puts a text of ASCII into its recommended case, in place.
+/// Changes an ASCII text to its recommended case, in place.
 #[cfg(feature = "alloc")]
 pub(crate) fn put_recommended_case(text: &mut String) {
     let empty = String::new();

@@ -1,6 +1,6 @@
 // Made by rust/erase from crates/langtag/src/refusal.rt. Change that file, not this one.
 
-//! Where a text that is not a tag is wrong (RFC 5646 section 2.1).
+//! Where the first fault is in a text that is not a tag (RFC 5646 section 2.1).
 
 use crate::scan::{case_insensitive_eq, segment_end, segment_start, viable_len_with_hyphen};
 use crate::tag::grandfathered::{GrandfatheredLangTag, GRANDFATHERED};
@@ -17,15 +17,15 @@ use crate::tag::lang_tag::LangTag;
 /// [RFC 5646 section 2.1]: https://www.rfc-editor.org/rfc/rfc5646#section-2.1
 #[derive(Clone, Copy, Debug, PartialEq, Eq)]
 pub enum RefusalKind {
-    /// A subtag is unexpected in its place, such as `DE` in `de-419-DE`, or empty.
+    /// A subtag is empty, or is not allowed after the subtags before it, such as `DE` in `de-419-DE`.
     Subtag,
     /// A subtag has a byte that is neither a letter nor a digit, such as `_` in `zh_Hant`.
     Byte,
-    /// The bytes end where a tag cannot end, as `en-` and `en-a` do.
+    /// The bytes end where a tag cannot end. Examples are `en-` and `en-a`.
     End,
 }
 
-/// Where bytes that are not a tag are wrong. Offsets are in bytes.
+/// The first fault of bytes that are not a tag: its reason and its offsets. Offsets are in bytes.
 ///
 /// ```
 /// use langtag::Refusal;
@@ -35,10 +35,9 @@ pub enum RefusalKind {
 /// ```
 #[derive(Clone, Copy, Debug, PartialEq, Eq)]
 pub struct Refusal {
-    /// The reason why they are refused.
+    /// The reason why the bytes are not a tag.
     pub kind: RefusalKind,
-    /// The offset of the first subtag with which no tag can go on: 7 in `de-419-DE`. If the bytes end too soon, it is
-    /// their number.
+    /// The offset of the first wrong subtag: 7 in `de-419-DE`. If the bytes end too soon, it is the number of bytes.
     pub start: usize,
     /// The offset after that subtag: 9 in `de-419-DE`.
     pub end: usize,
@@ -47,9 +46,9 @@ pub struct Refusal {
 }
 
 impl Refusal {
-    /// Returns where bytes are wrong, or `None` if they are a tag. The bytes need not be UTF-8.
+    /// Returns the first fault of the bytes, or `None` if they are a tag. The bytes need not be UTF-8.
     ///
-    /// In `de-419-DE` it is the subtag from 7 to 9, which is unexpected there because the tag already has a region.
+    /// In `de-419-DE`, the subtag from offset 7 to offset 9 is wrong, because the tag already has a region.
     ///
     /// ```
     /// use langtag::{Refusal, RefusalKind};
@@ -93,35 +92,36 @@ impl Refusal {
     }
 }
 
-/// Whether the bytes are a tag.
+/// Returns whether the bytes are a tag.
 #[inline]
 fn is_tag(bytes: &[u8]) -> bool {
     LangTag::from_bytes(bytes).is_ok()
 }
 
-/// Whether bytes that are no tag end too soon, by how much of them and a hyphen is viable.
+/// Returns whether bytes that are not a tag end too soon. `viable` is the viable length of the bytes followed by a
+/// hyphen.
 #[inline]
 fn ends_too_soon(bytes: &[u8], viable: usize) -> bool {
     viable > bytes.len() || (viable == bytes.len() && (is_open(bytes) || begins_irregular(bytes)))
 }
 
-/// Whether the last subtag has no byte.
+/// Returns whether the last subtag is empty, so that the bytes are empty or end with a hyphen.
 #[inline]
 fn is_open(bytes: &[u8]) -> bool {
     bytes.is_empty() || bytes[bytes.len() - 1] == b'-'
 }
 
-/// Where the first subtag ends that is refused, of bytes that are no tag.
+/// Returns where the first wrong subtag of bytes that are not a tag ends.
 fn refused_end(bytes: &[u8], viable: usize) -> usize {
     let end = segment_end(bytes, viable);
-    // A tag ends there, with which none goes on: the next subtag is one too many.
+    // The bytes before `end` are a tag that no further subtag may follow, so the next subtag is wrong.
     if end < bytes.len() && is_tag(&bytes[..end]) {
         return segment_end(bytes, end + 1);
     }
     end
 }
 
-/// Where the first byte from one index up to another stands that is no letter and no digit, or the other index.
+/// Returns the index of the first byte from `start` up to `end` that is neither a letter nor a digit, or `end`.
 #[inline]
 fn first_other(bytes: &[u8], start: usize, end: usize) -> usize {
     let mut index = start;
@@ -136,22 +136,22 @@ fn is_alphanumeric(byte: u8) -> bool {
     byte.is_ascii_alphanumeric()
 }
 
-/// How many of the grandfathered tags are irregular: they come first.
+/// The number of irregular grandfathered tags, which come first in [`GRANDFATHERED`].
 const IRREGULAR: usize = 17;
 
-/// Whether the bytes begin an irregular tag (section 2.2.8).
+/// Returns whether some irregular tag begins with the bytes (section 2.2.8).
 #[inline]
 fn begins_irregular(bytes: &[u8]) -> bool {
     begin_any(bytes, &GRANDFATHERED[..IRREGULAR])
 }
 
-/// Whether the bytes begin any of some tags.
+/// Returns whether one of the tags begins with the bytes.
 #[inline]
 fn begin_any(bytes: &[u8], tags: &[GrandfatheredLangTag]) -> bool {
     tags.iter().any(|tag| begins(bytes, tag.as_bytes()))
 }
 
-/// Whether the bytes are the beginning of a text, ignoring the case of letters.
+/// Returns whether a text begins with the bytes, ignoring the case of letters.
 #[inline]
 fn begins(bytes: &[u8], text: &[u8]) -> bool {
     case_insensitive_eq(bytes, &text[..bytes.len().min(text.len())])

@@ -1,16 +1,18 @@
 // Made by rust/erase from crates/langtag/src/repeats.rt. Change that file, not this one.
 
-//! Variants and singletons that a tag has twice. Such a tag is well formed but not valid (RFC 5646 section 2.2.9).
+//! Variants and singletons that occur twice in a tag. Such a tag is well formed but not valid (RFC 5646 section
+//! 2.2.9).
 
 use crate::extension::Extensions;
 use crate::place::{Variant, Variants};
 use crate::scan::into_smallcase;
 use crate::tag::variant_blocks::first_repeated_of_many;
 
-/// Up to this many bytes of variants, which are at most 28 variants, each variant is compared with those before it.
+/// If the text of the variants has at most this many bytes, and so at most 28 variants, each variant is compared with
+/// all variants before it.
 const FEW: usize = 143;
 
-/// Returns the index of the first of these variants that equals an earlier one, ignoring case.
+/// Returns the index of the first of these variants that equals an earlier variant, ignoring case.
 #[inline]
 pub(crate) fn first_repeated_variant(variants: Variants<'_>) -> Option<usize> {
     if variants.as_str().len() > FEW {
@@ -19,7 +21,7 @@ pub(crate) fn first_repeated_variant(variants: Variants<'_>) -> Option<usize> {
     first_repeated_of_few(variants)
 }
 
-/// Returns the same, by comparing each variant with those before it.
+/// Returns what [`first_repeated_variant`] returns, by comparing each variant with the variants before it.
 #[inline]
 fn first_repeated_of_few(variants: Variants<'_>) -> Option<usize> {
     for (index, variant) in variants.iter().enumerate() {
@@ -53,7 +55,8 @@ pub fn is_among_first(variants: Variants<'_>, count: usize, variant: Variant<'_>
         .any(|earlier| variant == earlier)
 }
 
-/// Returns the index of the first of these extensions whose singleton equals that of an earlier one, ignoring case.
+/// Returns the index of the first of these extensions whose singleton equals the singleton of an earlier extension,
+/// ignoring case.
 pub(crate) fn first_repeated_singleton(extensions: Extensions<'_>) -> Option<usize> {
     let mut seen = [false; 128];
     for (index, extension) in extensions.iter().enumerate() {

@@ -7,8 +7,8 @@ use crate::shim::{try_string_with_capacity, AllocError, TryText};
 #[cfg(feature = "alloc")]
 use alloc::string::String;
 
-/// Returns a new text with room for `len` bytes: a language, and a script and a region, each after a hyphen. An empty
-/// script or region is absent.
+/// Returns a new text that consists of a language, a script and a region, joined by hyphens. It first allocates `room`
+/// bytes. An empty script or region is left out.
 #[cfg(feature = "alloc")]
 pub(crate) fn join_parts(
     room: usize,

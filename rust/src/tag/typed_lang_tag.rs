@@ -1,6 +1,6 @@
 // Made by rust/erase from crates/langtag/src/typed_lang_tag.rt. Change that file, not this one.
 
-//! Language tags by their kinds.
+//! Language tags as an enum with one variant for each kind.
 
 use crate::language::Language;
 use crate::tag::grandfathered::GrandfatheredLangTag;
@@ -8,8 +8,8 @@ use crate::tag::kind::Kind;
 use crate::tag::normal_lang_tag::NormalLangTag;
 use crate::tag::private_use_lang_tag::PrivateUseLangTag;
 
-/// A language tag with one variant for each kind ([RFC 5646 section 2.1]), as
-/// [`LangTag::as_typed`](crate::LangTag::as_typed) returns it. No call reads the text.
+/// A language tag as an enum with one variant for each kind ([RFC 5646 section 2.1]), as
+/// [`LangTag::as_typed`](crate::LangTag::as_typed) returns it. No method reads the text.
 ///
 /// ```
 /// # fn main() -> Result<(), Box<dyn std::error::Error>> {
@@ -35,7 +35,7 @@ pub enum TypedLangTag<'a> {
 }
 
 impl<'a> TypedLangTag<'a> {
-    /// Returns the language of a normal tag, or the primary language of a regular grandfathered one: `zh` for `zh-TW`,
+    /// Returns the language of a normal tag, or the primary language of a regular grandfathered tag: `zh` for `zh-TW`,
     /// `None` for `x-a` and `i-lux`.
     ///
     /// ```
@@ -106,7 +106,7 @@ impl<'a> TypedLangTag<'a> {
         self.kind().is_private_use()
     }
 
-    /// Returns whether this is a grandfathered tag by its kind: `true` for `i-lux`.
+    /// Returns whether the kind of this tag is grandfathered, which means irregular: `true` for `i-lux`.
     ///
     /// For `art-lojban`, a regular grandfathered tag, [`LangTag::as_typed`](crate::LangTag::as_typed) returns a normal
     /// tag, so this is `false`, while [`LangTag::is_grandfathered`](crate::LangTag::is_grandfathered) is `true`.
@@ -125,7 +125,7 @@ impl<'a> TypedLangTag<'a> {
         self.kind().is_grandfathered()
     }
 
-    /// Returns the normal tag if this is one: `Some` for `zh-TW`, `None` for `x-a`.
+    /// Returns the normal tag if this is a normal tag: `Some` for `zh-TW`, `None` for `x-a`.
     ///
     /// ```
     /// # fn main() -> Result<(), Box<dyn std::error::Error>> {
@@ -144,7 +144,7 @@ impl<'a> TypedLangTag<'a> {
         }
     }
 
-    /// Returns the private-use tag if this is one: `Some` for `x-a`, `None` for `fr-x-a`.
+    /// Returns the private-use tag if this is a private-use tag: `Some` for `x-a`, `None` for `fr-x-a`.
     ///
     /// ```
     /// # fn main() -> Result<(), Box<dyn std::error::Error>> {
@@ -163,7 +163,8 @@ impl<'a> TypedLangTag<'a> {
         }
     }
 
-    /// Returns the grandfathered tag if this is one: `Some` for `i-lux`, `None` for `art-lojban`, which is normal.
+    /// Returns the grandfathered tag if the kind of this tag is grandfathered: `Some` for `i-lux`, `None` for
+    /// `art-lojban`, which is normal.
     ///
     /// ```
     /// # fn main() -> Result<(), Box<dyn std::error::Error>> {

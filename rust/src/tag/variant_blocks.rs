@@ -1,21 +1,23 @@
 // Made by rust/erase from crates/langtag/src/variant_blocks.rt. Change that file, not this one.
 
-//! The first repeated variant among very many, found block by block.
+//! Finds the first repeated variant of a long list of variants, block by block.
 
 use crate::place::{Variant, Variants, VariantsIter};
 use crate::scan::folded_number;
 use core::mem;
 
-/// How many variants a block has, but for the last one. Each takes nine bytes of the stack, which are 72 kB together.
+/// The number of variants in a block; the last block may have fewer. Each variant takes nine bytes of stack, so a block
+/// takes 72 kB.
 const BLOCK: usize = 8192;
 
 const _: () = assert!(BLOCK == 8192);
 
-/// Returns the index of the first of these variants that equals an earlier one, ignoring case.
+/// Returns the index of the first of these variants that equals an earlier variant, ignoring case.
 ///
-/// All variants are read once for each block. A block stores its numbers in rising order, and which of them have
-/// occurred, so each variant is found in few steps, in whatever order they come.
-// Not inlined: the stack that it takes is not taken for a few variants.
+/// All variants are read once for each block. A block stores the numbers of its variants in ascending order, and a flag
+/// for each number that says whether it has occurred. So a binary search finds each variant in few steps, whatever the
+/// order of the variants is.
+// This function is not inlined, so that callers with few variants do not use its stack.
 #[inline(never)]
 pub(crate) fn first_repeated_of_many(variants: Variants<'_>) -> Option<usize> {
     let mut numbers = [0; BLOCK];
@@ -46,9 +48,9 @@ fn fill(block: &mut [u64], rest: &mut VariantsIter<'_>) {
     }
 }
 
-/// Returns the index of the first variant up to the end of a block that equals an earlier one, ignoring case. The block
-/// has, in rising order, the numbers of the variants from the index `start` on. No variant before `start` equals an
-/// earlier one.
+/// Returns the index of the first variant up to the end of a block that equals an earlier variant, ignoring case. The
+/// block has, in ascending order, the numbers of the variants from the index `start` on. No variant before `start`
+/// equals an earlier variant.
 fn first_met_again(block: &[u64], variants: Variants<'_>, start: usize) -> Option<usize> {
     let mut met = [false; BLOCK];
     for (index, variant) in variants.iter().enumerate() {
@@ -62,8 +64,8 @@ fn first_met_again(block: &[u64], variants: Variants<'_>, start: usize) -> Optio
     None
 }
 
-/// Returns whether a number of a block has occurred before, and marks it as having occurred. If the block has it twice,
-/// its first place counts.
+/// Returns whether a number of a block has occurred before, and marks it as having occurred. If the block has the
+/// number twice, only its first index is marked.
 fn meet(block: &[u64], met: &mut [bool], number: u64) -> bool {
     let place = place_of(number, block);
     if place == block.len() || block[place] != number {
@@ -72,13 +74,13 @@ fn meet(block: &[u64], met: &mut [bool], number: u64) -> bool {
     mem::replace(&mut met[place], true)
 }
 
-/// Returns the first place of a number in a block, or the place where it would be.
+/// Returns the first index of a number in a block, or the index at which it would have to be inserted.
 #[inline]
 fn place_of(number: u64, block: &[u64]) -> usize {
     block.partition_point(|other| *other < number)
 }
 
-/// Returns the number of a variant, which has at most eight bytes.
+/// Returns the number that [`folded_number`] gives for a variant, which has at most eight bytes.
 #[inline]
 fn number_of(variant: Variant<'_>) -> u64 {
     folded_number(variant.as_bytes())

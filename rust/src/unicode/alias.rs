@@ -1,12 +1,12 @@
 // Made by rust/erase from crates/langtag_unicode/src/alias.rt. Change that file, not this one.
 
-//! What replaces a type or a subdivision (UTS #35, part 1, Annex C).
+//! Replacing types and subdivisions (UTS #35, part 1, Annex C).
 
 use crate::tag::case_insensitive_eq;
 use crate::unicode::alias_tables as tables;
 use crate::unicode::keys::Keys;
 
-/// Returns the canonical value of a key, which may have another case.
+/// Returns the canonical value of a key, except that its case may differ.
 #[inline]
 pub(crate) fn canonical_value<'a>(keys: Keys, key: &[u8], value: &'a str) -> &'a str {
     match keys {
@@ -15,7 +15,7 @@ pub(crate) fn canonical_value<'a>(keys: Keys, key: &[u8], value: &'a str) -> &'a
     }
 }
 
-/// Returns a value of `u`, or what replaces it.
+/// Returns a value of `u`, or its replacement.
 #[inline]
 fn unicode_value<'a>(key: &[u8], value: &'a str) -> &'a str {
     if has_subdivision(key) {
@@ -30,7 +30,7 @@ fn has_subdivision(key: &[u8]) -> bool {
     case_insensitive_eq(key, b"rg") || case_insensitive_eq(key, b"sd")
 }
 
-/// Returns a value; nothing for `true`.
+/// Returns a value, or the empty text for `true`.
 #[inline]
 fn without_true(value: &str) -> &str {
     if case_insensitive_eq(value.as_bytes(), b"true") {
@@ -63,7 +63,7 @@ fn transform_value<'a>(key: &[u8], value: &'a str) -> &'a str {
     }
 }
 
-/// Returns what replaces a text.
+/// Returns the replacement of a text, if there is one.
 fn alias_for(rows: &'static [(&'static str, &'static str)], text: &[u8]) -> Option<&'static str> {
     let mut rows = rows;
     while let [(old, new), others @ ..] = rows {
@@ -75,7 +75,7 @@ fn alias_for(rows: &'static [(&'static str, &'static str)], text: &[u8]) -> Opti
     None
 }
 
-/// Returns what replaces a type of a key.
+/// Returns the replacement of a type of a key, if there is one.
 fn type_alias_for(
     rows: &'static [(&'static str, &'static str, &'static str)],
     key: &[u8],

@@ -8,7 +8,7 @@ use crate::unicode::subtags::split_first;
 
 /// Appends subtags in lowercase and in alphabetical order, each once.
 ///
-/// Each is found by a walk over all of them, so the time is quadratic in their number.
+/// Each subtag is found by a walk over all subtags, so the time is quadratic in the number of subtags.
 #[inline]
 pub(crate) fn push_in_alphabet(out: &mut Output<'_>, rest: Option<&str>) {
     let mut last = None;
@@ -18,7 +18,7 @@ pub(crate) fn push_in_alphabet(out: &mut Output<'_>, rest: Option<&str>) {
     }
 }
 
-/// Returns the first subtag, in the order of the alphabet, that stands after another.
+/// Returns the first subtag, in alphabetical order, that comes after `last`.
 fn first_after<'a>(rest: Option<&'a str>, last: Option<&str>) -> Option<&'a str> {
     let mut best = None;
     let mut rest = rest;
@@ -32,7 +32,7 @@ fn first_after<'a>(rest: Option<&'a str>, last: Option<&str>) -> Option<&'a str>
     best
 }
 
-/// Returns whether a subtag stands after another, if there is another.
+/// Returns whether a subtag comes after `last`, or there is no `last`.
 #[inline]
 fn is_after(subtag: &str, last: Option<&str>) -> bool {
     match last {
@@ -41,7 +41,7 @@ fn is_after(subtag: &str, last: Option<&str>) -> bool {
     }
 }
 
-/// Returns whether a subtag stands before another, if there is another.
+/// Returns whether a subtag comes before `best`, or there is no `best`.
 #[inline]
 fn is_before_best(subtag: &str, best: Option<&str>) -> bool {
     match best {
@@ -50,8 +50,8 @@ fn is_before_best(subtag: &str, best: Option<&str>) -> bool {
     }
 }
 
-/// Returns whether a text stands before another in the order of the alphabet, without regard to case: `foo` before `foobar`.
-fn is_before(a: &[u8], b: &[u8]) -> bool {
+/// Returns whether a text comes before another in alphabetical order, ignoring case: `foo` comes before `foobar`.
+pub(crate) fn is_before(a: &[u8], b: &[u8]) -> bool {
     let mut a = a;
     let mut b = b;
     while let ([x, others_a @ ..], [y, others_b @ ..]) = (a, b) {

@@ -1,6 +1,6 @@
 // Made by rust/erase from crates/langtag_unicode/src/attributes_iter.rt. Change that file, not this one.
 
-//! The attributes of a tag, one by one.
+//! An iterator over the attributes of a tag.
 
 use crate::tag::Subtags;
 use crate::unicode::subtags::is_among_first;
@@ -24,7 +24,7 @@ pub struct AttributesIter<'a> {
 }
 
 impl<'a> AttributesIter<'a> {
-    /// The distinct subtags of a text.
+    /// Returns an iterator over the distinct subtags of a text.
     #[inline]
     pub(crate) fn new(text: &'a str) -> Self {
         AttributesIter {

@@ -2,7 +2,7 @@
 
 //! The canonical form of a tag's extensions `u` and `t` (UTS #35, part 1, Annex C).
 
-use crate::output::{write_pieces, Output};
+use crate::output::{write_text, Output};
 #[cfg(feature = "alloc")]
 use crate::shim::{try_vec, AllocError};
 #[cfg(feature = "alloc")]
@@ -21,12 +21,13 @@ use alloc::vec::Vec;
 /// Returns a tag with its extensions `u` and `t` in canonical form (UTS #35, part 1, Annex C): `en-u-nu-thai-ca-gregory-kn-true`
 /// becomes `en-u-ca-gregory-kn-nu-thai`.
 ///
-/// Attributes, keywords and fields are put in alphabetical order, each once and in lowercase. If one is repeated, the first counts.
-/// Types and subdivisions that CLDR has replaced become their replacements. The value `true` is left out of `u`. The variants in the
-/// language of `t` are put in alphabetical order.
+/// Attributes, keywords and fields are put in alphabetical order, each once and in lowercase. If a key is repeated,
+/// its first value counts. Types and subdivisions that CLDR replaces become their replacements. The value `true` is
+/// left out of `u`. The variants in the language of `t` are put in alphabetical order.
 ///
-/// All other bytes of the tag stay, and so does a tag without these extensions. Only the first `u` and the first `t` have a form. A `t`
-/// that UTS #35 does not allow stays, such as `t-m0` or `t-zh-yue`. `langtag::registry::canonical` orders the extensions.
+/// All other bytes of the tag stay, and so does a tag without these extensions. Only the first `u` and the first `t`
+/// are changed. A `t` that UTS #35 does not allow, such as `t-m0` or `t-zh-yue`, stays as it is. The order of the
+/// extensions stays, too; `langtag::registry::canonical` sorts them.
 ///
 /// The time is quadratic in the number of attributes, and of variants in the language of `t`.
 ///
@@ -65,9 +66,9 @@ fn form_bytes(tag: LangTag<'_>) -> Result<Vec<u8>, AllocError> {
     Ok(bytes)
 }
 
-/// Writes a tag with its extensions `u` and `t` in canonical form to a buffer, as [`extensions_form`] returns it, and returns its
-/// length in bytes. If the buffer is too short, it stays unchanged, and the length says how much room is needed. A buffer of twice
-/// the length of the tag is always long enough. It does not allocate.
+/// Writes a tag with its extensions `u` and `t` in canonical form to a buffer, as [`extensions_form`] returns it, and
+/// returns its length in bytes. If the buffer is too short, it stays unchanged, and the length says how long a buffer
+/// must be. A buffer of twice the length of the tag is always long enough. It does not allocate.
 ///
 /// ```
 /// # fn main() -> Result<(), Box<dyn std::error::Error>> {
@@ -88,13 +89,7 @@ pub fn write_extensions_form(tag: LangTag<'_>, buffer: &mut [u8]) -> usize {
     }
 }
 
-/// Writes a text.
-#[inline]
-fn write_text(text: &[u8], buffer: &mut [u8]) -> usize {
-    write_pieces(&[text], buffer)
-}
-
-/// Writes a tag with its extensions in their forms.
+/// Writes a tag with its extensions in canonical form.
 #[inline]
 fn write_parts(tag: NormalLangTag<'_>, buffer: &mut [u8]) -> usize {
     let len = put_parts(tag, &mut []);
@@ -104,7 +99,8 @@ fn write_parts(tag: NormalLangTag<'_>, buffer: &mut [u8]) -> usize {
     len
 }
 
-/// Puts a tag with its extensions in their forms into a buffer, as far as it has room. Returns how long that tag is.
+/// Writes as much of a tag with its extensions in canonical form as fits into a buffer, and returns the length of
+/// that tag.
 fn put_parts(tag: NormalLangTag<'_>, buffer: &mut [u8]) -> usize {
     let mut out = Output::new(buffer);
     push_head(&mut out, tag);
@@ -113,9 +109,9 @@ fn put_parts(tag: NormalLangTag<'_>, buffer: &mut [u8]) -> usize {
     out.len()
 }
 
-/// Puts what precedes the extensions.
+/// Appends the part of a tag before its extensions.
 #[inline]
-fn push_head(out: &mut Output<'_>, tag: NormalLangTag<'_>) {
+pub(crate) fn push_head(out: &mut Output<'_>, tag: NormalLangTag<'_>) {
     let text = tag.as_str();
     out.push_subtag(&text.as_bytes()[..tag.ends().variants]);
 }
@@ -130,7 +126,8 @@ fn push_extensions(out: &mut Output<'_>, extensions: Extensions<'_>) {
     }
 }
 
-/// Puts an extension in its form, unless it stands after another of its singleton.
+/// Appends an extension: in canonical form if it is the first `u`, or the first `t` and well-formed, and otherwise
+/// unchanged.
 fn push_extension(out: &mut Output<'_>, extension: Extension<'_>, after_u: bool, after_t: bool) {
     if is_first(b'u', extension, after_u) {
         return push_unicode(out, subtags_of(extension));
@@ -147,25 +144,25 @@ fn is_first_transform(extension: Extension<'_>, after_t: bool) -> bool {
     is_first(b't', extension, after_t) && is_transform(subtags_of(extension))
 }
 
-/// Returns whether an extension is the first of a singleton.
+/// Returns whether an extension is the first extension with the given singleton.
 #[inline]
 fn is_first(singleton: u8, extension: Extension<'_>, is_after: bool) -> bool {
     is_of(singleton, extension) && !is_after
 }
 
-/// Returns whether what follows an extension stands after one of a singleton.
+/// Returns whether an extension with the singleton has occurred, up to and including this extension.
 #[inline]
 fn is_after(singleton: u8, extension: Extension<'_>, is_after: bool) -> bool {
     is_after || is_of(singleton, extension)
 }
 
-/// Returns the subtags after the singleton, joined.
+/// Returns the subtags after the singleton, joined by hyphens.
 #[inline]
-fn subtags_of<'a>(extension: Extension<'a>) -> &'a str {
+pub(crate) fn subtags_of<'a>(extension: Extension<'a>) -> &'a str {
     &extension.as_str()[2..]
 }
 
-/// Puts the form of the extension `u` that has these subtags.
+/// Appends the canonical form of the extension `u` with these subtags.
 #[inline]
 fn push_unicode(out: &mut Output<'_>, text: &str) {
     out.push_subtag(b"u");
@@ -173,14 +170,14 @@ fn push_unicode(out: &mut Output<'_>, text: &str) {
     push_keywords(out, text, Keys::Unicode);
 }
 
-/// Returns whether an extension is of a singleton, in any case.
+/// Returns whether an extension begins with a singleton, ignoring case.
 #[inline]
 fn is_of(singleton: u8, extension: Extension<'_>) -> bool {
     into_smallcase(extension.singleton().unwrap()) == singleton
 }
 
 #[inline]
-fn push_private_use(out: &mut Output<'_>, private_use: Option<PrivateUse<'_>>) {
+pub(crate) fn push_private_use(out: &mut Output<'_>, private_use: Option<PrivateUse<'_>>) {
     if let Some(private_use) = private_use {
         out.push_subtag(private_use.as_bytes());
     }

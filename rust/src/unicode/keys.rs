@@ -2,7 +2,7 @@
 
 //! Which subtags of an extension are keys.
 
-/// The extension whose keys are looked for.
+/// An extension that has keys.
 ///
 /// ```
 /// use langtag::unicode::Keys;

@@ -9,15 +9,15 @@ use crate::unicode::alphabet::push_each_lowercase;
 use crate::unicode::keys::Keys;
 use crate::unicode::subtags::value_in;
 
-/// What may stand in a key, in order.
+/// The bytes that a key may have, in order.
 const LETTERS_AND_DIGITS: [u8; 36] = *b"0123456789abcdefghijklmnopqrstuvwxyz";
 
-/// How many keys there are.
+/// The number of possible keys.
 const KEY_COUNT: usize = 1296;
 
 /// Appends the keywords of a text, each once, in the order of their keys.
 ///
-/// The text is read twice for all keys, and once for each key in it, of which there are at most 1,296.
+/// The text is read twice, and then once for each key in it. There are at most 1,296 keys.
 pub(crate) fn push_keywords(out: &mut Output<'_>, text: &str, keys: Keys) {
     let marks = marked_keys(text, keys);
     let firsts = marked_firsts(text, keys);
@@ -29,7 +29,7 @@ pub(crate) fn push_keywords(out: &mut Output<'_>, text: &str, keys: Keys) {
     }
 }
 
-/// Puts the keywords whose keys begin with a letter or a digit.
+/// Appends the keywords whose keys begin with one letter or digit.
 fn push_keywords_from(
     out: &mut Output<'_>,
     text: &str,
@@ -46,7 +46,7 @@ fn push_keywords_from(
     }
 }
 
-/// Puts a key with its canonical value, if the key stands in the text.
+/// Appends a key with its canonical value, if the key occurs in the text.
 #[inline]
 fn push_keyword(out: &mut Output<'_>, text: &str, keys: Keys, key: &[u8]) {
     if let Some(value) = value_in(text, keys, key) {
@@ -55,7 +55,7 @@ fn push_keyword(out: &mut Output<'_>, text: &str, keys: Keys, key: &[u8]) {
     }
 }
 
-/// Returns which keys may stand in a text.
+/// Returns which keys may occur in a text.
 fn marked_keys(text: &str, keys: Keys) -> [bool; KEY_COUNT] {
     let mut marks = [false; KEY_COUNT];
     for subtag in Subtags::new(text) {
@@ -79,7 +79,7 @@ fn marked_firsts(text: &str, keys: Keys) -> [bool; 36] {
     marks
 }
 
-/// Returns the index of the first letter or digit of a key among all of them, in any case.
+/// Returns the index of a key's first byte among all digits and letters, ignoring case.
 #[inline]
 fn first_index(key: &[u8]) -> usize {
     match key {
@@ -88,7 +88,7 @@ fn first_index(key: &[u8]) -> usize {
     }
 }
 
-/// Returns the index of a key among all of them, in any case.
+/// Returns the index of a key among all keys, ignoring case.
 #[inline]
 fn key_index(key: &[u8]) -> usize {
     match key {
@@ -97,7 +97,7 @@ fn key_index(key: &[u8]) -> usize {
     }
 }
 
-/// Returns the index of a letter or a digit among all of them, in any case.
+/// Returns the index of a byte among all digits and letters, ignoring case.
 fn digit(byte: u8) -> usize {
     match into_smallcase(byte) {
         digit @ b'0'..=b'9' => usize::from(digit - b'0'),

@@ -1,6 +1,6 @@
 // Made by rust/erase from crates/langtag_unicode/src/keywords_iter.rt. Change that file, not this one.
 
-//! The keywords of a tag, one by one.
+//! An iterator over the keywords of a tag.
 
 use crate::unicode::keys::Keys;
 use crate::unicode::subtags::{before_key, is_among_first, nonempty, split_first};
@@ -8,7 +8,7 @@ use crate::unicode::unicode_extension::KeyValue;
 
 /// An iterator over the keywords of the extension `u`, or the fields of the extension `t`, in the order of the tag.
 ///
-/// Each key comes once, with its first value.
+/// Each key is returned once, with its first value.
 ///
 /// ```
 /// # fn main() -> Result<(), Box<dyn std::error::Error>> {
@@ -28,7 +28,7 @@ pub struct KeywordsIter<'a> {
 }
 
 impl<'a> KeywordsIter<'a> {
-    /// The keywords among the subtags of a text.
+    /// Returns an iterator over the keywords among the subtags of a text.
     #[inline]
     pub(crate) fn new(text: &'a str, keys: Keys) -> Self {
         KeywordsIter {
@@ -39,7 +39,7 @@ impl<'a> KeywordsIter<'a> {
         }
     }
 
-    /// Whether the next subtag is a key, and none before it is equal to it.
+    /// Returns whether the next subtag is a key that equals no subtag before it.
     #[inline]
     fn is_new_key(&self, subtag: &str) -> bool {
         self.keys.has(subtag.as_bytes()) && !is_among_first(self.text, self.passed, subtag)

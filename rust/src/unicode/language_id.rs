@@ -7,7 +7,8 @@ use crate::tag::{case_insensitive_eq, is_primary, is_region, is_script, is_varia
 use crate::unicode::alphabet::{push_in_alphabet, push_lowercase};
 use crate::unicode::subtags::split_first;
 
-/// Returns whether a text is a language with an optional script, region and variants, none of them twice.
+/// Returns whether a text is a language with an optional script, an optional region, and any number of different
+/// variants.
 pub(crate) fn is_language_id(text: &str) -> bool {
     let (language, rest) = split_first(text);
     let (_, rest) = take_script(rest);
@@ -15,7 +16,7 @@ pub(crate) fn is_language_id(text: &str) -> bool {
     is_unicode_language(language) && are_variants(variants)
 }
 
-/// Appends such a text in lowercase, with its variants in order.
+/// Appends a language with its script, region and variants in lowercase, and with the variants in order.
 pub(crate) fn push_language_id(out: &mut Output<'_>, text: &str) {
     let (language, rest) = split_first(text);
     let (script, rest) = take_script(rest);
@@ -38,7 +39,7 @@ fn is_unicode_language(subtag: &str) -> bool {
     is_primary(subtag.as_bytes()) && subtag.len() != 4
 }
 
-/// Returns the script at the beginning, if there is one, and what follows.
+/// Returns the script at the start, if there is one, and the rest.
 fn take_script<'a>(rest: Option<&'a str>) -> (Option<&'a str>, Option<&'a str>) {
     if let Some(text) = rest {
         let (first, others) = split_first(text);
@@ -49,7 +50,7 @@ fn take_script<'a>(rest: Option<&'a str>) -> (Option<&'a str>, Option<&'a str>) 
     (None, rest)
 }
 
-/// Returns the region at the beginning, if there is one, and what follows.
+/// Returns the region at the start, if there is one, and the rest.
 fn take_region<'a>(rest: Option<&'a str>) -> (Option<&'a str>, Option<&'a str>) {
     if let Some(text) = rest {
         let (first, others) = split_first(text);
@@ -60,7 +61,8 @@ fn take_region<'a>(rest: Option<&'a str>) -> (Option<&'a str>, Option<&'a str>) 
     (None, rest)
 }
 
-/// Returns whether all subtags are variants, none of them twice. Each is compared with those after it.
+/// Returns whether all subtags are variants, and no two of them are equal. Each variant is compared with the variants
+/// after it.
 fn are_variants(rest: Option<&str>) -> bool {
     let mut rest = rest;
     while let Some(text) = rest {

@@ -1,11 +1,12 @@
 // Made by rust/erase from crates/langtag_unicode/src/subtags.rt. Change that file, not this one.
 
-//! The subtags of an extension, as one text that is taken apart from its front.
+//! The subtags of an extension, as one text that is read from its start.
 
 use crate::tag::{case_insensitive_eq, segment_end, LangTag, Singleton, Subtags};
 use crate::unicode::keys::Keys;
 
-/// Returns the subtags of the first extension with a singleton, joined, or nothing if there is no such extension.
+/// Returns the subtags of the first extension with a singleton, joined by hyphens, or the empty text if there is no
+/// such extension.
 #[inline]
 pub(crate) fn extension_text<'a>(tag: LangTag<'a>, singleton: Singleton) -> &'a str {
     match tag.extensions().get(singleton) {
@@ -14,7 +15,7 @@ pub(crate) fn extension_text<'a>(tag: LangTag<'a>, singleton: Singleton) -> &'a 
     }
 }
 
-/// Returns the subtags of the first extension `u` of a tag, joined.
+/// Returns the subtags of the first extension `u` of a tag, joined by hyphens.
 #[inline]
 pub(crate) fn unicode_text<'a>(tag: LangTag<'a>) -> &'a str {
     match Singleton::new(b'u') {
@@ -23,7 +24,7 @@ pub(crate) fn unicode_text<'a>(tag: LangTag<'a>) -> &'a str {
     }
 }
 
-/// Returns a text to take apart, or `None` if it has no subtags.
+/// Returns a text, or `None` if it is empty and so has no subtags.
 #[inline]
 pub(crate) fn nonempty(text: &str) -> Option<&str> {
     if text.is_empty() {
@@ -32,7 +33,7 @@ pub(crate) fn nonempty(text: &str) -> Option<&str> {
     Some(text)
 }
 
-/// Returns the first subtag of a text, and the rest after a hyphen, if there is more.
+/// Returns the first subtag of a text and, if there are more subtags, the rest of the text after the hyphen.
 pub(crate) fn split_first(text: &str) -> (&str, Option<&str>) {
     let end = segment_end(text.as_bytes(), 0);
     if end == text.len() {
@@ -56,14 +57,14 @@ pub(crate) fn preceding(text: &str, keys: Keys) -> Option<&str> {
     nonempty(before_key(nonempty(text), keys))
 }
 
-/// Returns what stands before the first key of a text.
+/// Returns the text before the first key of a text.
 #[inline]
 fn cut_before_key(text: &str, keys: Keys) -> &str {
     let len = len_before_key(text, keys);
     &text[..len.saturating_sub(1)]
 }
 
-/// Returns how many bytes the subtags before the first key take, each with a hyphen after it.
+/// Returns the number of bytes that the subtags before the first key take, each with a hyphen after it.
 fn len_before_key(text: &str, keys: Keys) -> usize {
     let mut len = 0;
     for subtag in Subtags::new(text) {

@@ -9,13 +9,13 @@ use crate::unicode::keyword_form::push_keywords;
 use crate::unicode::language_id::{is_language_id, push_language_id};
 use crate::unicode::subtags::preceding;
 
-/// Returns whether the subtags after the singleton are as UTS #35 has them: a language, fields, or both.
+/// Returns whether the subtags after the singleton are what UTS #35 allows: a language, fields, or both.
 #[inline]
 pub(crate) fn is_transform(text: &str) -> bool {
     is_language_or_none(text) && are_fields(text)
 }
 
-/// Returns whether what precedes the fields is a language, or absent.
+/// Returns whether the text before the fields is a language or empty.
 #[inline]
 fn is_language_or_none(text: &str) -> bool {
     match preceding(text, Keys::Transform) {
@@ -24,7 +24,7 @@ fn is_language_or_none(text: &str) -> bool {
     }
 }
 
-/// Appends the form of the extension `t` that has these subtags.
+/// Appends the canonical form of the extension `t` with these subtags.
 #[inline]
 pub(crate) fn push_transform(out: &mut Output<'_>, text: &str) {
     out.push_subtag(b"t");
@@ -32,7 +32,7 @@ pub(crate) fn push_transform(out: &mut Output<'_>, text: &str) {
     push_keywords(out, text, Keys::Transform);
 }
 
-/// Puts the form of what precedes the fields.
+/// Appends the canonical form of the language before the fields.
 #[inline]
 fn push_language(out: &mut Output<'_>, text: &str) {
     if let Some(language) = preceding(text, Keys::Transform) {
@@ -40,7 +40,7 @@ fn push_language(out: &mut Output<'_>, text: &str) {
     }
 }
 
-/// Returns whether each field has a value, of subtags of three characters or more.
+/// Returns whether each field has a value, and all subtags of values have three characters or more.
 fn are_fields(text: &str) -> bool {
     let mut in_fields = false;
     let mut after_key = false;
@@ -54,7 +54,7 @@ fn are_fields(text: &str) -> bool {
     !after_key
 }
 
-/// Returns whether a subtag may stand after others.
+/// Returns whether a subtag may follow the subtags before it.
 #[inline]
 fn may_follow(in_fields: bool, after_key: bool, subtag: &str) -> bool {
     if Keys::Transform.has(subtag.as_bytes()) {

@@ -1,13 +1,14 @@
 // Made by rust/erase from crates/langtag_unicode/src/transformation.rt. Change that file, not this one.
 
-//! The extension `t` of a tag: how its text was transformed.
+//! The extension `t` of a tag, which says how a text was transformed.
 
 use crate::tag::{LangTag, Singleton};
 use crate::unicode::keys::Keys;
 use crate::unicode::keywords_iter::KeywordsIter;
 use crate::unicode::subtags::{before_key, extension_text, nonempty, value_in};
 
-/// The extension `t` of a tag ([RFC 6497 section 2.2]): what the text was before it was transformed, and how it was transformed.
+/// The extension `t` of a tag ([RFC 6497 section 2.2]): the language of the text before it was transformed, and how it
+/// was transformed.
 ///
 /// ```
 /// # fn main() -> Result<(), Box<dyn std::error::Error>> {
@@ -90,7 +91,7 @@ impl<'a> Transformation<'a> {
         value_in(self.text, Keys::Transform, key.as_bytes())
     }
 
-    /// Returns an iterator over the fields, in the order of the tag, each key once with its first value.
+    /// Returns an iterator over the fields, in the order of the tag. Each key is returned once, with its first value.
     ///
     /// ```
     /// # fn main() -> Result<(), Box<dyn std::error::Error>> {

@@ -1,6 +1,6 @@
 // Made by rust/erase from crates/langtag_unicode/src/unicode_extension.rt. Change that file, not this one.
 
-//! The extension `u` of a tag: what it says of the locale.
+//! The extension `u` of a tag, which describes the locale.
 
 use crate::tag::LangTag;
 use crate::unicode::attributes_iter::AttributesIter;
@@ -36,7 +36,7 @@ pub struct KeyValue<'a> {
 /// `ar-u-ca-islamic-civil-nu-latn` the key `ca` has the value `islamic-civil`. Case is ignored.
 ///
 /// The value is empty if the key has none, like `kn` in `de-u-kn`, which means `true`. Returns `None` if the key is
-/// absent, or is not a key, or if the tag has no such extension. The first of repeated keys counts.
+/// absent, if the text is not a key, or if the tag has no extension `u`. The first of repeated keys counts.
 ///
 /// ```
 /// # fn main() -> Result<(), Box<dyn std::error::Error>> {
@@ -57,10 +57,10 @@ pub fn keyword<'a>(tag: LangTag<'a>, key: &str) -> Option<&'a str> {
     value_in(unicode_text(tag), Keys::Unicode, key.as_bytes())
 }
 
-/// Returns an iterator over the keywords of the extension `u` ([RFC 6067 section 2.1]), in the order of the tag, each key
-/// once with its first value.
+/// Returns an iterator over the keywords of the extension `u` ([RFC 6067 section 2.1]), in the order of the tag. Each
+/// key is returned once, with its first value.
 ///
-/// Each key is compared with the subtags before it, so the time for all is quadratic in the number of subtags.
+/// Each key is compared with the subtags before it, so the total time is quadratic in the number of subtags.
 ///
 /// ```
 /// # fn main() -> Result<(), Box<dyn std::error::Error>> {
@@ -82,9 +82,10 @@ pub fn keywords<'a>(tag: LangTag<'a>) -> KeywordsIter<'a> {
 }
 
 /// Returns an iterator over the attributes of the extension `u` ([RFC 6067 section 2.1]), which precede its first key.
-/// They come in the order of the tag, each once, ignoring case.
+/// They are returned in the order of the tag, each once, ignoring case.
 ///
-/// Each attribute is compared with those before it, so the time for all is quadratic in their number.
+/// Each attribute is compared with the attributes before it, so the total time is quadratic in the number of
+/// attributes.
 ///
 /// ```
 /// # fn main() -> Result<(), Box<dyn std::error::Error>> {

@@ -1,7 +1,7 @@
-//! Parts put into a tag, and taken out of it.
+//! Parts that are set in a tag, or removed from it.
 use langtag::*;
 
-/// Sets a part by its name, of a tag of any kind or of a normal one; `none` takes it out. `None` if the text is not one of that part.
+/// Sets the part with a name in a tag of any kind or in a normal tag. The text `none` removes the part. Returns `None` if the text is not a text of that part.
 macro_rules! set {
     ($tag:ident, $name:ident, $text:ident) => {
         match ($name, $text) {
@@ -43,7 +43,7 @@ fn set_normal(tag: &mut NormalLangTagBuf, name: &str, text: &str) -> Option<Resu
     Some(set!(tag, name, text))
 }
 
-/// The tag after a part was set, part by part the tag that its text is read as.
+/// Returns the tag after a part was set. Its parts must equal the parts of its parsed text.
 pub fn edit(text: &str, name: &str, given: &str) -> String {
     let Ok(tag) = LangTag::new(text) else {
         return "none".into();

@@ -6,7 +6,7 @@ use langtag::*;
 
 use crate::matching::{ranges_of, tags_of};
 
-/// A form of a tag, which is also written into a buffer of the right length, and into no shorter one.
+/// Returns a form of a tag. The form must also be written to a buffer of its length, but not to a shorter buffer.
 fn form(
     text: Option<&str>,
     made: fn(LangTag<'_>) -> Result<LangTagBuf, AllocError>,

@@ -1,4 +1,4 @@
-//! Each row, asked of this crate. Where `LANGTAG_ANSWERS` names a file, the answers of the proved C library to other calls, too.
+//! Compares the answers of this crate with the rows of the tests. If `LANGTAG_ANSWERS` names a file, it also compares them with the answers of the proved C library in that file.
 #![cfg(feature = "alloc")]
 mod edits;
 mod likely;
@@ -13,11 +13,12 @@ mod walks;
 use reader::{ask, Row};
 
 /// The calls that the C library answers.
-const OF_C: [&str; 14] = [
+const OF_C: [&str; 15] = [
     "tag",
     "grandfathered",
     "viable",
     "validity",
+    "suggestion",
     "canonical",
     "range",
     "match",
@@ -48,6 +49,7 @@ fn answer(row: &Row) -> String {
         "walk" => walks::walk(row.str(0), row.str(1), row.str(2)),
         "edit" => edits::edit(row.str(0), row.str(1), row.str(2)),
         "validity" => row.text(0).map_or("none".into(), registry::validity),
+        "suggestion" => row.text(0).map_or("-".into(), registry::suggestion),
         "canonical" => row.text(0).map_or("-".into(), registry::canonical_form),
         "extlang-form" => registry::extlang(row.str(0)),
         "fault" => registry::fault(row.str(0)),
@@ -80,7 +82,7 @@ fn answer(row: &Row) -> String {
     }
 }
 
-/// Writes a test for each file: its calls, and how many rows there are at least.
+/// Writes a test for each file, with its calls and the least number of rows.
 macro_rules! files {
     ($($test:ident: $file:literal, $floor:literal, [$($call:literal),+];)+) => {$(
         #[test]
@@ -91,7 +93,7 @@ macro_rules! files {
 }
 
 files! {
-    table: "table.txt", 360, ["tag", "grandfathered", "viable", "validity", "canonical", "range", "match", "order"];
+    table: "table.txt", 360, ["tag", "grandfathered", "viable", "validity", "suggestion", "canonical", "range", "match", "order"];
     texts: "texts.txt", 1700, ["scan", "recommended", "class", "types", "new", "spelling"];
     prefixes: "prefixes.txt", 26, ["fronts"];
     lists: "walks.txt", 150, ["walk", "extension"];

@@ -16,7 +16,7 @@ pub fn ranges_of(text: &str) -> Vec<LanguageRange<'_>> {
         .collect()
 }
 
-/// A default that is none of the tags.
+/// Returns a default that is none of the tags.
 fn default() -> LangTag<'static> {
     GrandfatheredLangTag::IDefault.into()
 }
@@ -60,7 +60,7 @@ pub fn matches(range: Option<&str>, tag: Option<&str>) -> String {
     matches.into()
 }
 
-/// The tag for a header, strictly and leniently.
+/// Returns the tag for a header, with strict and with lenient reading of the header.
 pub fn header(header: &str, tags: &str) -> String {
     let tags = tags_of(tags);
     let lenient = shown(
@@ -87,7 +87,7 @@ pub fn header(header: &str, tags: &str) -> String {
     }
 }
 
-/// The ranges of a header with their weights, or what a refusal says.
+/// Returns the ranges of a header with their weights, or the error message before the ranges of the lenient reading.
 pub fn elements(header: &str) -> String {
     match AcceptLanguage::new(header) {
         Ok(accepted) => weighted(accepted.ranges()),

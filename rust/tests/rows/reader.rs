@@ -1,9 +1,10 @@
-//! The rows that the tests of all languages read: a call, its arguments and its answer. Their README says their form.
+//! Reads the rows that the tests of all programming languages share. A row is a call with its arguments and its answer.
+//! The README of the rows describes their form.
 use std::collections::HashMap;
 use std::panic::{catch_unwind, AssertUnwindSafe};
 use std::path::PathBuf;
 
-/// A row. Without an answer it is a question.
+/// A row. A row without an answer is a question, whose answer is printed.
 pub struct Row {
     /// The file and the line.
     pub place: String,
@@ -11,23 +12,23 @@ pub struct Row {
     pub text: String,
     pub call: String,
     pub arguments: Vec<Vec<u8>>,
-    /// The answer, with the lines that belong to the row, each behind a line feed.
+    /// The answer, with the further lines of the row, each after a line feed.
     pub wanted: String,
 }
 
 impl Row {
-    /// An argument, where it is UTF-8.
+    /// Returns an argument, or `None` if it is not UTF-8.
     pub fn text(&self, index: usize) -> Option<&str> {
         std::str::from_utf8(&self.arguments[index]).ok()
     }
 
-    /// An argument that is UTF-8 in each row of its call.
+    /// Returns an argument that is UTF-8 in each row of its call.
     pub fn str(&self, index: usize) -> &str {
         self.text(index).expect("the argument is UTF-8")
     }
 }
 
-/// Where the rows stand: in the repository, or beside the crate where it is packed.
+/// Returns the folder of the rows: in the repository, or in the packed crate.
 fn folder() -> PathBuf {
     let here = PathBuf::from(env!("CARGO_MANIFEST_DIR"));
     ["../rows", "rows"]
@@ -37,8 +38,8 @@ fn folder() -> PathBuf {
         .expect("the rows are there")
 }
 
-/// Asks each row of a file whose call is among these, of which there have to be as many as the floor, and writes the answers to
-/// questions. Panics where rows differ, with the first three.
+/// Compares the answers to the given calls with the rows of a file, and prints the answers to questions. Panics if
+/// answers differ, with the first three differences, or if there are fewer rows than `floor`.
 pub fn ask(file: &str, calls: &[&str], floor: usize, answer: impl Fn(&Row) -> String) {
     let path = if file.contains('/') {
         PathBuf::from(file)
@@ -108,7 +109,7 @@ fn row(place: String, text: String, counts: &HashMap<String, usize>) -> Row {
     }
 }
 
-/// How many arguments each call has.
+/// Returns the number of arguments of each call.
 fn argument_counts() -> HashMap<String, usize> {
     let text = std::fs::read_to_string(folder().join("calls.txt")).unwrap();
     let calls = text.lines().filter(|line| !line.starts_with('#'));
@@ -118,7 +119,7 @@ fn argument_counts() -> HashMap<String, usize> {
         .collect()
 }
 
-/// Repeats each `{N:piece}`.
+/// Replaces each `{N:piece}` by N copies of the piece.
 fn expand(line: &str) -> String {
     let mut pieces = line.split(['{', '}']);
     let mut out = String::from(pieces.next().unwrap());
@@ -130,7 +131,7 @@ fn expand(line: &str) -> String {
     out
 }
 
-/// The bytes of a word: `''` is empty, and `\xNN` a byte.
+/// Returns the bytes of a word, in which `''` is empty and `\xNN` is a byte.
 fn unescape(word: &str) -> Vec<u8> {
     let mut pieces = word.split("\\x");
     let mut out = pieces.next().unwrap().replace("''", "").into_bytes();
@@ -141,7 +142,7 @@ fn unescape(word: &str) -> Vec<u8> {
     out
 }
 
-/// Words as rows write them: `''` is an empty one, and `-` stands for none.
+/// Returns words as rows write them: `''` for an empty word, and `-` for `None`.
 pub fn words<'a>(words: impl IntoIterator<Item = Option<&'a str>>) -> String {
     let words = words.into_iter().map(|word| match word {
         Some("") => "''",
@@ -151,7 +152,7 @@ pub fn words<'a>(words: impl IntoIterator<Item = Option<&'a str>>) -> String {
     words.collect::<Vec<_>>().join(" ")
 }
 
-/// The texts of a list, or `-` for an empty one.
+/// Returns the texts of a list, or `-` for an empty list.
 pub fn list<'a>(texts: impl Iterator<Item = &'a str>) -> String {
     let list = words(texts.map(Some));
     if list.is_empty() {

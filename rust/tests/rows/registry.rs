@@ -4,7 +4,7 @@ use langtag::*;
 
 use crate::reader::words;
 
-/// What is wrong with a tag first, and where that subtag stands.
+/// Returns the first fault of a tag, and the offset of its subtag.
 pub fn validity(text: &str) -> String {
     let Ok(tag) = LangTag::new(text) else {
         return "none".into();
@@ -33,7 +33,25 @@ pub fn validity(text: &str) -> String {
     )
 }
 
-/// The canonical form, which a buffer is given too, and which is its own.
+/// Returns the code that was probably meant by the first invalid subtag. The error message must end with it.
+pub fn suggestion(text: &str) -> String {
+    let Some(Err(invalid)) = LangTag::new(text).ok().map(validate) else {
+        return "-".into();
+    };
+    let message = invalid.to_string();
+    match invalid.suggestion() {
+        Some(code) => {
+            assert!(message.ends_with(&format!(" is not registered: did you mean {code}?")));
+            code.into()
+        }
+        None => {
+            assert!(!message.contains(':'));
+            "-".into()
+        }
+    }
+}
+
+/// Returns the canonical form. It must be its own canonical form, and must also be written to a buffer.
 pub fn canonical_form(text: &str) -> String {
     let Ok(tag) = LangTag::new(text) else {
         return "-".into();

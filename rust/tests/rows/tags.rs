@@ -6,7 +6,7 @@ use langtag::*;
 
 use crate::reader::list;
 
-/// FNV-1a of 64 bits, over whatever is fed.
+/// The 64-bit FNV-1a hash of all bytes that are written.
 struct Fnv(u64);
 
 impl Hasher for Fnv {
@@ -36,7 +36,7 @@ pub fn kind_of(bytes: &[u8]) -> &'static str {
     }
 }
 
-/// The kind of a tag, its parts in the lines below, and what the types say twice.
+/// Returns the kind of a tag and, on further lines, its parts. It also compares calls that must return the same values.
 pub fn tag(bytes: &[u8]) -> String {
     let Ok(tag) = LangTag::from_bytes(bytes) else {
         return kind_of(bytes).into();
@@ -62,7 +62,7 @@ pub fn tag(bytes: &[u8]) -> String {
     if !tag.extensions().is_empty() {
         line("extensions", &list(tag.extensions().iter().map(Into::into)));
     }
-    // The library for C has the mark and the subtags of a tag for private use too.
+    // The C library also lists the `x` and the subtags of a private-use tag.
     if let Some(part) = tag.private_use().or(tag.as_private_use()) {
         let mark = std::iter::once(&part.as_str()[..1]);
         line(
@@ -79,7 +79,7 @@ pub fn tag(bytes: &[u8]) -> String {
     lines.join("\n")
 }
 
-/// Which subtags stand twice, and where.
+/// Adds lines for the first repeated variant and singleton, and for their offsets.
 fn repeats(tag: &NormalLangTag<'_>, line: &mut impl FnMut(&str, &str)) {
     let offset_of =
         |part: &str| (part.as_ptr() as usize - tag.as_str().as_ptr() as usize).to_string();
@@ -98,7 +98,7 @@ fn repeats(tag: &NormalLangTag<'_>, line: &mut impl FnMut(&str, &str)) {
     }
 }
 
-/// What a tag says by more than one call.
+/// Checks that different calls return the same values for a tag.
 fn check_twice(tag: LangTag<'_>) {
     let (text, owned) = (tag.as_str(), tag.to_owned());
     let subtags: Vec<&str> = text.split('-').collect();
@@ -138,7 +138,7 @@ pub fn grandfathered(text: &[u8]) -> String {
     format!("{} {}", index.unwrap_or(26), kind_of(text))
 }
 
-/// How many bytes are read before it is known whether they are a tag.
+/// Returns how many bytes are read before it is known whether the text is a tag.
 fn reads(bytes: &[u8]) -> usize {
     let mut source = Metered::of_bytes(bytes);
     recognise(&mut source);
@@ -150,7 +150,7 @@ pub fn viable(bytes: &[u8]) -> String {
     format!("{} {}", viable_len(bytes), reads(bytes))
 }
 
-/// How many bytes decide the text, how many of its fronts are tags, and what it is, with the ends of its parts.
+/// Returns how many bytes are read, how many prefixes are tags, the kind of the text, and the ends of its parts.
 pub fn scan(bytes: &[u8]) -> String {
     let fronts = (0..=bytes.len()).filter(|end| LangTag::from_bytes(&bytes[..*end]).is_ok());
     let head = format!("{} {} {}", reads(bytes), fronts.count(), kind_of(bytes));
@@ -181,7 +181,7 @@ pub fn scan(bytes: &[u8]) -> String {
     }
 }
 
-/// Bytes in their recommended case; of a tag each call says the same.
+/// Returns bytes in their recommended case. If the bytes are a tag, all calls must return the same form.
 pub fn recommended(bytes: &[u8]) -> String {
     let mut form = bytes.to_vec();
     make_recommended_case(&mut form);
@@ -198,7 +198,7 @@ pub fn recommended(bytes: &[u8]) -> String {
     escaped(&form)
 }
 
-/// Bytes as rows write them.
+/// Returns bytes as rows write them.
 fn escaped(bytes: &[u8]) -> String {
     if bytes.is_empty() {
         return "''".into();
@@ -210,7 +210,7 @@ fn escaped(bytes: &[u8]) -> String {
     bytes.collect()
 }
 
-/// Where a text goes wrong: the subtag, and the offset to point at.
+/// Returns where a text is wrong: the kind of the error, the subtag, and the offset of the error.
 pub fn refused(bytes: &[u8]) -> String {
     let Some(refusal) = Refusal::of(bytes) else {
         let len = bytes.len();

@@ -16,14 +16,15 @@ impl Write for Pieces {
     }
 }
 
-/// How many pieces Display writes a value in.
+/// Returns the number of pieces in which `Display` writes a value.
 fn pieces_of(value: &impl fmt::Display) -> usize {
     let mut pieces = Pieces(0);
     write!(pieces, "{value}").unwrap();
     pieces.0
 }
 
-/// What both forms of a type say of a text, by each way to make them.
+/// Makes both forms of a type from a text, by all constructors and conversions. Returns `accepted`, or the message of
+/// the error.
 macro_rules! seen {
     ($name:ident, $owned:ident, $lend:ident, $text:ident) => {{
         let text: &str = $text;
@@ -63,7 +64,7 @@ macro_rules! seen {
     }};
 }
 
-/// The text types but that of ranges, which accepts many a text that is no part of a tag.
+/// All text types except the type of ranges, which accepts many texts that are not a part of a tag.
 const TYPES: [&str; 15] = [
     "PrimaryLanguage",
     "ExtendedLangTag",
@@ -82,7 +83,7 @@ const TYPES: [&str; 15] = [
     "LangTag",
 ];
 
-/// Whether a type accepts a text, or the message of its refusal.
+/// Returns `accepted` if a type accepts a text, or otherwise the message of the error.
 pub fn new(name: &str, text: &str) -> String {
     match name {
         "PrimaryLanguage" => seen!(
@@ -131,7 +132,7 @@ pub fn new(name: &str, text: &str) -> String {
     }
 }
 
-/// How a singleton is shown, or the message of its refusal.
+/// Returns how a singleton is displayed, or the message of the error.
 fn singleton(text: &str) -> String {
     match Singleton::from_string(text) {
         Ok(singleton) => {
@@ -163,7 +164,7 @@ pub fn fronts(name: &str, text: &str) -> String {
     accepted.count().to_string()
 }
 
-/// The name of a grandfathered tag, its registered spelling, and its language.
+/// Returns the name of a grandfathered tag, its registered spelling, and its language.
 pub fn spelling(text: &str) -> String {
     let tag = match GrandfatheredLangTag::try_from(text.as_bytes()) {
         Ok(tag) => tag,

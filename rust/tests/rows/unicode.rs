@@ -42,7 +42,8 @@ pub fn transformed(text: &str) -> String {
     [vec![language], fields].concat().join(" ")
 }
 
-/// The form, which is its own, and which a buffer of its length holds and a shorter one does not.
+/// Returns the form. It must be its own form, and must be written to a buffer of its length, but not to a shorter
+/// buffer.
 pub fn form(text: &str) -> String {
     let form = extensions_form(tag(text)).expect("there is memory");
     let again = extensions_form(form.as_lang_tag()).expect("there is memory");

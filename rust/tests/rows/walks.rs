@@ -3,8 +3,8 @@ use langtag::*;
 
 use crate::reader::words;
 
-/// A walk by a pattern, of which each letter is a step: `F` the next from the front, `B` from the back, `C` goes on with a clone, and
-/// `D` is how the walk is shown.
+/// Walks over a list by the letters of a pattern: `F` takes the next item from the front, and `B` from the back. `C`
+/// continues with a clone, and `D` shows the debug output of the iterator.
 macro_rules! walked {
     ($list:expr, $pattern:ident, $back:ident) => {{
         let Some(mut walk) = $list else {

@@ -8,20 +8,20 @@ use crate::calls::spanned_tags::SpannedTags;
 use crate::choice::match_among;
 use crate::matching::split_wanted;
 
-/// The range that the best tag serves, and how well.
+/// The range that the best tag serves, and the distance from the range to the tag.
 #[repr(C)]
 #[derive(Clone, Copy)]
 pub struct BestMatch {
-    /// The place of the range in the header.
+    /// The span of the range in the header.
     pub range: Span,
     /// The distance from the range to the tag.
     pub distance: u32,
 }
 
-/// Returns the index of the best tag for an Accept-Language header, as `langtag_best_for_header` does, and writes the range
-/// that the tag serves and its distance from that range: 1, `gsw` and 8 for `tlh, gsw` and the tags `en` and `de`. If no
-/// tag is suitable, it returns the number of tags and writes an empty range at the end of the header. `found` is always
-/// written.
+/// Returns the index of the best tag for an Accept-Language header, as `langtag_best_for_header` does, and writes the
+/// range that the tag serves and the distance from that range. For `tlh, gsw` and the tags `en` and `de`, the index is
+/// 1, the range is `gsw`, and the distance is 8. If no tag is suitable, it returns the number of tags and writes an
+/// empty range at the end of the header. `found` is always written.
 pub fn langtag_match_for_header(
     header: &[u8],
     bytes: &[u8],
@@ -50,7 +50,7 @@ pub fn langtag_match_for_header(
     chosen.index
 }
 
-/// Returns where a range is in a header, by the number of ranges before it.
+/// Returns the span of the range that has this number of ranges before it in a header.
 fn range_at(header: &[u8], place: usize) -> Option<Span> {
     let mut start = 0;
     let mut left = place;
@@ -69,7 +69,7 @@ fn range_at(header: &[u8], place: usize) -> Option<Span> {
     None
 }
 
-/// Returns how many spaces and tabs an item begins with.
+/// Returns the number of spaces and tabs at the start of an item.
 #[inline]
 fn spaces_before(item: &[u8]) -> usize {
     first_filled(item).unwrap_or(item.len())

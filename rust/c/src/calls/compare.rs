@@ -1,6 +1,6 @@
 // Made by rust/erase from crates/langtag_c/src/compare.rt. Change that file, not this one.
 
-//! Equality, order and hash of bytes, without regard to the case of ASCII letters (RFC 5646 section 2.1.1).
+//! Equality, order and hash of bytes, ignoring the case of ASCII letters (RFC 5646 section 2.1.1).
 
 use crate::scan::{case_insensitive_cmp, case_insensitive_eq, into_smallcase};
 use core::cmp::Ordering;
@@ -11,8 +11,8 @@ pub fn langtag_eq(a: &[u8], b: &[u8]) -> bool {
     case_insensitive_eq(a, b)
 }
 
-/// Compares two texts by their lowercase bytes, and returns -1, 0 or 1. If one begins the other, the shorter is
-/// greater.
+/// Compares two texts by their lowercase bytes, and returns -1, 0 or 1. If one text begins with the other, the shorter
+/// text is greater.
 #[inline]
 pub fn langtag_cmp(a: &[u8], b: &[u8]) -> i32 {
     match case_insensitive_cmp(a, b) {

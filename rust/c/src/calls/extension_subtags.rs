@@ -8,7 +8,7 @@ use crate::extension::first_extension_end;
 use crate::scan::{case_insensitive_eq, into_smallcase, segment_end};
 use crate::unicode::Keys;
 
-/// Where a key is, and its value.
+/// Where a key and its value are.
 pub(crate) struct KeyPlace {
     pub key: Span,
     pub value: Span,
@@ -30,7 +30,8 @@ fn extensions_of(bytes: &[u8]) -> Option<Span> {
     Some(Span::between(ends.variants, ends.extensions))
 }
 
-/// Returns the subtags of the first of several extensions that has a singleton, or an empty span if none has.
+/// Returns the subtags of the first of several extensions that has the given singleton, or an empty span if none has
+/// it.
 fn find_extension(bytes: &[u8], extensions: Span, singleton: u8) -> Span {
     let mut rest = extensions;
     while let Some(part) = rest.of(bytes) {
@@ -98,7 +99,7 @@ fn is_among_first(bytes: &[u8], subtags: Span, count: usize, subtag: &[u8]) -> b
     false
 }
 
-/// Returns what is left after the first `count` subtags.
+/// Returns the rest of the subtags after the first `count`.
 fn after_first(bytes: &[u8], subtags: Span, count: usize) -> Span {
     let mut rest = subtags;
     let mut left = count;
@@ -118,8 +119,8 @@ fn is_new_key(bytes: &[u8], subtags: Span, keys: Keys, count: usize, subtag: &[u
     keys.has(subtag) && !is_among_first(bytes, subtags, count, subtag)
 }
 
-/// Returns the first key after the first `passed` subtags that equals none before it, with its value. `passed` then counts
-/// the subtags up to that key.
+/// Returns the first key after the first `passed` subtags that equals no subtag before it, with its value. `passed`
+/// then counts the subtags up to and including that key.
 pub(crate) fn next_key(
     bytes: &[u8],
     subtags: Span,

@@ -6,9 +6,9 @@ use crate::calls::extension_subtags::{before_key, extension_subtags, next_key, v
 use crate::calls::span::Span;
 use crate::unicode::Keys;
 
-/// Returns whether the extension `u` has a key ([RFC 6067 section 2.1]), ignoring case, and writes its value: `islamic-civil` for
-/// `ca` in `ar-u-ca-islamic-civil`. The value is empty if the key has none, which means `true`. If a key is repeated, the first
-/// one counts.
+/// Returns whether the extension `u` has a key ([RFC 6067 section 2.1]), ignoring case, and writes its value:
+/// `islamic-civil` for `ca` in `ar-u-ca-islamic-civil`. The value is empty if the key has none, which means `true`. If
+/// a key is repeated, its first value counts.
 ///
 /// If it returns `false`, `value` is unchanged.
 ///
@@ -22,8 +22,9 @@ pub fn langtag_keyword(bytes: &[u8], key: &[u8], value: &mut Span) -> bool {
     true
 }
 
-/// Writes the next keyword of the extension `u` ([RFC 6067 section 2.1]). `passed` counts the subtags of `u` that a walk has passed,
-/// and is 0 at the start. Each key comes once, with its first value. The value is empty if the key has none.
+/// Writes the next keyword of the extension `u` ([RFC 6067 section 2.1]). `passed` counts the subtags of `u` that a
+/// walk has passed, and is 0 at the start. Each key is returned once, with its first value. The value is empty if the
+/// key has none.
 ///
 /// Returns `false` and changes nothing if no keyword is left.
 ///
@@ -43,10 +44,10 @@ pub fn langtag_next_keyword(
     true
 }
 
-/// Writes where the attributes of the extension `u` are ([RFC 6067 section 2.1]), before its first key: `attr-foo` in
-/// `de-u-attr-foo-ca-buddhist`. A repeated attribute is there twice.
+/// Writes the span of the attributes of the extension `u` ([RFC 6067 section 2.1]), which precede its first key:
+/// `attr-foo` in `de-u-attr-foo-ca-buddhist`. A repeated attribute is included twice.
 ///
-/// Returns `false`, and writes an empty span, if there are none.
+/// Returns `false`, and writes an empty span, if there are no attributes.
 ///
 /// [RFC 6067 section 2.1]: https://www.rfc-editor.org/rfc/rfc6067#section-2.1
 #[inline]

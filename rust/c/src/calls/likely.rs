@@ -1,13 +1,14 @@
 // Made by rust/erase from crates/langtag_c/src/likely.rt. Change that file, not this one.
 
-//! The maximal and the minimal form of a tag, in the caller's buffer (UTS #35, part 1, section 'Likely Subtags').
+//! The maximal and minimal forms of a tag, in the caller's buffer (UTS #35, part 1, section 'Likely Subtags').
 
 use crate::calls::registry_date::number_of;
 use crate::calls::tag::tag_of;
 use crate::likely::{write_maximized, write_minimized, CLDR_VERSION};
 
-/// Writes a tag with its likely subtags (UTS #35, Add Likely Subtags), and returns its length in bytes: `zh-TW` becomes
-/// `zh-Hant-TW`. If the buffer is too short, it stays unchanged, and the length says how much room is needed.
+/// Writes a tag with its likely subtags (UTS #35, Add Likely Subtags), and returns its length in bytes: `zh-TW`
+/// becomes `zh-Hant-TW`. If the buffer is too short, it stays unchanged, and the length says how long a buffer must
+/// be.
 ///
 /// Returns 0 and writes nothing if the bytes are not a tag.
 #[inline]
@@ -19,8 +20,8 @@ pub fn langtag_maximize(bytes: &[u8], buffer: &mut [u8]) -> usize {
 }
 
 /// Writes a tag without its likely subtags (UTS #35, Remove Likely Subtags), and returns its length in bytes:
-/// `zh-Hant-TW` becomes `zh-TW`. If the buffer is too short, it stays unchanged, and the length says how much room is
-/// needed.
+/// `zh-Hant-TW` becomes `zh-TW`. If the buffer is too short, it stays unchanged, and the length says how long a
+/// buffer must be.
 ///
 /// Returns 0 and writes nothing if the bytes are not a tag.
 #[inline]
@@ -31,7 +32,7 @@ pub fn langtag_minimize(bytes: &[u8], buffer: &mut [u8]) -> usize {
     }
 }
 
-/// Returns the major version of the Unicode CLDR whose likely subtags these are, such as 48 for CLDR 48.2.
+/// Returns the major version of Unicode's CLDR from which the likely subtags come, such as 48 for CLDR 48.2.
 #[inline]
 pub fn langtag_cldr_version() -> u32 {
     number_of(CLDR_VERSION.as_bytes())

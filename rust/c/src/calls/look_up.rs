@@ -10,9 +10,9 @@ use crate::matching::{element_at, is_empty_element, ElementPart, LanguageRange};
 use crate::scan::case_insensitive_eq;
 
 /// Looks up a tag for an Accept-Language header, and refuses a header with a malformed element. The tags are spans of a
-/// text. Returns 0 if no element is malformed: `index` is then that of the tag, or the number of spans if look-up finds
-/// none. Returns 2 if the language range of the first malformed element is malformed, and 3 if its weight is: `bad` is
-/// then the text between its commas.
+/// text. Returns 0 if no element is malformed: `index` is then the index of the tag, or the number of spans if look-up
+/// finds none. Returns 2 if the first malformed element has a malformed language range, and 3 if only its weight is
+/// malformed. `bad` is then the span between the commas around that element.
 pub fn langtag_tag_for_header(
     header: &[u8],
     bytes: &[u8],
@@ -45,8 +45,8 @@ pub fn langtag_tag_for_header_lenient(header: &[u8], bytes: &[u8], tags: &[Span]
     heaviest_found(header, &spanned).unwrap_or(tags.len())
 }
 
-/// Returns the index of the tag for the heaviest element that finds a tag. If several are equally heavy, the first
-/// counts.
+/// Returns the index of the tag for the element of the greatest weight that finds a tag. If several elements have
+/// this weight, the first counts.
 fn heaviest_found(header: &[u8], tags: &SpannedTags<'_>) -> Option<usize> {
     let mut found = None;
     let mut weight = 0;

@@ -1,10 +1,10 @@
 // Made by rust/erase from crates/langtag_c/src/lib.rt. Change that file, not this one.
 
 //! Language tags for C, and for languages that call C: a static library over plain bytes. It does not allocate, keeps
-//! no state, and calls nothing of the program. `bindings/include/langtag.h` declares its functions.
+//! no state, and calls no function of the program. `bindings/include/langtag.h` declares its functions.
 //!
 //! A slice is passed as a pointer and a length. Bytes need not be UTF-8. No function requires more of its arguments
-//! than their types say.
+//! than their types do.
 
 pub(crate) mod accepted;
 pub(crate) mod best_match;
@@ -29,6 +29,7 @@ pub(crate) mod repeats;
 pub(crate) mod span;
 pub(crate) mod spanned_ranges;
 pub(crate) mod spanned_tags;
+pub(crate) mod suggestion;
 pub(crate) mod tag;
 pub(crate) mod transform;
 pub(crate) mod validity;

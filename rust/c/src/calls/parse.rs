@@ -58,8 +58,8 @@ fn found_of(bytes: &[u8]) -> Option<Found> {
     recognise(&mut Metered::of_bytes(bytes))
 }
 
-/// Returns the kind of a tag: 1 for a normal one, 2 for private use, 3 for an irregular one, and 0 if the bytes are not
-/// a tag.
+/// Returns the kind of a tag: 1 for a normal tag, 2 for private use, 3 for an irregular tag, and 0 if the bytes are
+/// not a tag.
 pub fn langtag_kind(bytes: &[u8]) -> u32 {
     let Some(found) = found_of(bytes) else {
         return 0;

@@ -4,8 +4,8 @@
 
 use crate::tag::{Extensions, Language, Part, PrivateUse, Region, Script, Variants};
 
-/// Returns the part with a number and a text, which removes the part if it is empty. Returns `None` if there is no such
-/// number, or if the text is not such a part.
+/// Returns the part with a number and a text. The empty text means that the part is removed. Returns `None` if no
+/// part has this number, or if the text is not a text of this part.
 pub(crate) fn part_of<'a>(number: u32, bytes: &'a [u8]) -> Option<Part<'a>> {
     let text = core::str::from_utf8(bytes).ok()?;
     match number {

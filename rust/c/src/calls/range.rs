@@ -5,8 +5,8 @@
 use crate::calls::tag::tag_of;
 use crate::matching::LanguageRange;
 
-/// Returns 1 for a basic language range ([RFC 4647 section 2.1]), such as `de-CH` and `*`, 2 for an extended range that
-/// is not basic (section 2.2), such as `de-*-DE`, and 0 if the bytes are not a range.
+/// Returns 1 for a basic language range ([RFC 4647 section 2.1]), such as `de-CH` and `*`. Returns 2 for an extended
+/// range that is not basic (section 2.2), such as `de-*-DE`, and 0 if the bytes are not a range.
 ///
 /// [RFC 4647 section 2.1]: https://www.rfc-editor.org/rfc/rfc4647#section-2.1
 #[inline]

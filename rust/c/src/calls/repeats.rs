@@ -1,13 +1,13 @@
 // Made by rust/erase from crates/langtag_c/src/repeats.rt. Change that file, not this one.
 
-//! Variants and singletons that a tag has twice (RFC 5646 section 2.2.9).
+//! Variants and singletons that occur twice in a tag (RFC 5646 section 2.2.9).
 
 use crate::calls::span::Span;
 use crate::calls::tag::normal_tag_of;
 use crate::tag::NormalLangTag;
 
-/// Where the first variant and the first singleton are that equal an earlier one, ignoring case. An absent one has no
-/// bytes.
+/// The spans of the first repeated variant and of the first repeated singleton, ignoring case. A span is empty if
+/// nothing is repeated.
 #[repr(C)]
 #[derive(Clone, Copy)]
 pub struct Repeated {
@@ -16,8 +16,8 @@ pub struct Repeated {
 }
 
 /// Returns 1 if a variant of a normal tag equals an earlier one, ignoring case, 2 if a singleton does, and 3 if both
-/// do. Writes where the first of each is, such as the second `1996` in `de-1996-1996`. Such a tag is well formed but
-/// not valid. Returns 0 for any other text. All of `repeated` is written.
+/// do. Writes where the first repeated variant and singleton are, such as the second `1996` in `de-1996-1996`. Such a
+/// tag is well formed but not valid. Returns 0 for any other text. All of `repeated` is written.
 pub fn langtag_repeats(bytes: &[u8], repeated: &mut Repeated) -> u32 {
     let none = Span { start: 0, len: 0 };
     let Some(tag) = normal_tag_of(bytes) else {

@@ -2,7 +2,7 @@
 
 //! Where a part of a text is.
 
-/// Some bytes of a text: where they start, and how many they are. An absent part has none.
+/// A span of a text: the offset of its first byte, and its number of bytes. An absent part has no bytes.
 #[repr(C)]
 #[derive(Clone, Copy)]
 pub struct Span {
@@ -14,10 +14,11 @@ impl Span {
     /// Returns the span between the end of one part and the end of the next, without the hyphen.
     #[inline]
     pub(crate) fn between(before: usize, end: usize) -> Span {
-        let start = if before < end { before + 1 } else { end };
+        // If the part is absent, `before` equals `end`, and taking `before` saves a comparison. No caller has a greater `before`, so nothing wraps.
+        let start = if before < end { before + 1 } else { before };
         Span {
             start,
-            len: end - start,
+            len: end.wrapping_sub(start),
         }
     }
 
@@ -42,7 +43,7 @@ impl Span {
         first
     }
 
-    /// Returns what comes after a singleton and a hyphen.
+    /// Returns the rest of the span after a singleton and a hyphen.
     #[inline]
     pub(crate) fn without_singleton(&self) -> Span {
         Span {

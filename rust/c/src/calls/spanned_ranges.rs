@@ -6,7 +6,7 @@ use crate::calls::span::Span;
 use crate::choice::RangeList;
 use crate::matching::{listed_range, WantedRange};
 
-/// A text, and spans of it, the most wanted first.
+/// A text, and spans of it that are language ranges, the most wanted first.
 #[derive(Clone, Copy)]
 pub(crate) struct SpannedRanges<'a> {
     pub(crate) text: &'a [u8],
@@ -30,7 +30,7 @@ impl<'a> RangeList<'a> for SpannedRanges<'a> {
     }
 }
 
-/// Returns the language range that a span of a text is.
+/// Returns a span of a text as a language range, or `None` if it is not one.
 #[inline]
 fn range_in<'a>(text: &'a [u8], span: Span) -> Option<WantedRange<'a>> {
     listed_range(span.of(text)?)

@@ -7,7 +7,7 @@ use crate::calls::tag::tag_of;
 use crate::choice::TagList;
 use crate::tag::LangTag;
 
-/// A text, and spans of it.
+/// A text, and spans of it that are tags.
 #[derive(Clone, Copy)]
 pub(crate) struct SpannedTags<'a> {
     pub(crate) text: &'a [u8],
@@ -31,13 +31,13 @@ impl TagList for SpannedTags<'_> {
     }
 }
 
-/// Returns the tag that a span of a text is.
+/// Returns a span of a text as a tag, or `None` if it is not one.
 #[inline]
 pub(crate) fn tag_in<'a>(text: &'a [u8], span: Span) -> Option<LangTag<'a>> {
     tag_of(span.of(text)?)
 }
 
-/// Returns the bytes of a span of a text, or none if it reaches beyond the text.
+/// Returns the bytes of a span of a text, or no bytes if the span reaches beyond the text.
 #[inline]
 pub(crate) fn bytes_in<'a>(text: &'a [u8], span: Span) -> &'a [u8] {
     span.of(text).unwrap_or(b"")

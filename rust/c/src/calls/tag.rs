@@ -1,6 +1,6 @@
 // Made by rust/erase from crates/langtag_c/src/tag.rt. Change that file, not this one.
 
-//! The tags that bytes are.
+//! Reading bytes as tags.
 
 use crate::tag::{LangTag, NormalLangTag};
 

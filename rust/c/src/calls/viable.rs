@@ -1,6 +1,6 @@
 // Made by rust/erase from crates/langtag_c/src/viable.rt. Change that file, not this one.
 
-//! How much of a text begins a tag.
+//! How many bytes of a text can begin a tag.
 
 use crate::scan::viable_len;
 
@@ -14,7 +14,7 @@ pub fn langtag_viable(bytes: &[u8]) -> usize {
 }
 
 /// Returns the length in bytes of the shortest prefix with which no tag begins, or the whole length if there is none: 3
-/// for `zh_Hant` and `zh-`. A reader can stop there.
+/// for `zh_Hant` and `zh-`. A program that reads the text byte by byte can stop after this prefix.
 #[inline]
 pub fn langtag_stop(bytes: &[u8]) -> usize {
     bytes.len().min(viable_len(bytes) + 1)

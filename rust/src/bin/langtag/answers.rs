@@ -1,4 +1,4 @@
-//! What each command answers.
+//! The answers of each command.
 use langtag::choice::{best_for_header, distance};
 use langtag::likely::{maximized, minimized};
 use langtag::matching::LanguageRange;
@@ -11,16 +11,16 @@ use crate::pointer;
 
 /// The answer to a text.
 pub struct Answer {
-    /// What is printed; nothing for a tag that a range does not match.
+    /// The text to print, or `None` if nothing is printed, as for a tag that a range does not match.
     pub line: Option<Vec<u8>>,
-    /// Whether the text was neither refused nor found wanting.
+    /// Whether the text was accepted, and the answer is not negative.
     pub good: bool,
-    /// Why it was.
+    /// Why the text was not accepted.
     pub reason: Option<String>,
 }
 
 impl Answer {
-    /// The answer of some columns, before which the text stands if there are tabs.
+    /// Returns the answer for a line: its columns, after the text itself if they are separated by tabs.
     fn of(text: &[u8], columns: &[&str], options: &Options, between: &str) -> Answer {
         let mut line = Vec::new();
         if options.tsv {
@@ -43,7 +43,7 @@ impl Answer {
     }
 }
 
-/// The text as a column: a tab in it would be read as the end of the column.
+/// Returns the text as a column, without tabs, which would end the column.
 fn without_tabs(text: &[u8]) -> Vec<u8> {
     let mut column = Vec::new();
     for byte in text {
@@ -55,7 +55,7 @@ fn without_tabs(text: &[u8]) -> Vec<u8> {
     column
 }
 
-/// A command that answers each text by itself.
+/// A command that answers each text on its own.
 pub struct Asked<'a> {
     command: Command,
     options: &'a Options,
@@ -126,7 +126,7 @@ impl<'a> Asked<'a> {
     }
 }
 
-/// The range of `match`. What is no range ends the run as wrong arguments do.
+/// Returns the range of `match`. A text that is not a range ends the run, as wrong arguments do.
 fn range_of(options: &Options) -> Result<LanguageRange<'_>, Failure> {
     let range = core::str::from_utf8(&options.first).ok();
     range
@@ -134,7 +134,7 @@ fn range_of(options: &Options) -> Result<LanguageRange<'_>, Failure> {
         .ok_or(Failure::Range)
 }
 
-/// The line of `show`, which is the proved program's.
+/// Returns the line of `show`. The proved program prints the same line.
 fn show(tag: LangTag<'_>, options: &Options) -> Answer {
     let text = tag.as_bytes();
     match tag.as_typed() {
@@ -153,7 +153,7 @@ fn show(tag: LangTag<'_>, options: &Options) -> Answer {
     }
 }
 
-/// The answer to a tag that is not made of parts.
+/// Returns the answer for a tag that is not made of parts.
 fn whole(kind: &str, text: &[u8], tag: &str, options: &Options) -> Answer {
     match options.tsv {
         true if kind == "private" => {
@@ -164,7 +164,7 @@ fn whole(kind: &str, text: &[u8], tag: &str, options: &Options) -> Answer {
     }
 }
 
-/// The parts of a normal tag by the names that they have in the answer.
+/// Returns the parts of a normal tag with their names in the answer.
 fn parts_of<'a>(tag: &NormalLangTag<'a>) -> [(&'static str, &'a str); 7] {
     let is_repeated = tag.repeated_variant().is_some() || tag.repeated_singleton().is_some();
     [
@@ -181,7 +181,7 @@ fn parts_of<'a>(tag: &NormalLangTag<'a>) -> [(&'static str, &'a str); 7] {
     ]
 }
 
-/// The line of `check`, which is the proved program's.
+/// Returns the line of `check`. The proved program prints the same line.
 fn check(tag: LangTag<'_>, options: &Options) -> Result<Answer, Failure> {
     let form = canonical(tag)?;
     let Err(invalid) = validate(tag) else {
@@ -214,7 +214,7 @@ fn check(tag: LangTag<'_>, options: &Options) -> Result<Answer, Failure> {
     Ok(answer.because(pointer::invalid(tag, &invalid)))
 }
 
-/// What is wrong, and the subtag.
+/// Returns the word for the fault, and the subtag.
 fn fault_of(invalid: &InvalidSubtag<'_>) -> (&'static str, String) {
     match invalid {
         InvalidSubtag::Language(subtag) => ("language", subtag.to_string()),
@@ -230,7 +230,7 @@ fn fault_of(invalid: &InvalidSubtag<'_>) -> (&'static str, String) {
     }
 }
 
-/// The answer of `best`: the tag that a reader wants who sends the header.
+/// Returns the answer of `best`: the best tag for the header.
 pub fn best(options: &Options, texts: &[Vec<u8>]) -> Result<Answer, Failure> {
     let mut tags = Vec::new();
     for text in texts {
@@ -254,7 +254,7 @@ pub fn best(options: &Options, texts: &[Vec<u8>]) -> Result<Answer, Failure> {
     Ok(answer)
 }
 
-/// The answer of `distance` to a line of two tags.
+/// Returns the answer of `distance` to a line of two tags.
 pub fn distance_in(line: &[u8], options: &Options) -> Answer {
     let mut words = line
         .split(|byte| byte.is_ascii_whitespace())

@@ -9,9 +9,9 @@ pub enum Failure {
     Memory,
     Read,
     Write,
-    /// The first argument of `match` is no range.
+    /// The first argument of `match` is not a language range.
     Range,
-    /// Nobody reads the answers any more, as behind `head`.
+    /// The program that reads the answers has closed its input, as `head` does.
     Closed,
 }
 
@@ -42,8 +42,9 @@ impl From<AllocError> for Failure {
     }
 }
 
-/// Hands each of the given texts to `answer`, or, if there are none, each line of standard input. A line ends at LF alone, and a last
-/// line without LF counts unless it is empty. Before a read that may wait, what was answered is written.
+/// Passes each of the given texts to `answer` or, if no texts are given, each line of standard input. A line ends only
+/// at LF, and a last line without LF counts unless it is empty. Before a read that may wait, all earlier answers are
+/// written.
 pub fn texts<W: Write>(
     given: &[Vec<u8>],
     output: &mut W,

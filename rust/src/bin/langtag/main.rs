@@ -1,4 +1,5 @@
-//! `langtag`: asks language tags (BCP 47) from a shell. `langtag --help` has the words.
+//! The program `langtag`, which answers questions about language tags (BCP 47) in a shell. `langtag --help` shows its
+//! usage.
 mod answers;
 mod input;
 mod options;
@@ -31,7 +32,7 @@ fn failed(failure: Failure) -> ExitCode {
     ExitCode::from(failure.status())
 }
 
-/// Writes what is printed in place of answers: help to standard output, and what was wrong with the arguments to standard error.
+/// Writes help to standard output, or an error in the arguments to standard error. Returns the exit status.
 fn said(words: &options::Words) -> ExitCode {
     match words {
         options::Words::Help(text) => match io::stdout().write_all(text.as_bytes()) {
@@ -45,7 +46,7 @@ fn said(words: &options::Words) -> ExitCode {
     }
 }
 
-/// Answers the texts, and returns whether all were good.
+/// Answers the texts, and returns whether the answers are good: all of them or, for `match`, at least one.
 fn run(options: &Options) -> Result<bool, Failure> {
     let stdout = io::stdout().lock();
     let mut output = BufWriter::new(stdout);
@@ -54,7 +55,7 @@ fn run(options: &Options) -> Result<bool, Failure> {
         Command::Distance => pairs(options, &mut output),
         command => each(options, command, &mut output),
     };
-    // What was answered before a failure is written in any case.
+    // Answers from before a failure are written in any case.
     let flushed = output.flush().map_err(Failure::write);
     let good = outcome?;
     flushed?;
@@ -74,7 +75,7 @@ fn each(options: &Options, command: Command, output: &mut impl Write) -> Result<
     Ok(if command == Command::Match { some } else { all })
 }
 
-/// Answers all texts together.
+/// Gives one answer for all texts together.
 fn one(
     options: &Options,
     answer: fn(&Options, &[Vec<u8>]) -> Result<Answer, Failure>,
@@ -90,7 +91,7 @@ fn one(
     Ok(answer.good)
 }
 
-/// Answers two arguments, or the two texts of each line.
+/// Gives the answer for two arguments, or for the two texts of each line.
 fn pairs(options: &Options, output: &mut impl Write) -> Result<bool, Failure> {
     if let [desired, supported] = &options.texts[..] {
         let answer = answers::distance_of(desired, supported, options);
@@ -106,7 +107,7 @@ fn pairs(options: &Options, output: &mut impl Write) -> Result<bool, Failure> {
     Ok(all)
 }
 
-/// Writes an answer, and why a text is refused, if a person reads that.
+/// Writes an answer. If the texts are arguments or are typed at a terminal, it also writes why a text is refused.
 fn put(answer: &Answer, options: &Options, output: &mut impl Write) -> Result<(), Failure> {
     if let Some(line) = &answer.line {
         output.write_all(line).map_err(Failure::write)?;
@@ -115,7 +116,7 @@ fn put(answer: &Answer, options: &Options, output: &mut impl Write) -> Result<()
     let is_read = !options.texts.is_empty() || io::stdin().is_terminal();
     if let Some(reason) = answer.reason.as_ref().filter(|_| is_read) {
         output.flush().map_err(Failure::write)?;
-        // That standard error is closed is no reason to stop.
+        // If standard error is closed, the run continues.
         let _ = writeln!(io::stderr(), "langtag: {reason}");
     }
     Ok(())

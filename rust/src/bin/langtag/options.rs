@@ -1,4 +1,4 @@
-//! The arguments.
+//! The arguments of the program.
 use std::ffi::OsString;
 
 use langtag::likely::CLDR_VERSION;
@@ -56,7 +56,7 @@ impl Command {
         })
     }
 
-    /// What the first argument is, where it is no tag.
+    /// Returns the usage of a command whose first argument is not a tag.
     fn first(self) -> Option<&'static str> {
         match self {
             Command::Best => Some("best HEADER [TAG..]"),
@@ -71,12 +71,12 @@ pub struct Options {
     pub command: Command,
     pub tsv: bool,
     pub basic: bool,
-    /// The header, or the range.
+    /// The header of `best`, or the range of `match`.
     pub first: Vec<u8>,
     pub texts: Vec<Vec<u8>>,
 }
 
-/// What is said in place of answers.
+/// What is printed instead of answers: help, or an error in the arguments.
 #[derive(Debug)]
 pub enum Words {
     Help(String),

@@ -2,7 +2,7 @@
 use langtag::registry::InvalidSubtag;
 use langtag::{LangTag, Refusal, RefusalKind};
 
-/// Longer texts are not repeated.
+/// Longer texts are shortened, and not underlined.
 const LONGEST: usize = 120;
 
 /// Says why a text is not a tag.
@@ -55,7 +55,7 @@ pub fn invalid(tag: LangTag<'_>, invalid: &InvalidSubtag<'_>) -> String {
     )
 }
 
-/// The singleton of the first extension that repeats an earlier one, as a slice of the tag.
+/// Returns the first singleton that repeats an earlier singleton, as a slice of the tag.
 fn repeated_singleton<'a>(tag: LangTag<'a>) -> &'a str {
     let index = tag
         .as_normal()
@@ -64,7 +64,7 @@ fn repeated_singleton<'a>(tag: LangTag<'a>) -> &'a str {
     extension.map_or(tag.as_str(), |extension| &extension.as_str()[..1])
 }
 
-/// A text as a terminal may show it.
+/// Returns a text that a terminal can show: without control characters, and shortened if it is long.
 fn shown(text: &[u8]) -> String {
     let text = String::from_utf8_lossy(text);
     let mut shown: String = text
@@ -78,7 +78,7 @@ fn shown(text: &[u8]) -> String {
     shown
 }
 
-/// The text, and on the next line marks below some of its bytes; nothing for a long text.
+/// Returns the text and, on the next line, marks below some of its bytes. Returns the empty text for a long text.
 fn underlined(text: &[u8], marked: core::ops::Range<usize>) -> String {
     if text.len() > LONGEST {
         return String::new();

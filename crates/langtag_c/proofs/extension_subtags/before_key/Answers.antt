@@ -1,10 +1,10 @@
-use Rattle.langtag_unicode.specs.Keys.{opens}
+use Rattle.langtag_unicode.specs.Keys.{opens_keyword}
 use Rattle.langtag_c.proofs.SubtagSpans.{span-before_key}
 use Rattle.std.proofs.Common.{arith}
 use Rattle.langtag_c.proofs.extension_subtags.before_key.Goals as goal
 
 pub returns-clause-text : goal.returns-clause-text
-returns-clause-text c = (span-before_key (opens c.args.keys) c.args.bytes.now c.args.subtags c.saturating_sub.result c.requires.within (omega (arith, c.saturating_sub.ensures, c.len_before_key.ensures))).0
+returns-clause-text c = (span-before_key (opens_keyword c.args.keys) c.args.bytes.now c.args.subtags c.saturating_sub.result c.requires.within (omega (arith, c.saturating_sub.ensures, c.len_before_key.ensures))).0
 
 pub returns-clause-within : goal.returns-clause-within
-returns-clause-within c = (span-before_key (opens c.args.keys) c.args.bytes.now c.args.subtags c.saturating_sub.result c.requires.within (omega (arith, c.saturating_sub.ensures, c.len_before_key.ensures))).1
+returns-clause-within c = (span-before_key (opens_keyword c.args.keys) c.args.bytes.now c.args.subtags c.saturating_sub.result c.requires.within (omega (arith, c.saturating_sub.ensures, c.len_before_key.ensures))).1

@@ -1,5 +1,5 @@
 use Rattle.std.proofs.Common.{sym, ap, ◌∙◌, arith}
-use Rattle.langtag_unicode.specs.Keys.{length_with_hyphens, opens}
+use Rattle.langtag_unicode.specs.Keys.{length_with_hyphens, opens_keyword}
 use Rattle.langtag_unicode.specs.Keywords.{before_key}
 use Rattle.langtag_unicode.proofs.SubtagTexts.{before_key-more, length-before_key}
 use Rattle.langtag_c.specs.Spans.{span_text}
@@ -12,7 +12,7 @@ overflow_add-len-in-Some c =
     let end = c.segment_end-end.ensures in
     let taken = c.take_first.ensures in
     let invariant = c.loop-part.invariant in
-    let test = opens c.args.keys in
+    let test = opens_keyword c.args.keys in
     let cut = span-subtags _ _ c.loop-part.rest _ _ part.0 part.1 end.within end.first end.hyphen taken.rest invariant.some in
     let more = ap (λ ss. length_with_hyphens (before_key test ss)) cut ∙ ap length_with_hyphens (before_key-more test _ _ (sym c.has.ensures.is_key ∙ c.if-has.false)) in
     omega (arith, invariant.counted, more, taken-size _ _ end.within, length-before_key test (span_text c.args.bytes.now c.args.subtags), (length-spanned c.args.bytes.now c.args.subtags c.requires.within).0, c.type_inv.bytes)
@@ -23,7 +23,7 @@ loop-part-preserved c =
     let end = c.segment_end-end.ensures in
     let taken = c.take_first.ensures in
     let invariant = c.loop-part.invariant in
-    let test = opens c.args.keys in
+    let test = opens_keyword c.args.keys in
     let cut = span-subtags _ _ c.loop-part.rest _ _ part.0 part.1 end.within end.first end.hyphen taken.rest invariant.some in
     let more = ap (λ ss. length_with_hyphens (before_key test ss)) cut ∙ ap length_with_hyphens (before_key-more test _ _ (sym c.has.ensures.is_key ∙ c.if-has.false)) in
     record {

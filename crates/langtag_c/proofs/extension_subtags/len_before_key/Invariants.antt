@@ -1,5 +1,5 @@
 use Rattle.std.proofs.Common.{◌≡◌, ◌+◌}
-use Rattle.langtag_unicode.specs.Keys.{length_with_hyphens, opens}
+use Rattle.langtag_unicode.specs.Keys.{length_with_hyphens, opens_keyword}
 use Rattle.langtag_unicode.specs.Keywords.{before_key}
 use Rattle.langtag_c.specs.Keywords.{HasSubtags, subtags_in}
 use Rattle.langtag_c.proofs.extension_subtags.len_before_key.Given as goal
@@ -8,7 +8,7 @@ use Rattle.langtag_c.proofs.extension_subtags.len_before_key.Given as goal
 abbrev pub invariant-loop-part : goal.invariant-loop-part
 invariant-loop-part l = record {
   some : HasSubtags l.bytes l.rest;
-  counted : l.len + length_with_hyphens (before_key (opens l.keys) (subtags_in l.bytes l.rest)) ≡ length_with_hyphens (before_key (opens l.keys) (subtags_in l.bytes l.initial.rest));
+  counted : l.len + length_with_hyphens (before_key (opens_keyword l.keys) (subtags_in l.bytes l.rest)) ≡ length_with_hyphens (before_key (opens_keyword l.keys) (subtags_in l.bytes l.initial.rest));
 }
 
 abbrev pub decreases-loop-part : goal.decreases-loop-part

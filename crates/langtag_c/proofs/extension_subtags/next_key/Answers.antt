@@ -1,6 +1,6 @@
 use Rattle.std.proofs.Common.{◌+◌, ◌∷◌, length, take, sym, ap, ◌∙◌, arith}
 use Rattle.std.proofs.lemmas.List.{length-drop}
-use Rattle.langtag_unicode.specs.Keys.{opens}
+use Rattle.langtag_unicode.specs.Keys.{opens_keyword}
 use Rattle.langtag_unicode.specs.Keywords.{keywords_after}
 use Rattle.langtag_unicode.proofs.WalkLaws.{keywords-new, keywords-other}
 use Rattle.langtag_c.specs.Keywords.{subtags_in}
@@ -40,7 +40,7 @@ returns-then-is_new_key-clause-some c =
     let taken = c.take_first-key.ensures in
     let invariant = c.loop-part.invariant in
     let all = subtags_in c.args.bytes.now c.args.subtags in
-    let test = opens c.args.keys in
+    let test = opens_keyword c.args.keys in
     let count = c.loop-part.count in
     let cut = span-subtags _ _ c.loop-part.rest _ _ part.0 part.1 end.within end.first end.hyphen taken.rest invariant.some in
     let key = span-taken c.args.bytes.now _ c.loop-part.rest _ _ part.0 part.1 end.within end.first end.hyphen taken.rest invariant.some c.take_first-key.result taken.first in
@@ -57,7 +57,7 @@ loop-part-preserved c =
     let taken = c.take_first-key.ensures in
     let invariant = c.loop-part.invariant in
     let all = subtags_in c.args.bytes.now c.args.subtags in
-    let test = opens c.args.keys in
+    let test = opens_keyword c.args.keys in
     let count = c.loop-part.count in
     let cut = span-subtags _ _ c.loop-part.rest _ _ part.0 part.1 end.within end.first end.hyphen taken.rest invariant.some in
     let left = sym invariant.left ∙ cut in

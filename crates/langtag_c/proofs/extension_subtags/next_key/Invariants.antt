@@ -1,5 +1,5 @@
 use Rattle.std.proofs.Common.{◌≡◌, drop, take}
-use Rattle.langtag_unicode.specs.Keys.{opens}
+use Rattle.langtag_unicode.specs.Keys.{opens_keyword}
 use Rattle.langtag_unicode.specs.Keywords.{keywords_after}
 use Rattle.langtag_c.specs.Keywords.{HasSubtags, keywords_from, subtags_in}
 use Rattle.langtag_c.proofs.extension_subtags.next_key.Given as goal
@@ -9,7 +9,7 @@ abbrev pub invariant-loop-part : goal.invariant-loop-part
 invariant-loop-part l = record {
   some : HasSubtags l.bytes l.rest;
   left : subtags_in l.bytes l.rest ≡ drop l.count (subtags_in l.bytes l.subtags);
-  same : keywords_after (opens l.keys) (take l.count (subtags_in l.bytes l.subtags)) (subtags_in l.bytes l.rest) ≡ keywords_from (opens l.keys) (subtags_in l.bytes l.subtags) l.initial.passed;
+  same : keywords_after (opens_keyword l.keys) (take l.count (subtags_in l.bytes l.subtags)) (subtags_in l.bytes l.rest) ≡ keywords_from (opens_keyword l.keys) (subtags_in l.bytes l.subtags) l.initial.passed;
   kept : l.passed ≡ l.initial.passed;
 }
 

@@ -1,5 +1,5 @@
 use Rattle.std.proofs.Common.{◌≡◌}
-use Rattle.langtag_unicode.specs.Keys.{opens}
+use Rattle.langtag_unicode.specs.Keys.{opens_keyword}
 use Rattle.langtag_unicode.specs.Keywords.{value_of}
 use Rattle.langtag_c.specs.Keywords.{HasSubtags, subtags_in}
 use Rattle.langtag_c.proofs.extension_subtags.value_of.Given as goal
@@ -8,7 +8,7 @@ use Rattle.langtag_c.proofs.extension_subtags.value_of.Given as goal
 abbrev pub invariant-loop-part : goal.invariant-loop-part
 invariant-loop-part l = record {
   some : HasSubtags l.bytes l.rest;
-  same : value_of (opens l.keys) l.key (subtags_in l.bytes l.rest) ≡ value_of (opens l.keys) l.key (subtags_in l.bytes l.initial.rest);
+  same : value_of (opens_keyword l.keys) l.key (subtags_in l.bytes l.rest) ≡ value_of (opens_keyword l.keys) l.key (subtags_in l.bytes l.initial.rest);
 }
 
 abbrev pub decreases-loop-part : goal.decreases-loop-part

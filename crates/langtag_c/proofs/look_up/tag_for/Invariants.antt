@@ -1,7 +1,7 @@
 use Rattle.std.proofs.Common.{◌≡◌}
 use Rattle.langtag_match.specs.Fallback.{fallbacks}
 use Rattle.langtag_match.specs.Text.{language_range_text, fallbacks_left}
-use Rattle.langtag_c.specs.LookUp.{first_alike}
+use Rattle.langtag_c.specs.LookUp.{first_index_alike}
 use Rattle.langtag_c.specs.TagsAt.{tags_at}
 use Rattle.langtag_c.proofs.look_up.tag_for.Given as goal
 
@@ -9,6 +9,6 @@ abbrev pub invariant-loop-fallback : goal.invariant-loop-fallback
 invariant-loop-fallback l = record {
   can_next : (goal.iterator-loop-fallback).can_next l.fallback-iterator;
   is_finite : (goal.iterator-loop-fallback).is_finite l.fallback-iterator;
-  same : first_alike (tags_at l.tags.text.now l.tags.spans.now) (fallbacks_left l.fallback-iterator)
-      ≡ first_alike (tags_at l.tags.text.now l.tags.spans.now) (fallbacks (language_range_text l.fn.range));
+  same : first_index_alike (tags_at l.tags.text.now l.tags.spans.now) (fallbacks_left l.fallback-iterator)
+      ≡ first_index_alike (tags_at l.tags.text.now l.tags.spans.now) (fallbacks (language_range_text l.fn.range));
 }

@@ -7,7 +7,8 @@ use Rattle.langtag_scan.specs.Ends.{ends_of}
 use Rattle.langtag_scan.specs.Tag.{IsNormal}
 use Rattle.langtag_scan.proofs.SpelledTexts.{offsets_kept}
 use Rattle.langtag_place.specs.Text.{variant_text, variants_left}
-use Rattle.langtag_c.proofs.RepeatSpans.{after, length-variants, spans_after-at, variants_end, variants_listed, width}
+use Rattle.langtag_c.proofs.RepeatSpans.{after, length-variants, spans_after-at, variants_end, width}
+use Rattle.langtag_registry.proofs.FaultLaws.{variants_listed}
 use Rattle.langtag_c.specs.declared.span.Span.{Span}
 use Rattle.langtag_c.proofs.repeats.variant_at.Goals as goal
 

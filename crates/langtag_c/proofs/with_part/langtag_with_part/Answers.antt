@@ -6,13 +6,11 @@ use Rattle.langtag_c.proofs.with_part.langtag_with_part.Goals as goal
 
 pub returns-clause-set : goal.returns-clause-set
 returns-clause-set c can =
-    let w = c.write_replaced.ensures in
-    let tag = c.in-Some-normal_tag_of.ensures in
-    let made = rw (c.as_bytes.ensures, tag.0) at w.is_so in
-    let set = rw tag.0 at c.put_part.ensures.set in
+    let w = c.write_part.ensures in
+    let made = rw c.in-Some-normal_tag_of.ensures.0 at w.is_so.0 in
     rw c.in-Some.ensures.name (record {
       text = w.text;
-      is_so = part_sets c.in-Some.part c.args.text.now c.args.tag.now w.text c.in-Some.ensures.text (rw made set);
+      is_so = part_sets c.in-Some.part c.args.text.now c.args.tag.now w.text c.in-Some.ensures.text made;
       whole = w.whole;
       written = w.written;
       untouched = w.untouched;
@@ -20,9 +18,6 @@ returns-clause-set c can =
 
 pub returns-clause-refused : goal.returns-clause-refused
 returns-clause-refused c =
-    let w = c.write_replaced.ensures in
-    let tag = c.in-Some-normal_tag_of.ensures in
-    let made = rw (c.as_bytes.ensures, tag.0) at w.is_so in
-    let normal = rw tag.0 at c.put_part.ensures.normal in
-    let some : 1 ≤ length w.text = some_tag w.text (tag_normal w.text (rw made normal)) in
-    (λ zero can. absurd (omega (arith, zero, w.whole, some)), λ cannot. absurd (cannot (tag.1, c.in-Some.ensures.has)))
+    let w = c.write_part.ensures in
+    let some : 1 ≤ length w.text = some_tag w.text (tag_normal w.text w.is_so.1) in
+    (λ zero can. absurd (omega (arith, zero, w.whole, some)), λ cannot. absurd (cannot (c.in-Some-normal_tag_of.ensures.1, c.in-Some.ensures.has)))

@@ -8,8 +8,8 @@ returns-in_default c = λ no. few_extended c.args.text.now (omega (arith, c.in_d
 pub returns-in-len3 : goal.returns-in-len3
 returns-in-len3 c = λ no. extended_letter c.args.text.now (omega (arith, c.in-len3.len_at_least)) (sym c.is_letter.ensures ∙ no)
 
-pub returns-then-is_mark : goal.returns-then-is_mark
-returns-then-is_mark c = λ no. extended_letter c.args.text.now (omega (arith, c.in-len4-up.len_at_least)) (sym c.is_letter-then-is_mark.ensures ∙ no)
+pub returns-then-is_separator : goal.returns-then-is_separator
+returns-then-is_separator c = λ no. extended_letter c.args.text.now (omega (arith, c.in-len4-up.len_at_least)) (sym c.is_letter-then-is_separator.ensures ∙ no)
 
-pub returns-else-is_mark : goal.returns-else-is_mark
-returns-else-is_mark c = λ no. extended_mark c.args.text.now c.in-len4-up.len_at_least (sym c.is_mark.ensures ∙ no)
+pub returns-else-is_separator : goal.returns-else-is_separator
+returns-else-is_separator c = λ no. extended_mark c.args.text.now c.in-len4-up.len_at_least (sym c.is_separator.ensures ∙ no)

@@ -6,13 +6,13 @@ use Rattle.langtag_likely.specs.Texts.{field_texts}
 use Rattle.langtag_likely.proofs.AliasLaws.{region_at, region_found}
 use Rattle.langtag_likely.proofs.Columns.{name_good}
 use Rattle.langtag_likely.proofs.FieldClasses.{region_alphanumeric}
-use Rattle.langtag_likely.proofs.AliasTables.{region_alias_count, region_aliases_good}
+use Rattle.langtag_likely.proofs.AliasTables.{region_alias_count, region_aliases_alone, region_aliases_good}
 use Rattle.langtag_likely.proofs.aliases.region_alias.Goals as goal
 
 pub returns-in_err-index : goal.returns-in_err-index
 returns-in_err-index c =
     ap (option_map field_texts) c.from_residual.ensures
-    ∙ region_found (field_texts c.args.fields) _ _ _ (region_alphanumeric _ c.args.fields.region_class) c.region_alias_keys.ensures.numbers refl c.in_err-index.ensures.found
+    ∙ region_found region_aliases region_aliases_alone (field_texts c.args.fields) _ _ _ (region_alphanumeric _ c.args.fields.region_class) c.region_alias_keys.ensures.numbers refl c.in_err-index.ensures.found
 
 pub invariant_of-result : goal.invariant_of-result
 invariant_of-result c =
@@ -27,4 +27,4 @@ pub returns : goal.returns
 returns c =
     let inside : c.in_ok-index.index < length region_aliases = omega (arith, c.in_ok-index.ensures.within, c.region_alias_keys.ensures.count, region_alias_count) in
     ap Some (region_at c.in_ok-index.index c.name_at.result.now inside c.name_at.ensures)
-    ∙ region_found (field_texts c.args.fields) _ _ _ (region_alphanumeric _ c.args.fields.region_class) c.region_alias_keys.ensures.numbers refl c.in_ok-index.ensures.found
+    ∙ region_found region_aliases region_aliases_alone (field_texts c.args.fields) _ _ _ (region_alphanumeric _ c.args.fields.region_class) c.region_alias_keys.ensures.numbers refl c.in_ok-index.ensures.found

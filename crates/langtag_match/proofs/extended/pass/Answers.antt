@@ -1,6 +1,6 @@
 use Rattle.std.proofs.Common.{◌≡◌, true, false, rules, tests}
 use Rattle.langtag_scan.specs.Case.{are_alike}
-use Rattle.langtag_match.specs.Range.{is_single}
+use Rattle.langtag.specs.Class.{is_single}
 use Rattle.langtag_match.proofs.Among.{walk_found, walk_left, walk_blocked, walk_ended}
 use Rattle.langtag_match.proofs.extended.pass.Goals as goal
 

@@ -3,7 +3,7 @@ use Rattle.std.specs.Option.{option_map}
 use Rattle.langtag_language.specs.Text.{primary_language_text, extended_lang_tag_text}
 use Rattle.langtag_scan.specs.Case.{fold_text}
 use Rattle.langtag_registry.specs.Fields.{preferred_language}
-use Rattle.langtag_tables.proofs.AlikeTexts.{fold_text-twice}
+use Rattle.langtag_scan.proofs.CaseLaw.{fold_text-twice}
 use Rattle.langtag_tables.proofs.Letters.{extended_primary}
 use Rattle.langtag_registry.proofs.Pushed.{pushes_same}
 use Rattle.langtag_registry.proofs.ReplacedSubtags.{language-alike}

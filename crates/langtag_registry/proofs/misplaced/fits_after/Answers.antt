@@ -1,15 +1,14 @@
-use Rattle.std.proofs.Common.{length, ap, sym, subst, true, false, ◌∙◌, ◌<◌, ◌≡◌, get_or, arith, []}
+use Rattle.std.proofs.Common.{length, ap, sym, true, false, ◌∙◌, ◌<◌, ◌≡◌, get_or, arith, []}
 use Rattle.std.proofs.lemmas.Bool.{eq-eqb, ne_eqb}
 use Rattle.langtag_scan.proofs.SubtagFacts.{of_variant}
 use Rattle.langtag_place.specs.Text.{variant_text}
 use Rattle.langtag_match.specs.Extended.{test_extended}
-use Rattle.langtag_match.specs.Range.{is_language_range}
 use Rattle.langtag_scan.specs.Case.{folded_number}
 use Rattle.langtag_registry.specs.Subtags.{variant_prefixes}
 use Rattle.langtag_registry.proofs.PrefixLaws.{length-same, same_at, list_all_get, number_tells, left_first, left_matched, left_unmatched, left_other, left_ended}
-use Rattle.langtag_registry.proofs.PrefixTables.{prefixed_alphanumeric, prefixes_are_ranges}
+use Rattle.langtag_registry.proofs.PrefixTables.{prefixed_alphanumeric}
 use Rattle.langtag_registry.proofs.Values.{no_entry}
-use Rattle.langtag_registry.proofs.misplaced.fits_after.Goals.{then-number-key+else-matches_tag, else-number-key}
+use Rattle.langtag_registry.proofs.misplaced.fits_after.Goals.{then-number-key+else-matches_prefix, else-number-key}
 use Rattle.langtag_registry.proofs.misplaced.fits_after.Goals as goal
 
 pub folded_number-number-requires : goal.folded_number-number-requires
@@ -18,16 +17,8 @@ folded_number-number-requires c = rw c.as_bytes.ensures (of_variant (variant_tex
 pub loop-key-init : goal.loop-key-init
 loop-key-init c = left_first c.args.before.now (variant_text c.args.variant)
 
-pub matches_tag-requires-clause-range : goal.matches_tag-requires-clause-range
-matches_tag-requires-clause-range c =
-    let items = c.variant_prefixes-key-items.ensures in
-    let long = length-same (λ pair. pair.1.now) (λ e. e.value) _ _ items.values in
-    let inside = c.loop-key-test.true in
-    subst (λ text. is_language_range text ≡ true) (sym (same_at (λ pair. pair.1.now) (λ e. e.value) _ _ items.values c.loop-key.key-index _ no_entry [] inside))
-    (list_all_get (λ e. is_language_range e.value) variant_prefixes c.loop-key.key-index no_entry prefixes_are_ranges (omega (arith, inside, long)))
-
-pub returns-then-matches_tag : goal.returns-then-matches_tag
-returns-then-matches_tag c =
+pub returns-then-matches_prefix : goal.returns-then-matches_prefix
+returns-then-matches_prefix c =
     let items = c.variant_prefixes-key-items.ensures in
     let i = c.loop-key.key-index in
     let text = variant_text c.args.variant in
@@ -40,7 +31,7 @@ returns-then-matches_tag c =
     (c.folded_number-number.ensures.number ∙ ap folded_number c.as_bytes.ensures)
     (same_at (λ pair. pair.0) (λ e. folded_number e.subtag) _ _ items.numbers i _ no_entry 0 inside) (eq-eqb _ _ c.if-number-key.true))
     (ap (λ prefix. test_extended prefix c.args.before.now) (sym (same_at (λ pair. pair.1.now) (λ e. e.value) _ _ items.values i _ no_entry [] inside))
-    ∙ sym c.matches_tag.ensures ∙ c.if-matches_tag.true)
+    ∙ sym c.matches_prefix.ensures ∙ c.if-matches_prefix.true)
 
 pub loop-key-preserved : goal.loop-key-preserved
 loop-key-preserved c =
@@ -55,11 +46,11 @@ loop-key-preserved c =
     let number = c.folded_number-number.ensures.number ∙ ap folded_number c.as_bytes.ensures in
     let key = same_at (λ pair. pair.0) (λ e. folded_number e.subtag) _ _ items.numbers i _ no_entry 0 inside in
     elim c.if-number-key.branch [
-      | then-number-key+else-matches_tag w ↦ rw w.has_none-is (
+      | then-number-key+else-matches_prefix w ↦ rw w.has_none-is (
           left_unmatched c.args.before.now text c.loop-key.has_none i c.loop-key.invariant within
           (number_tells (get_or variant_prefixes i no_entry) text _ _ true good also number key (eq-eqb _ _ w.if-number-key.true))
           (ap (λ prefix. test_extended prefix c.args.before.now) (sym (same_at (λ pair. pair.1.now) (λ e. e.value) _ _ items.values i _ no_entry [] inside))
-          ∙ sym w.matches_tag.ensures ∙ w.if-matches_tag.false))
+          ∙ sym w.matches_prefix.ensures ∙ w.if-matches_prefix.false))
       | else-number-key w ↦ rw w.has_none-is (
           left_other c.args.before.now text c.loop-key.has_none i c.loop-key.invariant within
           (number_tells (get_or variant_prefixes i no_entry) text _ _ false good also number key (ne_eqb _ _ w.if-number-key.false)))

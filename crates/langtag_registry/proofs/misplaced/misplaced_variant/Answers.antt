@@ -1,11 +1,10 @@
-use Rattle.std.proofs.Common.{length, subst, ap, sym, ◌∙◌, arith}
+use Rattle.std.proofs.Common.{length, ap, sym, ◌∙◌, arith}
 use Rattle.std.proofs.lemmas.Str.{IsCharBoundary-from_ascii}
-use Rattle.langtag_scan.specs.Tag.{IsTag}
 use Rattle.langtag_scan.proofs.Ascii.{IsAscii-normal}
 use Rattle.langtag_place.specs.Text.{variant_text, variants_left}
 use Rattle.langtag_registry.specs.Prefix.{fits_after}
 use Rattle.langtag_registry.proofs.FaultLaws.{variants_listed}
-use Rattle.langtag_registry.proofs.MisplacedLaws.{walk_first, end_within, tag_here, walk_stopped, walk_later, walk_ended, some_record, take_spelled}
+use Rattle.langtag_registry.proofs.MisplacedLaws.{walk_first, end_within, walk_stopped, walk_later, walk_ended, some_record, take_spelled}
 use Rattle.langtag_registry.proofs.misplaced.misplaced_variant.Goals as goal
 
 pub loop-variant-init : goal.loop-variant-init
@@ -25,13 +24,6 @@ range-requires-clause-end_boundary c =
     let within = end_within text.0 _ _ (c.loop-variant.invariant.walked text.0 (text.1.0, text.1.1 ∙ same)) in
     let long = ap length text.1.1 in
     IsCharBoundary-from_ascii c.as_str.result.now c.loop-variant.end (IsAscii-normal c.as_str.result.now normal) (omega (arith, within, long))
-
-pub fits_after-requires : goal.fits_after-requires
-fits_after-requires c =
-    let same = c.as_str.ensures.same_text in
-    let text = some_record c.as_str.result.now c.as_str.ensures.in_class in
-    subst IsTag (take_spelled text.0 _ _ _ text.1.1 c.range.ensures.value)
-    (tag_here text.0 _ _ (c.loop-variant.invariant.walked text.0 (text.1.0, text.1.1 ∙ same)) text.1.0)
 
 pub returns-then-not-fits_after : goal.returns-then-not-fits_after
 returns-then-not-fits_after c = λ r spells.

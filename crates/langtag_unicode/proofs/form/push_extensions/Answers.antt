@@ -1,4 +1,4 @@
-use Rattle.std.proofs.Common.{false, refl, ap, ◌∙◌}
+use Rattle.std.proofs.Common.{refl, ap, ◌∙◌}
 use Rattle.langtag_extension.specs.Text.{extension_text, extensions_left}
 use Rattle.langtag_unicode.proofs.ExtensionForms.{left-ended, left-next}
 use Rattle.langtag_unicode.proofs.form.push_extensions.Goals as goal

@@ -1,4 +1,4 @@
-use Rattle.std.proofs.Common.{◌≡◌, List, false}
+use Rattle.std.proofs.Common.{◌≡◌, List}
 use Rattle.langtag_extension.specs.Spelling.{SpellsExtensions}
 use Rattle.langtag_extension.specs.Text.{extensions_left, extensions_text}
 use Rattle.langtag_scan.specs.Record as model

@@ -2,9 +2,9 @@ use Rattle.std.proofs.Common.{rules, true, refl, sym, ap, ◌∙◌, arith}
 use Rattle.std.proofs.lemmas.List.{length-set}
 use Rattle.langtag_scan.specs.Case.{fold_text}
 use Rattle.langtag_scan.specs.Subtags.{subtags}
-use Rattle.langtag_unicode.specs.Keys.{opens}
+use Rattle.langtag_unicode.specs.Keys.{opens_keyword}
 use Rattle.langtag_unicode.specs.Keywords.{value_of}
-use Rattle.langtag_unicode.specs.Marks.{first_index}
+use Rattle.langtag_unicode.specs.Marks.{first_letter_index}
 use Rattle.langtag_unicode.proofs.KeywordForms.{marked-key, marked-other}
 use Rattle.langtag_unicode.proofs.keyword_form.marked_firsts.Goals as goal
 
@@ -17,8 +17,8 @@ loop-subtag-preserved-then-has c = record {
   is_finite = tt;
   long = length-set c.loop-subtag.marks c.first_index.result true ∙ c.loop-subtag.invariant.long;
   so_far =
-      marked-key first_index (opens c.args.keys) c.loop-subtag.marks (subtags c.args.text.now) c.loop-subtag.subtag-iterator c.next.new.self c.in-Some.subtag.now c.first_index.result c.in-Some.ensures.steps
-      (c.first_index.ensures.index ∙ ap (λ t. first_index (fold_text t)) c.as_bytes-key.ensures.value) (omega (arith, c.first_index.ensures.within, c.loop-subtag.invariant.long)) c.loop-subtag.invariant.so_far;
+      marked-key first_letter_index (opens_keyword c.args.keys) c.loop-subtag.marks (subtags c.args.text.now) c.loop-subtag.subtag-iterator c.next.new.self c.in-Some.subtag.now c.first_index.result c.in-Some.ensures.steps
+      (c.first_index.ensures.index ∙ ap (λ t. first_letter_index (fold_text t)) c.as_bytes-key.ensures.value) (omega (arith, c.first_index.ensures.within, c.loop-subtag.invariant.long)) c.loop-subtag.invariant.so_far;
 }
 
 pub loop-subtag-preserved : goal.loop-subtag-preserved
@@ -27,9 +27,9 @@ loop-subtag-preserved c = record {
   is_finite = tt;
   long = c.loop-subtag.invariant.long;
   so_far =
-      marked-other first_index (opens c.args.keys) c.loop-subtag.marks (subtags c.args.text.now) c.loop-subtag.subtag-iterator c.next.new.self c.in-Some.subtag.now c.in-Some.ensures.steps
-      (ap (opens c.args.keys) (sym c.as_bytes-key.ensures.value) ∙ sym c.has.ensures.is_key ∙ c.if-has.false) c.loop-subtag.invariant.so_far;
+      marked-other first_letter_index (opens_keyword c.args.keys) c.loop-subtag.marks (subtags c.args.text.now) c.loop-subtag.subtag-iterator c.next.new.self c.in-Some.subtag.now c.in-Some.ensures.steps
+      (ap (opens_keyword c.args.keys) (sym c.as_bytes-key.ensures.value) ∙ sym c.has.ensures.is_key ∙ c.if-has.false) c.loop-subtag.invariant.so_far;
 }
 
 pub returns : goal.returns
-returns c = λ key none. c.loop-subtag.invariant.so_far key none ∙ ap (value_of (opens c.args.keys) key) c.in-None.ensures.steps.0
+returns c = λ key none. c.loop-subtag.invariant.so_far key none ∙ ap (value_of (opens_keyword c.args.keys) key) c.in-None.ensures.steps.0

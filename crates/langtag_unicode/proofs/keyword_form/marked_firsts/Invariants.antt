@@ -1,7 +1,7 @@
 use Rattle.std.proofs.Common.{◌≡◌, length}
 use Rattle.langtag_scan.specs.Subtags.{subtags}
-use Rattle.langtag_unicode.specs.Keys.{opens}
-use Rattle.langtag_unicode.specs.Marks.{first_index}
+use Rattle.langtag_unicode.specs.Keys.{opens_keyword}
+use Rattle.langtag_unicode.specs.Marks.{first_letter_index}
 use Rattle.langtag_unicode.proofs.KeywordForms.{AreMarkedSo}
 use Rattle.langtag_unicode.proofs.keyword_form.marked_firsts.Given as goal
 
@@ -11,5 +11,5 @@ invariant-loop-subtag l = record {
   can_next : (goal.iterator-loop-subtag).can_next l.subtag-iterator;
   is_finite : (goal.iterator-loop-subtag).is_finite l.subtag-iterator;
   long : length l.marks ≡ 36;
-  so_far : AreMarkedSo first_index (opens l.keys) l.marks (subtags l.text) l.subtag-iterator;
+  so_far : AreMarkedSo first_letter_index (opens_keyword l.keys) l.marks (subtags l.text) l.subtag-iterator;
 }

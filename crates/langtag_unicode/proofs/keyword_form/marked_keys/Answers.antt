@@ -2,7 +2,7 @@ use Rattle.std.proofs.Common.{rules, true, refl, sym, ap, ◌∙◌, arith}
 use Rattle.std.proofs.lemmas.List.{length-set}
 use Rattle.langtag_scan.specs.Case.{fold_text}
 use Rattle.langtag_scan.specs.Subtags.{subtags}
-use Rattle.langtag_unicode.specs.Keys.{opens}
+use Rattle.langtag_unicode.specs.Keys.{opens_keyword}
 use Rattle.langtag_unicode.specs.Keywords.{value_of}
 use Rattle.langtag_unicode.specs.Marks.{key_index}
 use Rattle.langtag_unicode.proofs.KeywordForms.{marked-key, marked-other}
@@ -17,7 +17,7 @@ loop-subtag-preserved-then-has c = record {
   is_finite = tt;
   long = length-set c.loop-subtag.marks c.key_index.result true ∙ c.loop-subtag.invariant.long;
   so_far =
-      marked-key key_index (opens c.args.keys) c.loop-subtag.marks (subtags c.args.text.now) c.loop-subtag.subtag-iterator c.next.new.self c.in-Some.subtag.now c.key_index.result c.in-Some.ensures.steps
+      marked-key key_index (opens_keyword c.args.keys) c.loop-subtag.marks (subtags c.args.text.now) c.loop-subtag.subtag-iterator c.next.new.self c.in-Some.subtag.now c.key_index.result c.in-Some.ensures.steps
       (c.key_index.ensures.index ∙ ap (λ t. key_index (fold_text t)) c.as_bytes-key.ensures.value) (omega (arith, c.key_index.ensures.within, c.loop-subtag.invariant.long)) c.loop-subtag.invariant.so_far;
 }
 
@@ -27,9 +27,9 @@ loop-subtag-preserved c = record {
   is_finite = tt;
   long = c.loop-subtag.invariant.long;
   so_far =
-      marked-other key_index (opens c.args.keys) c.loop-subtag.marks (subtags c.args.text.now) c.loop-subtag.subtag-iterator c.next.new.self c.in-Some.subtag.now c.in-Some.ensures.steps
-      (ap (opens c.args.keys) (sym c.as_bytes-key.ensures.value) ∙ sym c.has.ensures.is_key ∙ c.if-has.false) c.loop-subtag.invariant.so_far;
+      marked-other key_index (opens_keyword c.args.keys) c.loop-subtag.marks (subtags c.args.text.now) c.loop-subtag.subtag-iterator c.next.new.self c.in-Some.subtag.now c.in-Some.ensures.steps
+      (ap (opens_keyword c.args.keys) (sym c.as_bytes-key.ensures.value) ∙ sym c.has.ensures.is_key ∙ c.if-has.false) c.loop-subtag.invariant.so_far;
 }
 
 pub returns : goal.returns
-returns c = λ key none. c.loop-subtag.invariant.so_far key none ∙ ap (value_of (opens c.args.keys) key) c.in-None.ensures.steps.0
+returns c = λ key none. c.loop-subtag.invariant.so_far key none ∙ ap (value_of (opens_keyword c.args.keys) key) c.in-None.ensures.steps.0

@@ -1,6 +1,6 @@
 use Rattle.std.proofs.Common.{◌≡◌, length}
 use Rattle.langtag_scan.specs.Subtags.{subtags}
-use Rattle.langtag_unicode.specs.Keys.{opens}
+use Rattle.langtag_unicode.specs.Keys.{opens_keyword}
 use Rattle.langtag_unicode.specs.Marks.{key_index}
 use Rattle.langtag_unicode.proofs.KeywordForms.{AreMarkedSo}
 use Rattle.langtag_unicode.proofs.keyword_form.marked_keys.Given as goal
@@ -11,5 +11,5 @@ invariant-loop-subtag l = record {
   can_next : (goal.iterator-loop-subtag).can_next l.subtag-iterator;
   is_finite : (goal.iterator-loop-subtag).is_finite l.subtag-iterator;
   long : length l.marks ≡ 1296;
-  so_far : AreMarkedSo key_index (opens l.keys) l.marks (subtags l.text) l.subtag-iterator;
+  so_far : AreMarkedSo key_index (opens_keyword l.keys) l.marks (subtags l.text) l.subtag-iterator;
 }

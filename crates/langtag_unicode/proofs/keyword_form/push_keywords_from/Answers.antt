@@ -7,7 +7,7 @@ use Rattle.langtag_scan.specs.Case.{fold_text}
 use Rattle.langtag_scan.specs.Subtags.{join, subtags}
 use Rattle.langtag_unicode.specs.Form.{keyword_form, letters_and_digits}
 use Rattle.langtag_unicode.specs.Keywords.{value_of}
-use Rattle.langtag_unicode.specs.Keys.{canonical_value_of, opens}
+use Rattle.langtag_unicode.specs.Keys.{canonical_value_of, opens_keyword}
 use Rattle.langtag_unicode.proofs.keyword_form.push_keywords_from.Goals as goal
 
 pub loop-second-init : goal.loop-second-init
@@ -17,8 +17,8 @@ pub loop-second-preserved-then-not-marks-key_index : goal.loop-second-preserved-
 loop-second-preserved-then-not-marks-key_index c =
     let k = c.loop-second.second-index in
     let key = c.args.first ∷ get_or letters_and_digits k 0 ∷ [] in
-    let of : ℕ → List (List ℕ) = λ second. keyword_form (opens c.args.keys) (canonical_value_of c.args.keys) (subtags c.args.text.now) (c.args.first ∷ second ∷ []) in
-    let none : value_of (opens c.args.keys) key (subtags c.args.text.now) ≡ None =
+    let of : ℕ → List (List ℕ) = λ second. keyword_form (opens_keyword c.args.keys) (canonical_value_of c.args.keys) (subtags c.args.text.now) (c.args.first ∷ second ∷ []) in
+    let none : value_of (opens_keyword c.args.keys) key (subtags c.args.text.now) ≡ None =
     c.requires key (ap (λ at. get_or c.args.marks.now at false) (sym c.key_index.ensures.index) ∙ c.if-not-marks-key_index.true) in
     record {
       same_buffer = c.loop-second.invariant.same_buffer;
@@ -32,7 +32,7 @@ loop-second-preserved-then-not-marks-key_index c =
 pub loop-second-preserved : goal.loop-second-preserved
 loop-second-preserved c =
     let k = c.loop-second.second-index in
-    let of : ℕ → List (List ℕ) = λ second. keyword_form (opens c.args.keys) (canonical_value_of c.args.keys) (subtags c.args.text.now) (c.args.first ∷ second ∷ []) in
+    let of : ℕ → List (List ℕ) = λ second. keyword_form (opens_keyword c.args.keys) (canonical_value_of c.args.keys) (subtags c.args.text.now) (c.args.first ∷ second ∷ []) in
     record {
       same_buffer = c.push_keyword.ensures.same_buffer ∙ c.loop-second.invariant.same_buffer;
       so_far = λ new these.
@@ -43,5 +43,5 @@ loop-second-preserved c =
 
 pub returns-clause-pushed : goal.returns-clause-pushed
 returns-clause-pushed c =
-    let of : ℕ → List (List ℕ) = λ second. keyword_form (opens c.args.keys) (canonical_value_of c.args.keys) (subtags c.args.text.now) (c.args.first ∷ second ∷ []) in
+    let of : ℕ → List (List ℕ) = λ second. keyword_form (opens_keyword c.args.keys) (canonical_value_of c.args.keys) (subtags c.args.text.now) (c.args.first ∷ second ∷ []) in
     c.loop-second.invariant.so_far _ (pushes_ended _ _ (at_drop_all (flat_map of) letters_and_digits c.loop-second.second-index c.loop-second-test.false))

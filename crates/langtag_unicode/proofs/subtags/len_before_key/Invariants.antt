@@ -1,6 +1,6 @@
 use Rattle.std.proofs.Common.{◌≡◌, ◌+◌}
 use Rattle.langtag_scan.specs.Subtags.{subtags}
-use Rattle.langtag_unicode.specs.Keys.{length_with_hyphens, opens}
+use Rattle.langtag_unicode.specs.Keys.{length_with_hyphens, opens_keyword}
 use Rattle.langtag_unicode.specs.Keywords.{before_key}
 use Rattle.langtag_unicode.proofs.subtags.len_before_key.Given as goal
 
@@ -9,5 +9,5 @@ abbrev pub invariant-loop-subtag : goal.invariant-loop-subtag
 invariant-loop-subtag l = record {
   can_next : (goal.iterator-loop-subtag).can_next l.subtag-iterator;
   is_finite : (goal.iterator-loop-subtag).is_finite l.subtag-iterator;
-  so_far : l.len + length_with_hyphens (before_key (opens l.keys) l.subtag-iterator) ≡ length_with_hyphens (before_key (opens l.keys) (subtags l.text));
+  so_far : l.len + length_with_hyphens (before_key (opens_keyword l.keys) l.subtag-iterator) ≡ length_with_hyphens (before_key (opens_keyword l.keys) (subtags l.text));
 }

@@ -3,7 +3,7 @@ use Rattle.std.specs.List.{list_any}
 use Rattle.langtag_scan.specs.Case.{are_alike}
 use Rattle.langtag_scan.specs.Subtags.{subtags}
 use Rattle.langtag.proofs.RepeatLaws.{IsAt-drop}
-use Rattle.langtag_unicode.specs.Keywords.{first_after}
+use Rattle.langtag_unicode.specs.Keywords.{each_once_after}
 use Rattle.langtag_unicode.specs.Text.{attributes_left}
 use Rattle.langtag_unicode.proofs.WalkLaws.{first-new, first-other}
 use Rattle.langtag_unicode.proofs.attributes_iter.AttributesIterIterator.next.Goals as goal
@@ -20,7 +20,7 @@ returns-then-not-is_repeated-clause-steps c =
     let next = c.in-Some.ensures.steps in
     let is : list_any (are_alike c.in-Some.attribute.now) (take walk.passed (subtags walk.text.now)) ≡ false = search rules in
     let new = first-new (subtags walk.text.now) walk.passed c.in-Some.attribute.now c.next.new.self (sym walk.in_step ∙ next) is in
-    sym c.loop-attribute.invariant ∙ ap (first_after (take walk.passed (subtags walk.text.now))) next ∙ new
+    sym c.loop-attribute.invariant ∙ ap (each_once_after (take walk.passed (subtags walk.text.now))) next ∙ new
 
 pub returns-then-not-is_repeated-clause-goes : goal.returns-then-not-is_repeated-clause-goes
 returns-then-not-is_repeated-clause-goes c =
@@ -28,8 +28,8 @@ returns-then-not-is_repeated-clause-goes c =
     let next = c.in-Some.ensures.steps in
     let is : list_any (are_alike c.in-Some.attribute.now) (take walk.passed (subtags walk.text.now)) ≡ false = search rules in
     let new = first-new (subtags walk.text.now) walk.passed c.in-Some.attribute.now c.next.new.self (sym walk.in_step ∙ next) is in
-    let first : attributes_left c.args.self.now ≡ c.in-Some.attribute.now ∷ first_after (take (walk.passed + 1) (subtags walk.text.now)) c.next.new.self =
-    sym c.loop-attribute.invariant ∙ ap (first_after (take walk.passed (subtags walk.text.now))) next ∙ new in
+    let first : attributes_left c.args.self.now ≡ c.in-Some.attribute.now ∷ each_once_after (take (walk.passed + 1) (subtags walk.text.now)) c.next.new.self =
+    sym c.loop-attribute.invariant ∙ ap (each_once_after (take walk.passed (subtags walk.text.now))) next ∙ new in
     record { on = λ _. (tt, tt, omega (arith, ap length first)); keeps = tt; rests = λ _. tt }
 
 pub loop-attribute-preserved : goal.loop-attribute-preserved
@@ -38,4 +38,4 @@ loop-attribute-preserved c =
     let next = c.in-Some.ensures.steps in
     let is : list_any (are_alike c.in-Some.attribute.now) (take walk.passed (subtags walk.text.now)) ≡ true = search rules in
     let other = first-other (subtags walk.text.now) walk.passed c.in-Some.attribute.now c.next.new.self (sym walk.in_step ∙ next) is in
-    sym (ap (first_after (take walk.passed (subtags walk.text.now))) next ∙ other) ∙ c.loop-attribute.invariant
+    sym (ap (each_once_after (take walk.passed (subtags walk.text.now))) next ∙ other) ∙ c.loop-attribute.invariant

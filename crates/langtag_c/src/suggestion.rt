@@ -1,0 +1,37 @@
+//! What was probably meant by a subtag that is not registered.
+ghost use Rattle.std.specs.Prelude.{◌≡◌, IfSome, None};
+ghost use Rattle.std.specs.Option.{option_map};
+ghost use Rattle.langtag_output.specs.Writes.{Writes};
+ghost use Rattle.langtag_c.specs.Validity.{suggested};
+
+use langtag_likely::{suggested_language, suggested_region};
+use langtag_output::write_text;
+
+/// Writes the code by which CLDR replaces a subtag that is not registered, and returns its length in bytes: `de` for
+/// the language `deu`, `GB` for the region `UK`. `fault` is the result of `langtag_validity`, and `subtag` is the
+/// invalid subtag. If the buffer is too short, it stays unchanged, and the length says how long a buffer must be.
+///
+/// Returns 0 and writes nothing if there is no such code.
+#[unsafe(no_mangle)]
+pub extern "C" fn langtag_suggestion(fault: u32, subtag: &[u8], buffer: &mut [u8]) -> usize
+    ensures suggestion { IfSome (suggested fault subtag.now) (λ code. Writes (λ new. new ≡ code) buffer.old buffer.new result) }
+    ensures nothing { suggested fault subtag.now ≡ None → (result ≡ 0) × (buffer.new ≡ buffer.old) }
+{
+    match suggested(fault, subtag) {
+        Some(code) => write_text(code.as_bytes(), buffer),
+        None => 0,
+    }
+}
+
+/// Returns the code by which CLDR replaces a language, whose fault is 2, or a region, whose fault is 6.
+#[tactic(auto, using(crate::proofs::Suggested::utf8_suggested))]
+fn suggested(fault: u32, subtag: &[u8]) -> Option<&'static str>
+    ensures { option_map (λ text. text.now) result ≡ suggested fault subtag.now }
+{
+    let code = str::from_utf8(subtag).ok()?;
+    match fault {
+        2 => suggested_language(code),
+        6 => suggested_region(code),
+        _ => None,
+    }
+}

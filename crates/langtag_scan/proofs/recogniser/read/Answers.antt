@@ -1,0 +1,113 @@
+use Rattle.std.proofs.Common.{◌≡◌, ◌+◌, ◌<◌, [], ◌∷◌, ◌++◌, length, take, get_or, set, refl, sym, ap, subst, ◌∙◌, arith}
+use Rattle.langtag_scan.specs.Machine.{ends_at}
+use Rattle.langtag_scan.specs.Found.{IsFoundOf}
+use Rattle.langtag_scan.specs.Position.{position_of, is_dead}
+use Rattle.langtag_scan.specs.Tracking.{Stands}
+use Rattle.langtag_scan.specs.declared.finding.Finding.TheVariants as finding
+use Rattle.langtag_scan.specs.declared.state.Ending.TheVariants.{NoTag, Normal, PrivateUse, Irregular}
+use Rattle.langtag_scan.proofs.PositionLaws.{Tracks, tracks_nothing}
+use Rattle.langtag_scan.proofs.RecogniserLaws.{viable_nothing, alive_viable, next_prefix, tracks_next, dead_next, text_ended, whole_stop}
+use Rattle.langtag_scan.proofs.recogniser.read.Goals as goal
+
+pub loop-index-init : goal.loop-index-init
+loop-index-init g c = record {
+  bytes = refl;
+  reads = omega arith;
+  reach = omega arith;
+  within = omega arith;
+  stands = c.start-state.ensures;
+  tracks = rw c.new-marks.ensures tracks_nothing;
+  viable = viable_nothing;
+}
+
+pub loop-index-preserved : goal.loop-index-preserved
+loop-index-preserved g c =
+    let t = g.S.ByteSource.bytes c.args.source.now in
+    let i = c.loop-index.index in
+    let known = c.loop-index.invariant in
+    let within : i < length t = omega (arith, c.len-len.ensures) in
+    let is_next : c.byte.result ≡ get_or t i 0 = cc in
+    let next = next_prefix t i c.byte.result within is_next in
+    let after = c.in_ok-state.ensures (take i t) known.stands in
+    let stands = subst (λ q. Stands q c.in_ok-state.state.number) next after.1 in
+    let part = c.part_before.ensures.part (take i t ++ c.byte.result ∷ []) after.1 in
+    let tracks : Tracks (take (i + 1) t) c.set.new.self.places (position_of (take (i + 1) t)).begun =
+    rw c.set.ensures (tracks_next t c.loop-index.marks.places i c.byte.result c.part_before.result within next part known.tracks) in
+    record {
+      bytes = cc;
+      reads = omega arith;
+      reach = omega arith;
+      within = omega arith;
+      stands = stands;
+      tracks = tracks;
+      viable = alive_viable (take (i + 1) t) c.set.new.self.places tracks (ap (λ q. is_dead (position_of q)) (sym next) ∙ after.0);
+    }
+
+pub returns-in_err-state-clause-found : goal.returns-in_err-state-clause-found
+returns-in_err-state-clause-found g c =
+    let t = g.S.ByteSource.bytes c.args.source.now in
+    let i = c.loop-index.index in
+    let known = c.loop-index.invariant in
+    let is_next : c.byte.result ≡ get_or t i 0 = cc in
+    let dead = c.in_err-state.ensures (take i t) known.stands in
+    rw c.from_residual.ensures (dead_next t c.loop-index.marks.places i c.byte.result (omega (arith, c.len-len.ensures)) is_next known.viable known.tracks dead).0
+
+pub returns-in_err-state-clause-reads : goal.returns-in_err-state-clause-reads
+returns-in_err-state-clause-reads g c =
+    let t = g.S.ByteSource.bytes c.args.source.now in
+    let i = c.loop-index.index in
+    let known = c.loop-index.invariant in
+    let is_next : c.byte.result ≡ get_or t i 0 = cc in
+    let dead = c.in_err-state.ensures (take i t) known.stands in
+    let stop = (dead_next t c.loop-index.marks.places i c.byte.result (omega (arith, c.len-len.ensures)) is_next known.viable known.tracks dead).1 in
+    (i + 1, stop, omega arith, omega arith)
+
+pub returns-in-NoTag-clause-found : goal.returns-in-NoTag-clause-found
+returns-in-NoTag-clause-found g c =
+    let t = g.S.ByteSource.bytes c.args.source.now in
+    let known = c.loop-index.invariant in
+    let at : c.loop-index.index ≡ length t = omega (arith, c.len-len.ensures, known.within) in
+    text_ended t c.loop-index.marks.places c.loop-index.index NoTag at known.tracks (sym c.in-NoTag.is ∙ c.ending.ensures.ending (take c.loop-index.index t) known.stands)
+
+pub returns-in-PrivateUse-clause-found : goal.returns-in-PrivateUse-clause-found
+returns-in-PrivateUse-clause-found g c =
+    let t = g.S.ByteSource.bytes c.args.source.now in
+    let known = c.loop-index.invariant in
+    let at : c.loop-index.index ≡ length t = omega (arith, c.len-len.ensures, known.within) in
+    text_ended t c.loop-index.marks.places c.loop-index.index PrivateUse at known.tracks (sym c.in-PrivateUse.is ∙ c.ending.ensures.ending (take c.loop-index.index t) known.stands)
+
+pub returns-in-Irregular-clause-found : goal.returns-in-Irregular-clause-found
+returns-in-Irregular-clause-found g c =
+    let t = g.S.ByteSource.bytes c.args.source.now in
+    let known = c.loop-index.invariant in
+    let at : c.loop-index.index ≡ length t = omega (arith, c.len-len.ensures, known.within) in
+    text_ended t c.loop-index.marks.places c.loop-index.index (Irregular c.in-Irregular.index) at known.tracks (sym c.in-Irregular.is ∙ c.ending.ensures.ending (take c.loop-index.index t) known.stands)
+
+pub returns-in-Normal-clause-found : goal.returns-in-Normal-clause-found
+returns-in-Normal-clause-found g c =
+    let t = g.S.ByteSource.bytes c.args.source.now in
+    let known = c.loop-index.invariant in
+    let at : c.loop-index.index ≡ length t = omega (arith, c.len-len.ensures, known.within) in
+    let ended = text_ended t c.loop-index.marks.places c.loop-index.index (Normal c.in-Normal.last) at known.tracks (sym c.in-Normal.is ∙ c.ending.ensures.ending (take c.loop-index.index t) known.stands) in
+    let ends = c.ends.ensures ∙ ap (λ places. ends_at places c.len-len.result) c.set-in-Normal.ensures ∙ ap (λ n. ends_at (set c.loop-index.marks.places c.in-Normal.last n) n) c.len-len.ensures in
+    subst (λ e. IsFoundOf t (finding.Normal e)) (sym ends) ended
+
+pub returns-in-NoTag-clause-reads : goal.returns-in-NoTag-clause-reads
+returns-in-NoTag-clause-reads g c =
+    let known = c.loop-index.invariant in
+    (c.loop-index.index, whole_stop (g.S.ByteSource.bytes c.args.source.now) c.loop-index.index (omega (arith, c.len-len.ensures, known.within)) known.viable, known.reads, known.reach)
+
+pub returns-in-Normal-clause-reads : goal.returns-in-Normal-clause-reads
+returns-in-Normal-clause-reads g c =
+    let known = c.loop-index.invariant in
+    (c.loop-index.index, whole_stop (g.S.ByteSource.bytes c.args.source.now) c.loop-index.index (omega (arith, c.len-len.ensures, known.within)) known.viable, known.reads, known.reach)
+
+pub returns-in-PrivateUse-clause-reads : goal.returns-in-PrivateUse-clause-reads
+returns-in-PrivateUse-clause-reads g c =
+    let known = c.loop-index.invariant in
+    (c.loop-index.index, whole_stop (g.S.ByteSource.bytes c.args.source.now) c.loop-index.index (omega (arith, c.len-len.ensures, known.within)) known.viable, known.reads, known.reach)
+
+pub returns-in-Irregular-clause-reads : goal.returns-in-Irregular-clause-reads
+returns-in-Irregular-clause-reads g c =
+    let known = c.loop-index.invariant in
+    (c.loop-index.index, whole_stop (g.S.ByteSource.bytes c.args.source.now) c.loop-index.index (omega (arith, c.len-len.ensures, known.within)) known.viable, known.reads, known.reach)

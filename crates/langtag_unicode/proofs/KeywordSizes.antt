@@ -1,0 +1,141 @@
+-- How long a tag may become when a keyword is set or removed.
+use Rattle.std.proofs.Common.{◌≡◌, ℕ, ◌+◌, ◌≤◌, Bool, true, false, cond, List, [], ◌∷◌, ◌++◌, length, find, None, Some, unwrap_or, inl, inr, refl, ap, arith}
+use Rattle.std.proofs.lemmas.Bool.{and_parts}
+use Rattle.std.specs.List.{flat_map}
+use Rattle.std.specs.Option.{is_some}
+use Rattle.langtag_extension.specs.Spelling.{find_extension}
+use Rattle.langtag_likely.proofs.FormLaws.{normal_or_not}
+use Rattle.langtag_likely.proofs.RowsFound.{alike_length}
+use Rattle.langtag_likely.specs.Maximal.{IsForm}
+use Rattle.langtag_scan.specs.Case.{are_alike}
+use Rattle.langtag_scan.specs.Record.{Extension, Record, extension_flat, spell}
+use Rattle.langtag_scan.specs.Subtags.{subtags}
+use Rattle.langtag_scan.specs.Tag.{IsNormal}
+use Rattle.langtag_unicode.specs.Edit.{at_place, belongs, changed_from, edited_record, extension_of, is_place, is_place_of_u, is_this_key, put_keyword, with_keyword, without_keyword, without_within}
+use Rattle.langtag_unicode.specs.Keywords.{is_key}
+use Rattle.langtag_unicode.proofs.ExtensionsPut.{flat-last}
+use Rattle.langtag_unicode.proofs.FormSizes.{extensions-length, size, size-append, subtags-size}
+use Rattle.langtag_unicode.proofs.KeywordEdits.{u-here, u-later}
+
+-- ---- the subtags of `u`
+
+without-size : (key : List ℕ) (inside : Bool) (ss : List (List ℕ)) → size (without_within key inside ss) ≤ size ss
+without-size key inside [] = omega arith
+without-size key inside (s ∷ ss) = by_test (belongs key inside s) (without-size key true ss) (without-size key false ss)
+  where
+    by_test :
+        (b : Bool) → size (without_within key true ss) ≤ size ss → size (without_within key false ss) ≤ size ss →
+        size (cond b (without_within key true ss) (s ∷ without_within key false ss)) ≤ size (s ∷ ss)
+    by_test true gone kept = omega (arith, gone)
+    by_test false gone kept = omega (arith, kept)
+
+put-size : (key : List ℕ) (stands : Bool) (keyword ss : List (List ℕ)) → size (put_keyword key stands keyword ss) ≤ size keyword + size ss
+put-size key stands keyword [] = omega arith
+put-size key stands keyword (s ∷ ss) =
+    let less = without-size key false (s ∷ ss) in
+    let both = size-append keyword (without_keyword key (s ∷ ss)) in
+    by_test (is_place key stands s) (omega (arith, less, both)) (put-size key stands keyword ss)
+  where
+    by_test :
+        (b : Bool) → size (keyword ++ without_keyword key (s ∷ ss)) ≤ size keyword + size (s ∷ ss) → size (put_keyword key stands keyword ss) ≤ size keyword + size ss →
+        size (cond b (keyword ++ without_keyword key (s ∷ ss)) (s ∷ put_keyword key stands keyword ss)) ≤ size keyword + size (s ∷ ss)
+    by_test true here later = here
+    by_test false here later = omega (arith, later)
+
+-- a key that stands there is as long as the key
+standing-size : (key : List ℕ) (ss : List (List ℕ)) → length (unwrap_or (find (is_this_key key) ss) key) ≡ length key
+standing-size key [] = refl
+standing-size key (s ∷ ss) = by_test (is_this_key key s) refl (standing-size key ss)
+  where
+    by_test :
+        (b : Bool) → is_this_key key s ≡ b → length (unwrap_or (find (is_this_key key) ss) key) ≡ length key →
+        length (unwrap_or (cond b (Some s) (find (is_this_key key) ss)) key) ≡ length key
+    by_test true is later = alike_length s key (and_parts (is_key s) (are_alike s key) is).1
+    by_test false is later = later
+
+with-size : (key : List ℕ) (value ss : List (List ℕ)) → size (with_keyword key value ss) ≤ (length key + 1 + size value) + size ss
+with-size key value ss =
+    let all = put-size key (is_some (find (is_this_key key) ss)) (unwrap_or (find (is_this_key key) ss) key ∷ value) ss in
+    let same = standing-size key ss in
+    omega (arith, all, same)
+
+-- ---- extensions
+
+extension-size : (singleton : ℕ) (ss : List (List ℕ)) → size (flat_map extension_flat (extension_of singleton ss)) ≤ 2 + size ss
+extension-size singleton [] = omega arith
+extension-size singleton (s ∷ ss) = let all = size-append ((singleton ∷ []) ∷ s ∷ ss) [] in omega (arith, all)
+
+-- subtags that are more by some bytes, and a new `u` of some bytes
+module _
+    (change : List (List ℕ) → List (List ℕ)) (extra fresh : ℕ) (grows : (ss : List (List ℕ)) → size (change ss) ≤ extra + size ss)
+    (new : size (flat_map extension_flat (extension_of 117 (change []))) ≤ fresh) (most : extra ≤ fresh)
+  where
+    place-size : (stands : Bool) (e : Extension) → size (flat_map extension_flat (at_place change stands e)) ≤ fresh + size (extension_flat e)
+    place-size true e =
+        let whole = extension-size e.singleton (change e.subtags) in
+        let more = grows e.subtags in
+        omega (arith, whole, more, most)
+    place-size false e =
+        let same = ap size (flat-last (extension_of 117 (change [])) e) in
+        let both = size-append (flat_map extension_flat (extension_of 117 (change []))) (extension_flat e) in
+        omega (arith, same, both, new)
+
+    changed-size : (stands : Bool) (es : List Extension) → size (flat_map extension_flat (changed_from change stands es)) ≤ fresh + size (flat_map extension_flat es)
+    changed-size stands [] = omega (arith, new)
+    changed-size stands (e ∷ es) = by_test (is_place_of_u stands e) refl (changed-size stands es)
+      where
+        by_test :
+            (b : Bool) → is_place_of_u stands e ≡ b → size (flat_map extension_flat (changed_from change stands es)) ≤ fresh + size (flat_map extension_flat es) →
+            size (flat_map extension_flat (changed_from change stands (e ∷ es))) ≤ fresh + size (flat_map extension_flat (e ∷ es))
+        by_test true is later =
+            let same = ap size (u-here change stands e es is) in
+            let both = size-append (flat_map extension_flat (at_place change stands e)) (flat_map extension_flat es) in
+            let old = size-append (extension_flat e) (flat_map extension_flat es) in
+            let here = place-size stands e in
+            omega (arith, same, both, old, here)
+        by_test false is later =
+            let same = ap size (u-later change stands e es is) in
+            let both = size-append (extension_flat e) (flat_map extension_flat (changed_from change stands es)) in
+            let old = size-append (extension_flat e) (flat_map extension_flat es) in
+            omega (arith, same, both, old, later)
+
+-- ---- the whole tag
+
+value-size : (value : List ℕ) → size (subtags value) ≤ length value + 1
+value-size [] = omega arith
+value-size (b ∷ value) = let all = subtags-size (b ∷ value) (omega arith) in omega (arith, all)
+
+set_length : (key value : List ℕ) (r : Record) → length (spell (edited_record key (Some (subtags value)) r)) ≤ length (spell r) + length key + length value + 4
+unfolding edited_record
+set_length key value r =
+    let change = with_keyword key (subtags value) in
+    let extra = length key + 1 + size (subtags value) in
+    let stands = is_some (find_extension 117 r.extensions) in
+    let one = extension-size 117 (change []) in
+    let many = with-size key (subtags value) [] in
+    let all = changed-size change extra (2 + extra) (with-size key (subtags value)) (omega (arith, one, many)) (omega arith) stands r.extensions in
+    let whole = extensions-length r (changed_from change stands r.extensions) in
+    let short = value-size value in
+    omega (arith, all, whole, short)
+
+removed_length : (key : List ℕ) (r : Record) → length (spell (edited_record key None r)) ≤ length (spell r)
+unfolding edited_record
+removed_length key r =
+    let stands = is_some (find_extension 117 r.extensions) in
+    let all = changed-size (without_keyword key) 0 0 (λ ss. let less = without-size key false ss in omega (arith, less)) (omega arith) (omega arith) stands r.extensions in
+    let whole = extensions-length r (changed_from (without_keyword key) stands r.extensions) in
+    omega (arith, all, whole)
+
+pub set_bounded : (key value old new : List ℕ) → IsForm (edited_record key (Some (subtags value))) old new → length new ≤ length old + length key + length value + 4
+unfolding IsNormal
+set_bounded key value old new is = elim (normal_or_not old) [
+  | inl here ↦ let long = set_length key value here.0 in omega (arith, long, ap length (is.parts here.0 here.1), ap length here.1.1)
+  | inr other ↦ omega (arith, ap length (is.kept other))
+]
+
+pub removed_bounded : (key old new : List ℕ) → IsForm (edited_record key None) old new → length new ≤ length old
+unfolding IsNormal
+removed_bounded key old new is = elim (normal_or_not old) [
+  | inl here ↦ let long = removed_length key here.0 in omega (arith, long, ap length (is.parts here.0 here.1), ap length here.1.1)
+  | inr other ↦ omega (arith, ap length (is.kept other))
+]
