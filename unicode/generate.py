@@ -1,6 +1,6 @@
 #!/usr/bin/env python3
-"""Writes the tables and the lists of the crate langtag_unicode from Unicode's CLDR, whose aliases of types and of subdivisions are in
-data/.
+"""Writes the tables and the lists of the crate langtag_unicode from Unicode's CLDR. The aliases of types, of subdivisions and of language
+identifiers are in data/. The aliases of regions are those of langtag_likely, in ../likely/data.
 
 usage: generate.py            writes them from the data whose checksums are in data.sha256
        generate.py --accept   writes them from newer data, and their checksums
@@ -16,24 +16,33 @@ import pathlib
 import re
 import sys
 
+from identifiers import Identifiers
+
 HERE = pathlib.Path(__file__).resolve().parent
 DATA = HERE / "data"
 CHECKSUMS = HERE / "data.sha256"
 CRATES = HERE.parent / "crates"
+LIKELY = HERE.parent / "likely/data"
+REGISTRY = HERE.parent / "registry/language-subtag-registry"
 
 SUBTAG = re.compile(r"[a-z0-9]{3,8}")
 KEYS = {"u": re.compile(r"[a-z0-9][a-z]"), "t": re.compile(r"[a-z][0-9]")}
 SUBDIVISION = re.compile(r"[a-z]{2}[a-z0-9]{1,4}|[0-9]{3}[a-z0-9]{1,4}")
 
 
-def read(name: str) -> list[list[str]]:
+def read_rows(path: pathlib.Path) -> list[list[str]]:
     """Returns the rows of a data file, each as a list of words."""
-    return [line.split() for line in (DATA / name).read_text(encoding="utf-8").splitlines() if not line.startswith("#")]
+    return [line.split() for line in path.read_text(encoding="utf-8").splitlines() if not line.startswith("#")]
+
+
+def read(name: str) -> list[list[str]]:
+    return read_rows(DATA / name)
 
 
 def version() -> str:
     """Returns the version of CLDR, which the head of each data file names."""
-    found = {path.name: re.search(r"^# .*Unicode CLDR ([0-9.]+) ", path.read_text(encoding="utf-8"), re.M) for path in DATA.glob("*.txt")}
+    paths = [*DATA.glob("*.txt"), LIKELY / "language-alias.txt", LIKELY / "region-alias.txt"]
+    found = {str(path): re.search(r"^# .*Unicode CLDR ([0-9.]+) ", path.read_text(encoding="utf-8"), re.M) for path in paths}
     versions = {name: said[1] if said else "none" for name, said in found.items()}
     if len(set(versions.values())) != 1 or "none" in versions.values():
         sys.exit(f"the heads of the data do not name one version of CLDR: {versions}")
@@ -87,6 +96,23 @@ class Aliases:
         each_subdivision("a right side is at most twice as long", lambda row: len(row[1]) <= 2 * len(row[0]))
 
 
+def preferred() -> list[tuple[str, str]]:
+    """Returns the tags and subtags of IANA's registry that have a Preferred-Value, each as a language identifier, with that value."""
+    shapes = {"language": "{}", "region": "und-{}", "variant": "und-{}", "grandfathered": "{}", "redundant": "{}"}
+    found = []
+    for record in REGISTRY.read_text(encoding="utf-8").split("%%\n"):
+        lines = dict(line.split(": ", 1) for line in record.splitlines() if re.match("(Type|Subtag|Tag|Preferred-Value): ", line))
+        if lines.get("Type") in shapes and "Preferred-Value" in lines:
+            shape = shapes[lines["Type"]]
+            found.append((shape.format(lines.get("Subtag") or lines["Tag"]).lower(), shape.format(lines["Preferred-Value"]).lower()))
+    return found
+
+
+def identifiers() -> Identifiers:
+    languages = {old: tuple(text.strip("-").lower() for text in new) for old, *new in read_rows(LIKELY / "language-alias.txt")}
+    return Identifiers(read("language-alias.txt"), languages, read_rows(LIKELY / "region-alias.txt"), preferred())
+
+
 def in_lines(items, width=116):
     lines, line = [], "   "
     for item in items:
@@ -98,56 +124,94 @@ def in_lines(items, width=116):
 
 
 def table(name, doc, kind, rows):
-    items = ["(" + ", ".join(f'"{text}"' for text in row) + ")" for row in rows]
+    texts = [", ".join(f'"{text}"' for text in row) for row in rows]
+    items = [f"({text})" if kind.startswith("(") else text for text in texts]
     return f"/// {doc}\n#[rattlefmt::skip]\npub(crate) static {name}: [{kind}; {len(items)}] = [\n{in_lines(items)}\n];\n"
 
 
 def tables(aliases: Aliases) -> str:
     return "\n".join([
-        f"//! The aliases of Unicode's CLDR {version()}, in tables (the notice: unicode/LICENSE-UNICODE). Written by unicode/generate.py. Do not edit.\n",
+        HEAD_OF_TABLES.format(what="The aliases", version=version()),
         table("UNICODE_TYPE_ALIASES", "The types of the extension `u` that are replaced: a key, the old type and the new type.", "(&str, &str, &str)", aliases.types["u"]),
         table("TRANSFORM_TYPE_ALIASES", "The types of the extension `t` that are replaced: a key, the old type and the new type.", "(&str, &str, &str)", aliases.types["t"]),
         table("SUBDIVISION_ALIASES", "The subdivisions that are replaced: the old code and the new code.", "(&str, &str)", aliases.subdivisions),
     ])
 
 
+HEAD_OF_TABLES = "//! {what} of Unicode's CLDR {version}, in tables (the notice: unicode/LICENSE-UNICODE). Written by unicode/generate.py. Do not edit.\n"
+HEAD_OF_LISTS = """-- {what} of Unicode's CLDR {version} (the notice: unicode/LICENSE-UNICODE). Written by unicode/generate.py. Do not edit.
+use Rattle.std.specs.Prelude.{{{names}}}
+use Rattle.std.specs.List.{{flat_map}}
+use Rattle.langtag_tables.specs.Words.{{words}}
+use Rattle.langtag_unicode.specs.Alias.{{Alias, TypeAlias, aliases_of, type_aliases_of}}
+"""
+
+
 def word_list(name, doc, kind, reader, rows):
     """Returns a list of words, with several rows in each literal."""
     rows = [" ".join(row) for row in rows]
     texts = "\n    ∷ ".join(f"codes \"{' '.join(rows[i:i + 16])}\"" for i in range(0, len(rows), 16))
-    return f"-- {doc}\nunfoldable pub {name} : List {kind}\n{name} =\n    flat_map (λ text. {reader} (words text))\n    ({texts}\n    ∷ [])\n"
+    return f"-- {doc}\nunfoldable pub {name} : List {kind}\n{name} =\n    flat_map (λ text. {reader})\n    ({texts}\n    ∷ [])\n"
 
 
 def lists(aliases: Aliases) -> str:
     return "\n".join([
-        f"-- The aliases of Unicode's CLDR {version()} (the notice: unicode/LICENSE-UNICODE). Written by unicode/generate.py. Do not edit.\n"
-        "use Rattle.std.specs.Prelude.{[], ◌∷◌, List, codes}\nuse Rattle.std.specs.List.{flat_map}\n"
-        "use Rattle.langtag_tables.specs.Words.{words}\n"
-        "use Rattle.langtag_unicode.specs.Alias.{Alias, TypeAlias, aliases_of, type_aliases_of}\n",
-        word_list("unicode_type_aliases", "the types of the extension u that are replaced: a key, the old type and the new type", "TypeAlias", "type_aliases_of", aliases.types["u"]),
-        word_list("transform_type_aliases", "the types of the extension t that are replaced: a key, the old type and the new type", "TypeAlias", "type_aliases_of", aliases.types["t"]),
-        word_list("subdivision_aliases", "the subdivisions that are replaced: the old code, and the first code that replaces it, with `zzzz` after a code that is a region", "Alias", "aliases_of", aliases.subdivisions),
+        HEAD_OF_LISTS.format(what="The aliases", version=version(), names="[], ◌∷◌, List, codes"),
+        word_list("unicode_type_aliases", "the types of the extension u that are replaced: a key, the old type and the new type", "TypeAlias", TYPE_ALIASES, aliases.types["u"]),
+        word_list("transform_type_aliases", "the types of the extension t that are replaced: a key, the old type and the new type", "TypeAlias", TYPE_ALIASES, aliases.types["t"]),
+        word_list("subdivision_aliases", "the subdivisions that are replaced: the old code, and the first code that replaces it, with `zzzz` after a code that is a region", "Alias", ALIASES, aliases.subdivisions),
     ])
 
 
-def written(crates: pathlib.Path, aliases: Aliases) -> dict[pathlib.Path, str]:
+def rules(identifiers: Identifiers):
+    """Returns the aliases of language identifiers: for each list its name, what it has, and its rows."""
+    return [
+        ("variant_languages", "the languages that change with a variant: the language, the variant and the new language", identifiers.variant_languages),
+        ("sign_languages", "the regions after `sgn`, each with its sign language", identifiers.sign_languages),
+        ("variant_pairs", "the variants that are replaced together with a second variant: the variant, the second variant, and the new variant", identifiers.variant_pairs),
+        ("variant_aliases", "the variants that are replaced: the old variant and the new variant", identifiers.variant_aliases),
+        ("dropped_variants", "the variants that are left out", [(variant,) for variant in identifiers.dropped_variants]),
+        ("variant_regions", "the variants that stand for a region, each with its region", identifiers.variant_regions),
+        ("script_aliases", "the scripts that are replaced: the old script and the new script", identifiers.script_aliases),
+        ("region_heirs", "the regions that one of several regions replaces, each with those regions", identifiers.several),
+    ]
+
+
+TYPE_ALIASES, ALIASES = "type_aliases_of (words text)", "aliases_of (words text)"
+KINDS = {1: ("&str", "(List ℕ)", "words text"), 2: ("(&str, &str)", "Alias", ALIASES), 3: ("(&str, &str, &str)", "TypeAlias", TYPE_ALIASES)}
+
+
+def rule_tables(identifiers: Identifiers) -> str:
+    return "\n".join([HEAD_OF_TABLES.format(what="The aliases of language identifiers", version=version())] + [
+        table(name.upper(), f"{doc[0].upper()}{doc[1:]}.", KINDS[len(rows[0])][0], rows) for name, doc, rows in rules(identifiers)
+    ])
+
+
+def rule_lists(identifiers: Identifiers) -> str:
+    return "\n".join([HEAD_OF_LISTS.format(what="The aliases of language identifiers", version=version(), names="ℕ, [], ◌∷◌, List, codes")] + [
+        word_list(name, doc, *KINDS[len(rows[0])][1:], rows) for name, doc, rows in rules(identifiers)
+    ])
+
+
+def written(crates: pathlib.Path, aliases: Aliases, identifiers: Identifiers) -> dict[pathlib.Path, str]:
     """Returns the files that are made from the data: the path and the text of each."""
     crate = crates / "langtag_unicode"
-    return {crate / "src/alias_tables.rt": tables(aliases), crate / "specs/Aliases.antt": lists(aliases)}
+    return {crate / "src/alias_tables.rt": tables(aliases), crate / "specs/Aliases.antt": lists(aliases),
+            crate / "src/locale_tables.rt": rule_tables(identifiers), crate / "specs/LocaleAliases.antt": rule_lists(identifiers)}
 
 
 def main(words: list[str], crates: pathlib.Path) -> bool:
     check, accept = words == ["--check"], words == ["--accept"]
     if words and not check and not accept:
         sys.exit(__doc__)
-    aliases = Aliases()
+    aliases, rows = Aliases(), identifiers()
     is_known = CHECKSUMS.is_file() and checksums() == CHECKSUMS.read_text(encoding="utf-8")
     told = []
     if not is_known:
         told.append(f"the data are not those of {CHECKSUMS.name}")
         if not check and not accept:
             sys.exit(f"{told[0]}; --accept takes newer ones")
-    for path, text in written(crates, aliases).items():
+    for path, text in written(crates, aliases, rows).items():
         if check and (not path.is_file() or path.read_text(encoding="utf-8") != text):
             told.append(f"{path.name} would be written otherwise")
         elif not check:

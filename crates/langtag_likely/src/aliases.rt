@@ -19,7 +19,7 @@ use crate::tag_fields::TagFields;
 /// Returns the fields with the language replaced if CLDR replaces it, and with the script or the region that comes
 /// with the new language.
 #[tactic(auto, unfolding(crate::specs::Matching::language_replaced))]
-pub(crate) fn language_replaced<'a>(fields: TagFields<'a>) -> TagFields<'a>
+pub fn language_replaced<'a>(fields: TagFields<'a>) -> TagFields<'a>
     ensures { field_texts result ≡ spec.language_replaced (field_texts fields.entry) }
 {
     match language_alias(fields) {

@@ -39,6 +39,11 @@ pub use posix_error::PosixError;
 pub use suggestion::{suggested_language, suggested_region};
 pub use tables::CLDR_VERSION;
 
+// For langtag_unicode.
+pub use aliases::language_replaced;
+pub use likely::add_likely;
+pub use suggestion::region_replacement;
+
 // For langtag_choice.
 pub use keys::index_of;
 pub use likely::suffices;

@@ -9,7 +9,7 @@ use crate::rows::likely_for;
 use crate::tag_fields::TagFields;
 
 /// Returns the fields with the likely subtag in place of each empty field, or `None` if no row fits.
-pub(crate) fn add_likely<'a>(fields: TagFields<'a>) -> Option<TagFields<'a>>
+pub fn add_likely<'a>(fields: TagFields<'a>) -> Option<TagFields<'a>>
     ensures { option_map field_texts result ≡ add_likely likely_subtags (field_texts fields.entry) }
 {
     match looked_up(fields) {

@@ -5,7 +5,10 @@ ghost use Rattle.langtag_scan.specs.Case.{folded_number};
 ghost use Rattle.langtag_scan.specs.Class.{are_alphanumeric};
 ghost use Rattle.langtag_tables.specs.Numbers.{climbs_from};
 ghost use Rattle.langtag_likely.specs.Aliases.{region_replacements};
+ghost use Rattle.langtag_likely.specs.Likely.{likely_for};
+ghost use Rattle.langtag_likely.specs.Matching.{region_alone};
 ghost use Rattle.langtag_likely.specs.Suggestion as spec;
+ghost use Rattle.langtag_likely.specs.Texts.{field_texts};
 ghost use Rattle.langtag_likely.specs.declared.alias_tables.TheConstants.{REPLACEMENT_NAMES};
 
 use crate::alias_tables as tables;
@@ -66,6 +69,19 @@ pub fn suggested_region(code: &str) -> Option<&'static str>
     }
     let index = index_of(replacement_keys(), code.as_bytes())?;
     Some(text_of(name_at(&tables::REPLACEMENT_NAMES, index)))
+}
+
+/// Returns the replacement of the region by one other region, if there is one, including regions of three digits.
+#[tactic(auto, using(crate::proofs::FieldClasses::region_length))]
+pub fn region_replacement(fields: TagFields<'_>) -> Option<TagFields<'static>>
+    ensures { option_map field_texts result ≡ likely_for region_replacements (region_alone (field_texts fields.entry)) }
+{
+    let index = index_of(replacement_keys(), fields.region)?;
+    Some(TagFields {
+        language: b"",
+        script: b"",
+        region: name_at(&tables::REPLACEMENT_NAMES, index),
+    })
 }
 
 /// Returns a name of the tables as a text.

@@ -10,4 +10,6 @@ pub mod Head
 pub mod Marks
 pub mod Edit
 pub mod Locale
+pub mod LocaleAliases
+pub mod LocaleForm
 pub mod EditText

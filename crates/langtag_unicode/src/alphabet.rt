@@ -43,7 +43,7 @@ fn first_after<'a>(rest: Option<&'a str>, last: Option<&str>) -> Option<&'a str>
 }
 
 /// Returns whether a subtag comes after `last`, or there is no `last`.
-fn is_after(subtag: &str, last: Option<&str>) -> bool
+pub(crate) fn is_after(subtag: &str, last: Option<&str>) -> bool
     ensures { result ≡ is_after (fold_text subtag.now) (option_map (λ t. fold_text t.now) last.entry) }
 {
     match last {
@@ -53,7 +53,7 @@ fn is_after(subtag: &str, last: Option<&str>) -> bool
 }
 
 /// Returns whether a subtag comes before `best`, or there is no `best`.
-fn is_before_best(subtag: &str, best: Option<&str>) -> bool
+pub(crate) fn is_before_best(subtag: &str, best: Option<&str>) -> bool
     ensures { result ≡ is_before_best (fold_text subtag.now) (option_map (λ t. fold_text t.now) best.entry) }
 {
     match best {

@@ -190,7 +190,7 @@ pub(crate) fn subtags_of<'a>(extension: Extension<'a>) -> &'a str
 }
 
 /// Appends the canonical form of the extension `u` with these subtags.
-fn push_unicode(out: &mut Output<'_>, text: &str)
+pub(crate) fn push_unicode(out: &mut Output<'_>, text: &str)
     requires { AllByRecursion IsSubtag (subtags text.now) }
     ensures same_buffer { out.new.buffer.ghost_name ≡ out.old.buffer.ghost_name }
     ensures pushed { Pushes ((117 ∷ []) ∷ spec.unicode_form (subtags text.now)) out.old out.new }

@@ -55,7 +55,7 @@ pub(crate) fn is_unicode_language(subtag: &str) -> bool
 }
 
 /// Returns the script at the start, if there is one, and the rest.
-fn take_script<'a>(rest: Option<&'a str>) -> (Option<&'a str>, Option<&'a str>)
+pub(crate) fn take_script<'a>(rest: Option<&'a str>) -> (Option<&'a str>, Option<&'a str>)
     ensures script { one_flat (option_map (λ t. t.now) result.0) ≡ spec.one_of is_script (segments_left rest.entry) }
     ensures others { segments_left result.1 ≡ spec.after_one is_script (segments_left rest.entry) }
 {
@@ -69,7 +69,7 @@ fn take_script<'a>(rest: Option<&'a str>) -> (Option<&'a str>, Option<&'a str>)
 }
 
 /// Returns the region at the start, if there is one, and the rest.
-fn take_region<'a>(rest: Option<&'a str>) -> (Option<&'a str>, Option<&'a str>)
+pub(crate) fn take_region<'a>(rest: Option<&'a str>) -> (Option<&'a str>, Option<&'a str>)
     ensures region { one_flat (option_map (λ t. t.now) result.0) ≡ spec.one_of is_region (segments_left rest.entry) }
     ensures others { segments_left result.1 ≡ spec.after_one is_region (segments_left rest.entry) }
 {
@@ -98,7 +98,7 @@ fn are_variants(rest: Option<&str>) -> bool
     true
 }
 
-fn is_among(rest: Option<&str>, variant: &str) -> bool
+pub(crate) fn is_among(rest: Option<&str>, variant: &str) -> bool
     ensures { result ≡ list_any (are_alike variant.now) (segments_left rest.entry) }
 {
     let mut rest = rest;

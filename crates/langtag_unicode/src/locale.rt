@@ -46,7 +46,7 @@ pub fn is_locale(tag: LangTag<'_>) -> bool
 }
 
 /// Returns whether a normal tag is a Unicode locale identifier.
-fn is_locale_record(tag: NormalLangTag<'_>) -> bool
+pub(crate) fn is_locale_record(tag: NormalLangTag<'_>) -> bool
     ensures { model.EachRecord (normal_lang_tag_text tag.entry) (λ r. result ≡ spec.is_locale_record r) }
 {
     has_unicode_language(tag)

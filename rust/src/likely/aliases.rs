@@ -12,7 +12,7 @@ use crate::likely::tag_fields::TagFields;
 /// Returns the fields with the language replaced if CLDR replaces it, and with the script or the region that comes
 /// with the new language.
 #[inline]
-pub(crate) fn language_replaced<'a>(fields: TagFields<'a>) -> TagFields<'a> {
+pub fn language_replaced<'a>(fields: TagFields<'a>) -> TagFields<'a> {
     match language_alias(fields) {
         Some(other) => fields.with_language(other),
         None => fields,

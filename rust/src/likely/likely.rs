@@ -7,7 +7,7 @@ use crate::likely::tag_fields::TagFields;
 
 /// Returns the fields with the likely subtag in place of each empty field, or `None` if no row fits.
 #[inline]
-pub(crate) fn add_likely<'a>(fields: TagFields<'a>) -> Option<TagFields<'a>> {
+pub fn add_likely<'a>(fields: TagFields<'a>) -> Option<TagFields<'a>> {
     match looked_up(fields) {
         Some(likely) => Some(fields.filled(likely)),
         None => None,

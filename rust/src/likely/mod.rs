@@ -48,6 +48,11 @@ pub use posix_error::PosixError;
 pub use suggestion::{suggested_language, suggested_region};
 pub use tables::CLDR_VERSION;
 
+// For langtag_unicode.
+pub(crate) use aliases::language_replaced;
+pub(crate) use likely::add_likely;
+pub(crate) use suggestion::region_replacement;
+
 // For langtag_choice.
 pub(crate) use keys::index_of;
 pub(crate) use likely::suffices;

@@ -56,6 +56,16 @@ pub fn suggested_region(code: &str) -> Option<&'static str> {
     Some(text_of(name_at(&tables::REPLACEMENT_NAMES, index)))
 }
 
+/// Returns the replacement of the region by one other region, if there is one, including regions of three digits.
+pub fn region_replacement(fields: TagFields<'_>) -> Option<TagFields<'static>> {
+    let index = index_of(replacement_keys(), fields.region)?;
+    Some(TagFields {
+        language: b"",
+        script: b"",
+        region: name_at(&tables::REPLACEMENT_NAMES, index),
+    })
+}
+
 /// Returns a name of the tables as a text.
 #[inline]
 fn text_of(name: &'static [u8]) -> &'static str {

@@ -4,7 +4,9 @@
 
 use crate::output::write_text;
 use crate::registry::canonical_parts::put_canonical_parts;
-use crate::registry::form::{form_of, Form};
+#[cfg(feature = "alloc")]
+use crate::registry::form::form_of;
+use crate::registry::form::Form;
 use crate::registry::preferred::preferred_for;
 #[cfg(feature = "alloc")]
 use crate::shim::{try_vec, AllocError};
@@ -71,6 +73,7 @@ pub fn canonical(tag: LangTag<'_>) -> Result<LangTagBuf, AllocError> {
 /// ```
 ///
 /// [RFC 5646 section 4.5]: https://www.rfc-editor.org/rfc/rfc5646#section-4.5
+#[cfg(feature = "alloc")]
 #[inline]
 pub fn is_canonical(tag: LangTag<'_>) -> bool {
     matches!(form_of(tag), Form::Same)
@@ -91,6 +94,7 @@ pub fn is_canonical(tag: LangTag<'_>) -> bool {
 /// # Ok(())
 /// # }
 /// ```
+#[cfg(feature = "alloc")]
 pub fn write_canonical(tag: LangTag<'_>, buffer: &mut [u8]) -> usize {
     match form_of(tag) {
         Form::Same => write_text(tag.as_bytes(), buffer),

@@ -64,7 +64,10 @@ fn transform_value<'a>(key: &[u8], value: &'a str) -> &'a str {
 }
 
 /// Returns the replacement of a text, if there is one.
-fn alias_for(rows: &'static [(&'static str, &'static str)], text: &[u8]) -> Option<&'static str> {
+pub(crate) fn alias_for(
+    rows: &'static [(&'static str, &'static str)],
+    text: &[u8],
+) -> Option<&'static str> {
     let mut rows = rows;
     while let [(old, new), others @ ..] = rows {
         if case_insensitive_eq(old.as_bytes(), text) {
@@ -76,7 +79,7 @@ fn alias_for(rows: &'static [(&'static str, &'static str)], text: &[u8]) -> Opti
 }
 
 /// Returns the replacement of a type of a key, if there is one.
-fn type_alias_for(
+pub(crate) fn type_alias_for(
     rows: &'static [(&'static str, &'static str, &'static str)],
     key: &[u8],
     text: &[u8],

@@ -164,7 +164,7 @@ pub(crate) fn subtags_of<'a>(extension: Extension<'a>) -> &'a str {
 
 /// Appends the canonical form of the extension `u` with these subtags.
 #[inline]
-fn push_unicode(out: &mut Output<'_>, text: &str) {
+pub(crate) fn push_unicode(out: &mut Output<'_>, text: &str) {
     out.push_subtag(b"u");
     push_in_alphabet(out, preceding(text, Keys::Unicode));
     push_keywords(out, text, Keys::Unicode);

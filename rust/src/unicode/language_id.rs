@@ -40,7 +40,7 @@ pub(crate) fn is_unicode_language(subtag: &str) -> bool {
 }
 
 /// Returns the script at the start, if there is one, and the rest.
-fn take_script<'a>(rest: Option<&'a str>) -> (Option<&'a str>, Option<&'a str>) {
+pub(crate) fn take_script<'a>(rest: Option<&'a str>) -> (Option<&'a str>, Option<&'a str>) {
     if let Some(text) = rest {
         let (first, others) = split_first(text);
         if is_script(first.as_bytes()) {
@@ -51,7 +51,7 @@ fn take_script<'a>(rest: Option<&'a str>) -> (Option<&'a str>, Option<&'a str>) 
 }
 
 /// Returns the region at the start, if there is one, and the rest.
-fn take_region<'a>(rest: Option<&'a str>) -> (Option<&'a str>, Option<&'a str>) {
+pub(crate) fn take_region<'a>(rest: Option<&'a str>) -> (Option<&'a str>, Option<&'a str>) {
     if let Some(text) = rest {
         let (first, others) = split_first(text);
         if is_region(first.as_bytes()) {
@@ -75,7 +75,7 @@ fn are_variants(rest: Option<&str>) -> bool {
     true
 }
 
-fn is_among(rest: Option<&str>, variant: &str) -> bool {
+pub(crate) fn is_among(rest: Option<&str>, variant: &str) -> bool {
     let mut rest = rest;
     while let Some(text) = rest {
         let (other, others) = split_first(text);

@@ -41,7 +41,7 @@ pub fn is_locale(tag: LangTag<'_>) -> bool {
 
 /// Returns whether a normal tag is a Unicode locale identifier.
 #[inline]
-fn is_locale_record(tag: NormalLangTag<'_>) -> bool {
+pub(crate) fn is_locale_record(tag: NormalLangTag<'_>) -> bool {
     has_unicode_language(tag)
         && tag.repeated_variant().is_none()
         && tag.repeated_singleton().is_none()

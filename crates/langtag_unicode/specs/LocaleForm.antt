@@ -1,0 +1,175 @@
+-- The canonical form of a Unicode locale identifier (UTS #35, part 1, Annex C, 'LocaleId Canonicalization'). The annex
+-- repeats the rules of CLDR until none fits. For CLDR's data, seven steps have the same result.
+use Rattle.std.specs.Prelude.{ℕ, Bool, List, [], ◌∷◌, ◌++◌, Option, None, Some, codes, find, if◌then◌else◌, ◌||◌, unwrap_or}
+use Rattle.std.specs.List.{flat_map, fold, list_any}
+use Rattle.std.specs.Option.{is_some, option_map, option_map_or}
+use Rattle.langtag.specs.Part.{PartOf}
+use Rattle.langtag_case.specs.RecommendedCase.{recommended_text}
+use Rattle.langtag_extension.specs.Spelling.{find_extension}
+use Rattle.langtag_likely.specs.Aliases.{region_replacements}
+use Rattle.langtag_likely.specs.Likely.{Fields, add_likely, known, likely_for, or_else, or_other}
+use Rattle.langtag_likely.specs.LikelySubtags.{likely_subtags}
+use Rattle.langtag_likely.specs.Matching.{language_replaced, region_alone}
+use Rattle.langtag_likely.specs.Maximal.{subtag_of}
+use Rattle.langtag_scan.specs.Case.{are_alike}
+use Rattle.langtag_scan.specs.Class.{is_region, is_script}
+use Rattle.langtag_scan.specs.Record.{Extension, Record, one_flat, spell}
+use Rattle.langtag_scan.specs.Subtags.{segments}
+use Rattle.langtag_unicode.specs.Alias.{TypeAlias, alias_for, type_alias_for}
+use Rattle.langtag_unicode.specs.Form.{after_one, in_alphabet, is_of, keywords_form, one_of, transform_value, unicode_form}
+use Rattle.langtag_unicode.specs.Keywords.{before_key}
+use Rattle.langtag_unicode.specs.Locale.{is_locale_record}
+use Rattle.langtag_unicode.specs.LocaleAliases.{dropped_variants, region_heirs, script_aliases, sign_languages, variant_aliases, variant_languages, variant_pairs, variant_regions}
+use Rattle.langtag_unicode.specs.Transform.{is_field_key}
+
+-- ---- the language, the script and the region
+
+abbrev pub with_language : Fields → List ℕ → Fields
+with_language f language = record { language = language; script = f.script; region = f.region }
+
+abbrev pub with_region : Fields → List ℕ → Fields
+with_region f region = record { language = f.language; script = f.script; region = region }
+
+-- whether a variant is among variants, ignoring case
+abbrev pub has_variant : List (List ℕ) → List ℕ → Bool
+has_variant variants variant = list_any (are_alike variant) variants
+
+-- a language, or the new language if the alias has this language and one of the variants
+abbrev pub language_after : List (List ℕ) → List ℕ → TypeAlias → List ℕ
+language_after variants language alias = if are_alike alias.key language && has_variant variants alias.old then alias.new else language
+
+-- the language with a variant becomes a language, by each alias that fits: `hy-arevmda` becomes `hyw`
+unfoldable pub variant_language : List (List ℕ) → Fields → Fields
+variant_language variants f = with_language f (fold (language_after variants) f.language variant_languages)
+
+-- `sgn` with a region becomes a language: `sgn-DE` becomes `gsg`
+unfoldable pub sign_language : Fields → Fields
+sign_language f =
+    if are_alike f.language (codes "sgn") then option_map_or (λ language. record { language = language; script = f.script; region = [] }) (alias_for sign_languages f.region) f else f
+
+-- a variant brings its region if there is no region: `aaland` brings `AX`
+unfoldable pub variant_region : List (List ℕ) → Fields → Fields
+variant_region variants f =
+    with_region f (or_other f.region (option_map_or (λ alias. alias.new) (find (λ alias. has_variant variants alias.old) variant_regions) []))
+
+-- the likely region of the language and the script, or the empty text
+unfoldable pub likely_region : Fields → List ℕ
+likely_region f =
+    option_map_or (λ most. most.region) (add_likely likely_subtags (record { language = known (codes "und") f.language; script = f.script; region = [] })) []
+
+-- the likely region if it is among these regions, and otherwise the first of them
+abbrev pub heir : List ℕ → List (List ℕ) → List ℕ
+heir likely [] = []
+heir likely (first ∷ others) = if list_any (are_alike likely) (first ∷ others) then likely else first
+
+-- a region becomes the region that replaces it, or one of several regions: `UK` becomes `GB`, and `hy-SU` becomes `hy-AM`
+unfoldable pub new_region : Fields → List ℕ
+new_region f =
+    unwrap_or (or_else (option_map (λ to. to.region) (likely_for region_replacements (region_alone f)))
+    (option_map (λ regions. heir (likely_region f) (segments regions)) (alias_for region_heirs f.region))) f.region
+
+unfoldable pub region_replaced : Fields → Fields
+region_replaced f = with_region f (new_region f)
+
+-- a script becomes the script that replaces it: `Qaai` becomes `Zinh`
+unfoldable pub script_replaced : Fields → Fields
+script_replaced f = record { language = f.language; script = unwrap_or (alias_for script_aliases f.script) f.script; region = f.region }
+
+-- the seven steps: the language alone, with a variant, `sgn`; a region of a variant, a region; `sgn` again, since a new
+-- region may fit, as in `sgn-DD`; and the script
+unfoldable pub identifier_form : List (List ℕ) → Fields → Fields
+identifier_form variants f =
+    script_replaced (sign_language (region_replaced (variant_region variants (sign_language (variant_language variants (language_replaced f))))))
+
+-- ---- the variants
+
+-- a variant, the variant that replaces it, or the empty text if it is left out. `language` is the language before it
+-- changes with a variant
+unfoldable pub variant_form : List ℕ → List (List ℕ) → List ℕ → List ℕ
+variant_form language variants variant =
+    if is_some (type_alias_for variant_languages language variant) || has_variant dropped_variants variant then []
+    else unwrap_or (or_else (option_map (λ alias. alias.new) (find (λ alias. are_alike alias.key variant && has_variant variants alias.old) variant_pairs)) (alias_for variant_aliases variant)) variant
+
+-- the variants in their forms, each once, in lowercase and in alphabetical order
+abbrev pub variants_form : List ℕ → List (List ℕ) → List (List ℕ)
+variants_form language variants = in_alphabet (flat_map (λ variant. one_flat (subtag_of (variant_form language variants variant))) variants)
+
+-- the variants of the form of a unicode_language_id
+abbrev pub new_variants : List (List ℕ) → Fields → List (List ℕ)
+new_variants variants f = variants_form (language_replaced f).language variants
+
+-- ---- the extensions
+
+-- the first subtag, or the empty text if there is none
+abbrev pub first_subtag : List (List ℕ) → List ℕ
+first_subtag [] = []
+first_subtag (s ∷ ss) = s
+
+-- the subtags of fields and variants
+abbrev pub identifier_flat : Fields → List (List ℕ) → List (List ℕ)
+identifier_flat f variants = f.language ∷ (one_flat (subtag_of f.script) ++ (one_flat (subtag_of f.region) ++ variants))
+
+-- the fields, and the variants, of the subtags of a unicode_language_id
+abbrev pub identifier_fields : List ℕ → List (List ℕ) → Fields
+identifier_fields s ss = record { language = s; script = first_subtag (one_of is_script ss); region = first_subtag (one_of is_region (after_one is_script ss)) }
+
+abbrev pub identifier_variants : List (List ℕ) → List (List ℕ)
+identifier_variants ss = after_one is_region (after_one is_script ss)
+
+-- the form of the language of `t`, or nothing if `t` has no language
+abbrev pub transform_language_form : List (List ℕ) → List (List ℕ)
+transform_language_form [] = []
+transform_language_form (s ∷ ss) =
+    let f : Fields = identifier_fields s ss in
+    identifier_flat (identifier_form (identifier_variants ss) f) (new_variants (identifier_variants ss) f)
+
+-- the form of `t`: its language and then its fields, each once, in order
+abbrev pub locale_transform_form : List (List ℕ) → List (List ℕ)
+locale_transform_form ss = transform_language_form (before_key is_field_key ss) ++ keywords_form is_field_key transform_value ss
+
+-- the form of an extension: `u` and `t` have forms, and any other extension stays unchanged
+abbrev pub locale_extension_form : Extension → Extension
+locale_extension_form e =
+    if is_of 117 e then record { singleton = 117; subtags = unicode_form e.subtags }
+    else if is_of 116 e then record { singleton = 116; subtags = locale_transform_form e.subtags }
+    else e
+
+-- the singletons, in order
+abbrev pub singletons : List ℕ
+singletons = codes "0123456789abcdefghijklmnopqrstuvwyz"
+
+-- the form of the extension with a singleton, or nothing if there is no such extension
+abbrev pub extension_at : List Extension → ℕ → List Extension
+extension_at es singleton = option_map_or (λ e. locale_extension_form e ∷ []) (find_extension singleton es) []
+
+-- the forms of all extensions, in the order of their singletons
+abbrev pub extensions_in_order : List Extension → List Extension
+extensions_in_order es = flat_map (extension_at es) singletons
+
+-- ---- the tag
+
+-- language, script and region of a record without extended languages
+abbrev pub record_fields : Record → Fields
+record_fields r = record { language = r.primary; script = unwrap_or r.script []; region = unwrap_or r.region [] }
+
+-- the record with all parts in their forms
+unfoldable pub locale_record : Record → Record
+locale_record r =
+    let form : Fields = identifier_form r.variants (record_fields r) in
+    record {
+      primary = form.language;
+      extended = [];
+      script = subtag_of form.script;
+      region = subtag_of form.region;
+      variants = new_variants r.variants (record_fields r);
+      extensions = extensions_in_order r.extensions;
+      private_use = r.private_use;
+    }
+
+-- the text of that record: the script in titlecase, the region in uppercase, and everything else in lowercase
+unfoldable pub locale_text : Record → List ℕ
+locale_text r = recommended_text (spell (locale_record r))
+
+-- the form of a Unicode locale identifier; `None` for a tag that is not a Unicode locale identifier
+abbrev pub IsLocaleForm : List ℕ → Option (List ℕ) → Type 0
+IsLocaleForm tag form = PartOf tag (λ r. if is_locale_record r then Some (locale_text r) else None) None form
