@@ -7,6 +7,8 @@ use Rattle.langtag_scan.specs.Class.{is_alphanumeric, are_alphanumeric, is_regio
 use Rattle.langtag_scan.proofs.Ascii.{IsAscii-each, alphanumeric_below}
 use Rattle.langtag_scan.proofs.SubtagFacts.{of_region}
 use Rattle.langtag_likely.specs.Aliases.{region_replacements}
+use Rattle.langtag_likely.specs.Likely.{Fields, likely_for}
+use Rattle.langtag_likely.specs.Matching.{region_alone}
 use Rattle.langtag_likely.specs.Numbers.{first_index}
 use Rattle.langtag_likely.specs.Rows.{no_row}
 use Rattle.langtag_likely.specs.Suggestion.{suggested_region}
@@ -26,10 +28,15 @@ region_in : (o : Option ℕ) → option_map (λ i. (get_or region_replacements i
 region_in None = refl
 region_in (Some i) = refl
 
+pub replaced_region :
+    (f : Fields) (keys : List ℕ) (o : Option ℕ) → are_alphanumeric f.region ≡ true → keys ≡ map region_key region_replacements → o ≡ first_index keys (folded_number f.region) →
+    option_map (λ i. (get_or region_replacements i no_row).to.region) o ≡ option_map (λ to. to.region) (likely_for region_replacements (region_alone f))
+replaced_region f keys o plain keys_are found =
+    region_in o ∙ ap (option_map (λ to. to.region)) (region_found region_replacements replacements_alone f keys (folded_number f.region) o plain keys_are refl found)
+
 pub replacement_found :
     (code keys : List ℕ) (o : Option ℕ) → is_region code ≡ true → keys ≡ map region_key region_replacements → o ≡ first_index keys (folded_number code) →
     option_map (λ i. (get_or region_replacements i no_row).to.region) o ≡ suggested_region code
 unfolding suggested_region
 replacement_found code keys o is keys_are found =
-    rw is (region_in o ∙ ap (option_map (λ to. to.region))
-    (region_found region_replacements replacements_alone (record { language = []; script = []; region = code }) keys (folded_number code) o (of_region code is).alphanumeric keys_are refl found))
+    rw is (replaced_region (record { language = []; script = []; region = code }) keys o (of_region code is).alphanumeric keys_are found)

@@ -1,10 +1,11 @@
 //! The code that was probably meant by a language or a region that is not registered.
-ghost use Rattle.std.specs.Prelude.{◌≡◌, IsTrue, length, map};
+ghost use Rattle.std.specs.Prelude.{◌≡◌, IfSome, IsTrue, length, map};
 ghost use Rattle.std.specs.Option.{option_map};
 ghost use Rattle.langtag_scan.specs.Case.{folded_number};
 ghost use Rattle.langtag_scan.specs.Class.{are_alphanumeric};
 ghost use Rattle.langtag_tables.specs.Numbers.{climbs_from};
 ghost use Rattle.langtag_likely.specs.Aliases.{region_replacements};
+ghost use Rattle.langtag_likely.specs.Good.{is_region_field};
 ghost use Rattle.langtag_likely.specs.Likely.{likely_for};
 ghost use Rattle.langtag_likely.specs.Matching.{region_alone};
 ghost use Rattle.langtag_likely.specs.Suggestion as spec;
@@ -71,17 +72,15 @@ pub fn suggested_region(code: &str) -> Option<&'static str>
     Some(text_of(name_at(&tables::REPLACEMENT_NAMES, index)))
 }
 
-/// Returns the replacement of the region by one other region, if there is one, including regions of three digits.
+/// Returns the region that replaces the region of these fields, if there is exactly one such region: `GB` for `UK`, and
+/// `US` for `840`. Case is ignored.
 #[tactic(auto, using(crate::proofs::FieldClasses::region_length))]
-pub fn region_replacement(fields: TagFields<'_>) -> Option<TagFields<'static>>
-    ensures { option_map field_texts result ≡ likely_for region_replacements (region_alone (field_texts fields.entry)) }
+pub fn region_replacement(fields: TagFields<'_>) -> Option<&'static [u8]>
+    ensures region { option_map (λ text. text.now) result ≡ option_map (λ to. to.region) (likely_for region_replacements (region_alone (field_texts fields.entry))) }
+    ensures in_class { IfSome result (λ text. IsTrue (is_region_field text.now)) }
 {
     let index = index_of(replacement_keys(), fields.region)?;
-    Some(TagFields {
-        language: b"",
-        script: b"",
-        region: name_at(&tables::REPLACEMENT_NAMES, index),
-    })
+    Some(name_at(&tables::REPLACEMENT_NAMES, index))
 }
 
 /// Returns a name of the tables as a text.

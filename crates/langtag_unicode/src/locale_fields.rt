@@ -99,7 +99,7 @@ fn region_replaced<'a>(fields: TagFields<'a>) -> TagFields<'a>
     ensures { field_texts result ≡ spec.region_replaced (field_texts fields.entry) }
 {
     if let Some(other) = region_replacement(fields) {
-        return with_region(fields, other.region);
+        return with_region(fields, other);
     }
     match alias_for(&tables::REGION_HEIRS, fields.region) {
         Some(regions) => with_region(fields, heir(likely_region(fields), regions)),
