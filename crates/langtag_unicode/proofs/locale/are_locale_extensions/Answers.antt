@@ -21,13 +21,13 @@ loop-extension-preserved c = record {
   is_finite = tt;
   so_far = λ es spells.
       asked-next es _ (extensions_left c.next.new.self) (extension_text c.in-Some.extension) c.in-Some.ensures.steps (c.loop-extension.invariant.so_far es spells)
-      (λ e is. sym c.if-is_locale_extension.true ∙ c.is_locale_extension.ensures e is);
+      (λ e is. sym c.if-not-is_locale_extension.false ∙ c.is_locale_extension.ensures e is);
 }
 
-pub returns-then-is_locale_extension : goal.returns-then-is_locale_extension
-returns-then-is_locale_extension c = λ es spells.
+pub returns-then-not-is_locale_extension : goal.returns-then-not-is_locale_extension
+returns-then-not-is_locale_extension c = λ es spells.
     asked-refused es _ (extensions_left c.next.new.self) (extension_text c.in-Some.extension) c.in-Some.ensures.steps (c.loop-extension.invariant.so_far es spells)
-    (λ e is. sym c.if-is_locale_extension.false ∙ c.is_locale_extension.ensures e is)
+    (λ e is. sym c.if-not-is_locale_extension.true ∙ c.is_locale_extension.ensures e is)
 
 pub returns : goal.returns
 returns c = λ es spells. asked-ended es _ c.in-None.ensures.steps.0 (c.loop-extension.invariant.so_far es spells)
