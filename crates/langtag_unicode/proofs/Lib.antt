@@ -11,3 +11,4 @@ pub mod KeywordEdits
 pub mod KeywordSizes
 pub mod KeywordLaws
 pub mod LocaleExtensions
+pub mod LocaleTables

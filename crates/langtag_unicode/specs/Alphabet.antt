@@ -1,5 +1,6 @@
 -- What the search for the next text in alphabetical order returns. Only contracts of private functions cite this page.
-use Rattle.std.specs.Prelude.{ℕ, Bool, true, List, [], ◌∷◌, Option, None, Some, if◌then◌else◌}
+use Rattle.std.specs.Prelude.{ℕ, Bool, true, not, ◌&&◌, ◌==◌, List, [], ◌∷◌, length, Option, None, Some, if◌then◌else◌}
+use Rattle.langtag_scan.specs.Case.{fold_text}
 use Rattle.langtag_unicode.specs.Form.{is_before}
 
 -- whether a text comes after another text, or there is no other text
@@ -11,6 +12,10 @@ is_after text (Some last) = is_before last text
 abbrev pub is_before_best : List ℕ → Option (List ℕ) → Bool
 is_before_best text None = true
 is_before_best text (Some best) = is_before text best
+
+-- whether a form is not empty, comes after one text, and comes before another text
+abbrev pub is_better : List ℕ → Option (List ℕ) → Option (List ℕ) → Bool
+is_better form last best = not (length form == 0) && (is_after (fold_text form) last && is_before_best (fold_text form) best)
 
 -- the first of these texts, in alphabetical order, that comes after another text
 abbrev pub first_after : Option (List ℕ) → List (List ℕ) → Option (List ℕ)

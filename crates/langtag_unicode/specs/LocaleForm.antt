@@ -1,6 +1,6 @@
 -- The canonical form of a Unicode locale identifier (UTS #35, part 1, Annex C, 'LocaleId Canonicalization'). The annex
 -- repeats the rules of CLDR until none fits. For CLDR's data, seven steps have the same result.
-use Rattle.std.specs.Prelude.{ℕ, Bool, List, [], ◌∷◌, ◌++◌, Option, None, Some, codes, find, if◌then◌else◌, ◌||◌, unwrap_or}
+use Rattle.std.specs.Prelude.{ℕ, Bool, List, [], ◌∷◌, ◌++◌, Option, None, Some, codes, find, if◌then◌else◌, ◌&&◌, ◌||◌, unwrap_or}
 use Rattle.std.specs.List.{flat_map, fold, list_any}
 use Rattle.std.specs.Option.{is_some, option_map, option_map_or}
 use Rattle.langtag.specs.Part.{PartOf}
@@ -15,7 +15,7 @@ use Rattle.langtag_scan.specs.Case.{are_alike}
 use Rattle.langtag_scan.specs.Class.{is_region, is_script}
 use Rattle.langtag_scan.specs.Record.{Extension, Record, one_flat, spell}
 use Rattle.langtag_scan.specs.Subtags.{segments}
-use Rattle.langtag_unicode.specs.Alias.{TypeAlias, alias_for, type_alias_for}
+use Rattle.langtag_unicode.specs.Alias.{Alias, TypeAlias, alias_for, type_alias_for}
 use Rattle.langtag_unicode.specs.Form.{after_one, in_alphabet, is_of, keywords_form, one_of, transform_value, unicode_form}
 use Rattle.langtag_unicode.specs.Keywords.{before_key}
 use Rattle.langtag_unicode.specs.Locale.{is_locale_record}
@@ -42,20 +42,32 @@ language_after variants language alias = if are_alike alias.key language && has_
 unfoldable pub variant_language : List (List ℕ) → Fields → Fields
 variant_language variants f = with_language f (fold (language_after variants) f.language variant_languages)
 
+abbrev pub without_sgn : Fields → List ℕ → Fields
+without_sgn f language = record { language = language; script = f.script; region = [] }
+
+-- the language that `sgn` with a region becomes, or `None`
+abbrev pub sign_for : Fields → Option (List ℕ)
+sign_for f = if are_alike f.language (codes "sgn") then alias_for sign_languages f.region else None
+
 -- `sgn` with a region becomes a language: `sgn-DE` becomes `gsg`
 unfoldable pub sign_language : Fields → Fields
-sign_language f =
-    if are_alike f.language (codes "sgn") then option_map_or (λ language. record { language = language; script = f.script; region = [] }) (alias_for sign_languages f.region) f else f
+sign_language f = option_map_or (without_sgn f) (sign_for f) f
+
+-- the region for which one of the variants stands, or the empty text
+abbrev pub region_of : List (List ℕ) → List Alias → List ℕ
+region_of variants aliases = option_map_or (λ alias. alias.new) (find (λ alias. has_variant variants alias.old) aliases) []
 
 -- a variant brings its region if there is no region: `aaland` brings `AX`
 unfoldable pub variant_region : List (List ℕ) → Fields → Fields
-variant_region variants f =
-    with_region f (or_other f.region (option_map_or (λ alias. alias.new) (find (λ alias. has_variant variants alias.old) variant_regions) []))
+variant_region variants f = with_region f (or_other f.region (region_of variants variant_regions))
+
+-- the language and the script; `und` counts as no language
+abbrev pub without_region : Fields → Fields
+without_region f = record { language = known (codes "und") f.language; script = f.script; region = [] }
 
 -- the likely region of the language and the script, or the empty text
 unfoldable pub likely_region : Fields → List ℕ
-likely_region f =
-    option_map_or (λ most. most.region) (add_likely likely_subtags (record { language = known (codes "und") f.language; script = f.script; region = [] })) []
+likely_region f = option_map_or (λ most. most.region) (add_likely likely_subtags (without_region f)) []
 
 -- the likely region if it is among these regions, and otherwise the first of them
 abbrev pub heir : List ℕ → List (List ℕ) → List ℕ
@@ -72,8 +84,11 @@ unfoldable pub region_replaced : Fields → Fields
 region_replaced f = with_region f (new_region f)
 
 -- a script becomes the script that replaces it: `Qaai` becomes `Zinh`
+abbrev pub new_script : Fields → List ℕ
+new_script f = unwrap_or (alias_for script_aliases f.script) f.script
+
 unfoldable pub script_replaced : Fields → Fields
-script_replaced f = record { language = f.language; script = unwrap_or (alias_for script_aliases f.script) f.script; region = f.region }
+script_replaced f = record { language = f.language; script = new_script f; region = f.region }
 
 -- the seven steps: the language alone, with a variant, `sgn`; a region of a variant, a region; `sgn` again, since a new
 -- region may fit, as in `sgn-DD`; and the script
@@ -83,12 +98,16 @@ identifier_form variants f =
 
 -- ---- the variants
 
+-- whether an alias replaces a variant, together with another of the variants
+abbrev pub is_pair_of : List (List ℕ) → List ℕ → TypeAlias → Bool
+is_pair_of variants variant alias = are_alike alias.key variant && has_variant variants alias.old
+
 -- a variant, the variant that replaces it, or the empty text if it is left out. `language` is the language before it
 -- changes with a variant
 unfoldable pub variant_form : List ℕ → List (List ℕ) → List ℕ → List ℕ
 variant_form language variants variant =
     if is_some (type_alias_for variant_languages language variant) || has_variant dropped_variants variant then []
-    else unwrap_or (or_else (option_map (λ alias. alias.new) (find (λ alias. are_alike alias.key variant && has_variant variants alias.old) variant_pairs)) (alias_for variant_aliases variant)) variant
+    else unwrap_or (or_else (option_map (λ alias. alias.new) (find (is_pair_of variants variant) variant_pairs)) (alias_for variant_aliases variant)) variant
 
 -- the variants in their forms, each once, in lowercase and in alphabetical order
 abbrev pub variants_form : List ℕ → List (List ℕ) → List (List ℕ)

@@ -16,7 +16,7 @@ use crate::keys::Keys;
 use crate::keyword_form::push_keywords;
 use crate::language_id::{take_region, take_script};
 use crate::locale_fields::identifier_form;
-use crate::locale_variants::VariantRules;
+use crate::locale_variants::push_variants;
 use crate::subtags::{preceding, split_first};
 use langtag::{Extension, Extensions, Singleton};
 use langtag_likely::{TagFields, language_replaced};
@@ -82,7 +82,7 @@ pub(crate) fn push_identifier(out: &mut Output<'_>, fields: TagFields<'_>, varia
     push_field(out, form.script);
     push_field(out, form.region);
     let language = language_replaced(fields).language;
-    VariantRules { language, variants }.push_variants(out);
+    push_variants(out, language, variants);
 }
 
 /// Appends a field, unless it is empty.

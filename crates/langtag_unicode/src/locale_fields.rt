@@ -1,10 +1,10 @@
 //! Language, script and region in the form of a Unicode locale identifier (UTS #35, part 1, Annex C).
-ghost use Rattle.std.specs.Prelude.{◌≡◌, IsTrue, None, Some, codes, map};
-ghost use Rattle.std.specs.List.{fold, list_any};
-ghost use Rattle.langtag_likely.specs.Good.{is_language_field, is_region_field};
-ghost use Rattle.langtag_likely.specs.Likely.{known};
+ghost use Rattle.std.specs.Prelude.{◌≡◌, IfSome, IsTrue, map};
+ghost use Rattle.std.specs.List.{fold};
+ghost use Rattle.std.specs.Option.{option_map};
+ghost use Rattle.langtag_likely.specs.Good.{is_language_field, is_region_field, is_script_field};
+ghost use Rattle.langtag_likely.specs.Likely.{or_other};
 ghost use Rattle.langtag_likely.specs.Texts.{field_texts};
-ghost use Rattle.langtag_scan.specs.Case.{are_alike};
 ghost use Rattle.langtag_scan.specs.Subtags.{segments, segments_left};
 ghost use Rattle.langtag_unicode.specs.LocaleAliases as list;
 ghost use Rattle.langtag_unicode.specs.LocaleForm as spec;
@@ -12,11 +12,13 @@ ghost use Rattle.langtag_unicode.specs.LocaleForm as spec;
 use crate::alias::alias_for;
 use crate::language_id::is_among;
 use crate::locale_tables as tables;
+use crate::locale_variants::variant_languages;
 use crate::subtags::split_first;
 use langtag::case_insensitive_eq;
 use langtag_likely::{TagFields, add_likely, language_replaced, region_replacement};
 
 /// Returns the fields in their form. The fields are of a language identifier with these variants.
+#[tactic(auto, unfolding(crate::specs::LocaleForm::identifier_form))]
 pub(crate) fn identifier_form<'a>(fields: TagFields<'a>, variants: Option<&str>) -> TagFields<'a>
     ensures { field_texts result ≡ spec.identifier_form (segments_left variants.entry) (field_texts fields.entry) }
 {
@@ -26,6 +28,7 @@ pub(crate) fn identifier_form<'a>(fields: TagFields<'a>, variants: Option<&str>)
 }
 
 /// Returns the fields with another language if the language changes with one of the variants.
+#[tactic(auto, unfolding(crate::specs::LocaleForm::variant_language))]
 fn variant_language<'a>(fields: TagFields<'a>, variants: Option<&str>) -> TagFields<'a>
     ensures { field_texts result ≡ spec.variant_language (segments_left variants.entry) (field_texts fields.entry) }
 {
@@ -43,44 +46,85 @@ fn language_with<'a>(language: &'a [u8], variants: Option<&str>) -> &'a [u8]
     ensures in_class { IsTrue (is_language_field result.now) }
 {
     let mut language = language;
-    for (old, variant, new) in &tables::VARIANT_LANGUAGES {
-        if case_insensitive_eq(old.as_bytes(), language) && is_among(variants, variant) {
+    let mut rows = variant_languages();
+    while let [(old, variant, new), others @ ..] = rows {
+        if case_insensitive_eq(old.as_bytes(), language) && is_among(variants, variant.as_bytes()) {
             language = new.as_bytes();
         }
+        rows = others;
     }
     language
 }
 
 /// Returns the fields of a sign language if the language is `sgn`, and the region has a sign language.
+#[tactic(auto, unfolding(crate::specs::LocaleForm::sign_language))]
 fn sign_language<'a>(fields: TagFields<'a>) -> TagFields<'a>
     ensures { field_texts result ≡ spec.sign_language (field_texts fields.entry) }
 {
-    if !case_insensitive_eq(fields.language, b"sgn") {
-        return fields;
-    }
-    match alias_for(&tables::SIGN_LANGUAGES, fields.region) {
-        Some(language) => TagFields {
-            language: language.as_bytes(),
-            script: fields.script,
-            region: b"",
-        },
+    match sign_for(fields) {
+        Some(language) => without_sgn(fields, language),
         None => fields,
     }
 }
 
+/// Returns the sign language of the region if the language is `sgn`.
+fn sign_for<'a>(fields: TagFields<'a>) -> Option<&'a [u8]>
+    ensures language { option_map (λ t. t.now) result ≡ spec.sign_for (field_texts fields.entry) }
+    ensures in_class { IfSome result (λ t. IsTrue (is_language_field t.now)) }
+{
+    if !case_insensitive_eq(fields.language, b"sgn") {
+        return None;
+    }
+    match alias_for(sign_languages(), fields.region) {
+        Some(language) => Some(language.as_bytes()),
+        None => None,
+    }
+}
+
+/// Returns the fields with another language and without a region.
+fn without_sgn<'a>(fields: TagFields<'a>, language: &'a [u8]) -> TagFields<'a>
+    requires { IsTrue (is_language_field language.now) }
+    ensures { field_texts result ≡ spec.without_sgn (field_texts fields.entry) language.now }
+{
+    TagFields {
+        language,
+        script: fields.script,
+        region: b"",
+    }
+}
+
 /// Returns the fields with the region for which one of the variants stands, if they have no region.
+#[tactic(auto, unfolding(crate::specs::LocaleForm::variant_region))]
 fn variant_region<'a>(fields: TagFields<'a>, variants: Option<&str>) -> TagFields<'a>
     ensures { field_texts result ≡ spec.variant_region (segments_left variants.entry) (field_texts fields.entry) }
 {
-    if !fields.region.is_empty() {
-        return fields;
+    with_region(fields, brought_region(fields, variants))
+}
+
+/// Returns the region of the fields or, if they have none, the region for which one of the variants stands.
+fn brought_region<'a>(fields: TagFields<'a>, variants: Option<&str>) -> &'a [u8]
+    ensures region { result.now ≡ or_other fields.entry.region.now (spec.region_of (segments_left variants.entry) list.variant_regions) }
+    ensures in_class { IsTrue (is_region_field result.now) }
+{
+    if fields.region.is_empty() {
+        return region_of(variants);
     }
-    for (variant, region) in &tables::VARIANT_REGIONS {
-        if is_among(variants, variant) {
-            return with_region(fields, region.as_bytes());
+    fields.region
+}
+
+/// Returns the region for which one of the variants stands, or the empty text.
+fn region_of(variants: Option<&str>) -> &'static [u8]
+    ensures region { result.now ≡ spec.region_of (segments_left variants.entry) list.variant_regions }
+    ensures in_class { IsTrue (is_region_field result.now) }
+{
+    let mut rows = variant_regions();
+    while let [(variant, region), others @ ..] = rows {
+        if is_among(variants, variant.as_bytes()) {
+            return region.as_bytes();
         }
+        rows = others;
     }
-    fields
+    b""
 }
 
 fn with_region<'a>(fields: TagFields<'a>, region: &'a [u8]) -> TagFields<'a>
@@ -95,69 +139,110 @@ fn with_region<'a>(fields: TagFields<'a>, region: &'a [u8]) -> TagFields<'a>
 }
 
 /// Returns the fields with the region that replaces their region, if there is one.
+#[tactic(auto, unfolding(crate::specs::LocaleForm::region_replaced))]
 fn region_replaced<'a>(fields: TagFields<'a>) -> TagFields<'a>
     ensures { field_texts result ≡ spec.region_replaced (field_texts fields.entry) }
 {
-    if let Some(other) = region_replacement(fields) {
-        return with_region(fields, other);
+    with_region(fields, new_region(fields))
+}
+
+/// Returns the region that replaces the region of the fields, or their region.
+#[tactic(auto, unfolding(crate::specs::LocaleForm::new_region))]
+fn new_region<'a>(fields: TagFields<'a>) -> &'a [u8]
+    ensures region { result.now ≡ spec.new_region (field_texts fields.entry) }
+    ensures in_class { IsTrue (is_region_field result.now) }
+{
+    if let Some(region) = region_replacement(fields) {
+        return region;
     }
-    match alias_for(&tables::REGION_HEIRS, fields.region) {
-        Some(regions) => with_region(fields, heir(likely_region(fields), regions)),
-        None => fields,
+    match alias_for(region_heirs(), fields.region) {
+        Some(regions) => heir(likely_region(fields), regions),
+        None => fields.region,
     }
 }
 
 /// Returns the likely region of the language and the script, or the empty text.
+#[tactic(auto, unfolding(crate::specs::LocaleForm::likely_region))]
 fn likely_region<'a>(fields: TagFields<'a>) -> &'a [u8]
     ensures region { result.now ≡ spec.likely_region (field_texts fields.entry) }
     ensures in_class { IsTrue (is_region_field result.now) }
 {
-    let fields = TagFields {
-        language: known_language(fields.language),
-        script: fields.script,
-        region: b"",
-    };
-    match add_likely(fields) {
+    match add_likely(without_region(fields)) {
         Some(most) => most.region,
         None => b"",
     }
 }
 
-/// Returns a language, or the empty text for `und`.
-fn known_language(language: &[u8]) -> &[u8]
-    ensures { result.now ≡ known (codes "und") language.now }
+/// Returns the language and the script, for the look-up of likely subtags.
+fn without_region<'a>(fields: TagFields<'a>) -> TagFields<'a>
+    ensures { field_texts result ≡ spec.without_region (field_texts fields.entry) }
 {
-    if case_insensitive_eq(language, b"und") {
-        return b"";
+    let is_unknown = case_insensitive_eq(b"und", fields.language);
+    TagFields {
+        language: if is_unknown { b"" } else { fields.language },
+        script: fields.script,
+        region: b"",
     }
-    language
 }
 
 /// Returns the likely region if it is among these regions, and otherwise the first of them.
 fn heir<'a>(likely: &'a [u8], regions: &'static str) -> &'a [u8]
     ensures { result.now ≡ spec.heir likely.now (segments regions.now) }
 {
-    let mut rest = Some(regions);
-    while let Some(text) = rest {
-        let (region, others) = split_first(text);
-        if case_insensitive_eq(likely, region.as_bytes()) {
-            return likely;
-        }
-        rest = others;
+    let (first, _) = split_first(regions);
+    if is_among(Some(regions), likely) {
+        return likely;
     }
-    split_first(regions).0.as_bytes()
+    first.as_bytes()
 }
 
 /// Returns the fields with the script that replaces their script, if there is one.
+#[tactic(auto, unfolding(crate::specs::LocaleForm::script_replaced))]
 fn script_replaced<'a>(fields: TagFields<'a>) -> TagFields<'a>
     ensures { field_texts result ≡ spec.script_replaced (field_texts fields.entry) }
 {
-    match alias_for(&tables::SCRIPT_ALIASES, fields.script) {
-        Some(script) => TagFields {
-            language: fields.language,
-            script: script.as_bytes(),
-            region: fields.region,
-        },
-        None => fields,
+    TagFields {
+        language: fields.language,
+        script: new_script(fields),
+        region: fields.region,
     }
+}
+
+/// Returns the script that replaces the script of the fields, or their script.
+fn new_script<'a>(fields: TagFields<'a>) -> &'a [u8]
+    ensures script { result.now ≡ spec.new_script (field_texts fields.entry) }
+    ensures in_class { IsTrue (is_script_field result.now) }
+{
+    match alias_for(script_aliases(), fields.script) {
+        Some(script) => script.as_bytes(),
+        None => fields.script,
+    }
+}
+
+#[tactic(auto, using(crate::proofs::LocaleTables::sign_language_rows))]
+fn sign_languages() -> &'static [(&'static str, &'static str)]
+    ensures { map (λ row. record { old = row.0.now; new = row.1.now }) result.now ≡ list.sign_languages }
+{
+    &tables::SIGN_LANGUAGES
+}
+
+#[tactic(auto, using(crate::proofs::LocaleTables::variant_region_rows))]
+fn variant_regions() -> &'static [(&'static str, &'static str)]
+    ensures { map (λ row. record { old = row.0.now; new = row.1.now }) result.now ≡ list.variant_regions }
+{
+    &tables::VARIANT_REGIONS
+}
+
+#[tactic(auto, using(crate::proofs::LocaleTables::region_heir_rows))]
+fn region_heirs() -> &'static [(&'static str, &'static str)]
+    ensures { map (λ row. record { old = row.0.now; new = row.1.now }) result.now ≡ list.region_heirs }
+{
+    &tables::REGION_HEIRS
+}
+
+#[tactic(auto, using(crate::proofs::LocaleTables::script_rows))]
+fn script_aliases() -> &'static [(&'static str, &'static str)]
+    ensures { map (λ row. record { old = row.0.now; new = row.1.now }) result.now ≡ list.script_aliases }
+{
+    &tables::SCRIPT_ALIASES
 }
