@@ -12,3 +12,4 @@ pub mod KeywordSizes
 pub mod KeywordLaws
 pub mod LocaleExtensions
 pub mod LocaleTables
+pub mod VariantForms

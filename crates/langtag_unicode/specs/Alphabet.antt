@@ -1,5 +1,5 @@
 -- What the search for the next text in alphabetical order returns. Only contracts of private functions cite this page.
-use Rattle.std.specs.Prelude.{ℕ, Bool, true, not, ◌&&◌, ◌==◌, List, [], ◌∷◌, length, Option, None, Some, if◌then◌else◌}
+use Rattle.std.specs.Prelude.{ℕ, Bool, true, false, ◌&&◌, List, [], ◌∷◌, Option, None, Some, if◌then◌else◌}
 use Rattle.langtag_scan.specs.Case.{fold_text}
 use Rattle.langtag_unicode.specs.Form.{is_before}
 
@@ -15,7 +15,8 @@ is_before_best text (Some best) = is_before text best
 
 -- whether a form is not empty, comes after one text, and comes before another text
 abbrev pub is_better : List ℕ → Option (List ℕ) → Option (List ℕ) → Bool
-is_better form last best = not (length form == 0) && (is_after (fold_text form) last && is_before_best (fold_text form) best)
+is_better [] last best = false
+is_better (b ∷ form) last best = is_after (fold_text (b ∷ form)) last && is_before_best (fold_text (b ∷ form)) best
 
 -- the first of these texts, in alphabetical order, that comes after another text
 abbrev pub first_after : Option (List ℕ) → List (List ℕ) → Option (List ℕ)

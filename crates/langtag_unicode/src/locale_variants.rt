@@ -98,10 +98,14 @@ fn replaced_pair(variant: &str, variants: Option<&str>) -> Option<&'static str>
 fn is_dropped(variant: &str) -> bool
     ensures { result ≡ list_any (are_alike variant.now) list.dropped_variants }
 {
-    dropped_variants().iter().any(|dropped| case_insensitive_eq(
-        variant.as_bytes(),
-        dropped.as_bytes(),
-    ))
+    let mut rows = dropped_variants();
+    while let [dropped, others @ ..] = rows {
+        if case_insensitive_eq(variant.as_bytes(), dropped.as_bytes()) {
+            return true;
+        }
+        rows = others;
+    }
+    false
 }
 
 #[tactic(auto, using(crate::proofs::LocaleTables::variant_language_rows))]
