@@ -12,4 +12,5 @@ pub mod Edit
 pub mod Locale
 pub mod LocaleAliases
 pub mod LocaleForm
+pub mod Allowed
 pub mod EditText

@@ -1,0 +1,29 @@
+use Rattle.std.proofs.Common.{◌≡◌, ◌++◌, [], Some, None, option_map, refl, sym, ap, ◌∙◌, append-nil}
+use Rattle.std.specs.List.{flat_map}
+use Rattle.std.specs.Option.{option_map_or}
+use Rattle.langtag_extension.specs.Spelling.{extension_spelling, find_extension}
+use Rattle.langtag_extension.specs.Text.{extension_text, singleton_byte}
+use Rattle.langtag_registry.proofs.Pushed.{pushes_ended, pushes_same}
+use Rattle.langtag_scan.specs.Record.{extension_flat}
+use Rattle.langtag_unicode.specs.LocaleForm.{locale_extension_form}
+use Rattle.langtag_unicode.proofs.LocaleExtensions.{at_found, at_nothing, found_allowed, found_one, none_found}
+use Rattle.langtag_unicode.proofs.locale_extensions.push_extension_at.Goals as goal
+
+pub push_extension-requires : goal.push_extension-requires
+push_extension-requires c =
+    let (es, spells, all) = c.requires.allowed in
+    let found = found_one (singleton_byte c.in-Ok.singleton) es spells.members (extension_text c.in-Some.extension) (sym (ap (option_map extension_text) c.in-Some.is) ∙ c.get.ensures.first_match es spells) in
+    (found.one, found.spells, found_allowed _ es found.one found.found all)
+
+pub returns-in-Some-clause-pushed : goal.returns-in-Some-clause-pushed
+returns-in-Some-clause-pushed c = λ es spells.
+    let byte : singleton_byte c.in-Ok.singleton ≡ c.args.singleton = c.in-Ok.ensures.same_byte in
+    let found = found_one (singleton_byte c.in-Ok.singleton) es spells.members (extension_text c.in-Some.extension) (sym (ap (option_map extension_text) c.in-Some.is) ∙ c.get.ensures.first_match es spells) in
+    pushes_same _ _ _ _ (sym (at_found es c.args.singleton found.one (sym (ap (λ b. find_extension b es) byte) ∙ found.found))) (c.push_extension.ensures.pushed found.one found.spells)
+
+pub returns-in_default-get-clause-pushed : goal.returns-in_default-get-clause-pushed
+returns-in_default-get-clause-pushed c = λ es spells.
+    let byte : singleton_byte c.in-Ok.singleton ≡ c.args.singleton = c.in-Ok.ensures.same_byte in
+    pushes_ended _ _
+    (at_nothing es c.args.singleton
+    (sym (ap (λ b. find_extension b es) byte) ∙ none_found _ (sym (ap (option_map extension_text) c.in_default-get.is) ∙ c.get.ensures.first_match es spells)))
