@@ -13,7 +13,7 @@ use langtag_place::{Region, Script};
 use langtag_scan::case_insensitive_eq;
 
 /// Returns the first text, or the second text if the first is empty.
-pub fn or_other<'a>(text: &'a [u8], other: &'a [u8]) -> &'a [u8]
+pub(crate) fn or_other<'a>(text: &'a [u8], other: &'a [u8]) -> &'a [u8]
     ensures { result.now ≡ or_other text.now other.now }
 {
     if text.is_empty() { other } else { text }

@@ -41,7 +41,6 @@ pub use tables::CLDR_VERSION;
 
 // For langtag_unicode.
 pub use aliases::language_replaced;
-pub use fields::or_other;
 pub use likely::add_likely;
 pub use suggestion::region_replacement;
 

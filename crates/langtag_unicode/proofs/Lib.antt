@@ -12,4 +12,5 @@ pub mod KeywordSizes
 pub mod KeywordLaws
 pub mod LocaleExtensions
 pub mod LocaleTables
+pub mod IdentifierForms
 pub mod VariantForms

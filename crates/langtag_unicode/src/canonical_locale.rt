@@ -1,68 +1,26 @@
 //! The canonical form of a Unicode locale identifier (UTS #35, part 1, Annex C).
-ghost use Rattle.std.specs.Prelude.{◌≡◌, ◌↔◌, IfSome, None, Some, false};
-ghost use Rattle.std.specs.Option.{is_none};
+ghost use Rattle.std.specs.Prelude.{◌≡◌, ◌<◌, ◌^◌, IfSome, IsTrue, List, None, Some, [], length, unwrap_or, ℕ};
+ghost use Rattle.std.specs.Option.{option_map};
 ghost use Rattle.langtag.specs.Text.{lang_tag_text, normal_lang_tag_text};
+ghost use Rattle.langtag_language.specs.Language.{EachLanguageSpelling};
+ghost use Rattle.langtag_language.specs.Text.{language_text};
+ghost use Rattle.langtag_likely.specs.Good.{is_language_field, is_region_field, is_script_field};
+ghost use Rattle.langtag_likely.specs.Texts.{field_texts};
 ghost use Rattle.langtag_output.specs.Output.{IsCounted};
 ghost use Rattle.langtag_output.specs.Writes.{Writes};
+ghost use Rattle.langtag_place.specs.Text.{region_text, script_text};
 ghost use Rattle.langtag_scan.specs.Record as model;
+ghost use Rattle.langtag_unicode.specs.Allowed.{IsLocale};
 ghost use Rattle.langtag_unicode.specs.LocaleForm as spec;
 
 use crate::form::push_private_use;
-use crate::locale::{is_locale, is_locale_record};
+use crate::locale::is_locale_record;
 use crate::locale_extensions::{push_identifier, push_locale_extensions};
 use crate::subtags::nonempty;
-use langtag::{LangTag, LangTagBuf, NormalLangTag};
+use langtag::{LangTag, Language, NormalLangTag, Region, Script};
 use langtag_case::make_recommended_case;
 use langtag_likely::TagFields;
 use langtag_output::Output;
-use langtag_registry::canonical;
-use std::alloc::{AllocError, Global};
-
-/// Returns Unicode's canonical form of a tag (UTS #35, part 1, Annex C): `ger-UK` becomes `de-GB`, and `sh` becomes
-/// `sr-Latn`. Returns `None` if the tag is not a Unicode locale identifier, and its form by
-/// [`canonical`](langtag_registry::canonical) is not one, either, such as `x-a` and `i-default`.
-///
-/// The language, the script, the region and the variants are replaced by CLDR's aliases. The extensions are put in the
-/// order of their singletons, and `u` and `t` in the form of [`extensions_form`](crate::extensions_form). The script is
-/// in titlecase, the region in uppercase, and everything else in lowercase. Private use stays, except for its case.
-///
-/// The time is quadratic in the number of variants, and of attributes.
-///
-/// # Errors
-///
-/// Returns an error if allocation fails.
-///
-/// ```
-/// use langtag::LangTag;
-/// use langtag_unicode::locale_form;
-///
-/// let form = locale_form(alloc, LangTag::new("ger-UK-u-ca-islamicc")?)?;
-/// form.as_ref().map(|form| form.as_str()); // Some("de-GB-u-ca-islamic-civil")
-/// locale_form(alloc, LangTag::new("x-a")?)?.is_none(); // true
-/// ```
-pub fn locale_form(alloc: Global, tag: LangTag<'_>) -> Result<Option<LangTagBuf>, AllocError> {
-    if is_locale(tag) {
-        return form_of(alloc, tag);
-    }
-    let canonical = canonical(alloc, tag)?;
-    form_of(alloc, canonical.as_lang_tag())
-}
-
-/// Returns the form of a tag, or `None` if it is not a Unicode locale identifier.
-fn form_of(alloc: Global, tag: LangTag<'_>) -> Result<Option<LangTagBuf>, AllocError> {
-    let Some(len) = write_locale_form(tag, &mut []) else {
-        return Ok(None);
-    };
-    let mut bytes = vec![in alloc; 0; len]?;
-    write_locale_form(tag, &mut bytes);
-    let Ok(text) = String::from_utf8(bytes) else {
-        unreachable!()
-    };
-    let Ok(form) = LangTagBuf::new(text) else {
-        unreachable!()
-    };
-    Ok(Some(form))
-}
 
 /// Writes Unicode's canonical form of a tag (UTS #35, part 1, Annex C) to a buffer, and returns its length in bytes. If
 /// the buffer is too short, it stays unchanged, and the length says how long a buffer must be. Returns `None` if the
@@ -78,7 +36,12 @@ fn form_of(alloc: Global, tag: LangTag<'_>) -> Result<Option<LangTagBuf>, AllocE
 /// length; // Some(5)
 /// buffer.get(..5); // Some(&b"de-GB"[..])
 /// ```
-pub fn write_locale_form(tag: LangTag<'_>, buffer: &mut [u8]) -> Option<usize> {
+pub fn write_locale_form(tag: LangTag<'_>, buffer: &mut [u8]) -> Option<usize>
+    ensures form { ((form : List ℕ) → spec.IsLocaleForm (lang_tag_text tag.entry) (Some form) → length form < 2 ^ 64) →
+        IfSome result (λ len. Writes (λ form. spec.IsLocaleForm (lang_tag_text tag.entry) (Some form)) buffer.old buffer.new len) }
+    ensures none { result ≡ None → spec.IsLocaleForm (lang_tag_text tag.entry) None }
+    ensures unchanged { result ≡ None → buffer.new ≡ buffer.old }
+{
     let normal = tag.as_normal()?;
     if !is_locale_record(normal) {
         return None;
@@ -87,7 +50,11 @@ pub fn write_locale_form(tag: LangTag<'_>, buffer: &mut [u8]) -> Option<usize> {
 }
 
 /// Writes the form of a Unicode locale identifier.
-fn write_parts(tag: NormalLangTag<'_>, buffer: &mut [u8]) -> usize {
+fn write_parts(tag: NormalLangTag<'_>, buffer: &mut [u8]) -> usize
+    requires { IsLocale (normal_lang_tag_text tag) }
+    ensures { model.EachRecord (normal_lang_tag_text tag.entry) (λ r. length (spec.locale_text r) < 2 ^ 64
+        → Writes (λ form. form ≡ spec.locale_text r) buffer.old buffer.new result) }
+{
     let len = put_parts(tag, &mut []);
     if len <= buffer.len() {
         put_parts(tag, buffer);
@@ -97,7 +64,10 @@ fn write_parts(tag: NormalLangTag<'_>, buffer: &mut [u8]) -> usize {
 }
 
 /// Writes as much of the form, before its case is changed, as fits into a buffer, and returns its full length.
-fn put_parts(tag: NormalLangTag<'_>, buffer: &mut [u8]) -> usize {
+fn put_parts(tag: NormalLangTag<'_>, buffer: &mut [u8]) -> usize
+    requires { IsLocale (normal_lang_tag_text tag) }
+    ensures { model.EachRecord (normal_lang_tag_text tag.entry) (λ r. IsCounted (model.spell (spec.locale_record r)) buffer.old buffer.new result) }
+{
     let mut out = Output::new(buffer);
     push_identifier(&mut out, fields_of(tag), nonempty(tag.variants().as_str()));
     push_locale_extensions(&mut out, tag.extensions());
@@ -105,24 +75,40 @@ fn put_parts(tag: NormalLangTag<'_>, buffer: &mut [u8]) -> usize {
     out.len()
 }
 
-/// Returns language, script and region of a tag without extended languages.
-fn fields_of<'a>(tag: NormalLangTag<'a>) -> TagFields<'a> {
+/// Returns the primary language, the script and the region of a tag.
+fn fields_of<'a>(tag: NormalLangTag<'a>) -> TagFields<'a>
+    ensures { model.EachRecord (normal_lang_tag_text tag.entry) (λ r. field_texts result ≡ spec.record_fields r) }
+{
     TagFields {
-        language: tag.language().primary().as_bytes(),
-        script: script_bytes(tag),
-        region: region_bytes(tag),
+        language: primary_field(tag.language()),
+        script: script_field(tag.script()),
+        region: region_field(tag.region()),
     }
 }
 
-fn script_bytes<'a>(tag: NormalLangTag<'a>) -> &'a [u8] {
-    match tag.script() {
+#[tactic(auto, using(langtag_likely::proofs::FieldClasses::from_primary))]
+fn primary_field<'a>(language: Language<'a>) -> &'a [u8]
+    ensures field { EachLanguageSpelling (language_text language.entry) (λ primary extended. result.now ≡ primary) }
+    ensures in_class { IsTrue (is_language_field result.now) }
+{
+    language.primary().as_bytes()
+}
+
+fn script_field<'a>(script: Option<Script<'a>>) -> &'a [u8]
+    ensures field { result.now ≡ unwrap_or (option_map script_text script.entry) [] }
+    ensures in_class { IsTrue (is_script_field result.now) }
+{
+    match script {
         Some(script) => script.as_bytes(),
         None => b"",
     }
 }
 
-fn region_bytes<'a>(tag: NormalLangTag<'a>) -> &'a [u8] {
-    match tag.region() {
+fn region_field<'a>(region: Option<Region<'a>>) -> &'a [u8]
+    ensures field { result.now ≡ unwrap_or (option_map region_text region.entry) [] }
+    ensures in_class { IsTrue (is_region_field result.now) }
+{
+    match region {
         Some(region) => region.as_bytes(),
         None => b"",
     }
