@@ -113,7 +113,7 @@ pub fn write_without_keyword(
 }
 
 /// Returns why a key and a value cannot be a keyword, or `None` if they can.
-fn keyword_error(key: &str, value: &str) -> Option<KeywordError>
+pub(crate) fn keyword_error(key: &str, value: &str) -> Option<KeywordError>
     ensures { result ≡ spec.keyword_error key.now (subtags value.now) }
 {
     if !is_unicode_key(key.as_bytes()) {
@@ -157,7 +157,7 @@ fn write_parts(tag: NormalLangTag<'_>, edit: KeywordEdit<'_>, buffer: &mut [u8])
 
 /// Writes as much of a normal tag with a keyword set or removed as fits into a buffer, and returns the full length of
 /// that tag.
-fn put_parts(tag: NormalLangTag<'_>, edit: KeywordEdit<'_>, buffer: &mut [u8]) -> usize
+pub(crate) fn put_parts(tag: NormalLangTag<'_>, edit: KeywordEdit<'_>, buffer: &mut [u8]) -> usize
     ensures { model.EachRecord (normal_lang_tag_text tag.entry) (λ r. IsCounted (model.spell (edited_record_by edit.entry r)) buffer.old buffer.new result) }
 {
     let mut out = Output::new(buffer);
