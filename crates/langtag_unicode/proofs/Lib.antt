@@ -10,3 +10,9 @@ pub mod ExtensionsPut
 pub mod KeywordEdits
 pub mod KeywordSizes
 pub mod KeywordLaws
+pub mod KeywordRecords
+pub mod KeywordTwice
+pub mod KeywordBlocks
+pub mod KeySplits
+pub mod CanonicalKeywords
+pub mod CanonicalTags

@@ -1,6 +1,6 @@
 //! Why a keyword of an owned tag could not be set.
 ghost use Rattle.std.specs.Prelude.{◌≡◌};
-ghost use Rattle.langtag_unicode.specs.declared.set_keyword_error.SetKeywordError.TheVariants.{Keyword, Memory};
+ghost use Rattle.langtag_unicode.specs.declared.set_keyword_error.SetKeywordError.TheVariants.{Memory};
 
 use crate::keyword_error::KeywordError;
 use std::alloc::AllocError;
@@ -24,14 +24,6 @@ pub enum SetKeywordError {
     /// Allocation failed.
     #[error("out of memory")]
     Memory(AllocError),
-}
-
-impl From<KeywordError> for SetKeywordError {
-    ghost from_gives = { λ error refusal. refusal ≡ Keyword error };
-
-    fn from(error: KeywordError) -> Self {
-        SetKeywordError::Keyword(error)
-    }
 }
 
 impl From<AllocError> for SetKeywordError {

@@ -44,14 +44,6 @@ impl fmt::Display for SetKeywordError {
 impl core::error::Error for SetKeywordError {}
 
 #[cfg(feature = "alloc")]
-impl From<KeywordError> for SetKeywordError {
-    #[inline]
-    fn from(error: KeywordError) -> Self {
-        SetKeywordError::Keyword(error)
-    }
-}
-
-#[cfg(feature = "alloc")]
 impl From<AllocError> for SetKeywordError {
     #[inline]
     fn from(error: AllocError) -> Self {
