@@ -262,8 +262,22 @@ fn callers_use_the_errors_of_owned_tags() {
         refused.downcast_ref(),
         Some(&SetKeywordError::Keyword(KeywordError::Key))
     );
-    assert_eq!(
-        SetKeywordError::Memory(langtag::AllocError).to_string(),
-        "out of memory"
-    );
+}
+
+#[test]
+#[cfg(feature = "alloc")]
+fn errors_of_owned_tags_are_values() {
+    let memory = SetKeywordError::Memory(langtag::AllocError);
+    let all = [
+        SetKeywordError::Keyword(KeywordError::Key),
+        SetKeywordError::Keyword(KeywordError::Value(0)),
+        SetKeywordError::Keyword(KeywordError::NotNormal),
+        memory,
+    ];
+    for (i, a) in all.iter().enumerate() {
+        for (j, b) in all.iter().enumerate() {
+            assert_eq!(a == b, i == j);
+        }
+    }
+    assert_eq!(memory.to_string(), "out of memory");
 }

@@ -8,6 +8,8 @@ use Rattle.std.specs.Option.{is_some, option_map_or}
 use Rattle.std.specs.Str.{bytes_eq}
 use Rattle.langtag_likely.proofs.RowsFound.{alike_length}
 use Rattle.langtag_scan.proofs.CaseLaw.{fold_text-twice, is_digit-fold, is_letter-fold, length-fold}
+use Rattle.langtag_scan.proofs.SubtagFacts.{of_extension_subtag}
+use Rattle.langtag_scan.proofs.SubtagLists.{each_subtag, subtags-joined}
 use Rattle.langtag_scan.specs.Case.{are_alike, fold_byte, fold_text}
 use Rattle.langtag_scan.specs.CaseLaws.{are_alike-decides}
 use Rattle.langtag_scan.specs.Class.{are_alphanumeric, has_length, is_extension_subtag}
@@ -16,7 +18,7 @@ use Rattle.langtag_unicode.specs.Edit.{is_this_key, is_type, is_unicode_key, key
 use Rattle.langtag_unicode.specs.Form as form
 use Rattle.langtag_unicode.specs.Form.{in_alphabet, is_before, letters_and_digits, put_among, unicode_form, unicode_value}
 use Rattle.langtag_unicode.specs.Keywords.{before_key, is_key, value_of}
-use Rattle.langtag_unicode.proofs.FormRecords.{Good, good-joined, good-value, types-unicode}
+use Rattle.langtag_unicode.proofs.FormRecords.{Good, good-value, types-unicode}
 use Rattle.langtag_unicode.proofs.KeySplits.{KeySplit, all_keys, flat-pairs, key-split}
 use Rattle.langtag_unicode.proofs.KeywordBlocks.{AreValues, block, blocks, find-among, find-passed, found_key, put-among, put-passed, removed-among, without-passed}
 use Rattle.langtag_unicode.proofs.KeywordLaws.{AreNoKeys, alike-itself, allowed_from, before-kept, before-put, fits_from, none_after_removal, others_after_removal, others_after_set, read_after_set, standing-this, type-no_key}
@@ -94,7 +96,7 @@ values-are ss good key v is = by_found (value_of is_key key ss) refl is
     by_found (Some w) found is =
         let fits = found-value key ss w found in
         let whole = good-value is_key key ss w good found in
-        let joined : subtags (join w) ≡ w = good-joined w whole in
+        let joined : subtags (join w) ≡ w = subtags-joined w (each_subtag is_extension_subtag of_extension_subtag w whole) in
         let types = types-unicode key (join w) (subst (AllByRecursion (λ s. IsTrue (is_type s))) (sym joined) (types-from w whole fits.no_keys)) in
         let same : map fold_text (subtags (unicode_value key (join w))) ≡ v = cc in
         (fits.opens, subst AreNoKeys same (no_keys-lower (subtags (unicode_value key (join w))) types))

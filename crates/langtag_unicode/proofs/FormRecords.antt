@@ -94,7 +94,7 @@ good-value test key (s ∷ ss) v good found = by_test (test s && are_alike s key
 abbrev GoodText : List ℕ → Type 0
 GoodText text = Good (subtags text)
 
-pub good-joined : (ss : List (List ℕ)) → Good ss → GoodText (join ss)
+good-joined : (ss : List (List ℕ)) → Good ss → GoodText (join ss)
 good-joined ss good = subst Good (sym (subtags-joined ss (each_subtag is_extension_subtag of_extension_subtag ss good))) good
 
 -- a test that the new texts pass holds of values in canonical form, if it holds of the values

@@ -111,6 +111,13 @@ flat-pairs f (a ∷ xs) ys =
     ap (λ t. t ++ flat_map (λ c. flat_map (λ b. f (c ∷ b ∷ [])) ys) xs) (flat-seconds f a ys) ∙ ap (λ t. flat_map f (map (λ b. a ∷ b ∷ []) ys) ++ t) (flat-pairs f xs ys)
     ∙ sym (flat_map-append f (map (λ b. a ∷ b ∷ []) ys) (flat_map (λ c. map (λ b. c ∷ b ∷ []) ys) xs))
 
+either_left : (s t : Bool) → s ≡ true → (s || t) ≡ true
+either_left s t is = ap (λ u. u || t) is
+
+either_right : (s t : Bool) → t ≡ true → (s || t) ≡ true
+either_right true t is = refl
+either_right false t is = is
+
 -- a key is among them
 any-second : (a b : ℕ) (ys : List ℕ) → list_any (λ y. y == b) ys ≡ true → list_any (bytes_eq (a ∷ b ∷ [])) (map (λ y. a ∷ y ∷ []) ys) ≡ true
 any-second a b [] among = absurd (false≢true among)
@@ -122,31 +129,20 @@ any-second a b (y ∷ ys) among = by_test (y == b) refl (any-second a b ys) amon
     by_test true same later among =
         ap (λ t. t || list_any (bytes_eq (a ∷ b ∷ [])) (map (λ z. a ∷ z ∷ []) ys))
         ((bytes_eq-Decides (a ∷ b ∷ []) (a ∷ y ∷ [])).1 (ap (λ z. a ∷ z ∷ []) (sym (eqb-true y b same))))
-    by_test false other later among = or_right (bytes_eq (a ∷ b ∷ []) (a ∷ y ∷ [])) (later among)
-
-    or_right : (t : Bool) → {s : Bool} → s ≡ true → (t || s) ≡ true
-    or_right true is = refl
-    or_right false is = is
+    by_test false other later among = either_right _ _ (later among)
 
 any-first : (a b : ℕ) (xs ys : List ℕ) → list_any (λ x. x == a) xs ≡ true → list_any (λ y. y == b) ys ≡ true → list_any (bytes_eq (a ∷ b ∷ [])) (flat_map (λ x. map (λ y. x ∷ y ∷ []) ys) xs) ≡ true
 any-first a b [] ys among second = absurd (false≢true among)
 any-first a b (x ∷ xs) ys among second =
     list_any-append (bytes_eq (a ∷ b ∷ [])) (map (λ y. x ∷ y ∷ []) ys) (flat_map (λ z. map (λ y. z ∷ y ∷ []) ys) xs) ∙ by_test (x == a) refl (λ later. any-first a b xs ys later second) among
   where
-    or_left : (s t : Bool) → s ≡ true → (s || t) ≡ true
-    or_left s t is = ap (λ u. u || t) is
-
-    or_right : (s t : Bool) → t ≡ true → (s || t) ≡ true
-    or_right true t is = refl
-    or_right false t is = is
-
     by_test :
         (t : Bool) → (x == a) ≡ t →
         (list_any (λ z. z == a) xs ≡ true → list_any (bytes_eq (a ∷ b ∷ [])) (flat_map (λ z. map (λ y. z ∷ y ∷ []) ys) xs) ≡ true) → (t || list_any (λ z. z == a) xs) ≡ true →
         (list_any (bytes_eq (a ∷ b ∷ [])) (map (λ y. x ∷ y ∷ []) ys) || list_any (bytes_eq (a ∷ b ∷ [])) (flat_map (λ z. map (λ y. z ∷ y ∷ []) ys) xs)) ≡ true
     by_test true same later among =
-        or_left _ _ (subst (λ n. list_any (bytes_eq (a ∷ b ∷ [])) (map (λ y. n ∷ y ∷ []) ys) ≡ true) (sym (eqb-true x a same)) (any-second a b ys second))
-    by_test false other later among = or_right _ _ (later among)
+        either_left _ _ (subst (λ n. list_any (bytes_eq (a ∷ b ∷ [])) (map (λ y. n ∷ y ∷ []) ys) ≡ true) (sym (eqb-true x a same)) (any-second a b ys second))
+    by_test false other later among = either_right _ _ (later among)
 
 letter_alphanumeric : (b : ℕ) → is_letter b ≡ true → is_alphanumeric b ≡ true
 letter_alphanumeric b is = ap (λ t. t || is_digit b) is

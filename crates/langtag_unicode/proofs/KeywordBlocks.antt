@@ -125,48 +125,48 @@ module _ (value : List ℕ → Option (List (List ℕ))) (are : AreValues value)
       (before after : List (List ℕ)) (early : AllByRecursion (λ j. is_before (fold_text key) (fold_text j) ≡ false) before) (late : AllByRecursion (λ j. is_before (fold_text key) (fold_text j) ≡ true) after)
       (before_others : AreOthers before) (after_others : AreOthers after) (itself : are_alike key key ≡ true)
     where
-    not_places : (stands : Bool) (keys : List (List ℕ)) → AllByRecursion (λ j. is_before (fold_text key) (fold_text j) ≡ false) keys → AreOthers keys → AllByRecursion (λ j. is_place key stands j ≡ false) keys
-    not_places stands [] less others = tt
-    not_places stands (j ∷ keys) less others = (by_test stands (is_key j), not_places stands keys less.1 others.1)
-      where
-        by_test : (t b : Bool) → (b && cond t (are_alike j key) (is_before (fold_text key) (fold_text j))) ≡ false
-        by_test true true = others.0
-        by_test false true = less.0
-        by_test t false = refl
+      not_places : (stands : Bool) (keys : List (List ℕ)) → AllByRecursion (λ j. is_before (fold_text key) (fold_text j) ≡ false) keys → AreOthers keys → AllByRecursion (λ j. is_place key stands j ≡ false) keys
+      not_places stands [] less others = tt
+      not_places stands (j ∷ keys) less others = (by_test stands (is_key j), not_places stands keys less.1 others.1)
+        where
+          by_test : (t b : Bool) → (b && cond t (are_alike j key) (is_before (fold_text key) (fold_text j))) ≡ false
+          by_test true true = others.0
+          by_test false true = less.0
+          by_test t false = refl
 
-    -- the key with its old value goes
-    old-gone : (old : List (List ℕ)) → value key ≡ Some old → without_keyword key (key ∷ (old ++ blocks value after)) ≡ blocks value after
-    old-gone old is =
-        let fits = are key old is in
-        without-gone key key (old ++ blocks value after) false true (sym (ap (λ t. cond t (are_alike key key) false) fits.0 ∙ itself)) refl
-        ∙ without-value key old (blocks value after) fits.1 ∙ without-all true after after_others
+      -- the key with its old value goes
+      old-gone : (old : List (List ℕ)) → value key ≡ Some old → without_keyword key (key ∷ (old ++ blocks value after)) ≡ blocks value after
+      old-gone old is =
+          let fits = are key old is in
+          without-gone key key (old ++ blocks value after) false true (sym (ap (λ t. cond t (are_alike key key) false) fits.0 ∙ itself)) refl
+          ∙ without-value key old (blocks value after) fits.1 ∙ without-all true after after_others
 
-    pub removed-among : without_keyword key (blocks value before ++ (block value key ++ blocks value after)) ≡ blocks value before ++ blocks value after
-    removed-among =
-        without-others (block value key ++ blocks value after) false before before_others refl ∙ ap (λ t. blocks value before ++ t) (by_value (value key) refl (without-all false after after_others))
-      where
-        by_value :
-            (o : Option (List (List ℕ))) → value key ≡ o → without_keyword key (blocks value after) ≡ blocks value after →
-            without_keyword key (option_map_or (λ v. key ∷ v) o [] ++ blocks value after) ≡ blocks value after
-        by_value None is later = later
-        by_value (Some old) is later = old-gone old is
+      pub removed-among : without_keyword key (blocks value before ++ (block value key ++ blocks value after)) ≡ blocks value before ++ blocks value after
+      removed-among =
+          without-others (block value key ++ blocks value after) false before before_others refl ∙ ap (λ t. blocks value before ++ t) (by_value (value key) refl (without-all false after after_others))
+        where
+          by_value :
+              (o : Option (List (List ℕ))) → value key ≡ o → without_keyword key (blocks value after) ≡ blocks value after →
+              without_keyword key (option_map_or (λ v. key ∷ v) o [] ++ blocks value after) ≡ blocks value after
+          by_value None is later = later
+          by_value (Some old) is later = old-gone old is
 
-    pub find-among : find (is_this_key key) (blocks value before ++ (block value key ++ blocks value after)) ≡ found_key key (value key)
-    find-among = find-others (block value key ++ blocks value after) before before_others ∙ by_value (value key) refl
-      where
-        by_value : (o : Option (List (List ℕ))) → value key ≡ o → find (is_this_key key) (option_map_or (λ v. key ∷ v) o [] ++ blocks value after) ≡ found_key key o
-        by_value None is = ap (find (is_this_key key)) (sym (append-nil (blocks value after))) ∙ find-others [] after after_others
-        by_value (Some old) is = ap (λ t. cond (t && are_alike key key) (Some key) (find (is_this_key key) (old ++ blocks value after))) (are key old is).0 ∙ ap (λ t. cond t (Some key) (find (is_this_key key) (old ++ blocks value after))) itself
+      pub find-among : find (is_this_key key) (blocks value before ++ (block value key ++ blocks value after)) ≡ found_key key (value key)
+      find-among = find-others (block value key ++ blocks value after) before before_others ∙ by_value (value key) refl
+        where
+          by_value : (o : Option (List (List ℕ))) → value key ≡ o → find (is_this_key key) (option_map_or (λ v. key ∷ v) o [] ++ blocks value after) ≡ found_key key o
+          by_value None is = ap (find (is_this_key key)) (sym (append-nil (blocks value after))) ∙ find-others [] after after_others
+          by_value (Some old) is = ap (λ t. cond (t && are_alike key key) (Some key) (find (is_this_key key) (old ++ blocks value after))) (are key old is).0 ∙ ap (λ t. cond t (Some key) (find (is_this_key key) (old ++ blocks value after))) itself
 
-    pub put-among :
-        (new : List (List ℕ)) (stands : Bool) (o : Option (List (List ℕ))) → value key ≡ o → stands ≡ option_map_or (λ v. true) o false →
-        put_keyword key stands (key ∷ new) (blocks value before ++ (option_map_or (λ v. key ∷ v) o [] ++ blocks value after)) ≡ blocks value before ++ ((key ∷ new) ++ blocks value after)
-    put-among new stands None is same =
-        put-others stands (key ∷ new) (blocks value after) before (not_places stands before early before_others)
-        ∙ ap (λ t. blocks value before ++ t) (ap (λ t. put_keyword key t (key ∷ new) (blocks value after)) same ∙ put-first (key ∷ new) after late after_others)
-    put-among new stands (Some old) is same =
-        put-others stands (key ∷ new) (key ∷ (old ++ blocks value after)) before (not_places stands before early before_others)
-        ∙ ap (λ t. blocks value before ++ t)
-        (ap (λ t. put_keyword key t (key ∷ new) (key ∷ (old ++ blocks value after))) same
-        ∙ put-here key key (old ++ blocks value after) true (key ∷ new) (ap (λ t. t && are_alike key key) (are key old is).0 ∙ itself)
-        ∙ ap (λ t. (key ∷ new) ++ t) (old-gone old is))
+      pub put-among :
+          (new : List (List ℕ)) (stands : Bool) (o : Option (List (List ℕ))) → value key ≡ o → stands ≡ option_map_or (λ v. true) o false →
+          put_keyword key stands (key ∷ new) (blocks value before ++ (option_map_or (λ v. key ∷ v) o [] ++ blocks value after)) ≡ blocks value before ++ ((key ∷ new) ++ blocks value after)
+      put-among new stands None is same =
+          put-others stands (key ∷ new) (blocks value after) before (not_places stands before early before_others)
+          ∙ ap (λ t. blocks value before ++ t) (ap (λ t. put_keyword key t (key ∷ new) (blocks value after)) same ∙ put-first (key ∷ new) after late after_others)
+      put-among new stands (Some old) is same =
+          put-others stands (key ∷ new) (key ∷ (old ++ blocks value after)) before (not_places stands before early before_others)
+          ∙ ap (λ t. blocks value before ++ t)
+          (ap (λ t. put_keyword key t (key ∷ new) (key ∷ (old ++ blocks value after))) same
+          ∙ put-here key key (old ++ blocks value after) true (key ∷ new) (ap (λ t. t && are_alike key key) (are key old is).0 ∙ itself)
+          ∙ ap (λ t. (key ∷ new) ++ t) (old-gone old is))
