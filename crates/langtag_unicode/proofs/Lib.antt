@@ -10,6 +10,7 @@ pub mod ExtensionsPut
 pub mod KeywordEdits
 pub mod KeywordSizes
 pub mod KeywordLaws
+pub mod LocaleExtensions
 pub mod KeywordRecords
 pub mod KeywordTwice
 pub mod KeywordBlocks
