@@ -14,3 +14,9 @@ pub mod LocaleExtensions
 pub mod LocaleTables
 pub mod IdentifierForms
 pub mod VariantForms
+pub mod KeywordRecords
+pub mod KeywordTwice
+pub mod KeywordBlocks
+pub mod KeySplits
+pub mod CanonicalKeywords
+pub mod CanonicalTags

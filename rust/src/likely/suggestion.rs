@@ -56,14 +56,12 @@ pub fn suggested_region(code: &str) -> Option<&'static str> {
     Some(text_of(name_at(&tables::REPLACEMENT_NAMES, index)))
 }
 
-/// Returns the replacement of the region by one other region, if there is one, including regions of three digits.
-pub fn region_replacement(fields: TagFields<'_>) -> Option<TagFields<'static>> {
+/// Returns the region that replaces the region of these fields, if there is exactly one such region: `GB` for `UK`, and
+/// `US` for `840`. Case is ignored.
+#[inline]
+pub fn region_replacement(fields: TagFields<'_>) -> Option<&'static [u8]> {
     let index = index_of(replacement_keys(), fields.region)?;
-    Some(TagFields {
-        language: b"",
-        script: b"",
-        region: name_at(&tables::REPLACEMENT_NAMES, index),
-    })
+    Some(name_at(&tables::REPLACEMENT_NAMES, index))
 }
 
 /// Returns a name of the tables as a text.

@@ -4,9 +4,7 @@
 
 use crate::output::write_text;
 use crate::registry::canonical_parts::put_canonical_parts;
-#[cfg(feature = "alloc")]
-use crate::registry::form::form_of;
-use crate::registry::form::Form;
+use crate::registry::form::{form_of, Form};
 use crate::registry::preferred::preferred_for;
 #[cfg(feature = "alloc")]
 use crate::shim::{try_vec, AllocError};
@@ -73,7 +71,6 @@ pub fn canonical(tag: LangTag<'_>) -> Result<LangTagBuf, AllocError> {
 /// ```
 ///
 /// [RFC 5646 section 4.5]: https://www.rfc-editor.org/rfc/rfc5646#section-4.5
-#[cfg(feature = "alloc")]
 #[inline]
 pub fn is_canonical(tag: LangTag<'_>) -> bool {
     matches!(form_of(tag), Form::Same)
@@ -94,7 +91,6 @@ pub fn is_canonical(tag: LangTag<'_>) -> bool {
 /// # Ok(())
 /// # }
 /// ```
-#[cfg(feature = "alloc")]
 pub fn write_canonical(tag: LangTag<'_>, buffer: &mut [u8]) -> usize {
     match form_of(tag) {
         Form::Same => write_text(tag.as_bytes(), buffer),

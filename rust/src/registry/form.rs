@@ -20,7 +20,6 @@ pub(crate) enum Form<'a> {
 }
 
 /// Returns how the canonical form of a tag is made. It is inlined, so that the `Form` is not written to memory.
-#[cfg(feature = "alloc")]
 #[inline(always)]
 pub(crate) fn form_of(tag: LangTag<'_>) -> Form<'_> {
     if let Some(preferred) = preferred_tag(tag) {

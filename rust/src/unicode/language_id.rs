@@ -67,7 +67,7 @@ fn are_variants(rest: Option<&str>) -> bool {
     let mut rest = rest;
     while let Some(text) = rest {
         let (variant, others) = split_first(text);
-        if !is_variant(variant.as_bytes()) || is_among(others, variant) {
+        if !is_variant(variant.as_bytes()) || is_among(others, variant.as_bytes()) {
             return false;
         }
         rest = others;
@@ -75,11 +75,11 @@ fn are_variants(rest: Option<&str>) -> bool {
     true
 }
 
-pub(crate) fn is_among(rest: Option<&str>, variant: &str) -> bool {
+pub(crate) fn is_among(rest: Option<&str>, variant: &[u8]) -> bool {
     let mut rest = rest;
     while let Some(text) = rest {
         let (other, others) = split_first(text);
-        if case_insensitive_eq(variant.as_bytes(), other.as_bytes()) {
+        if case_insensitive_eq(variant, other.as_bytes()) {
             return true;
         }
         rest = others;

@@ -10,7 +10,7 @@ use crate::unicode::keys::Keys;
 use crate::unicode::keyword_form::push_keywords;
 use crate::unicode::language_id::{take_region, take_script};
 use crate::unicode::locale_fields::identifier_form;
-use crate::unicode::locale_variants::VariantRules;
+use crate::unicode::locale_variants::push_variants;
 use crate::unicode::subtags::{preceding, split_first};
 
 /// All singletons (RFC 5646 section 2.2.6) in order.
@@ -27,7 +27,7 @@ pub(crate) fn push_locale_extensions(out: &mut Output<'_>, extensions: Extension
 /// Appends the extension with a singleton in its form, if there is such an extension.
 fn push_extension_at(out: &mut Output<'_>, extensions: Extensions<'_>, singleton: u8) {
     let Ok(singleton) = Singleton::new(singleton) else {
-        return;
+        unreachable!()
     };
     if let Some(extension) = extensions.get(singleton) {
         push_extension(out, extension);
@@ -46,25 +46,41 @@ fn push_extension(out: &mut Output<'_>, extension: Extension<'_>) {
 }
 
 /// Appends the form of the extension `t` with these subtags.
+#[inline]
 fn push_locale_transform(out: &mut Output<'_>, text: &str) {
     out.push_subtag(b"t");
-    if let Some(language) = preceding(text, Keys::Transform) {
-        push_transform_language(out, language);
-    }
+    push_language(out, text);
     push_keywords(out, text, Keys::Transform);
 }
 
-/// Appends the form of the language of `t`.
-fn push_transform_language(out: &mut Output<'_>, text: &str) {
+/// Appends the form of the language before the fields.
+#[inline]
+fn push_language(out: &mut Output<'_>, text: &str) {
+    if let Some(language) = preceding(text, Keys::Transform) {
+        push_language_id(out, language);
+    }
+}
+
+/// Appends the form of a language identifier, given as a text.
+fn push_language_id(out: &mut Output<'_>, text: &str) {
     let (language, rest) = split_first(text);
     let (script, rest) = take_script(rest);
     let (region, variants) = take_region(rest);
     let fields = TagFields {
         language: language.as_bytes(),
-        script: script.unwrap_or("").as_bytes(),
-        region: region.unwrap_or("").as_bytes(),
+        script: text_of(script),
+        region: text_of(region),
     };
     push_identifier(out, fields, variants);
+}
+
+/// Returns the text of a subtag, or the empty text if there is no subtag.
+#[inline]
+fn text_of<'a>(subtag: Option<&'a str>) -> &'a [u8] {
+    match subtag {
+        Some(subtag) => subtag.as_bytes(),
+        None => b"",
+    }
 }
 
 /// Appends the form of a language identifier with these fields and variants.
@@ -73,8 +89,7 @@ pub(crate) fn push_identifier(out: &mut Output<'_>, fields: TagFields<'_>, varia
     out.push_subtag(form.language);
     push_field(out, form.script);
     push_field(out, form.region);
-    let language = language_replaced(fields).language;
-    VariantRules { language, variants }.push_variants(out);
+    push_variants(out, language_replaced(fields).language, variants);
 }
 
 /// Appends a field, unless it is empty.

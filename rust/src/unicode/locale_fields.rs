@@ -7,6 +7,7 @@ use crate::tag::case_insensitive_eq;
 use crate::unicode::alias::alias_for;
 use crate::unicode::language_id::is_among;
 use crate::unicode::locale_tables as tables;
+use crate::unicode::locale_variants::variant_languages;
 use crate::unicode::subtags::split_first;
 
 /// Returns the fields in their form. The fields are of a language identifier with these variants.
@@ -30,40 +31,71 @@ fn variant_language<'a>(fields: TagFields<'a>, variants: Option<&str>) -> TagFie
 /// Returns a language, or the language that it becomes with some of the variants.
 fn language_with<'a>(language: &'a [u8], variants: Option<&str>) -> &'a [u8] {
     let mut language = language;
-    for (old, variant, new) in &tables::VARIANT_LANGUAGES {
-        if case_insensitive_eq(old.as_bytes(), language) && is_among(variants, variant) {
+    let mut rows = variant_languages();
+    while let [(old, variant, new), others @ ..] = rows {
+        if case_insensitive_eq(old.as_bytes(), language) && is_among(variants, variant.as_bytes()) {
             language = new.as_bytes();
         }
+        rows = others;
     }
     language
 }
 
 /// Returns the fields of a sign language if the language is `sgn`, and the region has a sign language.
+#[inline]
 fn sign_language<'a>(fields: TagFields<'a>) -> TagFields<'a> {
-    if !case_insensitive_eq(fields.language, b"sgn") {
-        return fields;
-    }
-    match alias_for(&tables::SIGN_LANGUAGES, fields.region) {
-        Some(language) => TagFields {
-            language: language.as_bytes(),
-            script: fields.script,
-            region: b"",
-        },
+    match sign_for(fields) {
+        Some(language) => without_sgn(fields, language),
         None => fields,
     }
 }
 
+/// Returns the sign language of the region if the language is `sgn`.
+fn sign_for<'a>(fields: TagFields<'a>) -> Option<&'a [u8]> {
+    if !case_insensitive_eq(fields.language, b"sgn") {
+        return None;
+    }
+    match alias_for(sign_languages(), fields.region) {
+        Some(language) => Some(language.as_bytes()),
+        None => None,
+    }
+}
+
+/// Returns the fields with another language and without a region.
+#[inline]
+fn without_sgn<'a>(fields: TagFields<'a>, language: &'a [u8]) -> TagFields<'a> {
+    TagFields {
+        language,
+        script: fields.script,
+        region: b"",
+    }
+}
+
 /// Returns the fields with the region for which one of the variants stands, if they have no region.
+#[inline]
 fn variant_region<'a>(fields: TagFields<'a>, variants: Option<&str>) -> TagFields<'a> {
-    if !fields.region.is_empty() {
-        return fields;
+    with_region(fields, brought_region(fields, variants))
+}
+
+/// Returns the region of the fields or, if they have none, the region for which one of the variants stands.
+#[inline]
+fn brought_region<'a>(fields: TagFields<'a>, variants: Option<&str>) -> &'a [u8] {
+    if fields.region.is_empty() {
+        return region_of(variants);
     }
-    for (variant, region) in &tables::VARIANT_REGIONS {
-        if is_among(variants, variant) {
-            return with_region(fields, region.as_bytes());
+    fields.region
+}
+
+/// Returns the region for which one of the variants stands, or the empty text.
+fn region_of(variants: Option<&str>) -> &'static [u8] {
+    let mut rows = variant_regions();
+    while let [(variant, region), others @ ..] = rows {
+        if is_among(variants, variant.as_bytes()) {
+            return region.as_bytes();
         }
+        rows = others;
     }
-    fields
+    b""
 }
 
 #[inline]
@@ -76,59 +108,87 @@ fn with_region<'a>(fields: TagFields<'a>, region: &'a [u8]) -> TagFields<'a> {
 }
 
 /// Returns the fields with the region that replaces their region, if there is one.
+#[inline]
 fn region_replaced<'a>(fields: TagFields<'a>) -> TagFields<'a> {
-    if let Some(other) = region_replacement(fields) {
-        return with_region(fields, other.region);
+    with_region(fields, new_region(fields))
+}
+
+/// Returns the region that replaces the region of the fields, or their region.
+fn new_region<'a>(fields: TagFields<'a>) -> &'a [u8] {
+    if let Some(region) = region_replacement(fields) {
+        return region;
     }
-    match alias_for(&tables::REGION_HEIRS, fields.region) {
-        Some(regions) => with_region(fields, heir(likely_region(fields), regions)),
-        None => fields,
+    match alias_for(region_heirs(), fields.region) {
+        Some(regions) => heir(likely_region(fields), regions),
+        None => fields.region,
     }
 }
 
 /// Returns the likely region of the language and the script, or the empty text.
+#[inline]
 fn likely_region<'a>(fields: TagFields<'a>) -> &'a [u8] {
-    let fields = TagFields {
-        language: known_language(fields.language),
-        script: fields.script,
-        region: b"",
-    };
-    match add_likely(fields) {
+    match add_likely(without_region(fields)) {
         Some(most) => most.region,
         None => b"",
     }
 }
 
-/// Returns a language, or the empty text for `und`.
+/// Returns the language and the script, for the look-up of likely subtags.
 #[inline]
-fn known_language(language: &[u8]) -> &[u8] {
-    if case_insensitive_eq(language, b"und") {
-        return b"";
+fn without_region<'a>(fields: TagFields<'a>) -> TagFields<'a> {
+    let is_unknown = case_insensitive_eq(b"und", fields.language);
+    TagFields {
+        language: if is_unknown { b"" } else { fields.language },
+        script: fields.script,
+        region: b"",
     }
-    language
 }
 
 /// Returns the likely region if it is among these regions, and otherwise the first of them.
+#[inline]
 fn heir<'a>(likely: &'a [u8], regions: &'static str) -> &'a [u8] {
-    let mut rest = Some(regions);
-    while let Some(text) = rest {
-        let (region, others) = split_first(text);
-        if case_insensitive_eq(likely, region.as_bytes()) {
-            return likely;
-        }
-        rest = others;
+    let (first, _) = split_first(regions);
+    if is_among(Some(regions), likely) {
+        return likely;
     }
-    split_first(regions).0.as_bytes()
+    first.as_bytes()
 }
 
 /// Returns the fields with the script that replaces their script, if there is one.
+#[inline]
 fn script_replaced<'a>(fields: TagFields<'a>) -> TagFields<'a> {
-    match alias_for(&tables::SCRIPT_ALIASES, fields.script) {
-        Some(script) => TagFields {
-            language: fields.language,
-            script: script.as_bytes(),
-            region: fields.region,
-        },
-        None => fields,
+    TagFields {
+        language: fields.language,
+        script: new_script(fields),
+        region: fields.region,
     }
+}
+
+/// Returns the script that replaces the script of the fields, or their script.
+#[inline]
+fn new_script<'a>(fields: TagFields<'a>) -> &'a [u8] {
+    match alias_for(script_aliases(), fields.script) {
+        Some(script) => script.as_bytes(),
+        None => fields.script,
+    }
+}
+
+#[inline]
+fn sign_languages() -> &'static [(&'static str, &'static str)] {
+    &tables::SIGN_LANGUAGES
+}
+
+#[inline]
+fn variant_regions() -> &'static [(&'static str, &'static str)] {
+    &tables::VARIANT_REGIONS
+}
+
+#[inline]
+fn region_heirs() -> &'static [(&'static str, &'static str)] {
+    &tables::REGION_HEIRS
+}
+
+#[inline]
+fn script_aliases() -> &'static [(&'static str, &'static str)] {
+    &tables::SCRIPT_ALIASES
 }

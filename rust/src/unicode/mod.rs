@@ -18,6 +18,7 @@ mod alias;
 mod alias_tables;
 mod alphabet;
 mod attributes_iter;
+mod canonical_locale;
 mod form;
 mod keys;
 mod keyword_check;
@@ -30,15 +31,17 @@ mod language_id;
 mod locale;
 mod locale_extensions;
 mod locale_fields;
-mod locale_form;
 mod locale_tables;
 mod locale_variants;
+mod owned_keywords;
+mod set_keyword_error;
 mod subtags;
 mod transform_form;
 mod transformation;
 mod unicode_extension;
 
 pub use attributes_iter::AttributesIter;
+pub use canonical_locale::write_locale_form;
 #[cfg(feature = "alloc")]
 pub use form::extensions_form;
 pub use form::write_extensions_form;
@@ -48,7 +51,8 @@ pub use keyword_setters::{write_with_keyword, write_without_keyword};
 pub use keywords_iter::KeywordsIter;
 pub use locale::is_locale;
 #[cfg(feature = "alloc")]
-pub use locale_form::locale_form;
-pub use locale_form::write_locale_form;
+pub use owned_keywords::{remove_keyword, set_keyword};
+#[cfg(feature = "alloc")]
+pub use set_keyword_error::SetKeywordError;
 pub use transformation::{transform, Transformation};
 pub use unicode_extension::{attributes, keyword, keywords, KeyValue};
