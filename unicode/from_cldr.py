@@ -4,7 +4,8 @@
 usage: from_cldr.py COMMON VERSION SOURCE   COMMON is CLDR's folder `common`, which has bcp47/ and supplemental/; VERSION is like 48.2;
                                             SOURCE says for the head of each file where it came from
 
-Aliases of types that no tag can contain are left out.
+Aliases of types that no tag can contain are left out. So are aliases of languages and regions, which likely/from_cldr.py writes, and of
+tags that are no language identifiers.
 """
 from __future__ import annotations
 
@@ -13,6 +14,8 @@ import re
 import sys
 import xml.etree.ElementTree as XML
 from collections.abc import Iterator
+
+from identifiers import IDENTIFIER
 
 DATA = pathlib.Path(__file__).resolve().parent / "data"
 
@@ -41,9 +44,21 @@ def subdivision_aliases(common: pathlib.Path) -> Iterator[str]:
         yield f"{alias.get('type')} {alias.get('reason')} {alias.get('replacement')}"
 
 
+def identifier_aliases(common: pathlib.Path) -> Iterator[str]:
+    """Returns the aliases of language identifiers that are neither a language nor a region."""
+    aliases = XML.parse(common / "supplemental/supplementalMetadata.xml").getroot()
+    for kind, before in (("languageAlias", ""), ("scriptAlias", "und-"), ("variantAlias", "und-")):
+        for alias in aliases.iter(kind):
+            old, new = (before + alias.get(name).replace("_", "-") for name in ("type", "replacement"))
+            if "-" in old and IDENTIFIER.fullmatch(old.lower()):
+                yield f"{old} {new}"
+
+
 def main(common: pathlib.Path, version: str, source: str) -> None:
     for name, title, files, rows in (
         ("type-alias.txt", "Aliases of types that a tag can hold: extension, key, alias, type", "common/bcp47/*.xml", type_aliases(common)),
+        ("language-alias.txt", "Aliases of language identifiers that are neither a language nor a region: identifier, replacement",
+         "common/supplemental/supplementalMetadata.xml", identifier_aliases(common)),
         ("subdivision-alias.txt", "Aliases of subdivisions: code, reason, replacements, of which the first is taken", "common/supplemental/supplementalMetadata.xml",
          subdivision_aliases(common)),
     ):

@@ -9,7 +9,7 @@ LANGUAGE, SCRIPT, REGION, VARIANT = r"[a-z]{2,3}|[a-z]{5,8}", r"[a-z]{4}", r"[a-
 IDENTIFIER = re.compile(f"({LANGUAGE})(?:-({SCRIPT}))?(?:-({REGION}))?((?:-(?:{VARIANT}))*)")
 
 # Where CLDR has another sign language than IANA's registry, IANA's is taken: CLDR makes Norwegian Sign Language Nigerian.
-BETTER = {"sgn-no": ("nsi", "nsl")}
+BETTER = [("sgn-no", "nsi", "nsl")]
 
 
 def fields(text: str) -> tuple[str, str, str, tuple[str, ...]] | None:
@@ -29,7 +29,7 @@ class Identifiers:
         self.dropped_variants, self.variant_aliases, self.variant_regions, self.script_aliases = [], [], [], []
         self.languages, self.registry = languages, registry
         for old, new in ([text.lower() for text in row] for row in rows):
-            self.read(old, BETTER[old][1] if old in BETTER else new)
+            self.read(old, next((better for tag, _, better in BETTER if tag == old), new))
         self.rows = {old.lower(): new.lower() for old, new in rows}
         self.regions = {old.lower(): new[0].lower() for old, *new in regions if len(new) == 1}
         self.several = [(old.lower(), "-".join(new).lower()) for old, *new in regions if len(new) > 1]
@@ -78,7 +78,7 @@ class Identifiers:
         replaced = set(self.regions) | {old for old, _ in self.several}
         each("no new region is an alias", lambda row: not replaced & set(row[1].split("-")), self.variant_regions + self.several + list(self.regions.items()))
         each("no new script is an alias", lambda row: row[1] not in [old for old, _ in self.script_aliases], self.script_aliases)
-        each("CLDR has the row that IANA's registry betters", lambda row: self.rows.get(row[0]) == row[1][0], BETTER.items())
+        each("CLDR has the row that IANA's registry betters", lambda row: self.rows.get(row[0]) == row[1], BETTER)
         self.test_registry()
 
     def test_registry(self) -> None:

@@ -12,7 +12,8 @@ from unittest import mock
 import from_cldr
 import generate
 
-WRITTEN = ["langtag_unicode/src/alias_tables.rt", "langtag_unicode/specs/Aliases.antt"]
+WRITTEN = ["langtag_unicode/src/alias_tables.rt", "langtag_unicode/specs/Aliases.antt",
+           "langtag_unicode/src/locale_tables.rt", "langtag_unicode/specs/LocaleAliases.antt"]
 
 
 class Generating(unittest.TestCase):
@@ -22,11 +23,12 @@ class Generating(unittest.TestCase):
         self.folder = pathlib.Path(folder.name)
         self.crates = self.folder / "crates"
         shutil.copytree(generate.DATA, self.folder / "data")
+        shutil.copytree(generate.LIKELY, self.folder / "likely")
         shutil.copy(generate.CHECKSUMS, self.folder / "data.sha256")
         for name in WRITTEN:
             (self.crates / name).parent.mkdir(parents=True, exist_ok=True)
             shutil.copy(generate.CRATES / name, self.crates / name)
-        for name, path in (("DATA", "data"), ("CHECKSUMS", "data.sha256")):
+        for name, path in (("DATA", "data"), ("CHECKSUMS", "data.sha256"), ("LIKELY", "likely")):
             patch = mock.patch.object(generate, name, self.folder / path)
             self.addCleanup(patch.stop)
             patch.start()
@@ -55,7 +57,7 @@ class Generating(unittest.TestCase):
         with self.assertRaisesRegex(SystemExit, "the data are not those of data.sha256; --accept takes newer ones"):
             self.run_with()
         told = self.run_with("--check")
-        self.assertEqual(told, (True, ["the data are not those of data.sha256"] + [f"{pathlib.Path(name).name} would be written otherwise" for name in WRITTEN]))
+        self.assertEqual(told, (True, ["the data are not those of data.sha256"] + [f"{pathlib.Path(name).name} would be written otherwise" for name in WRITTEN[:2]]))
         self.assertEqual(self.run_with("--accept"), (False, []))
         self.assertEqual(self.run_with("--check"), (False, []))
 
@@ -64,7 +66,7 @@ class Generating(unittest.TestCase):
             with self.subTest(name=name):
                 path = self.crates / name
                 text = path.read_text(encoding="utf-8")
-                path.write_text(text.replace("aqams", "aqamt"), encoding="utf-8")
+                path.write_text(text.replace("aqams", "aqamt").replace("hepburn", "hepborn"), encoding="utf-8")
                 self.assertEqual(self.run_with("--check"), (True, [f"{path.name} would be written otherwise"]))
                 path.write_text(text, encoding="utf-8")
 
@@ -74,7 +76,7 @@ class Generating(unittest.TestCase):
             self.run_with("--accept")
 
     def test_premises(self):
-        types, places = "type-alias.txt", "subdivision-alias.txt"
+        types, places, names = "type-alias.txt", "subdivision-alias.txt", "language-alias.txt"
         for name, old, new, told in (
             (types, "\nu tz aqams aqmcm\n", "\na tz aqams aqmcm\n", "the extension is u or t"),
             (types, "\nu tz aqams aqmcm\n", "\nu t0 aqams aqmcm\n", "a key of its extension"),
@@ -87,6 +89,18 @@ class Generating(unittest.TestCase):
             (places, "\ncn11 deprecated cnbj\n", "\nc11 deprecated cnbj\n", "codes in lowercase"),
             (places, "\ncn11 deprecated cnbj\n", "\ncn11 deprecated cnbj\ncn11 deprecated cntj\n", "a left side once"),
             (places, "\ncn11 deprecated cnbj\n", "\ncn11 deprecated cn12\n", "no right side is a left side"),
+            (names, "\naa-saaho ssy\n", "\naa-saaho-sahoo ssy\n", "an alias of a known kind"),
+            (names, "\naa-saaho ssy\n", "\nzh-min-saaho ssy\n", "a language identifier"),
+            (names, "\naa-saaho ssy\n", "\naa-saaho iw\n", "no new language is an alias"),
+            (names, "\naa-saaho ssy\n", "\niw-saaho ssy\n", "no language with a variant is an alias"),
+            (names, "\naa-saaho ssy\n", "\naa-hakka ssy\n", "a variant stands with one language"),
+            (names, "\naa-saaho ssy\n", "\naa-saaho zh\n", "a new language has no variant of its own"),
+            (names, "\nund-polytoni und-polyton\n", "\nund-polytoni und-heploc\n", "no new variant is an alias"),
+            (names, "\nund-heploc und-alalc97\n", "\nund-heploc und-polyton\n", "the second variant of a pair alone has the same alias"),
+            (names, "\nund-aaland und-AX\n", "\nund-aaland und-UK\n", "no new region is an alias"),
+            (names, "\nund-Qaai und-Zinh\n", "\nund-Qaai und-Qaai\n", "no new script is an alias"),
+            (names, "\nsgn-NO nsi\n", "\nsgn-NO nsl\n", "CLDR has the row that IANA's registry betters"),
+            (names, "\nsgn-DE gsg\n", "\nsgn-DE dsl\n", "the form of a tag of the registry is the form of its Preferred-Value"),
         ):
             with self.subTest(told=told):
                 standing = (generate.DATA / name).read_bytes()
@@ -96,11 +110,16 @@ class Generating(unittest.TestCase):
                 (generate.DATA / name).write_bytes(standing)
 
     def test_from_cldr(self):
-        common = self.folder / "common"
+        common, version = self.folder / "common", generate.version()
+        for name in ("language-alias.txt", "region-alias.txt"):
+            path = generate.LIKELY / name
+            path.write_text(path.read_text(encoding="utf-8").replace(f"CLDR {version} ", "CLDR 99.1 "), encoding="utf-8")
         for name, text in (
             ("bcp47/a.xml", '<k><key name="ca"><type name="islamic-civil" alias="islamicc"/><type name="gregory" alias="gregorian GREGORY"/></key></k>'),
             ("bcp47/b.xml", '<k><key extension="t" name="m0"><type name="names" preferred="prprname" alias="other"/></key></k>'),
-            ("supplemental/supplementalMetadata.xml", '<s><subdivisionAlias type="fi01" replacement="AX" reason="overlong"/></s>'),
+            ("supplemental/supplementalMetadata.xml", '<s><subdivisionAlias type="fi01" replacement="AX" reason="overlong"/>'
+             '<languageAlias type="sgn_BR" replacement="bzs"/><languageAlias type="zh_min_nan" replacement="nan"/><languageAlias type="iw" replacement="he"/>'
+             '<scriptAlias type="Qaai" replacement="Zinh"/><variantAlias type="heploc" replacement="alalc97"/></s>'),
         ):
             (common / name).parent.mkdir(parents=True, exist_ok=True)
             (common / name).write_text(text, encoding="utf-8")
@@ -109,6 +128,7 @@ class Generating(unittest.TestCase):
         self.assertEqual(generate.version(), "99.1")
         self.assertEqual(generate.read("type-alias.txt"), [["t", "m0", "names", "prprname"], ["u", "ca", "islamicc", "islamic-civil"]])
         self.assertEqual(generate.Aliases().subdivisions, [("fi01", "axzzzz")])
+        self.assertEqual(generate.read("language-alias.txt"), [["sgn-BR", "bzs"], ["und-Qaai", "und-Zinh"], ["und-heploc", "und-alalc97"]])
 
 
 if __name__ == "__main__":

@@ -11,10 +11,22 @@ use crate::unicode::locale::is_locale_record;
 use crate::unicode::locale_extensions::{push_identifier, push_locale_extensions};
 use crate::unicode::subtags::nonempty;
 
-/// Writes Unicode's canonical form of a tag (UTS #35, part 1, Annex C) to a buffer, and returns its length in bytes. If
-/// the buffer is too short, it stays unchanged, and the length says how long a buffer must be. Returns `None` if the
-/// tag is not a Unicode locale identifier, as [`is_locale`] finds, and the buffer stays unchanged. It does not
-/// allocate.
+/// Writes the canonical form of a Unicode locale identifier (UTS #35, part 1, Annex C) to a buffer, and returns its
+/// length in bytes: `ger-UK` becomes `de-GB`, `sh` becomes `sr-Latn`, and `hy-SU` becomes `hy-AM`.
+///
+/// The language, the script, the region and the variants are replaced by CLDR's aliases, in the tag and in the language
+/// of `t`. Variants are put in alphabetical order, and extensions in the order of their singletons. `u` and the fields of
+/// `t` get the form of [`extensions_form`](crate::unicode::extensions_form). The script is in titlecase, the region in uppercase,
+/// and everything else in lowercase. Other extensions and private use stay, except for their case: `en-x-true` is its
+/// own form.
+///
+/// Norwegian Sign Language, `sgn-NO`, becomes `nsl`, as in IANA's registry. CLDR has `nsi` there, which is Nigerian.
+///
+/// Returns `None` if the tag is not a Unicode locale identifier, as [`is_locale`](crate::unicode::is_locale) finds. Many of these
+/// tags have a form after `langtag::registry::canonical`: `zh-yue` becomes `yue`, and `i-klingon` becomes `tlh`.
+///
+/// If the buffer is too short, it stays unchanged, and the length says how long a buffer must be. It does not allocate.
+/// The time is quadratic in the number of variants, and of attributes.
 ///
 /// ```
 /// # fn main() -> Result<(), Box<dyn std::error::Error>> {
@@ -22,9 +34,9 @@ use crate::unicode::subtags::nonempty;
 /// use langtag::unicode::write_locale_form;
 ///
 /// let mut buffer = [0; 16];
-/// let length = write_locale_form(LangTag::new("ger-UK")?, &mut buffer);
-/// assert_eq!(length, Some(5));
+/// assert_eq!(write_locale_form(LangTag::new("ger-UK")?, &mut buffer), Some(5));
 /// assert_eq!(buffer.get(..5), Some(&b"de-GB"[..]));
+/// assert_eq!(write_locale_form(LangTag::new("zh-yue")?, &mut buffer), None);
 /// # Ok(())
 /// # }
 /// ```

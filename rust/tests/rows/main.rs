@@ -79,6 +79,7 @@ fn answer(row: &Row) -> String {
         "transform" => unicode::transformed(row.str(0)),
         "extensions-form" => unicode::form(row.str(0)),
         "is-locale" => unicode::is_identifier(row.str(0)),
+        "locale-form" => unicode::whole_form(row.str(0)),
         call => panic!("no call: {call}"),
     }
 }
@@ -110,7 +111,7 @@ files! {
     choices: "choices.txt", 285, ["best", "best-match"];
     preferences: "lists.txt", 15, ["best-accepted", "best-ranges"];
     extensions: "extensions.txt", 630, ["extensions-form"];
-    locales: "locale.txt", 75, ["is-locale"];
+    locales: "locale.txt", 750, ["is-locale", "locale-form"];
     keywords: "unicode.txt", 500, ["keyword", "keywords", "attributes", "transform"];
 }
 

@@ -47,6 +47,38 @@ pub fn is_identifier(text: &str) -> String {
     is.into()
 }
 
+/// Returns the form, which must be a Unicode locale identifier and its own form. It must be written to a buffer of its
+/// length, but not to a shorter buffer.
+pub fn whole_form(text: &str) -> String {
+    let Some(len) = write_locale_form(tag(text), &mut []) else {
+        assert!(!is_locale(tag(text)), "{text}");
+        return "-".into();
+    };
+    let mut buffer = vec![b'!'; len];
+    assert_eq!(
+        write_locale_form(tag(text), &mut buffer[1..]),
+        Some(len),
+        "{text}"
+    );
+    assert!(buffer.iter().all(|byte| *byte == b'!'), "{text}");
+    assert_eq!(
+        write_locale_form(tag(text), &mut buffer),
+        Some(len),
+        "{text}"
+    );
+
+    let form = String::from_utf8(buffer).expect("the form is a text");
+    let mut again = vec![0; len];
+    assert!(is_locale(tag(&form)), "{text}");
+    assert_eq!(
+        write_locale_form(tag(&form), &mut again),
+        Some(len),
+        "{text}"
+    );
+    assert_eq!(form.as_bytes(), again, "{text}");
+    form
+}
+
 /// Returns the form. It must be its own form, and must be written to a buffer of its length, but not to a shorter
 /// buffer.
 pub fn form(text: &str) -> String {

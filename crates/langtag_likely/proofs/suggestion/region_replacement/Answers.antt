@@ -1,4 +1,4 @@
-use Rattle.std.proofs.Common.{◌<◌, Some, option_map, refl, ap, ◌∙◌, arith, length}
+use Rattle.std.proofs.Common.{◌<◌, Some, option_map, ap, ◌∙◌, arith, length}
 use Rattle.langtag_likely.specs.declared.alias_tables.TheConstants.{REPLACEMENT_NAMES}
 use Rattle.langtag_likely.specs.Aliases.{region_replacements}
 use Rattle.langtag_likely.specs.Good.{is_region_field}
