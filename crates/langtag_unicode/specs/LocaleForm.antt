@@ -1,5 +1,5 @@
 -- The canonical form of a Unicode locale identifier (UTS #35, part 1, Annex C, 'LocaleId Canonicalization'). The annex
--- repeats the rules of CLDR until none fits. For CLDR's data, seven steps have the same result.
+-- repeats the rules of CLDR until none fits. Here they are seven steps, each of which is done once.
 use Rattle.std.specs.Prelude.{ℕ, Bool, List, [], ◌∷◌, ◌++◌, Option, None, Some, codes, find, if◌then◌else◌, ◌&&◌, ◌||◌, unwrap_or}
 use Rattle.std.specs.List.{flat_map, fold, list_any}
 use Rattle.std.specs.Option.{is_some, option_map, option_map_or}
