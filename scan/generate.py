@@ -188,24 +188,49 @@ def wrapped(numbers, margin):
     return lines + [line]
 
 
-def table(doc, name, kind, rows):
-    return "\n".join([f"/// {doc}", "#[rattlefmt::skip]", f"pub(crate) const {name}: &{kind} = &[", *rows, "];", ""])
+class Field(NamedTuple):
+    """A field of the tables: its documentation, its name and type, and the lines of its value."""
+    doc: str
+    name: str
+    kind: str
+    lines: list[str]
+
+
+def fields(states):
+    count, margin = states.none, " " * 8
+    following = [line for byte in CLASSES for line in (f"{margin}[", *wrapped(states.after(byte), " " * 12), f"{margin}],")]
+    return [
+        Field(f"The state after one more byte, indexed by the class of the byte and then by the state before it, or {count} if no tag begins with the bytes.",
+              "next", f"[[u8; {count}]; {len(CLASSES)}]", following),
+        Field(f"The index, in the order of `Ends`, of the part that ended before the hyphen that led to a state, or {NO_PART} if no part ended there.",
+              "parts", f"[u8; {count}]", wrapped(map(part_before, states.firsts), margin)),
+        Field(f"What a text is if it ends in a state. The numbers 0 to {NO_TAG - 1} mean a normal tag, and are the index of its last part in the order of `Ends`. "
+              f"{NO_TAG} means no tag, {PRIVATE_USE} means a private use tag, and {FIRST_IRREGULAR} or more an irregular tag.",
+              "kinds", f"[u8; {count}]", wrapped(map(ending, states.firsts), margin)),
+    ]
 
 
 def tables(states):
-    count, classes = states.none, len(CLASSES)
-    following = [line for byte in CLASSES for line in ("    [", *wrapped(states.after(byte), " " * 8), "    ],")]
+    rows = fields(states)
     return "\n".join([
         "//! The states of the recogniser, in tables (RFC 5646 section 2.1). Written by scan/generate.py. Do not edit.\n",
         f"/// The state before the first byte.\npub(crate) const START: usize = {states.numbers[START]};\n",
-        f"/// The number that means that no tag begins with the bytes. All states have smaller numbers.\npub(crate) const NONE: usize = {count};\n",
-        table(f"The class of each byte: 0 to 25 for the letters, {class_of(48)} for a digit, {class_of(45)} for the hyphen, and {classes - 1} for a byte that no tag contains.",
-              "CLASSES", "[u8; 256]", wrapped(map(class_of, range(256)), "    ")),
-        table(f"The state after one more byte, indexed by the class of the byte and then by the state before it, or {count} if no tag begins with the bytes.", "NEXT", f"[[u8; {count}]; {classes}]", following),
-        table(f"The index, in the order of `Ends`, of the part that ended before the hyphen that led to a state, or {NO_PART} if no part ended there.", "PARTS",
-              f"[u8; {count}]", wrapped(map(part_before, states.firsts), "    ")),
-        table(f"What a text is if it ends in a state. The numbers 0 to {NO_TAG - 1} mean a normal tag, and are the index of its last part in the order of `Ends`. "
-              f"{NO_TAG} means no tag, {PRIVATE_USE} means a private use tag, and {FIRST_IRREGULAR} or more an irregular tag.", "KINDS", f"[u8; {count}]", wrapped(map(ending, states.firsts), "    ")),
+        f"/// The number that means that no tag begins with the bytes. All states have smaller numbers.\npub(crate) const NONE: usize = {states.none};\n",
+        f"/// The class of each byte: 0 to 25 for the letters, {class_of(48)} for a digit, {class_of(45)} for the hyphen, and {len(CLASSES) - 1} for a byte that no tag contains.",
+        "#[rattlefmt::skip]",
+        "pub(crate) const CLASSES: &[u8; 256] = &[",
+        *wrapped(map(class_of, range(256)), "    "),
+        "];\n",
+        "/// The tables of all states, as one struct, so that the recogniser needs only one address for them.",
+        "pub(crate) struct Tables {",
+        *(f"    /// {row.doc}\n    pub(crate) {row.name}: {row.kind}," for row in rows),
+        "}\n",
+        "/// The tables of all states.",
+        "#[rattlefmt::skip]",
+        "pub(crate) const TABLES: &Tables = &Tables {",
+        *(line for row in rows for line in (f"    {row.name}: [", *row.lines, "    ],")),
+        "};",
+        "",
     ])
 
 
