@@ -188,47 +188,38 @@ def wrapped(numbers, margin):
     return lines + [line]
 
 
-class Field(NamedTuple):
-    """A field of the tables: its documentation, its name and type, and the lines of its value."""
-    doc: str
-    name: str
-    kind: str
-    lines: list[str]
-
-
-def fields(states):
-    count, margin = states.none, " " * 8
-    following = [line for byte in CLASSES for line in (f"{margin}[", *wrapped(states.after(byte), " " * 12), f"{margin}],")]
-    return [
-        Field(f"The state after one more byte, indexed by the class of the byte and then by the state before it, or {count} if no tag begins with the bytes.",
-              "next", f"[[u8; {count}]; {len(CLASSES)}]", following),
-        Field(f"The index, in the order of `Ends`, of the part that ended before the hyphen that led to a state, or {NO_PART} if no part ended there.",
-              "parts", f"[u8; {count}]", wrapped(map(part_before, states.firsts), margin)),
-        Field(f"What a text is if it ends in a state. The numbers 0 to {NO_TAG - 1} mean a normal tag, and are the index of its last part in the order of `Ends`. "
-              f"{NO_TAG} means no tag, {PRIVATE_USE} means a private use tag, and {FIRST_IRREGULAR} or more an irregular tag.",
-              "kinds", f"[u8; {count}]", wrapped(map(ending, states.firsts), margin)),
-    ]
+def constant(doc, name, kind, rows):
+    return "\n".join([f"/// {doc}", "#[rattlefmt::skip]", f"pub(crate) const {name}: {kind}[", *rows, "];", ""])
 
 
 def tables(states):
-    rows = fields(states)
+    count, classes, margin = states.none, len(CLASSES), " " * 8
+    following = [line for byte in CLASSES for line in (f"{margin}[", *wrapped(states.after(byte), " " * 12), f"{margin}],")]
     return "\n".join([
         "//! The states of the recogniser, in tables (RFC 5646 section 2.1). Written by scan/generate.py. Do not edit.\n",
         f"/// The state before the first byte.\npub(crate) const START: usize = {states.numbers[START]};\n",
-        f"/// The number that means that no tag begins with the bytes. All states have smaller numbers.\npub(crate) const NONE: usize = {states.none};\n",
-        f"/// The class of each byte: 0 to 25 for the letters, {class_of(48)} for a digit, {class_of(45)} for the hyphen, and {len(CLASSES) - 1} for a byte that no tag contains.",
-        "#[rattlefmt::skip]",
-        "pub(crate) const CLASSES: &[u8; 256] = &[",
-        *wrapped(map(class_of, range(256)), "    "),
-        "];\n",
-        "/// The tables of all states, as one struct, so that the recogniser needs only one address for them.",
+        f"/// The number that means that no tag begins with the bytes. All states have smaller numbers.\npub(crate) const NONE: usize = {count};\n",
+        constant(f"The class of each byte: 0 to 25 for the letters, {class_of(48)} for a digit, {class_of(45)} for the hyphen, and {classes - 1} for a byte that no tag contains.",
+                 "CLASSES", "&[u8; 256] = &", wrapped(map(class_of, range(256)), "    ")),
+        constant(f"The index, in the order of `Ends`, of the part that ended before the hyphen that led to a state, or {NO_PART} if no part ended there.",
+                 "PARTS", f"[u8; {count}] = ", wrapped(map(part_before, states.firsts), "    ")),
+        "/// Tables that have an element for each state, as one struct, so that the recogniser needs only one address for them.",
+        "#[allow(dead_code)]",
         "pub(crate) struct Tables {",
-        *(f"    /// {row.doc}\n    pub(crate) {row.name}: {row.kind}," for row in rows),
+        f"    /// The state after one more byte, indexed by the class of the byte and then by the state before it, or {count} if no tag begins with the bytes.",
+        f"    pub(crate) next: [[u8; {count}]; {classes}],",
+        "    /// The same as [`PARTS`], where the Rust crate reads them.",
+        f"    pub(crate) parts: [u8; {count}],",
+        f"    /// What a text is if it ends in a state. The numbers 0 to {NO_TAG - 1} mean a normal tag, and are the index of its last part in the order of `Ends`. "
+        f"{NO_TAG} means no tag, {PRIVATE_USE} means a private use tag, and {FIRST_IRREGULAR} or more an irregular tag.",
+        f"    pub(crate) kinds: [u8; {count}],",
         "}\n",
         "/// The tables of all states.",
         "#[rattlefmt::skip]",
         "pub(crate) const TABLES: &Tables = &Tables {",
-        *(line for row in rows for line in (f"    {row.name}: [", *row.lines, "    ],")),
+        *("    next: [", *following, "    ],"),
+        "    parts: PARTS,",
+        *("    kinds: [", *wrapped(map(ending, states.firsts), margin), "    ],"),
         "};",
         "",
     ])

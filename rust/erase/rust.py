@@ -14,10 +14,8 @@ FORMS = [
         "let Ok(ascii) = core::str::from_utf8(bytes) else { return Err(InvalidLangTag(bytes)); };",
     ),
     ("unsafe { String::from_utf8_unchecked(bytes) }", "String::from_utf8(bytes).unwrap_or_default()"),
-    # It is proved that a part has an index below 6. With eight places and the mask, rustc too needs no bounds check.
-    ("places: [usize; 6]", "places: [usize; 8]"),
-    ("places: [0; 6]", "places: [0; 8]"),
-    ("self.places[part] =", "self.places[part & 7] ="),
+    # rustc knows the greatest element of a constant that is an array, but not of an array in a struct. So no part needs a bounds check.
+    ("TABLES.parts[", "crate::states::PARTS["),
 ]
 
 

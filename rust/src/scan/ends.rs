@@ -34,20 +34,20 @@ pub struct Ends {
 pub(crate) struct Marks {
     /// The end of each part, or 0. Every byte that is read sets one element, so the loop need not test whether the byte
     /// ended a part. The last element, which is never read, is set by the bytes that end no part.
-    places: [usize; 8],
+    places: [usize; 6],
 }
 
 impl Marks {
     /// Returns the marks before the first byte, when no part has ended.
     #[inline(always)]
     pub(crate) fn new() -> Self {
-        Marks { places: [0; 8] }
+        Marks { places: [0; 6] }
     }
 
     /// Sets the end of a part.
     #[inline(always)]
     pub(crate) fn set(&mut self, part: usize, index: usize) {
-        self.places[part & 7] = index;
+        self.places[part] = index;
     }
 
     /// Returns the ends in a text of this length. An absent part ends where the previous part ends.

@@ -75,7 +75,7 @@ impl State {
     /// if that byte is not a hyphen after a part.
     #[inline(always)]
     pub(crate) fn part_before(self) -> usize {
-        TABLES.parts[self.number] as usize
+        crate::scan::states::PARTS[self.number] as usize
     }
 
     /// Returns what the text is if it ends after the bytes that were read.

@@ -22,11 +22,22 @@ pub(crate) const CLASSES: &[u8; 256] = &[
     28, 28, 28, 28, 28, 28, 28, 28, 28, 28, 28, 28, 28, 28, 28, 28, 28, 28, 28, 28,
 ];
 
-/// The tables of all states, as one struct, so that the recogniser needs only one address for them.
+/// The index, in the order of `Ends`, of the part that ended before the hyphen that led to a state, or 5 if no part ended there.
+#[rustfmt::skip]
+pub(crate) const PARTS: [u8; 164] = [
+    5, 5, 5, 5, 5, 5, 5, 5, 5, 5, 5, 5, 0, 0, 5, 5, 5, 5, 5, 5, 5, 5, 5, 5, 5, 5, 5, 5, 5, 5, 5, 5, 5, 5, 5, 5, 5, 5, 5,
+    5, 5, 5, 5, 5, 0, 5, 5, 0, 5, 5, 4, 5, 5, 5, 5, 5, 5, 5, 5, 5, 5, 5, 5, 5, 5, 5, 5, 5, 5, 5, 5, 5, 5, 5, 5, 5, 2, 5,
+    5, 5, 5, 2, 5, 5, 5, 5, 5, 5, 5, 5, 5, 5, 5, 5, 0, 5, 5, 5, 5, 5, 5, 5, 5, 5, 5, 5, 5, 2, 2, 5, 5, 5, 5, 1, 5, 5, 5,
+    4, 5, 3, 5, 5, 5, 5, 5, 5, 5, 5, 5, 5, 5, 5, 5, 5, 5, 5, 5, 5, 5, 5, 5, 5, 5, 5, 5, 5, 5, 5, 5, 5, 5, 5, 5, 0, 5, 5,
+    5, 5, 5, 5, 5, 5, 5, 5,
+];
+
+/// Tables that have an element for each state, as one struct, so that the recogniser needs only one address for them.
+#[allow(dead_code)]
 pub(crate) struct Tables {
     /// The state after one more byte, indexed by the class of the byte and then by the state before it, or 164 if no tag begins with the bytes.
     pub(crate) next: [[u8; 164]; 29],
-    /// The index, in the order of `Ends`, of the part that ended before the hyphen that led to a state, or 5 if no part ended there.
+    /// The same as [`PARTS`], where the Rust crate reads them.
     pub(crate) parts: [u8; 164],
     /// What a text is if it ends in a state. The numbers 0 to 5 mean a normal tag, and are the index of its last part in the order of `Ends`. 6 means no tag, 7 means a private use tag, and 8 or more an irregular tag.
     pub(crate) kinds: [u8; 164],
@@ -301,13 +312,7 @@ pub(crate) const TABLES: &Tables = &Tables {
             164, 164, 164, 164, 164, 164, 164, 164, 164, 164, 164, 164, 164, 164, 164, 164, 164,
         ],
     ],
-    parts: [
-        5, 5, 5, 5, 5, 5, 5, 5, 5, 5, 5, 5, 0, 0, 5, 5, 5, 5, 5, 5, 5, 5, 5, 5, 5, 5, 5, 5, 5, 5, 5, 5, 5, 5, 5, 5, 5,
-        5, 5, 5, 5, 5, 5, 5, 0, 5, 5, 0, 5, 5, 4, 5, 5, 5, 5, 5, 5, 5, 5, 5, 5, 5, 5, 5, 5, 5, 5, 5, 5, 5, 5, 5, 5, 5,
-        5, 5, 2, 5, 5, 5, 5, 2, 5, 5, 5, 5, 5, 5, 5, 5, 5, 5, 5, 5, 0, 5, 5, 5, 5, 5, 5, 5, 5, 5, 5, 5, 5, 2, 2, 5, 5,
-        5, 5, 1, 5, 5, 5, 4, 5, 3, 5, 5, 5, 5, 5, 5, 5, 5, 5, 5, 5, 5, 5, 5, 5, 5, 5, 5, 5, 5, 5, 5, 5, 5, 5, 5, 5, 5,
-        5, 5, 5, 5, 5, 0, 5, 5, 5, 5, 5, 5, 5, 5, 5, 5,
-    ],
+    parts: PARTS,
     kinds: [
         6, 6, 6, 6, 6, 6, 0, 0, 6, 0, 6, 0, 6, 6, 6, 6, 6, 6, 6, 6, 6, 6, 6, 6, 6, 0, 7, 0, 6, 6, 6, 6, 6, 6, 6, 6, 6,
         6, 6, 6, 6, 6, 6, 6, 6, 7, 0, 6, 2, 6, 6, 6, 6, 6, 2, 9, 10, 6, 6, 13, 6, 15, 6, 6, 18, 19, 20, 21, 6, 6, 7, 0,
