@@ -1,3 +1,4 @@
+pub mod Each
 pub mod AliasTables
 pub mod AlphabetLaws
 pub mod ExtensionForms
@@ -11,3 +12,9 @@ pub mod KeywordEdits
 pub mod KeywordSizes
 pub mod KeywordLaws
 pub mod LocaleExtensions
+pub mod KeywordRecords
+pub mod KeywordTwice
+pub mod KeywordBlocks
+pub mod KeySplits
+pub mod CanonicalKeywords
+pub mod CanonicalTags
