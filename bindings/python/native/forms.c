@@ -76,6 +76,11 @@ PyObject *lt_minimized(PyObject *self, PyObject *unused) {
     return tag_by(self, langtag_minimize);
 }
 
+PyObject *lt_extensions_form(PyObject *self, PyObject *unused) {
+    (void)unused;
+    return tag_by(self, langtag_extensions_form);
+}
+
 PyObject *lt_is_canonical(PyObject *object, void *unused) {
     (void)unused;
     Value *self = (Value *)object;
@@ -123,5 +128,35 @@ PyObject *lt_set(PyObject *object, PyObject *arguments) {
     if (lt_lacks(self) || !PyArg_ParseTuple(arguments, "IO", &part, &from) || lt_text(from, &given)) return NULL;
     PyObject *made = with_part(self, part, given);
     Py_DECREF(given.owner);
+    return made;
+}
+
+/* Writes the tag with a keyword set, or removed if the value has no owner. Returns what the library returns. */
+static size_t write_keyword(const Value *self, Text key, Text value, char *buffer, size_t room) {
+    const char *data = self->text.data;
+    size_t len = (size_t)self->text.len, key_len = (size_t)key.len, value_len = (size_t)value.len;
+    if (!value.owner) return langtag_without_keyword(data, len, key.data, key_len, buffer, room);
+    return langtag_with_keyword(data, len, key.data, key_len, value.data, value_len, buffer, room);
+}
+
+/* Returns the tag with a keyword set or removed, or None if the library refuses it. */
+static PyObject *with_keyword(const Value *self, Text key, Text value) {
+    char nothing[1];
+    size_t wanted = write_keyword(self, key, value, nothing, 0);
+    if (!wanted) return lt_none();
+    PyObject *made = PyBytes_FromStringAndSize(NULL, (Py_ssize_t)wanted);
+    if (!made) return NULL;
+    write_keyword(self, key, value, PyBytes_AsString(made), wanted);
+    return tag_of(self, made, NULL);
+}
+
+PyObject *lt_set_keyword(PyObject *object, PyObject *arguments) {
+    Value *self = (Value *)object;
+    PyObject *key_from, *value_from, *made = NULL;
+    Text key, value = {NULL, NULL, 0};
+    if (lt_lacks(self) || !PyArg_ParseTuple(arguments, "OO", &key_from, &value_from) || lt_text(key_from, &key)) return NULL;
+    if (value_from == Py_None || !lt_text(value_from, &value)) made = with_keyword(self, key, value);
+    Py_XDECREF(value.owner);
+    Py_DECREF(key.owner);
     return made;
 }
