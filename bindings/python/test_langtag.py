@@ -451,7 +451,7 @@ class Edits(unittest.TestCase):
             self.assertLess(len(str(error)), 1200)
         for text in ("x-a", "i-klingon"):
             error = caught(lambda text: Tag(text).replace(keywords={"ca": "roc"}), text)
-            self.assertEqual((error.part, error.text, str(error)), ("keyword", None, "not a normal language tag"))
+            self.assertEqual((error.part, error.text, str(error)), ("keywords", None, "not a normal language tag"))
         self.assertEqual(str(tag), "th-u-ca-gregory")
         for other in (None, "ca", b"ca", 5, [("ca", "roc")], ["ca"], {"ca": True}, {"ca": 5}, {"ca": b"roc"}, {b"ca": "roc"}, {5: "roc"}, {"ca": ["roc"]},
                       {"c1": "roc", "ca": 5}):

@@ -219,9 +219,9 @@ def with_keyword(tag, keywords):
     try:
         return str(tag.replace(keywords=keywords))
     except EditError as error:
-        wrong = {"key": "bad key", "value": "bad value", "keyword": "no parts"}[error.part]
+        wrong = {"key": "bad key", "value": "bad value", "keywords": "no parts"}[error.part]
         whole = "not a normal language tag" if error.text is None else f"{error.text!r} can't be the {error.part} of a keyword"
-        assert (error.text is None, str(error)) == (error.part == "keyword", whole)
+        assert (error.text is None, str(error)) == (error.part == "keywords", whole)
         assert error.text in (None, *keywords, *keywords.values()) and copied(error)
         return wrong
 
