@@ -49,6 +49,9 @@ export interface InvalidSubtag {
 /** The subtags of an extension: "co-pinyin", or ["co", "pinyin"]. */
 export type Subtags = string | Iterable<string>;
 
+/** A key of the extension u and its new value: ["ca", "buddhist"]. null removes the key. */
+export type KeywordPair = readonly [key: string, value: string | null | undefined];
+
 /** The parts that `with` changes. A part that is undefined stays as it is, and null removes the part. */
 export interface Parts {
     /** The primary language with its extended languages, such as zh-yue. */
@@ -64,7 +67,7 @@ export interface Parts {
      * The values of keys of the extension u: { ca: "buddhist", nu: null }, or a Map. Keys that are not named stay, null removes a key, and
      * "" means true. They are set one after another, after all other parts. A new key is put before the first greater key.
      */
-    keywords?: Iterable<readonly [string, string | null | undefined]> | { [key: string]: string | null | undefined } | undefined;
+    keywords?: readonly KeywordPair[] | Iterable<KeywordPair> | { [key: string]: string | null | undefined } | undefined;
 }
 
 /** The extension t (RFC 6497 section 2.2). */
