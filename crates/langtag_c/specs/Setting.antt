@@ -1,6 +1,6 @@
 -- Setting a part of a normal tag to a text, or removing it (RFC 5646 sections 2.2.1 to 2.2.7), and likewise a keyword
 -- of its extension `u` (RFC 6067 section 2.1).
-use Rattle.std.specs.Prelude.{◌≡◌, ℕ, List, [], ◌∷◌, None, slice_get, Option, IfSome, MatchOption, IsTrue}
+use Rattle.std.specs.Prelude.{◌≡◌, ℕ, ◌+◌, List, length, [], ◌∷◌, None, slice_get, Option, IfSome, MatchOption, IsTrue}
 use Rattle.langtag_scan.specs.Class.{is_script, is_region}
 use Rattle.langtag_scan.specs.Subtags.{subtags}
 use Rattle.langtag_scan.specs.Tag.{IsNormal}
@@ -64,3 +64,7 @@ CanSetKeyword key value tag = IsNormal tag × (keyword_error key (subtags value)
 -- the tag is a normal tag, and the key can be in a keyword
 abbrev pub CanRemoveKeyword : List ℕ → List ℕ → Type 0
 CanRemoveKeyword key tag = CanSetKeyword key [] tag
+
+-- a tag with a keyword set is no longer than this: the tag, the key, the value, and `-u--`
+abbrev pub keyword_bound : List ℕ → List ℕ → List ℕ → ℕ
+keyword_bound key value tag = length tag + length key + length value + 4

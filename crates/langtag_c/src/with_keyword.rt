@@ -1,10 +1,10 @@
 //! A tag with a keyword of the extension `u` set or removed, written to the caller's buffer (RFC 6067 section 2.1).
-ghost use Rattle.std.specs.Prelude.{◌≡◌, ◌↔◌, ◌<◌, ◌≤◌, ◌+◌, ◌^◌, None, Some, length};
+ghost use Rattle.std.specs.Prelude.{◌≡◌, ◌↔◌, ◌<◌, ◌≤◌, ◌^◌, None, Some, length};
 ghost use Rattle.langtag_likely.specs.Maximal.{IsForm};
 ghost use Rattle.langtag_output.specs.Writes.{Writes};
 ghost use Rattle.langtag_scan.specs.Subtags.{subtags};
 ghost use Rattle.langtag_unicode.specs.Edit.{edited_record};
-ghost use Rattle.langtag_c.specs.Setting.{CanRemoveKeyword, CanSetKeyword};
+ghost use Rattle.langtag_c.specs.Setting.{CanRemoveKeyword, CanSetKeyword, keyword_bound};
 
 use crate::tag::tag_of;
 use langtag_unicode::{write_with_keyword, write_without_keyword};
@@ -14,6 +14,7 @@ use langtag_unicode::{write_with_keyword, write_without_keyword};
 /// buffer is too short, it stays unchanged, and the length says how long a buffer must be.
 ///
 /// Returns 0 and writes nothing if the tag is not a normal tag, or if the key or the value cannot be in a keyword.
+#[tactic(auto, using(crate::proofs::KeywordTexts::keyword_texts))]
 #[unsafe(no_mangle)]
 pub extern "C" fn langtag_with_keyword(
     tag: &[u8],
@@ -21,11 +22,11 @@ pub extern "C" fn langtag_with_keyword(
     value: &[u8],
     buffer: &mut [u8],
 ) -> usize
-    ensures set { length tag.now + length key.now + length value.now + 4 < 2 ^ 64 → CanSetKeyword key.now value.now tag.now →
+    ensures set { keyword_bound key.now value.now tag.now < 2 ^ 64 → CanSetKeyword key.now value.now tag.now →
         Writes (IsForm (edited_record key.now (Some (subtags value.now))) tag.now) buffer.old buffer.new result }
-    ensures refused { length tag.now + length key.now + length value.now + 4 < 2 ^ 64 → result ≡ 0 ↔ (CanSetKeyword key.now value.now tag.now → ⊥) }
+    ensures refused { keyword_bound key.now value.now tag.now < 2 ^ 64 → result ≡ 0 ↔ (CanSetKeyword key.now value.now tag.now → ⊥) }
     ensures nothing { result ≡ 0 → buffer.new ≡ buffer.old }
-    ensures bounded { length tag.now + length key.now + length value.now + 4 < 2 ^ 64 → result ≤ length tag.now + length key.now + length value.now + 4 }
+    ensures bounded { keyword_bound key.now value.now tag.now < 2 ^ 64 → result ≤ keyword_bound key.now value.now tag.now }
 {
     let (Ok(key), Ok(value)) = (str::from_utf8(key), str::from_utf8(value)) else {
         return 0;
@@ -42,6 +43,7 @@ pub extern "C" fn langtag_with_keyword(
 /// tag.
 ///
 /// Returns 0 and writes nothing if the tag is not a normal tag, or if the key cannot be in a keyword.
+#[tactic(auto, using(crate::proofs::KeywordTexts::keyword_texts))]
 #[unsafe(no_mangle)]
 pub extern "C" fn langtag_without_keyword(tag: &[u8], key: &[u8], buffer: &mut [u8]) -> usize
     ensures removed { CanRemoveKeyword key.now tag.now → Writes (IsForm (edited_record key.now None) tag.now) buffer.old buffer.new result }
