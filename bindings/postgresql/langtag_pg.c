@@ -492,6 +492,15 @@ Datum pg_langtag_suggestion(PG_FUNCTION_ARGS) {
     PG_RETURN_POINTER(value_of(code, len));
 }
 
+/* The greatest length of a text for calls that take much more time for a longer text, and that cannot be interrupted. */
+#define LONGEST 8192
+
+static void check_length(const char *what, struct varlena *text) {
+    if (LEN(text) > LONGEST)
+        ereport(ERROR, (errcode(ERRCODE_PROGRAM_LIMIT_EXCEEDED),
+                        errmsg("the %s has %zu bytes, and may have %d", what, LEN(text), LONGEST)));
+}
+
 typedef size_t (*form_of)(const char *, size_t, char *, size_t);
 
 /* Returns a form of a tag in its recommended case, or NULL if the library writes none. A canonical form has at most twice as many
@@ -522,7 +531,10 @@ PG_FUNCTION_INFO_V1(pg_langtag_minimized);
 Datum pg_langtag_minimized(PG_FUNCTION_ARGS) { return form(fcinfo, langtag_minimize); }
 
 PG_FUNCTION_INFO_V1(pg_langtag_extensions_form);
-Datum pg_langtag_extensions_form(PG_FUNCTION_ARGS) { return form(fcinfo, langtag_extensions_form); }
+Datum pg_langtag_extensions_form(PG_FUNCTION_ARGS) {
+    check_length("tag", PG_GETARG_VARLENA_PP(0));
+    return form(fcinfo, langtag_extensions_form);
+}
 
 PG_FUNCTION_INFO_V1(pg_langtag_from_posix);
 Datum pg_langtag_from_posix(PG_FUNCTION_ARGS) { return form(fcinfo, langtag_from_posix); }
@@ -746,18 +758,9 @@ static Datum chosen(FunctionCallInfo fcinfo, choice *choose) {
 PG_FUNCTION_INFO_V1(pg_langtag_tag_for_header);
 Datum pg_langtag_tag_for_header(PG_FUNCTION_ARGS) { return chosen(fcinfo, langtag_tag_for_header_lenient); }
 
-/* The greatest length of a header for which distances are computed. */
-#define LONGEST_HEADER 8192
-
-static void check_header(text *header) {
-    if (LEN(header) > LONGEST_HEADER)
-        ereport(ERROR, (errcode(ERRCODE_PROGRAM_LIMIT_EXCEEDED),
-                        errmsg("the header has %zu bytes, and may have %d", LEN(header), LONGEST_HEADER)));
-}
-
 PG_FUNCTION_INFO_V1(pg_langtag_best_for_header);
 Datum pg_langtag_best_for_header(PG_FUNCTION_ARGS) {
-    check_header(PG_GETARG_TEXT_PP(1));
+    check_length("header", PG_GETARG_TEXT_PP(1));
     return chosen(fcinfo, langtag_best_for_header);
 }
 
@@ -772,7 +775,7 @@ Datum pg_langtag_match_for_header(PG_FUNCTION_ARGS) {
     langtag_best_match match;
     Datum values[4];
     bool nulls[4] = {false, false, false, false};
-    check_header(header);
+    check_length("header", header);
     if (get_call_result_type(fcinfo, NULL, &row) != TYPEFUNC_COMPOSITE) elog(ERROR, "a row is wanted");
     best = chosen_index(langtag_best_for_header, header, tags, count);
     if (best < 0) PG_RETURN_NULL();

@@ -42,17 +42,22 @@ PyObject *lt_recommended(PyObject *object, PyObject *unused) {
 
 typedef size_t Form(const char *bytes, size_t len, char *buffer, size_t buffer_len);
 
-/* Returns a form of a tag, as bytes. */
-static PyObject *form_of(const Value *self, Form *form) {
-    char room[192];
+static size_t write_form(const Value *self, Form *form, char *buffer, size_t room) {
     const char *data = self->text.data;
     size_t len = (size_t)self->text.len;
     LET_GO(self->text.len);
-    size_t wanted = form(data, len, room, sizeof room);
+    size_t wanted = form(data, len, buffer, room);
     TAKE_BACK();
+    return wanted;
+}
+
+/* Returns a form of a tag, as bytes. */
+static PyObject *form_of(const Value *self, Form *form) {
+    char room[192];
+    size_t wanted = write_form(self, form, room, sizeof room);
     if (wanted <= sizeof room) return PyBytes_FromStringAndSize(room, (Py_ssize_t)wanted);
     PyObject *made = PyBytes_FromStringAndSize(NULL, (Py_ssize_t)wanted);
-    if (made) form(data, len, PyBytes_AsString(made), wanted);
+    if (made) write_form(self, form, PyBytes_AsString(made), wanted);
     return made;
 }
 
