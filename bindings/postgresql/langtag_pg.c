@@ -433,7 +433,7 @@ static void refuse_keyword(struct varlena *tag, text *key, text *value) {
     char nothing[1];
     const char *why = write_keyword("und", 3, key, NULL, nothing, 0) == 0    ? "A key is a letter or a digit, and then a letter."
                       : write_keyword("und", 3, key, value, nothing, 0) == 0 ? "A value is subtags of 3 to 8 letters or digits with hyphens between them."
-                                                                             : "A tag for private use or an irregular one has no such part.";
+                                                                             : "A tag for private use or an irregular one has no keywords.";
     ereport(ERROR, (errcode(ERRCODE_INVALID_PARAMETER_VALUE),
                     value == NULL ? errmsg("the keyword \"%s\" of language tag \"%s\" cannot be removed", shown(BYTES(key), LEN(key)), shown(BYTES(tag), LEN(tag)))
                                   : errmsg("the keyword \"%s\" of language tag \"%s\" cannot be set to \"%s\"", shown(BYTES(key), LEN(key)),

@@ -24,7 +24,7 @@ BEGIN
     RETURN coalesce(said, '-');
 EXCEPTION WHEN OTHERS THEN
     GET STACKED DIAGNOSTICS state = RETURNED_SQLSTATE, why = PG_EXCEPTION_DETAIL;
-    RETURN state || CASE WHEN why ~ 'no such part' THEN ' no parts' WHEN why ~ '^A key is ' THEN ' bad key' WHEN why ~ '^A value is ' THEN ' bad value' ELSE '' END;
+    RETURN state || CASE WHEN why ~ 'no such part|no keywords' THEN ' no parts' WHEN why ~ '^A key is ' THEN ' bad key' WHEN why ~ '^A value is ' THEN ' bad value' ELSE '' END;
 END $$;
 -- All of a tag, as the rows have it, and that a tag is as its own text comes in.
 CREATE FUNCTION all_of(t langtag) RETURNS text LANGUAGE sql AS $$
