@@ -322,7 +322,10 @@ export class InvalidRange extends RangeError {
     readonly text: string;
 }
 
-/** Thrown if a part cannot be changed. `text` is not such a part, or is undefined if the tag is not a normal tag. */
+/**
+ * Thrown if a part or a keyword cannot be changed. `text` is not such a part, or is undefined if the tag is not a normal tag. For keywords,
+ * `part` is "keywords", or the "key" or "value" that is wrong.
+ */
 export class EditError extends RangeError {
     private constructor();
     readonly part: keyof Parts | "key" | "value";
