@@ -79,6 +79,7 @@ fn answer(row: &Row) -> String {
         "transform" => unicode::transformed(row.str(0)),
         "extensions-form" => unicode::form(row.str(0)),
         "with-keyword" => unicode::edited(row.str(0), row.str(1), row.str(2)),
+        "is-locale" => unicode::is_identifier(row.str(0)),
         call => panic!("no call: {call}"),
     }
 }
@@ -111,6 +112,7 @@ files! {
     preferences: "lists.txt", 15, ["best-accepted", "best-ranges"];
     extensions: "extensions.txt", 630, ["extensions-form"];
     setters: "keywords.txt", 380, ["with-keyword"];
+    locales: "locale.txt", 75, ["is-locale"];
     keywords: "unicode.txt", 500, ["keyword", "keywords", "attributes", "transform"];
 }
 
