@@ -1,5 +1,5 @@
 -- A key and a value of a keyword are UTF-8, and a tag with a keyword set or removed is not empty.
-use Rattle.std.proofs.Common.{◌≡◌, ℕ, ◌+◌, ◌≤◌, Bool, true, false, cond, List, [], ◌∷◌, drop, length, Option, None, Some, refl, ap, arith}
+use Rattle.std.proofs.Common.{◌≡◌, ℕ, ◌+◌, ◌≤◌, Bool, true, false, cond, List, [], ◌∷◌, drop, leb, length, Option, None, Some, refl, ap, arith}
 use Rattle.std.proofs.lemmas.Bool.{and_parts, false≢true}
 use Rattle.std.proofs.lemmas.Str.{IsUtf8-from_ascii}
 use Rattle.std.proofs.lemmas.Str.Ascii.{IsAscii-nil, IsAscii-cons}
@@ -7,10 +7,12 @@ use Rattle.std.specs.List.{AllByRecursion}
 use Rattle.std.specs.Option.{option_map}
 use Rattle.std.specs.Str.{IsUtf8}
 use Rattle.langtag_likely.specs.Maximal.{IsForm}
+use Rattle.langtag_output.specs.Writes.{Writes}
 use Rattle.langtag_scan.proofs.Ascii.{alphanumeric_below}
 use Rattle.langtag_scan.proofs.Joins.{length-join}
 use Rattle.langtag_scan.proofs.SubtagFacts.{IsSubtag, of_extension_subtag, of_primary}
 use Rattle.langtag_scan.proofs.SubtagLists.{join-subtags}
+use Rattle.langtag_scan.proofs.TagLaws.{tag_normal}
 use Rattle.langtag_scan.specs.Class.{is_alphanumeric, is_extension_subtag, is_letter}
 use Rattle.langtag_scan.specs.Record.{flat}
 use Rattle.langtag_scan.specs.Subtags.{subtags}
@@ -40,25 +42,25 @@ types_subtags at (s ∷ ss) none = by_test (is_type s) refl none (types_subtags 
     by_test true is none later = (of_extension_subtag s (and_parts (leb 3 (length s)) (is_extension_subtag s) is).1, later none)
     by_test false is none later = absurd cc
 
--- a key and a value that can be a keyword
-record AreUtf8 (key value : List ℕ) : Type 0 where
-  pub key_utf8 : IsUtf8 key
-  pub value_utf8 : IsUtf8 value
-
-keyword_utf8 : (key value : List ℕ) → keyword_error key (subtags value) ≡ None → AreUtf8 key value
-keyword_utf8 key value none = by_tests (is_unicode_key key) (invalid_type (subtags value)) refl refl none
+accepted : (key : List ℕ) (value : List (List ℕ)) → keyword_error key value ≡ None → (is_unicode_key key ≡ true) × (invalid_type value ≡ None)
+accepted key value none = by_tests (is_unicode_key key) (invalid_type value) refl refl none
   where
-    by_tests : (b : Bool) (o : Option ℕ) → is_unicode_key key ≡ b → invalid_type (subtags value) ≡ o → cond b (option_map Value o) (Some Key) ≡ None → AreUtf8 key value
-    by_tests true None is all none =
-        record { key_utf8 = IsUtf8-key key is; value_utf8 = IsUtf8-joined (subtags value) value (types_subtags 0 (subtags value) all) (join-subtags value) }
+    by_tests :
+        (b : Bool) (o : Option ℕ) → is_unicode_key key ≡ b → invalid_type value ≡ o → cond b (option_map Value o) (Some Key) ≡ None →
+        (is_unicode_key key ≡ true) × (invalid_type value ≡ None)
+    by_tests true None is all none = (is, all)
     by_tests true (Some n) is all none = absurd cc
     by_tests false o is all none = absurd cc
 
-pub IsUtf8-keyword_key : (key value : List ℕ) → keyword_error key (subtags value) ≡ None → IsUtf8 key
-IsUtf8-keyword_key key value none = (keyword_utf8 key value none).key_utf8
+pub IsUtf8-keyword_key : (key : List ℕ) (value : List (List ℕ)) → keyword_error key value ≡ None → IsUtf8 key
+IsUtf8-keyword_key key value none = IsUtf8-key key (accepted key value none).0
+
+pub IsUtf8-removed_key : (key : List ℕ) → keyword_error key [] ≡ None → IsUtf8 key
+IsUtf8-removed_key key none = IsUtf8-keyword_key key [] none
 
 pub IsUtf8-keyword_value : (key value : List ℕ) → keyword_error key (subtags value) ≡ None → IsUtf8 value
-IsUtf8-keyword_value key value none = (keyword_utf8 key value none).value_utf8
+IsUtf8-keyword_value key value none =
+    IsUtf8-joined (subtags value) value (types_subtags 0 (subtags value) (accepted key (subtags value) none).1) (join-subtags value)
 
 -- ---- the tag is not empty
 
@@ -67,4 +69,10 @@ unfolding IsNormal edited_record
 some_edited key value old new (r, spells) is =
     omega (arith, length-join r.primary (drop 1 (flat (edited_record key value r))), (of_primary r.primary spells.0.primary).some, ap length (is.parts r spells))
 
-pub ruleset keyword_texts = (IsUtf8-keyword_key, IsUtf8-keyword_value, some_edited)
+-- so its length is not 0
+pub some_written :
+    (key : List ℕ) (value : Option (List (List ℕ))) (old before after : List ℕ) (len : ℕ) →
+    Writes (IsForm (edited_record key value) old) before after len → IsNormal old → len ≡ 0 → ⊥
+some_written key value old before after len w normal zero = absurd (omega (arith, zero, w.whole, some_edited key value old w.text normal w.is_so))
+
+pub ruleset keyword_texts = (IsUtf8-keyword_key, IsUtf8-removed_key, IsUtf8-keyword_value, some_written, tag_normal)

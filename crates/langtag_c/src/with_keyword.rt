@@ -25,16 +25,22 @@ pub extern "C" fn langtag_with_keyword(
     ensures set { keyword_bound key.now value.now tag.now < 2 ^ 64 → CanSetKeyword key.now value.now tag.now →
         Writes (IsForm (edited_record key.now (Some (subtags value.now))) tag.now) buffer.old buffer.new result }
     ensures refused { keyword_bound key.now value.now tag.now < 2 ^ 64 → result ≡ 0 ↔ (CanSetKeyword key.now value.now tag.now → ⊥) }
-    ensures nothing { result ≡ 0 → buffer.new ≡ buffer.old }
+    ensures nothing { (CanSetKeyword key.now value.now tag.now → ⊥) → (result ≡ 0) × (buffer.new ≡ buffer.old) }
     ensures bounded { keyword_bound key.now value.now tag.now < 2 ^ 64 → result ≤ keyword_bound key.now value.now tag.now }
 {
-    let (Ok(key), Ok(value)) = (str::from_utf8(key), str::from_utf8(value)) else {
+    let Ok(key) = str::from_utf8(key) else {
+        return 0;
+    };
+    let Ok(value) = str::from_utf8(value) else {
         return 0;
     };
     let Some(tag) = tag_of(tag) else {
         return 0;
     };
-    write_with_keyword(tag, key, value, buffer).unwrap_or(0)
+    match write_with_keyword(tag, key, value, buffer) {
+        Ok(len) => len,
+        Err(_) => 0,
+    }
 }
 
 /// Writes a tag without a key of the extension `u`, and returns its length in bytes: without `ca`,
@@ -57,5 +63,8 @@ pub extern "C" fn langtag_without_keyword(tag: &[u8], key: &[u8], buffer: &mut [
     let Some(tag) = tag_of(tag) else {
         return 0;
     };
-    write_without_keyword(tag, key, buffer).unwrap_or(0)
+    match write_without_keyword(tag, key, buffer) {
+        Ok(len) => len,
+        Err(_) => 0,
+    }
 }

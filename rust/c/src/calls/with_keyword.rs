@@ -11,13 +11,19 @@ use crate::unicode::{write_with_keyword, write_without_keyword};
 ///
 /// Returns 0 and writes nothing if the tag is not a normal tag, or if the key or the value cannot be in a keyword.
 pub fn langtag_with_keyword(tag: &[u8], key: &[u8], value: &[u8], buffer: &mut [u8]) -> usize {
-    let (Ok(key), Ok(value)) = (core::str::from_utf8(key), core::str::from_utf8(value)) else {
+    let Ok(key) = core::str::from_utf8(key) else {
+        return 0;
+    };
+    let Ok(value) = core::str::from_utf8(value) else {
         return 0;
     };
     let Some(tag) = tag_of(tag) else {
         return 0;
     };
-    write_with_keyword(tag, key, value, buffer).unwrap_or(0)
+    match write_with_keyword(tag, key, value, buffer) {
+        Ok(len) => len,
+        Err(_) => 0,
+    }
 }
 
 /// Writes a tag without a key of the extension `u`, and returns its length in bytes: without `ca`,
@@ -33,5 +39,8 @@ pub fn langtag_without_keyword(tag: &[u8], key: &[u8], buffer: &mut [u8]) -> usi
     let Some(tag) = tag_of(tag) else {
         return 0;
     };
-    write_without_keyword(tag, key, buffer).unwrap_or(0)
+    match write_without_keyword(tag, key, buffer) {
+        Ok(len) => len,
+        Err(_) => 0,
+    }
 }
