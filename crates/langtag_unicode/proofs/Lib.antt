@@ -1,3 +1,4 @@
+pub mod Each
 pub mod AliasTables
 pub mod AlphabetLaws
 pub mod ExtensionForms
@@ -10,3 +11,10 @@ pub mod ExtensionsPut
 pub mod KeywordEdits
 pub mod KeywordSizes
 pub mod KeywordLaws
+pub mod LocaleExtensions
+pub mod KeywordRecords
+pub mod KeywordTwice
+pub mod KeywordBlocks
+pub mod KeySplits
+pub mod CanonicalKeywords
+pub mod CanonicalTags

@@ -9,4 +9,5 @@ pub mod Alphabet
 pub mod Head
 pub mod Marks
 pub mod Edit
+pub mod Locale
 pub mod EditText

@@ -47,14 +47,21 @@ use alloc::vec::Vec;
 /// # }
 /// ```
 #[cfg(feature = "alloc")]
+#[inline]
 pub fn extensions_form(tag: LangTag<'_>) -> Result<LangTagBuf, AllocError> {
-    let Ok(text) = String::from_utf8(form_bytes(tag)?) else {
+    Ok(tag_of(form_bytes(tag)?))
+}
+
+/// Converts bytes that are known to be a tag into that tag.
+#[cfg(feature = "alloc")]
+pub(crate) fn tag_of(bytes: Vec<u8>) -> LangTagBuf {
+    let Ok(text) = String::from_utf8(bytes) else {
         unreachable!()
     };
     let Ok(form) = LangTagBuf::new(text) else {
         unreachable!()
     };
-    Ok(form)
+    form
 }
 
 /// Returns the bytes of the form.
@@ -172,7 +179,7 @@ fn push_unicode(out: &mut Output<'_>, text: &str) {
 
 /// Returns whether an extension begins with a singleton, ignoring case.
 #[inline]
-fn is_of(singleton: u8, extension: Extension<'_>) -> bool {
+pub(crate) fn is_of(singleton: u8, extension: Extension<'_>) -> bool {
     into_smallcase(extension.singleton().unwrap()) == singleton
 }
 
