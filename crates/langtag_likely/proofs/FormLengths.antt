@@ -11,7 +11,7 @@ use Rattle.langtag_scan.proofs.SubtagFacts.{of_primary}
 use Rattle.langtag_likely.specs.Likely.{Fields, add_likely, remove_likely}
 use Rattle.langtag_likely.specs.LikelySubtags.{likely_subtags}
 use Rattle.langtag_likely.specs.Maximal.{IsForm, fields_of, put_fields, put_language, subtag_of, maximal_record, minimal_record}
-use Rattle.langtag_likely.proofs.FormLaws.{normal_or_not}
+use Rattle.langtag_scan.proofs.NormalTexts.{normal_or_not}
 use Rattle.langtag_likely.proofs.GoodForms.{maximal_well_formed, minimal_well_formed}
 
 -- a script and a region with the hyphen before them

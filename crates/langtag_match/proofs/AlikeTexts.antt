@@ -3,7 +3,7 @@ use Rattle.std.proofs.Common.{◌≡◌, ℕ, ◌<◌, eqb, Bool, true, false, c
 use Rattle.std.specs.List.{list_all}
 use Rattle.std.proofs.lemmas.Bool.Decides.{nat_tests, eqb_tells}
 use Rattle.langtag_scan.specs.Case.{fold_byte, fold_text}
-use Rattle.langtag_scan.proofs.CaseLaw.{all-fold, is_digit-fold, is_letter-fold, length-fold, segments-fold}
+use Rattle.langtag_scan.proofs.CaseLaw.{all-fold, is_digit-fold, is_letter-fold, length-fold, segments-fold, is_alphanumeric-fold}
 use Rattle.langtag.specs.Class.{is_letter, is_alphanumeric, is_private_subtag}
 use Rattle.langtag.specs.Subtags.{subtags}
 use Rattle.langtag_match.specs.AcceptLanguage.{is_space, from_first, trimmed}
@@ -24,9 +24,6 @@ is_space-fold b = rw (mark-fold 32 (omega arith) b, mark-fold 9 (omega arith) b)
 pub underscore-fold : (b : ℕ) → eqb (fold_byte b) 95 ≡ eqb b 95
 unfolding fold_byte
 underscore-fold b = grind (arith, nat_tests)
-
-is_alphanumeric-fold : (b : ℕ) → is_alphanumeric (fold_byte b) ≡ is_alphanumeric b
-is_alphanumeric-fold b = rw (is_letter-fold b, is_digit-fold b) refl
 
 hyphened_byte-fold : (b : ℕ) → hyphened_byte (fold_byte b) ≡ fold_byte (hyphened_byte b)
 unfolding fold_byte

@@ -121,7 +121,7 @@ abbrev pub AreMarked : List Bool → List (List ℕ) → List (List ℕ) → Typ
 AreMarked marks all left = (s : ℕ) → slice_index_or marks (fold_byte s) false ≡ false → of_singleton s all ≡ of_singleton s left
 
 -- a byte that stays unmarked was so, and is not the one that was marked
-unmarked : (marks : List Bool) (k j : ℕ) → k < length marks → get_or (set marks k true) j false ≡ false → (k ≡ j → ⊥) × (get_or marks j false ≡ false)
+pub unmarked : (marks : List Bool) (k j : ℕ) → k < length marks → get_or (set marks k true) j false ≡ false → (k ≡ j → ⊥) × (get_or marks j false ≡ false)
 unmarked marks k j inside none =
     let apart : k ≡ j → ⊥ = λ same. both_ways _ none (get_or-set_at marks k j true false (sym same) inside) in
     (apart, sym (get_or-set_other marks k j true false (λ same. apart (sym same))) ∙ none)

@@ -6,7 +6,7 @@ use Rattle.std.proofs.lemmas.Bool.{and_parts, both_ways}
 use Rattle.langtag_scan.specs.Case.{fold_byte, are_alike}
 use Rattle.langtag_scan.specs.Record.{Extension, Record, Spells, spell}
 use Rattle.langtag_scan.specs.Tag.{IsNormal}
-use Rattle.langtag_scan.proofs.NormalTexts.{normal_from_runs, runs_from_normal, spelled_once}
+use Rattle.langtag_scan.proofs.NormalTexts.{normal_from_runs, runs_from_normal, spelled_once, normal_or_not}
 use Rattle.langtag.specs.Registered.{IsGrandfathered, text_of}
 use Rattle.langtag.specs.declared.grandfathered.TheConstants.{GRANDFATHERED}
 use Rattle.langtag.proofs.RegisteredLaws.{first_alike_found, none_alike}
@@ -139,13 +139,6 @@ preferred_itself text new is =
 
 -- ---- every text
 
-decided : {P : Type 0} (b : Bool) → (b ≡ true → P) → (P → b ≡ true) → P ⊎ (P → ⊥)
-decided true holds is = inl (holds refl)
-decided false holds is = inr (λ p. both_ways false refl (is p))
-
-is_normal : (text : List ℕ) → IsNormal text ⊎ (IsNormal text → ⊥)
-is_normal text = decided _ (normal_from_runs text) (runs_from_normal text)
-
 is_grandfathered : (text : List ℕ) → IsGrandfathered text ⊎ (IsGrandfathered text → ⊥)
 unfolding IsGrandfathered
 is_grandfathered text = by_option (position (λ tag. are_alike (text_of tag) text) GRANDFATHERED) refl
@@ -170,7 +163,7 @@ way_of old = by_whole (preferred_tag old) refl
 
     by_old : preferred_tag old ≡ None → IsGrandfathered old ⊎ (IsGrandfathered old → ⊥) → Way old
     by_old none (inl is) = as_it_is none (inl is)
-    by_old none (inr new) = by_normal none new (is_normal old)
+    by_old none (inr new) = by_normal none new (normal_or_not old)
 
     by_whole : (o : Option (List ℕ)) → preferred_tag old ≡ o → Way old
     by_whole None none = by_old none (is_grandfathered old)

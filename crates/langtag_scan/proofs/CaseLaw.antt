@@ -48,7 +48,7 @@ pub hyphen-fold : (b : ℕ) → eqb (fold_byte b) 45 ≡ eqb b 45
 unfolding fold_byte
 hyphen-fold b = grind (arith, nat_tests)
 
-is_alphanumeric-fold : (b : ℕ) → is_alphanumeric (fold_byte b) ≡ is_alphanumeric b
+pub is_alphanumeric-fold : (b : ℕ) → is_alphanumeric (fold_byte b) ≡ is_alphanumeric b
 is_alphanumeric-fold b = rw (is_letter-fold b, is_digit-fold b) refl
 
 is_singleton-fold : (b : ℕ) → is_singleton (fold_byte b) ≡ is_singleton b

@@ -78,7 +78,8 @@ segments-join first (second ∷ texts) free =
     slice_split_at is_hyphen first 45 (join (second ∷ texts)) (All-head IsHyphenFree first (second ∷ texts) free) refl
     ∙ ap (λ rest. first ∷ rest) (segments-join second texts (All-tail IsHyphenFree first (second ∷ texts) free))
 
-subtags-segments : (text : List ℕ) → 0 < length text → subtags text ≡ segments text
+-- the subtags of a text that has some
+pub subtags-segments : (text : List ℕ) → 0 < length text → subtags text ≡ segments text
 subtags-segments [] some = absurd (omega (arith, some))
 subtags-segments (b ∷ text) some = refl
 

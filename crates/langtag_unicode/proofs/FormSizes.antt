@@ -1,10 +1,10 @@
 -- How long the form of a tag may be: at most twice as long as the tag.
 use Rattle.std.proofs.Common.{◌≡◌, ℕ, ◌+◌, ◌*◌, ◌≤◌, ◌&&◌, ◌||◌, ◌==◌, not, leb, Bool, true, false, cond, List, [], ◌∷◌, ◌++◌, length, map, find, Option, None, Some, unwrap_or, inl, inr, refl, sym, ap, subst, ◌∙◌, arith, eqb-true}
-use Rattle.std.proofs.lemmas.Bool.{and_parts, eq-eqb, false≢true, leb-true}
+use Rattle.std.proofs.lemmas.Bool.{and_parts, eq-eqb, false≢true, leb-true, not-true}
 use Rattle.std.specs.Prelude.{codes}
 use Rattle.std.specs.List.{flat_map, list_all}
 use Rattle.std.specs.Option.{option_map, option_map_or}
-use Rattle.langtag_likely.proofs.FormLaws.{normal_or_not}
+use Rattle.langtag_scan.proofs.NormalTexts.{normal_or_not}
 use Rattle.langtag_likely.proofs.RowsFound.{alike_length}
 use Rattle.langtag_scan.proofs.CaseLaw.{length-fold}
 use Rattle.langtag_scan.proofs.Joins.{length-join}
@@ -106,17 +106,13 @@ letters_apart : are_apart letters_and_digits ≡ true
 unfolding fold_byte
 letters_apart = refl
 
-not_false : (b : Bool) → not b ≡ true → b ≡ false
-not_false true h = absurd (false≢true h)
-not_false false h = refl
-
 -- what is more only where a letter is another is so once at most
 module _ (n extra : ℕ) (f g : ℕ → ℕ) (apart : (a : ℕ) → (fold_byte a == n) ≡ false → f a ≤ g a) (any : (a : ℕ) → f a ≤ extra + g a) where
   never : (xs : List ℕ) → list_all (λ b. not (fold_byte b == n)) xs ≡ true → total f xs ≤ total g xs
   never [] all = omega arith
   never (a ∷ xs) all =
       let parts = and_parts (not (fold_byte a == n)) (list_all (λ b. not (fold_byte b == n)) xs) all in
-      let one = apart a (not_false _ parts.0) in
+      let one = apart a (not-true _ parts.0) in
       let later = never xs parts.1 in
       omega (arith, one, later)
 

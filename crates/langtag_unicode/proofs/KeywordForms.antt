@@ -10,6 +10,7 @@ use Rattle.langtag_scan.specs.Subtags.{join, subtags}
 use Rattle.langtag_scan.specs.CaseLaws.{are_alike-decides}
 use Rattle.langtag_unicode.specs.Keywords.{before_key, value_of}
 use Rattle.langtag_unicode.specs.Form.{keyword_form}
+use Rattle.langtag_registry.proofs.ExtensionOrder.{unmarked}
 
 -- a key whose place is not marked stands only in what is left
 abbrev pub AreMarkedSo : (List ℕ → ℕ) → (List ℕ → Bool) → List Bool → List (List ℕ) → List (List ℕ) → Type 0
@@ -29,11 +30,6 @@ pub marked-other :
     AreMarkedSo index opens marks all left → AreMarkedSo index opens marks all rest
 marked-other index opens marks all left rest s first other so_far key none =
     so_far key none ∙ ap (value_of opens key) first ∙ value_of-other opens key s rest false (are_alike s key) other refl refl
-
-unmarked : (marks : List Bool) (k j : ℕ) → k < length marks → get_or (set marks k true) j false ≡ false → (k ≡ j → ⊥) × (get_or marks j false ≡ false)
-unmarked marks k j inside none =
-    let apart : k ≡ j → ⊥ = λ same. both_ways _ none (get_or-set_at marks k j true false (sym same) inside) in
-    (apart, sym (get_or-set_other marks k j true false (λ same. apart (sym same))) ∙ none)
 
 -- a key, whose place is marked
 pub marked-key :
