@@ -12,9 +12,9 @@ use Rattle.std.proofs.lemmas.Option.{get_or_from_slice_get, slice_get_read, slic
 use Rattle.langtag.specs.declared.lang_tag.LangTag.{LangTag}
 use Rattle.langtag.specs.Text.{lang_tag_text}
 use Rattle.langtag_scan.specs.Case.{are_alike}
-use Rattle.langtag_match.specs.AcceptLanguage.{Element, FallsTo, IsByWeight, StandsAt, acceptable, are_good, bad_part, element, elements, is_comma, is_good, items, weight_in}
+use Rattle.langtag_match.specs.AcceptLanguage.{Element, IsByWeight, StandsAt, acceptable, are_good, bad_part, element, elements, is_comma, is_good, items, weight_in}
 use Rattle.langtag_match.specs.Fallback.{fallbacks}
-use Rattle.langtag_match.specs.Stable.{IsOrderedBy, with_key}
+use Rattle.langtag_match.specs.Stable.{with_key}
 use Rattle.langtag_match.specs.declared.accept_language_error.ElementPart.{ElementPart}
 use Rattle.langtag_match.proofs.Offsets.{item_stands, sum_by-slice_split, width}
 use Rattle.langtag_c.specs.Choice.{IsTagAt}

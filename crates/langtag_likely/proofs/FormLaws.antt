@@ -1,9 +1,8 @@
 -- What a tag becomes where its record becomes another.
-use Rattle.std.proofs.Common.{◌≡◌, ℕ, true, false, Bool, List, inl, inr, ◌⊎◌, refl, sym, ap, subst, ◌∙◌, ◌++◌, [], length, drop, append-nil, arith}
-use Rattle.std.proofs.lemmas.Bool.{both_ways}
+use Rattle.std.proofs.Common.{◌≡◌, ℕ, List, inl, inr, sym, ap, subst, ◌∙◌, ◌++◌, [], length, drop, append-nil, arith}
 use Rattle.langtag_scan.specs.Record.{Record, Spells, IsWellFormed, spell}
 use Rattle.langtag_scan.specs.Tag.{IsNormal, IsTag}
-use Rattle.langtag_scan.proofs.NormalTexts.{spelled_once, normal_from_runs, runs_from_normal, normal_or_not}
+use Rattle.langtag_scan.proofs.NormalTexts.{spelled_once, normal_or_not}
 use Rattle.langtag_likely.specs.Maximal.{IsForm}
 use Rattle.std.proofs.lemmas.List.{drop_all}
 use Rattle.langtag_output.specs.Writes.{Writes}

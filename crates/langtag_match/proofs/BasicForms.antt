@@ -7,7 +7,7 @@ use Rattle.std.proofs.lemmas.List.Elements.{All-from_recursion}
 use Rattle.std.proofs.lemmas.Slice.Eq.{bytes_eq-Decides}
 use Rattle.langtag_scan.specs.Case.{Alike, fold_byte, fold_text}
 use Rattle.langtag_scan.specs.Class.{has_length, is_alphanumeric, is_letter, is_digit, are_alphanumeric, is_private_subtag}
-use Rattle.langtag_scan.specs.Subtags.{IsHyphenFree, is_hyphen, join, segments, subtags}
+use Rattle.langtag_scan.specs.Subtags.{IsHyphenFree, is_hyphen, join, subtags}
 use Rattle.langtag_scan.proofs.Joins.{hyphenated, join-hyphenated, length-join}
 use Rattle.langtag_scan.proofs.SubtagFacts.{no_hyphen_each, of_private_subtag}
 use Rattle.langtag_scan.proofs.SubtagLists.{join-subtags, segments-join, subtags-segments}

@@ -29,7 +29,7 @@ by_singletons ss texts = flat_map (λ singleton. of_singleton singleton texts) s
 
 -- ---- the texts tell the singletons
 
-abbrev those_of : ℕ → List Extension → List Extension
+abbrev pub those_of : ℕ → List Extension → List Extension
 those_of s es = filter (λ e. are_alike_bytes s e.singleton) es
 
 of_singleton-spelled : (s : ℕ) (es : List Extension) → of_singleton s (spellings es) ≡ spellings (those_of s es)

@@ -1,12 +1,12 @@
 -- A text has one canonical form, and that is its own.
-use Rattle.std.proofs.Common.{◌≡◌, ℕ, true, false, Bool, not, ◌&&◌, List, [], ◌∷◌, map, Option, None, Some, is_some, unwrap_or, inl, inr, ◌⊎◌, refl, sym, ap, subst, ◌∙◌}
+use Rattle.std.proofs.Common.{◌≡◌, ℕ, true, Bool, not, ◌&&◌, List, [], ◌∷◌, map, Option, None, Some, is_some, unwrap_or, inl, inr, ◌⊎◌, refl, sym, ap, subst, ◌∙◌}
 use Rattle.std.specs.List.{list_all, position}
 use Rattle.std.specs.Option.{option_map_or}
-use Rattle.std.proofs.lemmas.Bool.{and_parts, both_ways}
+use Rattle.std.proofs.lemmas.Bool.{and_parts}
 use Rattle.langtag_scan.specs.Case.{fold_byte, are_alike}
 use Rattle.langtag_scan.specs.Record.{Extension, Record, Spells, spell}
 use Rattle.langtag_scan.specs.Tag.{IsNormal}
-use Rattle.langtag_scan.proofs.NormalTexts.{normal_from_runs, runs_from_normal, spelled_once, normal_or_not}
+use Rattle.langtag_scan.proofs.NormalTexts.{spelled_once, normal_or_not}
 use Rattle.langtag.specs.Registered.{IsGrandfathered, text_of}
 use Rattle.langtag.specs.declared.grandfathered.TheConstants.{GRANDFATHERED}
 use Rattle.langtag.proofs.RegisteredLaws.{first_alike_found, none_alike}

@@ -48,7 +48,7 @@ pub hyphen-fold : (b : ℕ) → eqb (fold_byte b) 45 ≡ eqb b 45
 unfolding fold_byte
 hyphen-fold b = grind (arith, nat_tests)
 
-pub is_alphanumeric-fold : (b : ℕ) → is_alphanumeric (fold_byte b) ≡ is_alphanumeric b
+is_alphanumeric-fold : (b : ℕ) → is_alphanumeric (fold_byte b) ≡ is_alphanumeric b
 is_alphanumeric-fold b = rw (is_letter-fold b, is_digit-fold b) refl
 
 is_singleton-fold : (b : ℕ) → is_singleton (fold_byte b) ≡ is_singleton b
@@ -77,7 +77,7 @@ starts_with_digit-fold [] = refl
 starts_with_digit-fold (b ∷ s) = is_digit-fold b
 
 -- a subtag and its fold are of the same classes
-classes-fold : (s : List ℕ) → classes_of (fold_text s) ≡ classes_of s
+pub classes-fold : (s : List ℕ) → classes_of (fold_text s) ≡ classes_of s
 unfolding is_primary is_extended is_script is_region is_variant is_extension_subtag is_private_subtag
 classes-fold s =
     let letters = all-fold is_letter is_letter-fold in

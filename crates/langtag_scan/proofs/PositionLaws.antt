@@ -36,10 +36,6 @@ pub record IsMarked (places : List ℕ) (n : ℕ) (e : Ends) : Type 0 where
   pub below : (k : ℕ) → get_or places k 0 ≤ n
   pub is : e ≡ ends_at places e.whole
 
-abbrev ends_with : ℕ → ℕ → ℕ → ℕ → ℕ → ℕ → Ends
-ends_with language script region variants extensions whole =
-    record { language = language; script = script; region = region; variants = variants; extensions = extensions; whole = whole }
-
 placed : (places : List ℕ) (k n j : ℕ) → k < length places → get_or (set places k n) j 0 ≡ cond (eqb j k) n (get_or places j 0)
 placed places k n j within = grind (arith, common_steps)
 

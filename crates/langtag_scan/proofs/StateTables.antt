@@ -6,7 +6,7 @@ use Rattle.std.specs.Option.{option_map, option_map_or}
 use Rattle.std.specs.Cmp.{booleans_Decides}
 use Rattle.std.proofs.Math.Bool.{beq}
 use Rattle.std.proofs.Math.Seq.{take-append_seam}
-use Rattle.std.proofs.lemmas.Bool.{agree_below, agree_below_at, and_parts, or_cases, not-true, ltb-true, leb-true, lt-ltb, le-ltb, cases_lt, both_ways, same_from_beq}
+use Rattle.std.proofs.lemmas.Bool.{agree_below, agree_below_at, and_parts, or_cases, not-true, ltb-true, leb-true, lt-ltb, le-ltb, cases_lt, both_ways}
 use Rattle.std.proofs.lemmas.List.{length-append, get_or_past}
 use Rattle.std.proofs.lemmas.List.Quantifiers.{position-Some}
 use Rattle.std.proofs.lemmas.List.Sums.{AllPass-from_list_all}
@@ -37,6 +37,9 @@ class_of b = get_or table.CLASSES.now b 0
 
 abbrev class_byte : ℕ → ℕ
 class_byte class = get_or class_bytes class 0
+
+same_from_beq : (x y : Bool) → beq x y ≡ true → x ≡ y
+same_from_beq x y same = (booleans_Decides x y).0 same
 
 -- ---- what is computed at each position
 

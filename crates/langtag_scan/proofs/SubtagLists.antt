@@ -97,6 +97,11 @@ pub test_from_each : (test : List ℕ → Bool) (ss : List (List ℕ)) → AllBy
 test_from_each test [] h = refl
 test_from_each test (s ∷ ss) h = rw (h.0, test_from_each test ss h.1) refl
 
+-- what holds of each member of two lists holds of each member of both
+pub each-append : {X : Type 0} (P : X → Type 0) (xs ys : List X) → AllByRecursion P xs → AllByRecursion P ys → AllByRecursion P (xs ++ ys)
+each-append P [] ys these those = those
+each-append P (x ∷ xs) ys these those = (these.0, each-append P xs ys these.1 those)
+
 -- the members of a class of subtags are subtags
 pub each_subtag :
     (test : List ℕ → Bool) → ((s : List ℕ) → test s ≡ true → IsSubtag s) → (ss : List (List ℕ)) →

@@ -1,6 +1,4 @@
-use Rattle.std.proofs.Common.{◌≡◌, ℕ, ◌==◌, true, List, length, eqb-true, ap, sym, ◌∙◌}
-use Rattle.std.proofs.lemmas.Bool.{and_parts}
-use Rattle.langtag_scan.specs.Class.{is_extended, are_letters}
+use Rattle.std.proofs.Common.{length, ap, sym, ◌∙◌}
 use Rattle.langtag_registry.proofs.canonical_parts.in_small_letters.Goals as goal
 use Rattle.langtag_scan.proofs.Disjoint.{extended_three}
 
