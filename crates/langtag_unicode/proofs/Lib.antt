@@ -10,3 +10,4 @@ pub mod ExtensionsPut
 pub mod KeywordEdits
 pub mod KeywordSizes
 pub mod KeywordLaws
+pub mod LocaleExtensions

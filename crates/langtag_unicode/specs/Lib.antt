@@ -8,4 +8,5 @@ pub mod Form
 pub mod Alphabet
 pub mod Marks
 pub mod Edit
+pub mod Locale
 pub mod EditText

@@ -201,7 +201,7 @@ fn push_unicode(out: &mut Output<'_>, text: &str)
 }
 
 /// Returns whether an extension begins with a singleton, ignoring case.
-fn is_of(singleton: u8, extension: Extension<'_>) -> bool
+pub(crate) fn is_of(singleton: u8, extension: Extension<'_>) -> bool
     ensures { (e : model.Extension) → SpellsExtension e (extension_text extension.entry) → result ≡ spec.is_of singleton e }
 {
     into_smallcase(extension.singleton().unwrap()) == singleton

@@ -48,7 +48,7 @@ fn push_optional(out: &mut Output<'_>, subtag: Option<&str>)
     }
 }
 
-fn is_unicode_language(subtag: &str) -> bool
+pub(crate) fn is_unicode_language(subtag: &str) -> bool
     ensures { result ≡ spec.is_unicode_language subtag.now }
 {
     is_primary(subtag.as_bytes()) && subtag.len() != 4

@@ -172,7 +172,7 @@ fn push_unicode(out: &mut Output<'_>, text: &str) {
 
 /// Returns whether an extension begins with a singleton, ignoring case.
 #[inline]
-fn is_of(singleton: u8, extension: Extension<'_>) -> bool {
+pub(crate) fn is_of(singleton: u8, extension: Extension<'_>) -> bool {
     into_smallcase(extension.singleton().unwrap()) == singleton
 }
 

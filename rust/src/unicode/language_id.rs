@@ -35,7 +35,7 @@ fn push_optional(out: &mut Output<'_>, subtag: Option<&str>) {
 }
 
 #[inline]
-fn is_unicode_language(subtag: &str) -> bool {
+pub(crate) fn is_unicode_language(subtag: &str) -> bool {
     is_primary(subtag.as_bytes()) && subtag.len() != 4
 }
 

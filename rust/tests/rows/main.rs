@@ -78,6 +78,7 @@ fn answer(row: &Row) -> String {
         "attributes" => unicode::distinct(row.str(0)),
         "transform" => unicode::transformed(row.str(0)),
         "extensions-form" => unicode::form(row.str(0)),
+        "is-locale" => unicode::is_identifier(row.str(0)),
         call => panic!("no call: {call}"),
     }
 }
@@ -109,6 +110,7 @@ files! {
     choices: "choices.txt", 285, ["best", "best-match"];
     preferences: "lists.txt", 15, ["best-accepted", "best-ranges"];
     extensions: "extensions.txt", 630, ["extensions-form"];
+    locales: "locale.txt", 75, ["is-locale"];
     keywords: "unicode.txt", 500, ["keyword", "keywords", "attributes", "transform"];
 }
 

@@ -42,6 +42,11 @@ pub fn transformed(text: &str) -> String {
     [vec![language], fields].concat().join(" ")
 }
 
+pub fn is_identifier(text: &str) -> String {
+    let is = if is_locale(tag(text)) { "yes" } else { "no" };
+    is.into()
+}
+
 /// Returns the form. It must be its own form, and must be written to a buffer of its length, but not to a shorter
 /// buffer.
 pub fn form(text: &str) -> String {
