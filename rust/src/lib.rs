@@ -126,6 +126,8 @@ pub mod unicode;
 mod caseless_text;
 mod invalid;
 #[cfg(feature = "alloc")]
+mod keywords;
+#[cfg(feature = "alloc")]
 mod lent;
 #[cfg(feature = "alloc")]
 mod owned_errors;

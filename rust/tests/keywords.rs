@@ -1,44 +1,70 @@
-//! Keywords that are set and removed in a buffer (RFC 6067 section 2.1).
+//! Keywords that are set and removed, in a buffer and in an owned tag (RFC 6067 section 2.1).
 use std::collections::HashMap;
 
+#[cfg(feature = "alloc")]
+use langtag::unicode::SetKeywordError;
 use langtag::unicode::{keyword, write_with_keyword, write_without_keyword, KeywordError};
 use langtag::LangTag;
+#[cfg(feature = "alloc")]
+use langtag::LangTagBuf;
 
 type Outcome = Result<String, KeywordError>;
 
 /// Sets a value, in a buffer that the documentation says is long enough.
 fn set(text: &str, key: &str, value: &str) -> Outcome {
-    let tag = LangTag::new(text).expect("the test has a tag");
-    let mut buffer = vec![b'!'; text.len() + key.len() + value.len() + 4];
-    let length = write_with_keyword(tag, key, value, &mut buffer)?;
-    assert!(buffer[length..].iter().all(|byte| *byte == b'!'), "{text}");
-    checked(length, buffer, |room| {
-        write_with_keyword(tag, key, value, room)
-    })
+    let room = text.len() + key.len() + value.len() + 4;
+    let outcome = written(text, room, |tag, buffer| {
+        write_with_keyword(tag, key, value, buffer)
+    });
+    #[cfg(feature = "alloc")]
+    check_owned(text, &outcome, |tag| tag.set_keyword(key, value));
+    outcome
 }
 
 /// Removes a key, in a buffer of the length of the tag.
 fn removed(text: &str, key: &str) -> Outcome {
-    let tag = LangTag::new(text).expect("the test has a tag");
-    let mut buffer = vec![b'!'; text.len()];
-    let length = write_without_keyword(tag, key, &mut buffer)?;
-    assert!(buffer[length..].iter().all(|byte| *byte == b'!'), "{text}");
-    checked(length, buffer, |room| write_without_keyword(tag, key, room))
+    let outcome = written(text, text.len(), |tag, buffer| {
+        write_without_keyword(tag, key, buffer)
+    });
+    #[cfg(feature = "alloc")]
+    check_owned(text, &outcome, |tag| tag.remove_keyword(key));
+    outcome
 }
 
 /// Returns the text that was written, and checks that a buffer one byte shorter stays unchanged.
-fn checked(
-    length: usize,
-    mut buffer: Vec<u8>,
-    write: impl Fn(&mut [u8]) -> Result<usize, KeywordError>,
+fn written(
+    text: &str,
+    room: usize,
+    write: impl Fn(LangTag<'_>, &mut [u8]) -> Result<usize, KeywordError>,
 ) -> Outcome {
+    let tag = LangTag::new(text).expect("the test has a tag");
+    let mut buffer = vec![b'!'; room];
+    let length = write(tag, &mut buffer)?;
+    assert!(buffer[length..].iter().all(|byte| *byte == b'!'), "{text}");
     let mut short = vec![b'!'; length - 1];
-    assert_eq!(write(&mut short)?, length);
+    assert_eq!(write(tag, &mut short)?, length);
     assert!(short.iter().all(|byte| *byte == b'!'));
     buffer.truncate(length);
     let text = String::from_utf8(buffer).expect("a tag is ASCII");
     assert!(LangTag::new(&text).is_ok(), "{text}");
     Ok(text)
+}
+
+/// Checks that an owned tag becomes the text that was written, or stays unchanged after the same error.
+#[cfg(feature = "alloc")]
+fn check_owned(
+    text: &str,
+    outcome: &Outcome,
+    edit: impl Fn(&mut LangTagBuf) -> Result<(), SetKeywordError>,
+) {
+    let mut tag = LangTagBuf::new(text.to_owned()).expect("the test has a tag");
+    let result = edit(&mut tag).map_err(|error| error.to_string());
+    let wanted = outcome.clone().map(drop);
+    assert_eq!(result, wanted.map_err(|error| error.to_string()), "{text}");
+    assert_eq!(tag.as_str(), outcome.as_deref().unwrap_or(text));
+    let read = LangTag::new(tag.as_str()).expect("it is a tag");
+    assert_eq!(tag.private_use(), read.private_use());
+    assert_eq!(tag.extensions(), read.extensions());
 }
 
 #[test]
@@ -216,4 +242,42 @@ fn callers_use_the_errors() {
         set(&tag, key, value).expect("a keyword")
     });
     assert_eq!(tag, "de-u-ca-roc-nu-latn");
+}
+
+/// A caller's own function sets keywords of an owned tag, in a closure and with `?`.
+#[test]
+#[cfg(feature = "alloc")]
+fn callers_use_the_errors_of_owned_tags() {
+    fn with_keys(text: &str, keys: &[&str]) -> Result<LangTagBuf, Box<dyn std::error::Error>> {
+        let mut tag = LangTagBuf::new(text.to_owned())?;
+        keys.iter()
+            .try_for_each(|key| tag.set_keyword(key, "roc"))?;
+        tag.remove_keyword("zz")?;
+        Ok(tag)
+    }
+    let tag = with_keys("de-u-zz-x-a", &["ca", "aa"]).unwrap();
+    assert_eq!(tag, "de-u-aa-roc-ca-roc-x-a");
+    let refused = with_keys("de", &["ca", "c4"]).unwrap_err();
+    assert_eq!(
+        refused.downcast_ref(),
+        Some(&SetKeywordError::Keyword(KeywordError::Key))
+    );
+}
+
+#[test]
+#[cfg(feature = "alloc")]
+fn errors_of_owned_tags_are_values() {
+    let memory = SetKeywordError::Memory(langtag::AllocError);
+    let all = [
+        SetKeywordError::Keyword(KeywordError::Key),
+        SetKeywordError::Keyword(KeywordError::Value(0)),
+        SetKeywordError::Keyword(KeywordError::NotNormal),
+        memory,
+    ];
+    for (i, a) in all.iter().enumerate() {
+        for (j, b) in all.iter().enumerate() {
+            assert_eq!(a == b, i == j);
+        }
+    }
+    assert_eq!(memory.to_string(), "out of memory");
 }

@@ -7,7 +7,7 @@ use std::cell::Cell;
 use langtag::likely::{from_posix, maximized, minimized, PosixError};
 use langtag::matching::{tag_for_header, AcceptLanguage, AcceptLanguageError, LanguageRange};
 use langtag::registry::{canonical, extlang_form};
-use langtag::unicode::extensions_form;
+use langtag::unicode::{extensions_form, SetKeywordError};
 use langtag::*;
 
 thread_local! {
@@ -210,6 +210,18 @@ fn setters() {
         set_extensions Extensions::new("u-co-phonebk").unwrap();
         set_private_use PrivateUse::new("x-longer-than-it-was").ok();
     }
+}
+
+#[test]
+fn setters_of_keywords() {
+    let text = "sl-IT-u-ca-roc-nu-latn-x-mine";
+    let refused = SetKeywordError::Memory(AllocError);
+    refuse_each("set_keyword", || {
+        set(text, refused, |held| held.any.set_keyword("kn", ""))
+    });
+    refuse_each("remove_keyword", || {
+        set(text, refused, |held| held.any.remove_keyword("ca"))
+    });
 }
 
 #[test]

@@ -16,6 +16,7 @@ use Rattle.langtag_scan.specs.Record.{Extension, IsWellFormed, IsWellFormedExten
 use Rattle.langtag_scan.specs.Subtags.{join, subtags}
 use Rattle.langtag_unicode.specs.Alias.{Alias, TypeAlias, alias_for, type_alias_for}
 use Rattle.langtag_unicode.specs.Aliases.{subdivision_aliases, transform_type_aliases, unicode_type_aliases}
+use Rattle.langtag_unicode.specs.Edit.{is_type}
 use Rattle.langtag_unicode.specs.Form as form
 use Rattle.langtag_unicode.specs.Form.{extension_form, extensions_record, forms_after, in_alphabet, is_before, is_of, is_transform, letters_and_digits, put_among, transform_form, transform_value, unicode_form, unicode_value}
 use Rattle.langtag_unicode.specs.Keywords.{before_key, is_key, value_of}
@@ -72,7 +73,7 @@ good-before test (s ∷ ss) good = by_test (test s) (good-before test ss good.1)
     by_test true later = tt
     by_test false later = (good.0, later)
 
-good-value : (test : List ℕ → Bool) (key : List ℕ) (ss v : List (List ℕ)) → Good ss → value_of test key ss ≡ Some v → Good v
+pub good-value : (test : List ℕ → Bool) (key : List ℕ) (ss v : List (List ℕ)) → Good ss → value_of test key ss ≡ Some v → Good v
 good-value test key [] v good found = absurd cc
 good-value test key (s ∷ ss) v good found = by_test (test s && are_alike s key) (good-value test key ss v good.1) found
   where
@@ -88,60 +89,64 @@ GoodText text = Good (subtags text)
 good-joined : (ss : List (List ℕ)) → Good ss → GoodText (join ss)
 good-joined ss good = subst Good (sym (subtags-joined ss (each_subtag is_extension_subtag of_extension_subtag ss good))) good
 
--- a test of the new texts
-abbrev is_good_text : List ℕ → Bool
-is_good_text text = list_all is_extension_subtag (subtags text)
+-- a test that the new texts pass holds of values in canonical form, if it holds of the values
+module _ (test : List ℕ → Bool) where
+  abbrev pub Passes : List ℕ → Type 0
+  Passes text = AllByRecursion (λ s. IsTrue (test s)) (subtags text)
 
-good-alias : (rows : List Alias) (text : List ℕ) → list_all (λ row. is_good_text row.new) rows ≡ true → GoodText text → GoodText (unwrap_or (alias_for rows text) text)
-good-alias [] text all good = good
-good-alias (row ∷ rows) text all good =
-    let parts = and_parts (is_good_text row.new) (list_all (λ r. is_good_text r.new) rows) all in
-    by_test (are_alike row.old text) (each_from_test is_extension_subtag (subtags row.new) parts.0) (good-alias rows text parts.1 good)
-  where
-    by_test :
-        (t : Bool) → GoodText row.new → GoodText (unwrap_or (alias_for rows text) text) →
-        GoodText (unwrap_or (option_map (λ alias. alias.new) (cond t (Some row) (find (λ alias. are_alike alias.old text) rows))) text)
-    by_test true here later = here
-    by_test false here later = later
+  pass-alias : (rows : List Alias) (text : List ℕ) → list_all (λ row. list_all test (subtags row.new)) rows ≡ true → Passes text → Passes (unwrap_or (alias_for rows text) text)
+  pass-alias [] text all good = good
+  pass-alias (row ∷ rows) text all good =
+      let parts = and_parts (list_all test (subtags row.new)) (list_all (λ r. list_all test (subtags r.new)) rows) all in
+      by_test (are_alike row.old text) (each_from_test test (subtags row.new) parts.0) (pass-alias rows text parts.1 good)
+    where
+      by_test :
+          (t : Bool) → Passes row.new → Passes (unwrap_or (alias_for rows text) text) →
+          Passes (unwrap_or (option_map (λ alias. alias.new) (cond t (Some row) (find (λ alias. are_alike alias.old text) rows))) text)
+      by_test true here later = here
+      by_test false here later = later
 
-good-type :
-    (rows : List TypeAlias) (key text : List ℕ) → list_all (λ row. is_good_text row.new) rows ≡ true → GoodText text → GoodText (unwrap_or (type_alias_for rows key text) text)
-good-type [] key text all good = good
-good-type (row ∷ rows) key text all good =
-    let parts = and_parts (is_good_text row.new) (list_all (λ r. is_good_text r.new) rows) all in
-    by_test (are_alike row.key key && are_alike row.old text) (each_from_test is_extension_subtag (subtags row.new) parts.0) (good-type rows key text parts.1 good)
-  where
-    by_test :
-        (t : Bool) → GoodText row.new → GoodText (unwrap_or (type_alias_for rows key text) text) →
-        GoodText (unwrap_or (option_map (λ alias. alias.new) (cond t (Some row) (find (λ alias. are_alike alias.key key && are_alike alias.old text) rows))) text)
-    by_test true here later = here
-    by_test false here later = later
+  pass-type :
+      (rows : List TypeAlias) (key text : List ℕ) → list_all (λ row. list_all test (subtags row.new)) rows ≡ true → Passes text → Passes (unwrap_or (type_alias_for rows key text) text)
+  pass-type [] key text all good = good
+  pass-type (row ∷ rows) key text all good =
+      let parts = and_parts (list_all test (subtags row.new)) (list_all (λ r. list_all test (subtags r.new)) rows) all in
+      by_test (are_alike row.key key && are_alike row.old text) (each_from_test test (subtags row.new) parts.0) (pass-type rows key text parts.1 good)
+    where
+      by_test :
+          (t : Bool) → Passes row.new → Passes (unwrap_or (type_alias_for rows key text) text) →
+          Passes (unwrap_or (option_map (λ alias. alias.new) (cond t (Some row) (find (λ alias. are_alike alias.key key && are_alike alias.old text) rows))) text)
+      by_test true here later = here
+      by_test false here later = later
 
-good-subdivision : (value : List ℕ) → GoodText value → GoodText (form.subdivision value)
-unfolding form.subdivision subdivision_aliases is_extension_subtag is_letter is_digit
-good-subdivision value good = good-alias subdivision_aliases value refl good
+  pass-without : (t : List ℕ) → Passes t → Passes (form.without_true t)
+  pass-without t good = by_test (are_alike t (codes "true"))
+    where
+      by_test : (b : Bool) → Passes (cond b [] t)
+      by_test true = tt
+      by_test false = good
 
-good-unicode_type : (key value : List ℕ) → GoodText value → GoodText (form.unicode_type key value)
-unfolding form.unicode_type unicode_type_aliases is_extension_subtag is_letter is_digit
-good-unicode_type key value good = good-type unicode_type_aliases key value refl good
+  pass-unicode :
+      list_all (λ row. list_all test (subtags row.new)) subdivision_aliases ≡ true → list_all (λ row. list_all test (subtags row.new)) unicode_type_aliases ≡ true →
+      (key value : List ℕ) → Passes value → Passes (unicode_value key value)
+  unfolding form.subdivision form.unicode_type
+  pass-unicode subdivisions types key value good = pass-without _ (by_test (form.has_subdivision key))
+    where
+      by_test : (b : Bool) → Passes (cond b (form.subdivision value) (form.unicode_type key value))
+      by_test true = pass-alias subdivision_aliases value subdivisions good
+      by_test false = pass-type unicode_type_aliases key value types good
+
+good-unicode : (key value : List ℕ) → GoodText value → GoodText (unicode_value key value)
+unfolding subdivision_aliases unicode_type_aliases is_extension_subtag is_letter is_digit
+good-unicode = pass-unicode is_extension_subtag refl refl
+
+pub types-unicode : (key value : List ℕ) → Passes is_type value → Passes is_type (unicode_value key value)
+unfolding subdivision_aliases unicode_type_aliases is_extension_subtag is_letter is_digit
+types-unicode = pass-unicode is_type refl refl
 
 good-transform : (key value : List ℕ) → GoodText value → GoodText (transform_value key value)
 unfolding transform_value transform_type_aliases is_extension_subtag is_letter is_digit
-good-transform key value good = good-type transform_type_aliases key value refl good
-
-good-without : (t : List ℕ) → GoodText t → GoodText (form.without_true t)
-good-without t good = by_test (are_alike t (codes "true"))
-  where
-    by_test : (b : Bool) → GoodText (cond b [] t)
-    by_test true = tt
-    by_test false = good
-
-good-unicode : (key value : List ℕ) → GoodText value → GoodText (unicode_value key value)
-good-unicode key value good = good-without _ (by_test (form.has_subdivision key))
-  where
-    by_test : (b : Bool) → GoodText (cond b (form.subdivision value) (form.unicode_type key value))
-    by_test true = good-subdivision value good
-    by_test false = good-unicode_type key value good
+good-transform key value good = pass-type is_extension_subtag transform_type_aliases key value refl good
 
 -- ---- keywords
 
@@ -155,7 +160,7 @@ letters_alphanumeric : are_alphanumeric letters_and_digits ≡ true
 unfolding is_letter is_digit
 letters_alphanumeric = refl
 
-good-key : (a b : ℕ) → is_alphanumeric a ≡ true → is_alphanumeric b ≡ true → is_extension_subtag (a ∷ b ∷ []) ≡ true
+pub good-key : (a b : ℕ) → is_alphanumeric a ≡ true → is_alphanumeric b ≡ true → is_extension_subtag (a ∷ b ∷ []) ≡ true
 unfolding is_extension_subtag
 good-key a b one two = rw (one, two) refl
 
@@ -188,7 +193,7 @@ alphanumeric_below : (x : ℕ) → is_alphanumeric x ≡ true → x < 123
 unfolding is_letter is_digit
 alphanumeric_below x is = grind (arith, nat_tests)
 
-among-letters : (x : ℕ) → is_alphanumeric x ≡ true → list_any (λ a. a == fold_byte x) letters_and_digits ≡ true
+pub among-letters : (x : ℕ) → is_alphanumeric x ≡ true → list_any (λ a. a == fold_byte x) letters_and_digits ≡ true
 among-letters x is =
     let below = alphanumeric_below x is in
     let at : get_or (range_with_len 0 123) x 0 ≡ x = get_or-range_with_len 0 123 x 0 below ∙ zero-add x in

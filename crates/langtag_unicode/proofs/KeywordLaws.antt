@@ -41,7 +41,7 @@ module _ (key : List ℕ) where
       by_key false same key_is later = later
 
   -- and what stood there stays where none went
-  before-kept : (ss : List (List ℕ)) → before_key is_key (without_keyword key ss) ≡ before_key is_key ss
+  pub before-kept : (ss : List (List ℕ)) → before_key is_key (without_keyword key ss) ≡ before_key is_key ss
   before-kept [] = refl
   before-kept (s ∷ ss) = by_key (is_key s) (are_alike s key) refl (before-kept ss)
     where
@@ -54,11 +54,11 @@ module _ (key : List ℕ) where
 
 -- ---- what is set is read
 
-alike-itself : (a : List ℕ) → are_alike a a ≡ true
+pub alike-itself : (a : List ℕ) → are_alike a a ≡ true
 alike-itself a = (are_alike-decides a a).1 refl
 
 -- the key as it stands is the key
-standing-this : (key : List ℕ) (ss : List (List ℕ)) → is_key key ≡ true → is_this_key key (unwrap_or (find (is_this_key key) ss) key) ≡ true
+pub standing-this : (key : List ℕ) (ss : List (List ℕ)) → is_key key ≡ true → is_this_key key (unwrap_or (find (is_this_key key) ss) key) ≡ true
 standing-this key [] is = ap (λ b. b && are_alike key key) is ∙ alike-itself key
 standing-this key (s ∷ ss) is = by_test (is_this_key key s) refl (standing-this key ss is)
   where
@@ -69,6 +69,22 @@ standing-this key (s ∷ ss) is = by_test (is_this_key key s) refl (standing-thi
     by_test false this later = later
 
 module _ (key k : List ℕ) (value : List (List ℕ)) (this : is_this_key key k ≡ true) (all : AreNoKeys value) where
+  key-opens : is_key k ≡ true
+  key-opens = (and_parts (is_key k) (are_alike k key) this).0
+
+  -- what stands before the first key stays
+  pub before-put : (stands : Bool) (ss : List (List ℕ)) → before_key is_key (put_keyword key stands (k ∷ value) ss) ≡ before_key is_key ss
+  before-put stands [] = ap (λ b. cond b [] (k ∷ before_key is_key value)) key-opens
+  before-put stands (s ∷ ss) = by_place (is_place key stands s) refl (before-put stands ss)
+    where
+      by_place :
+          (b : Bool) → is_place key stands s ≡ b → before_key is_key (put_keyword key stands (k ∷ value) ss) ≡ before_key is_key ss →
+          before_key is_key (cond b ((k ∷ value) ++ without_keyword key (s ∷ ss)) (s ∷ put_keyword key stands (k ∷ value) ss)) ≡ before_key is_key (s ∷ ss)
+      by_place true place later =
+          let opens = (and_parts (is_key s) (cond stands (are_alike s key) (is_before (fold_text key) (fold_text s))) place).0 in
+          ap (λ b. cond b [] (k ∷ before_key is_key (value ++ without_keyword key (s ∷ ss)))) key-opens ∙ sym (ap (λ b. cond b [] (s ∷ before_key is_key ss)) opens)
+      by_place false place later = ap (λ r. cond (is_key s) [] (s ∷ r)) later
+
   value-first : (rest : List (List ℕ)) → value_of is_key key (k ∷ rest) ≡ Some (before_key is_key rest)
   value-first rest = ap (λ b. cond b (Some (before_key is_key rest)) (value_of is_key key rest)) this
 
@@ -174,34 +190,19 @@ module _ (key other : List ℕ) (differ : are_alike key other ≡ false) where
           other-skipped s (without_within key false ss) (ap (λ b. b && are_alike s other) key_is) ∙ kept ∙ sym (other-skipped s ss (ap (λ b. b && are_alike s other) key_is))
 
   module _ (k : List ℕ) (value : List (List ℕ)) (this : is_this_key key k ≡ true) (all : AreNoKeys value) (stands : Bool) where
-    key_opens : is_key k ≡ true
-    key_opens = (and_parts (is_key k) (are_alike k key) this).0
-
-    before-put : (ss : List (List ℕ)) → before_key is_key (put_keyword key stands (k ∷ value) ss) ≡ before_key is_key ss
-    before-put [] = ap (λ b. cond b [] (k ∷ before_key is_key value)) key_opens
-    before-put (s ∷ ss) = by_place (is_place key stands s) refl (before-put ss)
-      where
-        by_place :
-            (b : Bool) → is_place key stands s ≡ b → before_key is_key (put_keyword key stands (k ∷ value) ss) ≡ before_key is_key ss →
-            before_key is_key (cond b ((k ∷ value) ++ without_keyword key (s ∷ ss)) (s ∷ put_keyword key stands (k ∷ value) ss)) ≡ before_key is_key (s ∷ ss)
-        by_place true place later =
-            let opens = (and_parts (is_key s) (cond stands (are_alike s key) (is_before (fold_text key) (fold_text s))) place).0 in
-            ap (λ b. cond b [] (k ∷ before_key is_key (value ++ without_keyword key (s ∷ ss)))) key_opens ∙ sym (ap (λ b. cond b [] (s ∷ before_key is_key ss)) opens)
-        by_place false place later = ap (λ r. cond (is_key s) [] (s ∷ r)) later
-
     others-put : (ss : List (List ℕ)) → value_of is_key other (put_keyword key stands (k ∷ value) ss) ≡ value_of is_key other ss
-    others-put [] = other-skipped k value (both-apart k key_opens (and_parts (is_key k) (are_alike k key) this).1) ∙ value-none value all
+    others-put [] = other-skipped k value (both-apart k (key-opens key k value this all) (and_parts (is_key k) (are_alike k key) this).1) ∙ value-none value all
     others-put (s ∷ ss) = by_place (is_place key stands s) (others-put ss)
       where
         by_place :
             (b : Bool) → value_of is_key other (put_keyword key stands (k ∷ value) ss) ≡ value_of is_key other ss →
             value_of is_key other (cond b ((k ∷ value) ++ without_keyword key (s ∷ ss)) (s ∷ put_keyword key stands (k ∷ value) ss)) ≡ value_of is_key other (s ∷ ss)
         by_place true later =
-            other-skipped k (value ++ without_keyword key (s ∷ ss)) (both-apart k key_opens (and_parts (is_key k) (are_alike k key) this).1)
+            other-skipped k (value ++ without_keyword key (s ∷ ss)) (both-apart k (key-opens key k value this all) (and_parts (is_key k) (are_alike k key) this).1)
             ∙ value-passed value (without_keyword key (s ∷ ss)) all ∙ others-without false (s ∷ ss)
         by_place false later =
             ap (λ r. cond (is_key s && are_alike s other) (Some (before_key is_key (put_keyword key stands (k ∷ value) ss))) r) later
-            ∙ ap (λ r. cond (is_key s && are_alike s other) (Some r) (value_of is_key other ss)) (before-put ss)
+            ∙ ap (λ r. cond (is_key s && are_alike s other) (Some r) (value_of is_key other ss)) (before-put key k value this all stands ss)
 
   pub others-with : (value ss : List (List ℕ)) → is_key key ≡ true → AreNoKeys value → value_of is_key other (with_keyword key value ss) ≡ value_of is_key other ss
   others-with value ss is all = others-put (unwrap_or (find (is_this_key key) ss) key) value (standing-this key ss is) all (is_some (find (is_this_key key) ss)) ss
@@ -215,15 +216,19 @@ not_key s long = by_test (is_key s) refl
     by_test true is = absurd (omega (arith, eqb-true (length s) 2 is, leb-true 3 (length s) long))
     by_test false is = is
 
-types-no_keys : (at : ℕ) (value : List (List ℕ)) → invalid_type_from at value ≡ None → AreNoKeys value
-types-no_keys at [] none = tt
-types-no_keys at (s ∷ value) none = by_test (is_type s) refl none (types-no_keys (at + (length s + 1)) value)
+pub type-no_key : (s : List ℕ) → is_type s ≡ true → is_key s ≡ false
+type-no_key s is = not_key s (and_parts (leb 3 (length s)) (is_extension_subtag s) is).0
+
+-- what holds of types holds of each subtag of a value that may be set
+pub types-each :
+    (P : List ℕ → Type 0) → ((s : List ℕ) → is_type s ≡ true → P s) → (at : ℕ) (value : List (List ℕ)) → invalid_type_from at value ≡ None → AllByRecursion P value
+types-each P of_type at [] none = tt
+types-each P of_type at (s ∷ value) none = by_test (is_type s) refl none (types-each P of_type (at + (length s + 1)) value)
   where
     by_test :
         (b : Bool) → is_type s ≡ b → cond b (invalid_type_from (at + (length s + 1)) value) (Some at) ≡ None →
-        (invalid_type_from (at + (length s + 1)) value ≡ None → AreNoKeys value) → AreNoKeys (s ∷ value)
-    by_test true is none later =
-        (not_key s (and_parts (leb 3 (length s)) (is_extension_subtag s) is).0, later none)
+        (invalid_type_from (at + (length s + 1)) value ≡ None → AllByRecursion P value) → AllByRecursion P (s ∷ value)
+    by_test true is none later = (of_type s is, later none)
     by_test false is none later = absurd cc
 
 key-two : (key : List ℕ) → is_unicode_key key ≡ true → is_key key ≡ true
@@ -235,17 +240,27 @@ key-two (a ∷ b ∷ c ∷ key) is = absurd (false≢true is)
 -- ---- the laws of the setters
 
 -- a keyword that may be set
-record Fits (key : List ℕ) (value : List (List ℕ)) : Type 0 where
-  two : is_key key ≡ true
-  no_keys : AreNoKeys value
+pub record Allowed (key : List ℕ) (value : List (List ℕ)) : Type 0 where
+  pub key_fits : is_unicode_key key ≡ true
+  pub types : invalid_type value ≡ None
 
-fits_from : (key : List ℕ) (value : List (List ℕ)) → keyword_error key value ≡ None → Fits key value
-fits_from key value none = by_tests (is_unicode_key key) (invalid_type value) refl refl none
+pub allowed_from : (key : List ℕ) (value : List (List ℕ)) → keyword_error key value ≡ None → Allowed key value
+allowed_from key value none = by_tests (is_unicode_key key) (invalid_type value) refl refl none
   where
-    by_tests : (b : Bool) (o : Option ℕ) → is_unicode_key key ≡ b → invalid_type value ≡ o → cond b (option_map Value o) (Some Key) ≡ None → Fits key value
-    by_tests true None is all none = record { two = key-two key is; no_keys = types-no_keys 0 value all }
+    by_tests : (b : Bool) (o : Option ℕ) → is_unicode_key key ≡ b → invalid_type value ≡ o → cond b (option_map Value o) (Some Key) ≡ None → Allowed key value
+    by_tests true None is all none = record { key_fits = is; types = all }
     by_tests true (Some n) is all none = absurd cc
     by_tests false o is all none = absurd cc
+
+-- only its first subtag is a key
+pub record Fits (key : List ℕ) (value : List (List ℕ)) : Type 0 where
+  pub two : is_key key ≡ true
+  pub no_keys : AreNoKeys value
+
+pub fits_from : (key : List ℕ) (value : List (List ℕ)) → keyword_error key value ≡ None → Fits key value
+fits_from key value none =
+    let allowed = allowed_from key value none in
+    record { two = key-two key allowed.key_fits; no_keys = types-each (λ s. is_key s ≡ false) type-no_key 0 value allowed.types }
 
 -- what is set is read
 pub read_after_set : (key : List ℕ) (value ss : List (List ℕ)) → keyword_error key value ≡ None → value_of is_key key (with_keyword key value ss) ≡ Some value
@@ -262,7 +277,3 @@ none_after_removal key ss = value-without key false ss
 
 pub others_after_removal : (key other : List ℕ) (ss : List (List ℕ)) → are_alike key other ≡ false → value_of is_key other (without_keyword key ss) ≡ value_of is_key other ss
 others_after_removal key other ss differ = others-without key other differ false ss
-
-pub ruleset laws_of_setting = (read_after_set, others_after_set)
-
-pub ruleset laws_of_removal = (none_after_removal, others_after_removal)

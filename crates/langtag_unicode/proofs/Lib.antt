@@ -11,3 +11,9 @@ pub mod KeywordEdits
 pub mod KeywordSizes
 pub mod KeywordLaws
 pub mod LocaleExtensions
+pub mod KeywordRecords
+pub mod KeywordTwice
+pub mod KeywordBlocks
+pub mod KeySplits
+pub mod CanonicalKeywords
+pub mod CanonicalTags

@@ -1,13 +1,14 @@
 -- Setting and removing keywords of the extension `u` (RFC 6067 section 2.1; UTS #35, part 1, section 'U Extension').
-use Rattle.std.specs.Prelude.{ℕ, ◌+◌, Bool, true, false, ◌&&◌, List, [], ◌∷◌, ◌++◌, Option, None, Some, if◌then◌else◌, find, leb, length, nat_lt, unwrap_or}
+use Rattle.std.specs.Prelude.{◌≡◌, ℕ, ◌+◌, Bool, true, false, ◌&&◌, List, [], ◌∷◌, ◌++◌, Option, None, Some, if◌then◌else◌, find, leb, length, map, nat_lt, unwrap_or}
 use Rattle.std.specs.Option.{is_some, option_map}
 use Rattle.langtag_scan.specs.Case.{are_alike, fold_byte, fold_text}
 use Rattle.langtag_scan.specs.Class.{is_alphanumeric, is_extension_subtag, is_letter}
 use Rattle.langtag_scan.specs.Record.{Extension, Record}
+use Rattle.langtag_scan.specs.Subtags.{join, subtags}
 use Rattle.langtag_extension.specs.Spelling.{find_extension}
 use Rattle.langtag_unicode.specs.declared.keyword_error.KeywordError.{KeywordError}
 use Rattle.langtag_unicode.specs.declared.keyword_error.KeywordError.TheVariants.{Key, Value}
-use Rattle.langtag_unicode.specs.Form.{is_before, is_of}
+use Rattle.langtag_unicode.specs.Form.{is_before, is_of, unicode_value}
 use Rattle.langtag_unicode.specs.Keywords.{is_key}
 
 -- ---- which keys and values may be set
@@ -34,6 +35,10 @@ invalid_type subtags = invalid_type_from 0 subtags
 -- why a key and a value cannot be a keyword, or `None` if they can
 abbrev pub keyword_error : List ℕ → List (List ℕ) → Option KeywordError
 keyword_error key value = if is_unicode_key key then option_map Value (invalid_type value) else Some Key
+
+-- whether a keyword is in canonical form: its key in lowercase, with a value that is its own canonical form
+abbrev pub IsCanonicalKeyword : List ℕ → List (List ℕ) → Type 0
+IsCanonicalKeyword key value = (fold_text key ≡ key) × (map fold_text (subtags (unicode_value key (join value))) ≡ value)
 
 -- ---- the subtags of `u`
 

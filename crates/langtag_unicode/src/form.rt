@@ -12,6 +12,7 @@ ghost use Rattle.langtag_private.specs.Text.{private_use_text};
 ghost use Rattle.langtag_scan.proofs.SubtagFacts.{IsSubtag};
 ghost use Rattle.langtag_scan.specs.Record as model;
 ghost use Rattle.langtag_scan.specs.Subtags.{join, subtags};
+ghost use Rattle.langtag_scan.specs.Tag.{IsTag};
 ghost use Rattle.langtag_unicode.specs.Form as spec;
 ghost use Rattle.langtag_scan.specs.Ends.{to_variants};
 
@@ -55,13 +56,21 @@ pub fn extensions_form(alloc: Global, tag: LangTag<'_>) -> Result<LangTagBuf, Al
     ensures form { IfOk result (λ form. spec.IsExtensionsForm (lang_tag_text tag.entry) (lang_tag_buf_text form)) }
     ensures one { IfOk result (λ form. IsOnlyForm spec.extensions_record (lang_tag_text tag.entry) (lang_tag_buf_text form)) }
 {
-    let Ok(text) = String::from_utf8(form_bytes(alloc, tag)?) else {
+    Ok(tag_of(form_bytes(alloc, tag)?))
+}
+
+/// Converts bytes that are known to be a tag into that tag.
+pub(crate) fn tag_of(bytes: Vec<u8>) -> LangTagBuf
+    requires { IsTag bytes.items }
+    ensures { lang_tag_buf_text result ≡ bytes.items }
+{
+    let Ok(text) = String::from_utf8(bytes) else {
         unreachable!()
     };
     let Ok(form) = LangTagBuf::new(text) else {
         unreachable!()
     };
-    Ok(form)
+    form
 }
 
 /// Returns the bytes of the form.

@@ -1,14 +1,17 @@
 //! Setting and removing keywords (RFC 6067 section 2.1).
 ghost use Rattle.std.specs.Prelude.{◌≡◌, ◌↔◌, ◌<◌, ◌≤◌, ◌+◌, ◌^◌, ℕ, List, [], None, Some, false, IfOk, IsErrOf, IsTrue, OnErr, is_ok, length};
+ghost use Rattle.std.specs.List.{AllByRecursion};
 ghost use Rattle.langtag.specs.Text.{lang_tag_buf_text, lang_tag_text, normal_lang_tag_text};
 ghost use Rattle.langtag_likely.specs.Maximal.{IsForm};
 ghost use Rattle.langtag_output.specs.Output.{IsCounted};
 ghost use Rattle.langtag_output.specs.Writes.{Writes};
 ghost use Rattle.langtag_scan.specs.Case.{are_alike};
+ghost use Rattle.langtag_scan.specs.Class.{is_extension_subtag};
 ghost use Rattle.langtag_scan.specs.Record as model;
 ghost use Rattle.langtag_scan.specs.Subtags.{subtags};
 ghost use Rattle.langtag_scan.specs.Tag.{IsNormal};
 ghost use Rattle.langtag_unicode.specs.Edit as spec;
+ghost use Rattle.langtag_unicode.specs.Form.{extensions_record, unicode_form};
 ghost use Rattle.langtag_unicode.specs.Keywords.{is_key, value_of};
 ghost use Rattle.langtag_unicode.specs.EditText.{edited_record_by};
 
@@ -42,7 +45,7 @@ use langtag_output::Output;
 /// let length = write_with_keyword(LangTag::new("de-x-a")?, "ca", "buddhist", &mut buffer)?;
 /// buffer.get(..length); // Some(&b"de-u-ca-buddhist-x-a"[..])
 /// ```
-#[tactic(auto, using(crate::proofs::KeywordLaws::laws_of_setting))]
+#[tactic(auto, using(crate::proofs::CanonicalTags::laws_of_setting))]
 pub fn write_with_keyword(
     tag: LangTag<'_>,
     key: &str,
@@ -59,6 +62,10 @@ pub fn write_with_keyword(
     ensures read_after { (k : List ℕ) (v ss : List (List ℕ)) → spec.keyword_error k v ≡ None → value_of is_key k (spec.with_keyword k v ss) ≡ Some v }
     ensures others_stay { (k other : List ℕ) (v ss : List (List ℕ)) → spec.keyword_error k v ≡ None → are_alike k other ≡ false
         → value_of is_key other (spec.with_keyword k v ss) ≡ value_of is_key other ss }
+    ensures set_twice { (k : List ℕ) (v w : List (List ℕ)) (r : model.Record) → spec.keyword_error k v ≡ None
+        → spec.edited_record k (Some w) (spec.edited_record k (Some v) r) ≡ spec.edited_record k (Some w) r }
+    ensures canonical { (k : List ℕ) (v : List (List ℕ)) (r : model.Record) → spec.keyword_error k v ≡ None → spec.IsCanonicalKeyword k v → model.IsWellFormed r → extensions_record r ≡ r
+        → extensions_record (spec.edited_record k (Some v) r) ≡ spec.edited_record k (Some v) r }
 
     ensures cloned { (error copy : KeywordError) → ⟦<KeywordError as Clone>⟧.is_clone error copy → copy ≡ error }
     ensures clone_succeeds { (error : KeywordError) → ⟦<KeywordError as Clone>⟧.is_infallible error }
@@ -90,7 +97,7 @@ pub fn write_with_keyword(
 /// let length = write_without_keyword(LangTag::new("de-u-ca-buddhist-x-a")?, "ca", &mut buffer)?;
 /// buffer.get(..length); // Some(&b"de-x-a"[..])
 /// ```
-#[tactic(auto, using(crate::proofs::KeywordLaws::laws_of_removal))]
+#[tactic(auto, using(crate::proofs::CanonicalTags::laws_of_removal))]
 pub fn write_without_keyword(
     tag: LangTag<'_>,
     key: &str,
@@ -105,6 +112,8 @@ pub fn write_without_keyword(
     ensures none_after { (k : List ℕ) (ss : List (List ℕ)) → value_of is_key k (spec.without_keyword k ss) ≡ None }
     ensures others_stay { (k other : List ℕ) (ss : List (List ℕ)) → are_alike k other ≡ false
         → value_of is_key other (spec.without_keyword k ss) ≡ value_of is_key other ss }
+    ensures canonical { (k : List ℕ) (ss : List (List ℕ)) → spec.keyword_error k [] ≡ None → AllByRecursion (λ s. IsTrue (is_extension_subtag s)) ss → unicode_form ss ≡ ss
+        → unicode_form (spec.without_keyword k ss) ≡ spec.without_keyword k ss }
 {
     if let Some(error) = keyword_error(key, "") {
         return Err(error);
@@ -113,7 +122,7 @@ pub fn write_without_keyword(
 }
 
 /// Returns why a key and a value cannot be a keyword, or `None` if they can.
-fn keyword_error(key: &str, value: &str) -> Option<KeywordError>
+pub(crate) fn keyword_error(key: &str, value: &str) -> Option<KeywordError>
     ensures { result ≡ spec.keyword_error key.now (subtags value.now) }
 {
     if !is_unicode_key(key.as_bytes()) {
@@ -157,7 +166,7 @@ fn write_parts(tag: NormalLangTag<'_>, edit: KeywordEdit<'_>, buffer: &mut [u8])
 
 /// Writes as much of a normal tag with a keyword set or removed as fits into a buffer, and returns the full length of
 /// that tag.
-fn put_parts(tag: NormalLangTag<'_>, edit: KeywordEdit<'_>, buffer: &mut [u8]) -> usize
+pub(crate) fn put_parts(tag: NormalLangTag<'_>, edit: KeywordEdit<'_>, buffer: &mut [u8]) -> usize
     ensures { model.EachRecord (normal_lang_tag_text tag.entry) (λ r. IsCounted (model.spell (edited_record_by edit.entry r)) buffer.old buffer.new result) }
 {
     let mut out = Output::new(buffer);

@@ -47,14 +47,21 @@ use alloc::vec::Vec;
 /// # }
 /// ```
 #[cfg(feature = "alloc")]
+#[inline]
 pub fn extensions_form(tag: LangTag<'_>) -> Result<LangTagBuf, AllocError> {
-    let Ok(text) = String::from_utf8(form_bytes(tag)?) else {
+    Ok(tag_of(form_bytes(tag)?))
+}
+
+/// Converts bytes that are known to be a tag into that tag.
+#[cfg(feature = "alloc")]
+pub(crate) fn tag_of(bytes: Vec<u8>) -> LangTagBuf {
+    let Ok(text) = String::from_utf8(bytes) else {
         unreachable!()
     };
     let Ok(form) = LangTagBuf::new(text) else {
         unreachable!()
     };
-    Ok(form)
+    form
 }
 
 /// Returns the bytes of the form.

@@ -88,7 +88,7 @@ pub fn write_without_keyword(
 }
 
 /// Returns why a key and a value cannot be a keyword, or `None` if they can.
-fn keyword_error(key: &str, value: &str) -> Option<KeywordError> {
+pub(crate) fn keyword_error(key: &str, value: &str) -> Option<KeywordError> {
     if !is_unicode_key(key.as_bytes()) {
         return Some(KeywordError::Key);
     }
@@ -123,7 +123,7 @@ fn write_parts(tag: NormalLangTag<'_>, edit: KeywordEdit<'_>, buffer: &mut [u8])
 
 /// Writes as much of a normal tag with a keyword set or removed as fits into a buffer, and returns the full length of
 /// that tag.
-fn put_parts(tag: NormalLangTag<'_>, edit: KeywordEdit<'_>, buffer: &mut [u8]) -> usize {
+pub(crate) fn put_parts(tag: NormalLangTag<'_>, edit: KeywordEdit<'_>, buffer: &mut [u8]) -> usize {
     let mut out = Output::new(buffer);
     push_head(&mut out, tag);
     push_edited(&mut out, tag.extensions(), edit);

@@ -28,6 +28,8 @@ mod keyword_setters;
 mod keywords_iter;
 mod language_id;
 mod locale;
+mod owned_keywords;
+mod set_keyword_error;
 mod subtags;
 mod transform_form;
 mod transformation;
@@ -42,5 +44,9 @@ pub use keyword_error::KeywordError;
 pub use keyword_setters::{write_with_keyword, write_without_keyword};
 pub use keywords_iter::KeywordsIter;
 pub use locale::is_locale;
+#[cfg(feature = "alloc")]
+pub use owned_keywords::{remove_keyword, set_keyword};
+#[cfg(feature = "alloc")]
+pub use set_keyword_error::SetKeywordError;
 pub use transformation::{transform, Transformation};
 pub use unicode_extension::{attributes, keyword, keywords, KeyValue};

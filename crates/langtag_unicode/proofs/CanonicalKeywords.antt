@@ -1,0 +1,236 @@
+-- The extension `u` in canonical form stays in that form when a canonical keyword is set, or a key is removed.
+use Rattle.std.proofs.Common.{◌≡◌, ℕ, ◌==◌, ◌&&◌, leb, Bool, true, false, cond, IsTrue, List, [], ◌∷◌, ◌++◌, length, map, find, Option, None, Some, option_map, unwrap_or, refl, sym, ap, subst, ◌∙◌, arith}
+use Rattle.std.proofs.lemmas.Bool.{and_parts, false≢true}
+use Rattle.std.proofs.lemmas.Bool.Decides.{nat_tests}
+use Rattle.std.proofs.lemmas.Grind.{flat_map-append}
+use Rattle.std.specs.List.{AllByRecursion, flat_map}
+use Rattle.std.specs.Option.{is_some, option_map_or}
+use Rattle.std.specs.Str.{bytes_eq}
+use Rattle.langtag_likely.proofs.RowsFound.{alike_length}
+use Rattle.langtag_scan.proofs.CaseLaw.{fold_text-twice, is_digit-fold, is_letter-fold, length-fold}
+use Rattle.langtag_scan.proofs.SubtagFacts.{of_extension_subtag}
+use Rattle.langtag_scan.proofs.SubtagLists.{each_subtag, subtags-joined}
+use Rattle.langtag_scan.specs.Case.{are_alike, fold_byte, fold_text}
+use Rattle.langtag_scan.specs.CaseLaws.{are_alike-decides}
+use Rattle.langtag_scan.specs.Class.{are_alphanumeric, has_length, is_extension_subtag}
+use Rattle.langtag_scan.specs.Subtags.{join, subtags}
+use Rattle.langtag_unicode.specs.Edit.{is_this_key, is_type, is_unicode_key, keyword_error, put_keyword, with_keyword, without_keyword, without_within}
+use Rattle.langtag_unicode.specs.Form as form
+use Rattle.langtag_unicode.specs.Form.{in_alphabet, is_before, letters_and_digits, put_among, unicode_form, unicode_value}
+use Rattle.langtag_unicode.specs.Keywords.{before_key, is_key, value_of}
+use Rattle.langtag_unicode.proofs.FormRecords.{Good, good-value, types-unicode}
+use Rattle.langtag_unicode.proofs.KeySplits.{KeySplit, all_keys, flat-pairs, key-split}
+use Rattle.langtag_unicode.proofs.KeywordBlocks.{AreValues, block, blocks, find-among, find-passed, found_key, put-among, put-passed, removed-among, without-passed}
+use Rattle.langtag_unicode.proofs.KeywordLaws.{AreNoKeys, alike-itself, allowed_from, before-kept, before-put, fits_from, none_after_removal, others_after_removal, others_after_set, read_after_set, standing-this, type-no_key}
+
+-- ---- values in canonical form have no keys
+
+key-fold : (s : List ℕ) → is_key (fold_text s) ≡ is_key s
+key-fold s = ap (λ n. n == 2) (length-fold s)
+
+no_keys-before : (ss : List (List ℕ)) → AreNoKeys (before_key is_key ss)
+no_keys-before [] = tt
+no_keys-before (s ∷ ss) = by_test (is_key s) refl (no_keys-before ss)
+  where
+    by_test : (b : Bool) → is_key s ≡ b → AreNoKeys (before_key is_key ss) → AreNoKeys (cond b [] (s ∷ before_key is_key ss))
+    by_test true is later = tt
+    by_test false is later = (is, later)
+
+no_keys-put : (x : List ℕ) (ss : List (List ℕ)) → is_key x ≡ false → AreNoKeys ss → AreNoKeys (put_among x ss)
+no_keys-put x [] one all = (one, tt)
+no_keys-put x (s ∷ ss) one all = by_tests (is_before x s) (is_before s x) (no_keys-put x ss one all.1)
+  where
+    by_tests : (a b : Bool) → AreNoKeys (put_among x ss) → AreNoKeys (cond a (x ∷ s ∷ ss) (cond b (s ∷ put_among x ss) (s ∷ ss)))
+    by_tests true b later = (one, all)
+    by_tests false true later = (all.0, later)
+    by_tests false false later = all
+
+no_keys-alphabet : (ss : List (List ℕ)) → AreNoKeys ss → AreNoKeys (in_alphabet ss)
+no_keys-alphabet [] all = tt
+no_keys-alphabet (s ∷ ss) all = no_keys-put (fold_text s) (in_alphabet ss) (key-fold s ∙ all.0) (no_keys-alphabet ss all.1)
+
+-- what is found is the value of a key, and has no keys
+record FoundValue (key : List ℕ) (w : List (List ℕ)) : Type 0 where
+  opens : is_key key ≡ true
+  no_keys : AreNoKeys w
+
+found-value : (key : List ℕ) (ss w : List (List ℕ)) → value_of is_key key ss ≡ Some w → FoundValue key w
+found-value key [] w found = absurd cc
+found-value key (s ∷ ss) w found = by_test (is_key s && are_alike s key) refl (found-value key ss w) found
+  where
+    by_test :
+        (b : Bool) → (is_key s && are_alike s key) ≡ b → (value_of is_key key ss ≡ Some w → FoundValue key w) → cond b (Some (before_key is_key ss)) (value_of is_key key ss) ≡ Some w →
+        FoundValue key w
+    by_test true this later found =
+        let parts = and_parts (is_key s) (are_alike s key) this in
+        let same : before_key is_key ss ≡ w = cc in
+        record { opens = ap (λ n. n == 2) (sym (alike_length s key parts.1)) ∙ parts.0; no_keys = subst AreNoKeys same (no_keys-before ss) }
+    by_test false this later found = later found
+
+type_from : (s : List ℕ) → is_extension_subtag s ≡ true → is_key s ≡ false → is_type s ≡ true
+unfolding is_extension_subtag
+type_from s good other =
+    let parts = and_parts (has_length 2 8 s) (are_alphanumeric s) good in
+    let long : leb 3 (length s) ≡ true = grind (arith, nat_tests, parts.0, other) in
+    ap (λ b. b && is_extension_subtag s) long ∙ good
+
+types-from : (ss : List (List ℕ)) → Good ss → AreNoKeys ss → AllByRecursion (λ s. IsTrue (is_type s)) ss
+types-from [] good all = tt
+types-from (s ∷ ss) good all = (type_from s good.0 all.0, types-from ss good.1 all.1)
+
+no_keys-lower : (ss : List (List ℕ)) → AllByRecursion (λ s. IsTrue (is_type s)) ss → AreNoKeys (map fold_text ss)
+no_keys-lower [] types = tt
+no_keys-lower (s ∷ ss) types = (key-fold s ∙ type-no_key s types.0, no_keys-lower ss types.1)
+
+-- the values in canonical form
+abbrev values : List (List ℕ) → List ℕ → Option (List (List ℕ))
+values ss key = option_map (λ w. map fold_text (subtags (unicode_value key (join w)))) (value_of is_key key ss)
+
+values-are : (ss : List (List ℕ)) → Good ss → AreValues (values ss)
+values-are ss good key v is = by_found (value_of is_key key ss) refl is
+  where
+    by_found :
+        (o : Option (List (List ℕ))) → value_of is_key key ss ≡ o → option_map (λ w. map fold_text (subtags (unicode_value key (join w)))) o ≡ Some v →
+        (is_key key ≡ true) × AreNoKeys v
+    by_found None found is = absurd cc
+    by_found (Some w) found is =
+        let fits = found-value key ss w found in
+        let whole = good-value is_key key ss w good found in
+        let joined : subtags (join w) ≡ w = subtags-joined w (each_subtag is_extension_subtag of_extension_subtag w whole) in
+        let types = types-unicode key (join w) (subst (AllByRecursion (λ s. IsTrue (is_type s))) (sym joined) (types-from w whole fits.no_keys)) in
+        let same : map fold_text (subtags (unicode_value key (join w))) ≡ v = cc in
+        (fits.opens, subst AreNoKeys same (no_keys-lower (subtags (unicode_value key (join w))) types))
+
+-- ---- the form, key after key
+
+flat-same : (f g : List ℕ → List (List ℕ)) (keys : List (List ℕ)) → AllByRecursion (λ k. f k ≡ g k) keys → flat_map f keys ≡ flat_map g keys
+flat-same f g [] same = refl
+flat-same f g (k ∷ keys) same = ap (λ t. t ++ flat_map f keys) same.0 ∙ ap (λ t. g k ++ t) (flat-same f g keys same.1)
+
+form-blocks : (ss : List (List ℕ)) → form.keywords_form is_key unicode_value ss ≡ blocks (values ss) all_keys
+form-blocks ss =
+    flat-pairs (form.keyword_form is_key unicode_value ss) letters_and_digits letters_and_digits
+    ∙ flat-same (form.keyword_form is_key unicode_value ss) (block (values ss)) all_keys (each all_keys)
+  where
+    by_value :
+        (key : List ℕ) (o : Option (List (List ℕ))) →
+        option_map_or (λ w. key ∷ map fold_text (subtags (unicode_value key (join w)))) o []
+        ≡ option_map_or (λ v. key ∷ v) (option_map (λ w. map fold_text (subtags (unicode_value key (join w)))) o) []
+    by_value key None = refl
+    by_value key (Some w) = refl
+
+    each : (keys : List (List ℕ)) → AllByRecursion (λ k. form.keyword_form is_key unicode_value ss k ≡ block (values ss) k) keys
+    each [] = tt
+    each (k ∷ keys) = (by_value k (value_of is_key k ss), each keys)
+
+alike-back : (a b : List ℕ) → are_alike a b ≡ false → are_alike b a ≡ false
+alike-back a b apart = by_test (are_alike b a) refl
+  where
+    by_test : (t : Bool) → are_alike b a ≡ t → are_alike b a ≡ false
+    by_test true alike = absurd (false≢true (sym apart ∙ (are_alike-decides a b).1 (sym ((are_alike-decides b a).0 alike))))
+    by_test false differ = differ
+
+module _ (ss : List (List ℕ)) (good : Good ss) (own : unicode_form ss ≡ ss) (key : List ℕ) (lower : fold_text key ≡ key) (s : KeySplit key) where
+  abbrev attributes : List (List ℕ)
+  attributes = in_alphabet (before_key is_key ss)
+
+  abbrev spelled : List (List ℕ) → List (List ℕ)
+  spelled here = attributes ++ (blocks (values ss) s.before ++ (here ++ blocks (values ss) s.after))
+
+  apart-form : (ts : List (List ℕ)) → blocks (values ts) all_keys ≡ blocks (values ts) s.before ++ (block (values ts) key ++ blocks (values ts) s.after)
+  apart-form ts = ap (blocks (values ts)) s.is ∙ flat_map-append (block (values ts)) s.before (key ∷ s.after)
+
+  shape : ss ≡ spelled (block (values ss) key)
+  shape = sym own ∙ ap (λ t. attributes ++ t) (form-blocks ss ∙ apart-form ss)
+
+  plain : AreNoKeys attributes
+  plain = no_keys-alphabet (before_key is_key ss) (no_keys-before ss)
+
+  removed-shape : without_keyword key ss ≡ spelled []
+  removed-shape =
+      ap (without_keyword key) shape
+      ∙ without-passed key attributes (blocks (values ss) s.before ++ (block (values ss) key ++ blocks (values ss) s.after)) plain
+      ∙ ap (λ t. attributes ++ t) (removed-among (values ss) (values-are ss good) key s.before s.after s.early s.late s.before_others s.after_others (alike-itself key))
+
+  set-shape : (v : List (List ℕ)) → with_keyword key v ss ≡ spelled (key ∷ v)
+  set-shape v =
+      ap (λ o. put_keyword key (is_some o) (unwrap_or o key ∷ v) ss) found ∙ by_value (values ss key) refl shape
+    where
+      found : find (is_this_key key) ss ≡ found_key key (values ss key)
+      found =
+          ap (find (is_this_key key)) shape
+          ∙ find-passed key attributes (blocks (values ss) s.before ++ (block (values ss) key ++ blocks (values ss) s.after)) plain
+          ∙ find-among (values ss) (values-are ss good) key s.before s.after s.early s.late s.before_others s.after_others (alike-itself key)
+
+      by_value :
+          (o : Option (List (List ℕ))) → values ss key ≡ o → ss ≡ spelled (option_map_or (λ w. key ∷ w) o []) →
+          put_keyword key (is_some (found_key key o)) (unwrap_or (found_key key o) key ∷ v) ss ≡ spelled (key ∷ v)
+      by_value None is same =
+          ap (put_keyword key false (key ∷ v)) same ∙ put-passed key false (key ∷ v) attributes _ plain
+          ∙ ap (λ t. attributes ++ t) (put-among (values ss) (values-are ss good) key s.before s.after s.early s.late s.before_others s.after_others (alike-itself key) v false None is refl)
+      by_value (Some old) is same =
+          ap (put_keyword key true (key ∷ v)) same ∙ put-passed key true (key ∷ v) attributes _ plain
+          ∙ ap (λ t. attributes ++ t) (put-among (values ss) (values-are ss good) key s.before s.after s.early s.late s.before_others s.after_others (alike-itself key) v true (Some old) is refl)
+
+  -- the form of other subtags with these attributes, and with these values of other keys
+  other-form :
+      (ts here : List (List ℕ)) → before_key is_key ts ≡ before_key is_key ss → ((other : List ℕ) → are_alike key other ≡ false → value_of is_key other ts ≡ value_of is_key other ss) →
+      block (values ts) key ≡ here → unicode_form ts ≡ spelled here
+  other-form ts here same others is =
+      ap (λ t. in_alphabet t ++ form.keywords_form is_key unicode_value ts) same
+      ∙ ap (λ t. attributes ++ t)
+      (form-blocks ts ∙ apart-form ts
+      ∙ ap (λ t. t ++ (block (values ts) key ++ blocks (values ts) s.after)) (alike_blocks s.before s.before_others)
+      ∙ ap (λ t. blocks (values ss) s.before ++ (t ++ blocks (values ts) s.after)) is
+      ∙ ap (λ t. blocks (values ss) s.before ++ (here ++ t)) (alike_blocks s.after s.after_others))
+    where
+      each : (keys : List (List ℕ)) → AllByRecursion (λ j. are_alike j key ≡ false) keys → AllByRecursion (λ j. block (values ts) j ≡ block (values ss) j) keys
+      each [] apart = tt
+      each (j ∷ keys) apart = (
+        ap (λ o. option_map_or (λ v. j ∷ v) (option_map (λ w. map fold_text (subtags (unicode_value j (join w)))) o) []) (others j (alike-back j key apart.0)),
+        each keys apart.1,
+      )
+
+      alike_blocks : (keys : List (List ℕ)) → AllByRecursion (λ j. are_alike j key ≡ false) keys → blocks (values ts) keys ≡ blocks (values ss) keys
+      alike_blocks keys apart = flat-same (block (values ts)) (block (values ss)) keys (each keys apart)
+
+-- ---- the laws
+
+pub canonical_set :
+    (key : List ℕ) (v ss : List (List ℕ)) → keyword_error key v ≡ None → fold_text key ≡ key → map fold_text (subtags (unicode_value key (join v))) ≡ v → Good ss → unicode_form ss ≡ ss →
+    unicode_form (with_keyword key v ss) ≡ with_keyword key v ss
+canonical_set key v ss none lower canonical good own =
+    let fits = fits_from key v none in
+    let s = key-split key (allowed_from key v none).key_fits lower in
+    let standing = find (is_this_key key) ss in
+    other-form ss good own key lower s (with_keyword key v ss) (key ∷ v)
+    (before-put key (unwrap_or standing key) v (standing-this key ss fits.two) fits.no_keys (is_some standing) ss) (λ other differ. others_after_set key other v ss none differ)
+    (ap (λ o. option_map_or (λ w. key ∷ w) (option_map (λ w. map fold_text (subtags (unicode_value key (join w)))) o) []) (read_after_set key v ss none) ∙ ap (λ w. key ∷ w) canonical)
+    ∙ sym (set-shape ss good own key lower s v)
+
+removed_lower :
+    (key : List ℕ) (ss : List (List ℕ)) → is_unicode_key key ≡ true → fold_text key ≡ key → Good ss → unicode_form ss ≡ ss → unicode_form (without_keyword key ss) ≡ without_keyword key ss
+removed_lower key ss fits lower good own =
+    let s = key-split key fits lower in
+    other-form ss good own key lower s (without_keyword key ss) [] (before-kept key ss) (λ other differ. others_after_removal key other ss differ)
+    (ap (λ o. option_map_or (λ w. key ∷ w) (option_map (λ w. map fold_text (subtags (unicode_value key (join w)))) o) []) (none_after_removal key ss))
+    ∙ sym (removed-shape ss good own key lower s)
+
+without-fold : (key : List ℕ) (inside : Bool) (ss : List (List ℕ)) → without_within (fold_text key) inside ss ≡ without_within key inside ss
+without-fold key inside [] = refl
+without-fold key inside (s ∷ ss) =
+    ap (λ k. cond (cond (is_key s) (bytes_eq (fold_text s) k) inside) (without_within (fold_text key) true ss) (s ∷ without_within (fold_text key) false ss)) (fold_text-twice key)
+    ∙ ap (λ t. cond (cond (is_key s) (are_alike s key) inside) t (s ∷ without_within (fold_text key) false ss)) (without-fold key true ss)
+    ∙ ap (λ t. cond (cond (is_key s) (are_alike s key) inside) (without_within key true ss) (s ∷ t)) (without-fold key false ss)
+
+unicode_key-fold : (key : List ℕ) → is_unicode_key (fold_text key) ≡ is_unicode_key key
+unicode_key-fold [] = refl
+unicode_key-fold (a ∷ []) = refl
+unicode_key-fold (a ∷ b ∷ []) = rw (is_letter-fold a, is_digit-fold a, is_letter-fold b) refl
+unicode_key-fold (a ∷ b ∷ c ∷ key) = refl
+
+pub canonical_removal : (key : List ℕ) (ss : List (List ℕ)) → keyword_error key [] ≡ None → Good ss → unicode_form ss ≡ ss → unicode_form (without_keyword key ss) ≡ without_keyword key ss
+canonical_removal key ss none good own =
+    let fits = unicode_key-fold key ∙ (allowed_from key [] none).key_fits in
+    let same : without_keyword (fold_text key) ss ≡ without_keyword key ss = without-fold key false ss in
+    subst (λ ts. unicode_form ts ≡ ts) same (removed_lower (fold_text key) ss fits (fold_text-twice key) good own)

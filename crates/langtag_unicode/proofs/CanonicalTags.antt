@@ -1,0 +1,143 @@
+-- A tag whose extensions are in canonical form stays in that form when a canonical keyword is set.
+use Rattle.std.proofs.Common.{◌≡◌, ℕ, ◌≤◌, ◌&&◌, ◌||◌, not, Bool, true, false, cond, List, [], ◌∷◌, ◌++◌, length, find, Option, None, Some, unwrap_or, refl, sym, ap, ◌∙◌, append-nil, append_assoc}
+use Rattle.std.proofs.lemmas.Bool.{false≢true}
+use Rattle.std.specs.List.{AllByRecursion}
+use Rattle.std.specs.Option.{is_some}
+use Rattle.langtag_extension.specs.Spelling.{find_extension}
+use Rattle.langtag_scan.specs.Case.{fold_byte, fold_text}
+use Rattle.langtag_scan.specs.Record.{Extension, IsWellFormed, IsWellFormedExtension, Record}
+use Rattle.langtag_unicode.specs.Edit.{IsCanonicalKeyword, at_place, changed_from, edited_record, extension_of, is_place_of_u, is_this_key, keyword_error, with_keyword}
+use Rattle.langtag_unicode.specs.Form.{extension_form, extensions_record, forms_after, is_of, is_transform, unicode_form}
+use Rattle.langtag_unicode.proofs.CanonicalKeywords.{canonical_set}
+use Rattle.langtag_unicode.proofs.ExtensionForms.{form_by, form_tested}
+use Rattle.langtag_unicode.proofs.FormRecords.{Good}
+use Rattle.langtag_unicode.proofs.KeywordLaws.{none_after_removal, others_after_removal, others_after_set, read_after_set}
+use Rattle.langtag_unicode.proofs.KeywordTwice.{extension-some, find_u, set_twice, some-put, u_is_u}
+
+abbrev extension : ℕ → List (List ℕ) → Extension
+extension n ss = record { singleton = n; subtags = ss }
+
+-- whether an extension is a `t` that has a form
+abbrev is_form : Bool → Extension → Bool
+is_form t e = is_of 116 e && not t && is_transform e.subtags
+
+form-u : (t : Bool) (e : Extension) → is_of 117 e ≡ true → extension_form false t e ≡ extension 117 (unicode_form e.subtags)
+form-u t e is = form_tested false t true (is_form t e) e (ap (λ b. b && true) is) refl
+
+form-other : (u t : Bool) (e : Extension) → is_of 117 e ≡ false → extension_form u t e ≡ form_by false (is_form t e) e
+form-other u t e is = form_tested u t false (is_form t e) e (ap (λ b. b && not u) is) refl
+
+u_is_no_t : (ss : List (List ℕ)) → is_of 116 (extension 117 ss) ≡ false
+unfolding fold_byte
+u_is_no_t ss = refl
+
+or_false : (t : Bool) → (t || false) ≡ t
+or_false true = refl
+or_false false = refl
+
+record Absent (e : Extension) (es : List Extension) : Type 0 where
+  first : is_of 117 e ≡ false
+  others : find (is_of 117) es ≡ None
+
+absent-next : (e : Extension) (es : List Extension) → find (is_of 117) (e ∷ es) ≡ None → Absent e es
+absent-next e es none = by_test (is_of 117 e) refl none
+  where
+    by_test : (b : Bool) → is_of 117 e ≡ b → cond b (Some e) (find (is_of 117) es) ≡ None → Absent e es
+    by_test true is none = absurd cc
+    by_test false is none = record { first = is; others = none }
+
+-- without a `u`, it makes no difference whether a `u` came before
+forms-absent : (t : Bool) (es : List Extension) → find (is_of 117) es ≡ None → forms_after true t es ≡ forms_after false t es
+forms-absent t [] none = refl
+forms-absent t (e ∷ es) none =
+    let absent = absent-next e es none in
+    ap (λ x. x ∷ forms_after true (t || is_of 116 e) es) (form-other true t e absent.first ∙ sym (form-other false t e absent.first))
+    ∙ ap (λ x. extension_form false t e ∷ x) (forms-absent (t || is_of 116 e) es absent.others)
+    ∙ ap (λ b. extension_form false t e ∷ forms_after b (t || is_of 116 e) es) (sym absent.first)
+
+own-none : unicode_form [] ≡ []
+own-none = refl
+
+module _
+    (change : List (List ℕ) → List (List ℕ)) (some : (ss : List (List ℕ)) → 1 ≤ length (change ss))
+    (keeps : (ss : List (List ℕ)) → Good ss → unicode_form ss ≡ ss → unicode_form (change ss) ≡ change ss)
+  where
+    new-u : (t : Bool) (rest : List Extension) → forms_after true t rest ≡ rest → forms_after false t (extension_of 117 (change []) ++ rest) ≡ extension_of 117 (change []) ++ rest
+    new-u t rest own =
+        let is = extension-some 117 (change []) (some []) in
+        ap (λ x. forms_after false t (x ++ rest)) is
+        ∙ ap (λ x. x ∷ forms_after (is_of 117 (extension 117 (change []))) (t || is_of 116 (extension 117 (change []))) rest)
+        (form-u t (extension 117 (change [])) (u_is_u (change [])) ∙ ap (extension 117) (keeps [] tt own-none))
+        ∙ ap (λ b. extension 117 (change []) ∷ forms_after b (t || is_of 116 (extension 117 (change []))) rest) (u_is_u (change []))
+        ∙ ap (λ b. extension 117 (change []) ∷ forms_after true (t || b) rest) (u_is_no_t (change []))
+        ∙ ap (λ b. extension 117 (change []) ∷ forms_after true b rest) (or_false t)
+        ∙ ap (λ x. extension 117 (change []) ∷ x) own
+        ∙ ap (λ x. x ++ rest) (sym is)
+
+    changed-u :
+        (t : Bool) (e : Extension) (es : List Extension) → is_of 117 e ≡ true → IsWellFormedExtension e → forms_after false t (e ∷ es) ≡ e ∷ es →
+        forms_after false t (extension_of e.singleton (change e.subtags) ++ es) ≡ extension_of e.singleton (change e.subtags) ++ es
+    changed-u t e es is fits own =
+        let head : extension_form false t e ≡ e = cc in
+        let tail : forms_after (is_of 117 e) (t || is_of 116 e) es ≡ es = cc in
+        let form = sym (form-u t e is) ∙ head in
+        let here = extension-some e.singleton (change e.subtags) (some e.subtags) in
+        ap (λ x. forms_after false t (x ++ es)) here
+        ∙ ap (λ x. x ∷ forms_after (is_of 117 e) (t || is_of 116 e) es)
+        (form-u t (extension e.singleton (change e.subtags)) is ∙ ap (extension 117) (keeps e.subtags fits.subtags (ap (λ x. x.subtags) form))
+        ∙ ap (λ n. extension n (change e.subtags)) (ap (λ x. x.singleton) form))
+        ∙ ap (λ x. extension e.singleton (change e.subtags) ∷ x) tail
+        ∙ ap (λ x. x ++ es) (sym here)
+
+    forms-changed :
+        (t stands : Bool) (es : List Extension) → AllByRecursion IsWellFormedExtension es → (stands ≡ false → find (is_of 117) es ≡ None) → forms_after false t es ≡ es →
+        forms_after false t (changed_from change stands es) ≡ changed_from change stands es
+    forms-changed t stands [] fits absent own =
+        ap (forms_after false t) (sym (append-nil (extension_of 117 (change [])))) ∙ new-u t [] refl ∙ append-nil (extension_of 117 (change []))
+    forms-changed t stands (e ∷ es) fits absent own =
+        by_place stands (is_place_of_u stands e) refl absent (forms-changed (t || is_of 116 e) stands es fits.1)
+      where
+        passed :
+            (s : Bool) → is_of 117 e ≡ false → (s ≡ false → find (is_of 117) es ≡ None) →
+            ((s ≡ false → find (is_of 117) es ≡ None) → forms_after false (t || is_of 116 e) es ≡ es → forms_after false (t || is_of 116 e) (changed_from change s es) ≡ changed_from change s es) →
+            forms_after false t (e ∷ changed_from change s es) ≡ e ∷ changed_from change s es
+        passed s is none later =
+            let head : extension_form false t e ≡ e = cc in
+            let tail : forms_after (is_of 117 e) (t || is_of 116 e) es ≡ es = cc in
+            ap (λ x. x ∷ forms_after (is_of 117 e) (t || is_of 116 e) (changed_from change s es)) head
+            ∙ ap (λ b. e ∷ forms_after b (t || is_of 116 e) (changed_from change s es)) is
+            ∙ ap (λ x. e ∷ x) (later none (ap (λ b. forms_after b (t || is_of 116 e) es) (sym is) ∙ tail))
+
+        by_place :
+            (s b : Bool) → is_place_of_u s e ≡ b → (s ≡ false → find (is_of 117) (e ∷ es) ≡ None) →
+            ((s ≡ false → find (is_of 117) es ≡ None) → forms_after false (t || is_of 116 e) es ≡ es → forms_after false (t || is_of 116 e) (changed_from change s es) ≡ changed_from change s es) →
+            forms_after false t (cond b (at_place change s e ++ es) (e ∷ changed_from change s es)) ≡ cond b (at_place change s e ++ es) (e ∷ changed_from change s es)
+        by_place true true is none later = changed-u t e es is fits.0 own
+        by_place false true is none later =
+            ap (forms_after false t) (append_assoc (extension_of 117 (change [])) (e ∷ []) es) ∙ new-u t (e ∷ es) (forms-absent t (e ∷ es) (none refl) ∙ own)
+            ∙ sym (append_assoc (extension_of 117 (change [])) (e ∷ []) es)
+        by_place true false is none later = passed true is (λ out. absurd (false≢true (sym out))) later
+        by_place false false is none later =
+            let absent = absent-next e es (none refl) in
+            passed false absent.first (λ out. absent.others) later
+
+none-from : (es : List Extension) → is_some (find_extension 117 es) ≡ false → find (is_of 117) es ≡ None
+none-from es is = by_found (find (is_of 117) es) (ap is_some (sym (find_u es)) ∙ is)
+  where
+    by_found : (o : Option Extension) → is_some o ≡ false → o ≡ None
+    by_found None out = refl
+    by_found (Some e) out = absurd (false≢true (sym out))
+
+pub canonical_tag :
+    (key : List ℕ) (v : List (List ℕ)) (r : Record) → keyword_error key v ≡ None → IsCanonicalKeyword key v → IsWellFormed r → extensions_record r ≡ r →
+    extensions_record (edited_record key (Some v) r) ≡ edited_record key (Some v) r
+unfolding extensions_record edited_record
+canonical_tag key v r none canonical well own =
+    ap (λ es. record r { extensions = es })
+    (forms-changed (with_keyword key v) (λ ss. some-put key (unwrap_or (find (is_this_key key) ss) key) (is_some (find (is_this_key key) ss)) v ss)
+    (λ ss good form. canonical_set key v ss none canonical.0 canonical.1 good form) false (is_some (find_extension 117 r.extensions)) r.extensions well.extensions
+    (none-from r.extensions) (ap (λ q. q.extensions) own))
+
+pub ruleset laws_of_setting = (read_after_set, others_after_set, set_twice, canonical_tag)
+
+pub ruleset laws_of_removal = (none_after_removal, others_after_removal)
