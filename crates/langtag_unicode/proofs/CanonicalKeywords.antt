@@ -10,7 +10,7 @@ use Rattle.langtag_likely.proofs.RowsFound.{alike_length}
 use Rattle.langtag_scan.proofs.CaseLaw.{fold_text-twice, is_digit-fold, is_letter-fold, length-fold}
 use Rattle.langtag_scan.proofs.SubtagFacts.{of_extension_subtag}
 use Rattle.langtag_scan.proofs.SubtagLists.{each_subtag, subtags-joined}
-use Rattle.langtag_scan.specs.Case.{are_alike, fold_byte, fold_text}
+use Rattle.langtag_scan.specs.Case.{are_alike, fold_text}
 use Rattle.langtag_scan.specs.CaseLaws.{are_alike-decides}
 use Rattle.langtag_scan.specs.Class.{are_alphanumeric, has_length, is_extension_subtag}
 use Rattle.langtag_scan.specs.Subtags.{join, subtags}
