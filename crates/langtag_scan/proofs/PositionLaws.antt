@@ -99,6 +99,14 @@ Tracks q places o = MatchOption o (HasStopped q) (IsTracked q places)
 abbrev pub place_before : Option Begun → ℕ
 place_before o = option_map_or (λ s. cond (eqb s.size 0) (place_of s.stage) 5) o 5
 
+pub place_before_within : (o : Option Begun) → place_before o < 6
+place_before_within None = omega arith
+place_before_within (Some s) = by_size (eqb s.size 0)
+  where
+    by_size : (v : Bool) → cond v (place_of s.stage) 5 < 6
+    by_size true = place_within s.stage
+    by_size false = omega arith
+
 pub tracks_nothing : Tracks [] (replicate 6 0) (Some (fresh Start))
 tracks_nothing = record {
   before = [];

@@ -16,8 +16,9 @@ use Rattle.langtag_scan.specs.Class.{are_alphanumeric, has_length, is_extension_
 use Rattle.langtag_scan.specs.Subtags.{join, subtags}
 use Rattle.langtag_unicode.specs.Edit.{is_this_key, is_type, is_unicode_key, keyword_error, put_keyword, with_keyword, without_keyword, without_within}
 use Rattle.langtag_unicode.specs.Form as form
-use Rattle.langtag_unicode.specs.Form.{in_alphabet, is_before, letters_and_digits, put_among, unicode_form, unicode_value}
+use Rattle.langtag_unicode.specs.Form.{in_alphabet, letters_and_digits, unicode_form, unicode_value}
 use Rattle.langtag_unicode.specs.Keywords.{before_key, is_key, value_of}
+use Rattle.langtag_unicode.proofs.Each.{each-alphabet}
 use Rattle.langtag_unicode.proofs.FormRecords.{Good, good-value, types-unicode}
 use Rattle.langtag_unicode.proofs.KeySplits.{KeySplit, all_keys, flat-pairs, key-split}
 use Rattle.langtag_unicode.proofs.KeywordBlocks.{AreValues, block, blocks, find-among, find-passed, found_key, put-among, put-passed, removed-among, without-passed}
@@ -35,19 +36,6 @@ no_keys-before (s ∷ ss) = by_test (is_key s) refl (no_keys-before ss)
     by_test : (b : Bool) → is_key s ≡ b → AreNoKeys (before_key is_key ss) → AreNoKeys (cond b [] (s ∷ before_key is_key ss))
     by_test true is later = tt
     by_test false is later = (is, later)
-
-no_keys-put : (x : List ℕ) (ss : List (List ℕ)) → is_key x ≡ false → AreNoKeys ss → AreNoKeys (put_among x ss)
-no_keys-put x [] one all = (one, tt)
-no_keys-put x (s ∷ ss) one all = by_tests (is_before x s) (is_before s x) (no_keys-put x ss one all.1)
-  where
-    by_tests : (a b : Bool) → AreNoKeys (put_among x ss) → AreNoKeys (cond a (x ∷ s ∷ ss) (cond b (s ∷ put_among x ss) (s ∷ ss)))
-    by_tests true b later = (one, all)
-    by_tests false true later = (all.0, later)
-    by_tests false false later = all
-
-no_keys-alphabet : (ss : List (List ℕ)) → AreNoKeys ss → AreNoKeys (in_alphabet ss)
-no_keys-alphabet [] all = tt
-no_keys-alphabet (s ∷ ss) all = no_keys-put (fold_text s) (in_alphabet ss) (key-fold s ∙ all.0) (no_keys-alphabet ss all.1)
 
 -- what is found is the value of a key, and has no keys
 record FoundValue (key : List ℕ) (w : List (List ℕ)) : Type 0 where
@@ -144,7 +132,7 @@ module _ (ss : List (List ℕ)) (good : Good ss) (own : unicode_form ss ≡ ss) 
   shape = sym own ∙ ap (λ t. attributes ++ t) (form-blocks ss ∙ apart-form ss)
 
   plain : AreNoKeys attributes
-  plain = no_keys-alphabet (before_key is_key ss) (no_keys-before ss)
+  plain = each-alphabet (λ t. is_key t ≡ false) (λ t other. key-fold t ∙ other) (before_key is_key ss) (no_keys-before ss)
 
   removed-shape : without_keyword key ss ≡ spelled []
   removed-shape =

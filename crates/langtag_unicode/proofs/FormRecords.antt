@@ -22,6 +22,7 @@ use Rattle.langtag_unicode.specs.Form.{extension_form, extensions_record, forms_
 use Rattle.langtag_unicode.specs.Keywords.{before_key, is_key, value_of}
 use Rattle.langtag_unicode.specs.Transform.{is_field_key}
 use Rattle.langtag_registry.proofs.PrefixLaws.{list_all_get}
+use Rattle.langtag_unicode.proofs.Each.{each-alphabet, each-before}
 use Rattle.langtag_unicode.proofs.ExtensionForms.{form_by, form_tested}
 use Rattle.langtag_unicode.proofs.FormSizes.{field-two, key-two}
 use Rattle.langtag_scan.specs.Stage.{Classes}
@@ -41,18 +42,8 @@ good-lower (s ∷ ss) good = (good-fold s ∙ good.0, good-lower ss good.1)
 
 -- ---- in the order of the alphabet
 
-good-put : (x : List ℕ) (ss : List (List ℕ)) → is_extension_subtag x ≡ true → Good ss → Good (put_among x ss)
-good-put x [] one good = (one, tt)
-good-put x (s ∷ ss) one good = by_tests (is_before x s) (is_before s x) (good-put x ss one good.1)
-  where
-    by_tests : (a b : Bool) → Good (put_among x ss) → Good (cond a (x ∷ s ∷ ss) (cond b (s ∷ put_among x ss) (s ∷ ss)))
-    by_tests true b later = (one, good)
-    by_tests false true later = (good.0, later)
-    by_tests false false later = good
-
 good-alphabet : (ss : List (List ℕ)) → Good ss → Good (in_alphabet ss)
-good-alphabet [] good = tt
-good-alphabet (s ∷ ss) good = good-put (fold_text s) (in_alphabet ss) (good-fold s ∙ good.0) (good-alphabet ss good.1)
+good-alphabet = each-alphabet (λ s. IsTrue (is_extension_subtag s)) (λ s good. good-fold s ∙ good)
 
 some-put : (x : List ℕ) (ss : List (List ℕ)) → 1 ≤ length (put_among x ss)
 some-put x [] = omega arith
@@ -66,12 +57,7 @@ some-put x (s ∷ ss) = by_tests (is_before x s) (is_before s x)
 -- ---- values
 
 good-before : (test : List ℕ → Bool) (ss : List (List ℕ)) → Good ss → Good (before_key test ss)
-good-before test [] good = tt
-good-before test (s ∷ ss) good = by_test (test s) (good-before test ss good.1)
-  where
-    by_test : (b : Bool) → Good (before_key test ss) → Good (cond b [] (s ∷ before_key test ss))
-    by_test true later = tt
-    by_test false later = (good.0, later)
+good-before = each-before (λ s. IsTrue (is_extension_subtag s))
 
 pub good-value : (test : List ℕ → Bool) (key : List ℕ) (ss v : List (List ℕ)) → Good ss → value_of test key ss ≡ Some v → Good v
 good-value test key [] v good found = absurd cc

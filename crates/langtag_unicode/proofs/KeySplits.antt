@@ -12,22 +12,8 @@ use Rattle.langtag_scan.specs.Class.{is_alphanumeric, is_digit, is_letter}
 use Rattle.langtag_unicode.specs.Edit.{is_unicode_key}
 use Rattle.langtag_unicode.specs.Form.{is_before, letters_and_digits}
 use Rattle.langtag_unicode.proofs.AlphabetLaws.{Rise, Under, before-back, before-itself, before-trans}
+use Rattle.langtag_unicode.proofs.Each.{each-back, each-front}
 use Rattle.langtag_unicode.proofs.FormRecords.{among-letters}
-
--- ---- lists
-
-module _ (P : List ℕ → Type 0) where
-  each-front : (xs ys : List (List ℕ)) → AllByRecursion P (xs ++ ys) → AllByRecursion P xs
-  each-front [] ys all = tt
-  each-front (x ∷ xs) ys all = (all.0, each-front xs ys all.1)
-
-  each-back : (xs ys : List (List ℕ)) → AllByRecursion P (xs ++ ys) → AllByRecursion P ys
-  each-back [] ys all = all
-  each-back (x ∷ xs) ys all = each-back xs ys all.1
-
-each-weaker : (P Q : List ℕ → Type 0) → ((x : List ℕ) → P x → Q x) → (xs : List (List ℕ)) → AllByRecursion P xs → AllByRecursion Q xs
-each-weaker P Q weaker [] all = tt
-each-weaker P Q weaker (x ∷ xs) all = (weaker x all.0, each-weaker P Q weaker xs all.1)
 
 -- ---- texts that rise
 

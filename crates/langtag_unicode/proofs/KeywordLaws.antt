@@ -68,6 +68,27 @@ standing-this key (s ∷ ss) is = by_test (is_this_key key s) refl (standing-thi
     by_test true this later = this
     by_test false this later = later
 
+-- each subtag before the place of a key is another key, or no key
+abbrev pub ArePassed : List ℕ → Bool → List (List ℕ) → Type 0
+ArePassed key stands ss = AllByRecursion (λ s. is_place key stands s ≡ false → is_this_key key s ≡ false) ss
+
+passed-standing : (key : List ℕ) (ss : List (List ℕ)) → ArePassed key true ss
+passed-standing key [] = tt
+passed-standing key (s ∷ ss) = ((λ is. is), passed-standing key ss)
+
+passed-absent : (key : List ℕ) (ss : List (List ℕ)) → find (is_this_key key) ss ≡ None → ArePassed key false ss
+passed-absent key [] none = tt
+passed-absent key (s ∷ ss) none = by_test (is_this_key key s) refl none (passed-absent key ss)
+  where
+    by_test :
+        (b : Bool) → is_this_key key s ≡ b → cond b (Some s) (find (is_this_key key) ss) ≡ None → (find (is_this_key key) ss ≡ None → ArePassed key false ss) → ArePassed key false (s ∷ ss)
+    by_test true is none later = absurd cc
+    by_test false is none later = ((λ place. is), later none)
+
+pub passed : (key : List ℕ) (ss : List (List ℕ)) (o : Option (List ℕ)) → find (is_this_key key) ss ≡ o → ArePassed key (is_some o) ss
+passed key ss None is = passed-absent key ss is
+passed key ss (Some s) is = passed-standing key ss
+
 module _ (key k : List ℕ) (value : List (List ℕ)) (this : is_this_key key k ≡ true) (all : AreNoKeys value) where
   key-opens : is_key k ≡ true
   key-opens = (and_parts (is_key k) (are_alike k key) this).0
@@ -98,37 +119,22 @@ module _ (key k : List ℕ) (value : List (List ℕ)) (this : is_this_key key k 
       let end = before-kept key (s ∷ ss) ∙ ap (λ b. cond b [] (s ∷ before_key is_key ss)) opens in
       value-first (value ++ without_keyword key (s ∷ ss)) ∙ ap Some (before-end value (without_keyword key (s ∷ ss)) all end)
 
-  value-replaced : (ss : List (List ℕ)) → value_of is_key key (put_keyword key true (k ∷ value) ss) ≡ Some value
-  value-replaced [] = value-first value ∙ ap Some (before-whole value all)
-  value-replaced (s ∷ ss) = by_place (is_place key true s) refl (value-replaced ss)
+  -- where each subtag that is passed is another key, or no key
+  value-put : (stands : Bool) (ss : List (List ℕ)) → ArePassed key stands ss → value_of is_key key (put_keyword key stands (k ∷ value) ss) ≡ Some value
+  value-put stands [] passed = value-first value ∙ ap Some (before-whole value all)
+  value-put stands (s ∷ ss) passed = by_place (is_place key stands s) refl (value-put stands ss passed.1)
     where
       by_place :
-          (b : Bool) → is_place key true s ≡ b → value_of is_key key (put_keyword key true (k ∷ value) ss) ≡ Some value →
-          value_of is_key key (cond b ((k ∷ value) ++ without_keyword key (s ∷ ss)) (s ∷ put_keyword key true (k ∷ value) ss)) ≡ Some value
-      by_place true place later = value-here true s ss place
-      by_place false other later = value-skipped s (put_keyword key true (k ∷ value) ss) other ∙ later
-
-  value-put : (ss : List (List ℕ)) → find (is_this_key key) ss ≡ None → value_of is_key key (put_keyword key false (k ∷ value) ss) ≡ Some value
-  value-put [] none = value-first value ∙ ap Some (before-whole value all)
-  value-put (s ∷ ss) none = by_tests (is_this_key key s) (is_place key false s) refl refl none (value-put ss)
-    where
-      by_tests :
-          (a b : Bool) → is_this_key key s ≡ a → is_place key false s ≡ b → cond a (Some s) (find (is_this_key key) ss) ≡ None →
-          (find (is_this_key key) ss ≡ None → value_of is_key key (put_keyword key false (k ∷ value) ss) ≡ Some value) →
-          value_of is_key key (cond b ((k ∷ value) ++ without_keyword key (s ∷ ss)) (s ∷ put_keyword key false (k ∷ value) ss)) ≡ Some value
-      by_tests true b this_is place none later = absurd cc
-      by_tests false true other place none later = value-here false s ss place
-      by_tests false false other place none later = value-skipped s (put_keyword key false (k ∷ value) ss) other ∙ later none
+          (b : Bool) → is_place key stands s ≡ b → value_of is_key key (put_keyword key stands (k ∷ value) ss) ≡ Some value →
+          value_of is_key key (cond b ((k ∷ value) ++ without_keyword key (s ∷ ss)) (s ∷ put_keyword key stands (k ∷ value) ss)) ≡ Some value
+      by_place true place later = value-here stands s ss place
+      by_place false other later = value-skipped s (put_keyword key stands (k ∷ value) ss) (passed.0 other) ∙ later
 
 -- get after set
 pub value-with : (key : List ℕ) (value ss : List (List ℕ)) → is_key key ≡ true → AreNoKeys value → value_of is_key key (with_keyword key value ss) ≡ Some value
-value-with key value ss is all = by_found (find (is_this_key key) ss) refl (standing-this key ss is)
-  where
-    by_found :
-        (o : Option (List ℕ)) → find (is_this_key key) ss ≡ o → is_this_key key (unwrap_or (find (is_this_key key) ss) key) ≡ true →
-        value_of is_key key (put_keyword key (is_some o) (unwrap_or o key ∷ value) ss) ≡ Some value
-    by_found None none this = value-put key key value (ap (λ b. b && are_alike key key) is ∙ alike-itself key) all ss none
-    by_found (Some k) some this = value-replaced key k value (ap (λ o. is_this_key key (unwrap_or o key)) (sym some) ∙ this) all ss
+value-with key value ss is all =
+    let standing = find (is_this_key key) ss in
+    value-put key (unwrap_or standing key) value (standing-this key ss is) all (is_some standing) ss (passed key ss standing refl)
 
 -- get after remove
 pub value-without : (key : List ℕ) (inside : Bool) (ss : List (List ℕ)) → value_of is_key key (without_within key inside ss) ≡ None

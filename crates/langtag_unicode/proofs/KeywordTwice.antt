@@ -9,7 +9,7 @@ use Rattle.langtag_unicode.specs.Edit.{at_place, belongs, changed_from, edited_r
 use Rattle.langtag_unicode.specs.Form.{is_before, is_of}
 use Rattle.langtag_unicode.specs.Keywords.{is_key}
 use Rattle.langtag_unicode.proofs.KeywordEdits.{put-here, put-later, without-gone, without-kept}
-use Rattle.langtag_unicode.proofs.KeywordLaws.{AreNoKeys, fits_from, standing-this}
+use Rattle.langtag_unicode.proofs.KeywordLaws.{AreNoKeys, ArePassed, fits_from, passed, standing-this}
 
 -- ---- what is removed twice
 
@@ -66,12 +66,7 @@ module _ (key k : List ℕ) (v w : List (List ℕ)) (this : is_this_key key k �
       in_key is = ap (λ b. cond b (are_alike k key) false) is ∙ (and_parts (is_key k) (are_alike k key) this).1
 
   module _ (stands : Bool) where
-    -- each subtag that is passed is another key, or no key
-    abbrev ArePassed : List (List ℕ) → Type 0
-    ArePassed [] = Unit {0}
-    ArePassed (s ∷ ss) = (is_place key stands s ≡ false → is_this_key key s ≡ false) × ArePassed ss
-
-    find-put : (ss : List (List ℕ)) → ArePassed ss → find (is_this_key key) (put_keyword key stands (k ∷ v) ss) ≡ Some k
+    find-put : (ss : List (List ℕ)) → ArePassed key stands ss → find (is_this_key key) (put_keyword key stands (k ∷ v) ss) ≡ Some k
     find-put [] passed = find-first v
     find-put (s ∷ ss) passed = by_place (is_place key stands s) refl (find-put ss passed.1)
       where
@@ -82,7 +77,7 @@ module _ (key k : List ℕ) (v w : List (List ℕ)) (this : is_this_key key k �
         by_place false is later =
             ap (λ b. cond b (Some s) (find (is_this_key key) (put_keyword key stands (k ∷ v) ss))) (passed.0 is) ∙ later
 
-    put-twice : (ss : List (List ℕ)) → ArePassed ss → put_keyword key true (k ∷ w) (put_keyword key stands (k ∷ v) ss) ≡ put_keyword key stands (k ∷ w) ss
+    put-twice : (ss : List (List ℕ)) → ArePassed key stands ss → put_keyword key true (k ∷ w) (put_keyword key stands (k ∷ v) ss) ≡ put_keyword key stands (k ∷ w) ss
     put-twice [] passed = ap (put_keyword key true (k ∷ w)) (sym (append-nil (k ∷ v))) ∙ again-first [] ∙ append-nil (k ∷ w)
     put-twice (s ∷ ss) passed = by_place (is_place key stands s) refl (put-twice ss passed.1)
       where
@@ -95,29 +90,12 @@ module _ (key k : List ℕ) (v w : List (List ℕ)) (this : is_this_key key k �
             ∙ ap (λ t. (k ∷ w) ++ t) (without-key key s ss (and_parts (is_key s) (cond stands (are_alike s key) (is_before (fold_text key) (fold_text s))) is).0)
         by_place false is later = put-later key s (put_keyword key stands (k ∷ v) ss) true (k ∷ w) (passed.0 is) ∙ ap (λ t. s ∷ t) later
 
-  passed-standing : (ss : List (List ℕ)) → ArePassed true ss
-  passed-standing [] = tt
-  passed-standing (s ∷ ss) = ((λ is. is), passed-standing ss)
-
-  passed-absent : (ss : List (List ℕ)) → find (is_this_key key) ss ≡ None → ArePassed false ss
-  passed-absent [] none = tt
-  passed-absent (s ∷ ss) none = by_test (is_this_key key s) refl none (passed-absent ss)
-    where
-      by_test :
-          (b : Bool) → is_this_key key s ≡ b → cond b (Some s) (find (is_this_key key) ss) ≡ None → (find (is_this_key key) ss ≡ None → ArePassed false ss) → ArePassed false (s ∷ ss)
-      by_test true is none later = absurd cc
-      by_test false is none later = ((λ place. is), later none)
-
-passed : (key k : List ℕ) (v w : List (List ℕ)) (this : is_this_key key k ≡ true) (all : AreNoKeys v) (ss : List (List ℕ)) (o : Option (List ℕ)) → find (is_this_key key) ss ≡ o → ArePassed key k v w this all (is_some o) ss
-passed key k v w this all ss None is = passed-absent key k v w this all ss is
-passed key k v w this all ss (Some s) is = passed-standing key k v w this all ss
-
 with-twice : (key : List ℕ) (v w ss : List (List ℕ)) → is_key key ≡ true → AreNoKeys v → with_keyword key w (with_keyword key v ss) ≡ with_keyword key w ss
 with-twice key v w ss is all =
     let standing = find (is_this_key key) ss in
     let k = unwrap_or standing key in
     let this = standing-this key ss is in
-    let are = passed key k v w this all ss standing refl in
+    let are = passed key ss standing refl in
     ap (λ o. put_keyword key (is_some o) (unwrap_or o key ∷ w) (with_keyword key v ss)) (find-put key k v w this all (is_some standing) ss are)
     ∙ put-twice key k v w this all (is_some standing) ss are
 

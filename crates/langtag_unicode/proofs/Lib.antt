@@ -1,3 +1,4 @@
+pub mod Each
 pub mod AliasTables
 pub mod AlphabetLaws
 pub mod ExtensionForms
