@@ -1,4 +1,4 @@
-use Rattle.std.proofs.Common.{rules, true, refl, sym, ap, ◌∙◌, arith}
+use Rattle.std.proofs.Common.{rules, true, sym, ap, ◌∙◌, arith}
 use Rattle.std.proofs.lemmas.List.{length-set}
 use Rattle.langtag_scan.specs.Case.{fold_text}
 use Rattle.langtag_scan.specs.Subtags.{subtags}
