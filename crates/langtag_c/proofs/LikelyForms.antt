@@ -5,7 +5,8 @@ use Rattle.langtag_registry.proofs.CanonicalParts as canonical
 use Rattle.langtag_registry.specs.Canonical.{IsCanonicalForm}
 use Rattle.langtag_likely.specs.Maximal.{IsMaximalForm, IsMinimalForm, maximal_record, minimal_record}
 use Rattle.langtag_match.specs.Locale.{locale_place}
-use Rattle.langtag_likely.specs.Posix.{IsTagOfName, NamesTag, hyphenated, with_said}
+use Rattle.langtag_match.specs.Wanted.{hyphened}
+use Rattle.langtag_likely.specs.Posix.{IsTagOfName, NamesTag, with_said}
 use Rattle.langtag_likely.proofs.FormLaws.{form_is_tag}
 use Rattle.langtag_likely.proofs.GoodForms.{maximal_well_formed, minimal_well_formed}
 use Rattle.langtag_likely.proofs.PosixLaws.{said_well_formed}
@@ -26,4 +27,4 @@ pub some_extensions : (old new : List ℕ) → IsTag old → IsExtensionsForm ol
 some_extensions old new tag is = some_tag new (form_is_tag extensions_record form_well_formed old new tag is)
 
 pub some_named : (name new : List ℕ) → NamesTag name → IsTagOfName name new → 1 ≤ length new
-some_named name new names is = some_tag new (form_is_tag (with_said name) (said_well_formed name) (hyphenated (locale_place name)) new names.tag is)
+some_named name new names is = some_tag new (form_is_tag (with_said name) (said_well_formed name) (hyphened (locale_place name)) new names.tag is)

@@ -23,6 +23,7 @@ use Rattle.langtag_scan.proofs.KindLaws.{classes_of-kind}
 use Rattle.langtag_scan.proofs.ReadingLaws.{IsPartRead, reads_nothing, reads_after, refused_stops, stuck_stops}
 use Rattle.langtag_scan.proofs.Running.{empty_begun, begun_push, begun_parts}
 use Rattle.langtag_scan.proofs.StageLaws.{after_not_start}
+use Rattle.langtag_scan.proofs.PartOffsets.{ends_equal}
 
 pub position_of-push : (q : List ℕ) (b : ℕ) → position_of (q ++ b ∷ []) ≡ position_after (position_of q) b
 position_of-push q b = fold-append position_after nothing_read q (b ∷ [])
@@ -34,18 +35,6 @@ pub record IsMarked (places : List ℕ) (n : ℕ) (e : Ends) : Type 0 where
   pub six : length places ≡ 6
   pub below : (k : ℕ) → get_or places k 0 ≤ n
   pub is : e ≡ ends_at places e.whole
-
-abbrev ends_with : ℕ → ℕ → ℕ → ℕ → ℕ → ℕ → Ends
-ends_with language script region variants extensions whole =
-    record { language = language; script = script; region = region; variants = variants; extensions = extensions; whole = whole }
-
-ends_equal :
-    (a b : Ends) → a.language ≡ b.language → a.script ≡ b.script → a.region ≡ b.region → a.variants ≡ b.variants → a.extensions ≡ b.extensions → a.whole ≡ b.whole →
-    a ≡ b
-ends_equal a b language script region variants extensions whole =
-    let same : ends_with a.language a.script a.region a.variants a.extensions a.whole ≡ ends_with b.language b.script b.region b.variants b.extensions b.whole =
-    rw (language, script, region, variants, extensions, whole) refl in
-    same
 
 placed : (places : List ℕ) (k n j : ℕ) → k < length places → get_or (set places k n) j 0 ≡ cond (eqb j k) n (get_or places j 0)
 placed places k n j within = grind (arith, common_steps)
