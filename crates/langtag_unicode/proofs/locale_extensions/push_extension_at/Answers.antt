@@ -1,11 +1,7 @@
-use Rattle.std.proofs.Common.{◌≡◌, ◌++◌, [], Some, None, option_map, refl, sym, ap, ◌∙◌, append-nil}
-use Rattle.std.specs.List.{flat_map}
-use Rattle.std.specs.Option.{option_map_or}
-use Rattle.langtag_extension.specs.Spelling.{extension_spelling, find_extension}
+use Rattle.std.proofs.Common.{◌≡◌, option_map, sym, ap, ◌∙◌}
+use Rattle.langtag_extension.specs.Spelling.{find_extension}
 use Rattle.langtag_extension.specs.Text.{extension_text, singleton_byte}
 use Rattle.langtag_registry.proofs.Pushed.{pushes_ended, pushes_same}
-use Rattle.langtag_scan.specs.Record.{extension_flat}
-use Rattle.langtag_unicode.specs.LocaleForm.{locale_extension_form}
 use Rattle.langtag_unicode.proofs.LocaleExtensions.{at_found, at_nothing, found_allowed, found_one, none_found}
 use Rattle.langtag_unicode.proofs.locale_extensions.push_extension_at.Goals as goal
 

@@ -1,11 +1,11 @@
-use Rattle.std.proofs.Common.{◌∷◌, ◌++◌, [], ap, sym, ◌∙◌}
+use Rattle.std.proofs.Common.{◌∷◌, ◌++◌, [], ap, ◌∙◌}
 use Rattle.langtag_likely.specs.Likely.{Fields}
 use Rattle.langtag_likely.specs.Maximal.{subtag_of}
 use Rattle.langtag_likely.specs.Texts.{field_texts}
 use Rattle.langtag_registry.proofs.Pushed.{pushes_both, pushes_same}
 use Rattle.langtag_scan.specs.Record.{one_flat}
 use Rattle.langtag_scan.specs.Subtags.{segments_left}
-use Rattle.langtag_unicode.specs.LocaleForm.{identifier_flat, identifier_form, new_variants, variants_form}
+use Rattle.langtag_unicode.specs.LocaleForm.{identifier_flat, identifier_form, variants_form}
 use Rattle.langtag_unicode.proofs.locale_extensions.push_identifier.Goals as goal
 
 pub returns-clause-pushed : goal.returns-clause-pushed
