@@ -188,24 +188,40 @@ def wrapped(numbers, margin):
     return lines + [line]
 
 
-def table(doc, name, kind, rows):
-    return "\n".join([f"/// {doc}", "#[rattlefmt::skip]", f"pub(crate) const {name}: &{kind} = &[", *rows, "];", ""])
+def constant(doc, name, kind, rows):
+    return "\n".join([f"/// {doc}", "#[rattlefmt::skip]", f"pub(crate) const {name}: {kind}[", *rows, "];", ""])
 
 
 def tables(states):
-    count, classes = states.none, len(CLASSES)
-    following = [line for byte in CLASSES for line in ("    [", *wrapped(states.after(byte), " " * 8), "    ],")]
+    count, classes, margin = states.none, len(CLASSES), " " * 8
+    following = [line for byte in CLASSES for line in (f"{margin}[", *wrapped(states.after(byte), " " * 12), f"{margin}],")]
     return "\n".join([
         "//! The states of the recogniser, in tables (RFC 5646 section 2.1). Written by scan/generate.py. Do not edit.\n",
         f"/// The state before the first byte.\npub(crate) const START: usize = {states.numbers[START]};\n",
         f"/// The number that means that no tag begins with the bytes. All states have smaller numbers.\npub(crate) const NONE: usize = {count};\n",
-        table(f"The class of each byte: 0 to 25 for the letters, {class_of(48)} for a digit, {class_of(45)} for the hyphen, and {classes - 1} for a byte that no tag contains.",
-              "CLASSES", "[u8; 256]", wrapped(map(class_of, range(256)), "    ")),
-        table(f"The state after one more byte, indexed by the class of the byte and then by the state before it, or {count} if no tag begins with the bytes.", "NEXT", f"[[u8; {count}]; {classes}]", following),
-        table(f"The index, in the order of `Ends`, of the part that ended before the hyphen that led to a state, or {NO_PART} if no part ended there.", "PARTS",
-              f"[u8; {count}]", wrapped(map(part_before, states.firsts), "    ")),
-        table(f"What a text is if it ends in a state. The numbers 0 to {NO_TAG - 1} mean a normal tag, and are the index of its last part in the order of `Ends`. "
-              f"{NO_TAG} means no tag, {PRIVATE_USE} means a private use tag, and {FIRST_IRREGULAR} or more an irregular tag.", "KINDS", f"[u8; {count}]", wrapped(map(ending, states.firsts), "    ")),
+        constant(f"The class of each byte: 0 to 25 for the letters, {class_of(48)} for a digit, {class_of(45)} for the hyphen, and {classes - 1} for a byte that no tag contains.",
+                 "CLASSES", "&[u8; 256] = &", wrapped(map(class_of, range(256)), "    ")),
+        constant(f"The index, in the order of `Ends`, of the part that ended before the hyphen that led to a state, or {NO_PART} if no part ended there.",
+                 "PARTS", f"[u8; {count}] = ", wrapped(map(part_before, states.firsts), "    ")),
+        "/// Tables that have an element for each state, as one struct, so that the recogniser needs only one address for them.",
+        "#[allow(dead_code)]",
+        "pub(crate) struct Tables {",
+        f"    /// The state after one more byte, indexed by the class of the byte and then by the state before it, or {count} if no tag begins with the bytes.",
+        f"    pub(crate) next: [[u8; {count}]; {classes}],",
+        "    /// The same as [`PARTS`], where the Rust crate reads them.",
+        f"    pub(crate) parts: [u8; {count}],",
+        f"    /// What a text is if it ends in a state. The numbers 0 to {NO_TAG - 1} mean a normal tag, and are the index of its last part in the order of `Ends`. "
+        f"{NO_TAG} means no tag, {PRIVATE_USE} means a private use tag, and {FIRST_IRREGULAR} or more an irregular tag.",
+        f"    pub(crate) kinds: [u8; {count}],",
+        "}\n",
+        "/// The tables of all states.",
+        "#[rattlefmt::skip]",
+        "pub(crate) const TABLES: &Tables = &Tables {",
+        *("    next: [", *following, "    ],"),
+        "    parts: PARTS,",
+        *("    kinds: [", *wrapped(map(ending, states.firsts), margin), "    ],"),
+        "};",
+        "",
     ])
 
 

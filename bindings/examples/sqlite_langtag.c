@@ -6,6 +6,7 @@
  *     sqlite> .load ./sqlite_langtag
  *     sqlite> SELECT langtag_part('zh-Hant-TW', 'script');          -- Hant
  *     sqlite> SELECT langtag_keyword('ar-u-ca-islamic-nu-latn', 'ca'); -- islamic
+ *     sqlite> SELECT langtag_set_keyword('th-u-ca-gregory', 'ca', 'buddhist'); -- th-u-ca-buddhist
  *     sqlite> SELECT langtag_canonical('iw-Hebr');                   -- he-Hebr
  *     sqlite> SELECT langtag_is_valid('de-1996-1996');               -- 0
  *     sqlite> SELECT langtag_suggestion('ger-AT');                   -- de
@@ -16,12 +17,15 @@
  *     sqlite> SELECT * FROM texts WHERE langtag_matches_basic('de', tag);
  *     sqlite> SELECT * FROM texts WHERE tag = 'ZH-hant' COLLATE langtag;
  *
- * Each function returns NULL if an argument is NULL.
+ * Each function returns NULL if an argument is NULL, except for the value of langtag_set_keyword.
  *
  * langtag_part(tag, part) returns NULL if the text is not a tag, or the part is absent. The parts are language, script, region,
  * variants, extensions and private_use. langtag_keyword(tag, key) returns the value of a key of the extension u (RFC 6067), which
  * is empty if the key has none, and NULL if the key is absent. The following functions return NULL if a text is not a tag:
  *
+ *   - langtag_set_keyword(tag, key, value), the tag with a value of a key of the extension u. If the value is NULL, the key is removed.
+ *     An empty value means true. It is an error if the key or the value cannot be in a keyword, or if the tag is not a normal tag
+ *   - langtag_extensions_form(tag), the tag with its extensions u and t in canonical form (UTS #35, part 1, Annex C)
  *   - langtag_canonical(tag) and langtag_is_valid(tag) (RFC 5646 sections 4.5 and 2.2.9), by langtag_registry_date
  *   - langtag_suggestion(tag), the registered code that is probably meant by the invalid subtag, also NULL if there is none
  *   - langtag_maximize(tag), langtag_minimize(tag), langtag_is_right_to_left(tag), langtag_distance(desired, supported) (UTS #35)
@@ -90,6 +94,59 @@ static void written(sqlite3_context *context, sqlite3_value **values, writer *wr
     }
     write(tag, len, form, form_len);
     sqlite3_result_text64(context, form, form_len, sqlite3_free, SQLITE_UTF8);
+}
+
+/* A text argument. `at` is NULL if the argument is NULL. */
+typedef struct text {
+    const char *at;
+    size_t len;
+} text;
+
+static text text_of(sqlite3_value *value) {
+    const char *at = (const char *)sqlite3_value_text(value);
+    return (text){at, (size_t)sqlite3_value_bytes(value)};
+}
+
+/* Writes a tag with the value of a key, or without the key if the value is NULL. Returns what the library returns. */
+static size_t write_keyword(text tag, text key, text value, char *buffer, size_t room) {
+    if (!value.at) return langtag_without_keyword(tag.at, tag.len, key.at, key.len, buffer, room);
+    return langtag_with_keyword(tag.at, tag.len, key.at, key.len, value.at, value.len, buffer, room);
+}
+
+/* Returns why a keyword is not set. A keyword can be set in und, so the library refuses the key or the value, if it refuses them there
+ * too. */
+static const char *why_refused(text key, text value) {
+    char none;
+    const text und = {"und", 3}, absent = {NULL, 0};
+    if (write_keyword(und, key, absent, &none, 0) == 0)
+        return "langtag_set_keyword: the key is not a letter or a digit, and then a letter";
+    if (write_keyword(und, key, value, &none, 0) == 0)
+        return "langtag_set_keyword: the value is not subtags of 3 to 8 letters or digits";
+    return "langtag_set_keyword: not a normal language tag";
+}
+
+static void set_keyword(sqlite3_context *context, int count, sqlite3_value **values) {
+    (void)count;
+    const text tag = text_of(values[0]), key = text_of(values[1]), value = text_of(values[2]);
+    if (!tag.at || !key.at || !langtag_kind(tag.at, tag.len)) return; /* NULL */
+    char none;
+    size_t len = write_keyword(tag, key, value, &none, 0);
+    if (len == 0) {
+        sqlite3_result_error(context, why_refused(key, value), -1);
+        return;
+    }
+    char *made = sqlite3_malloc64(len);
+    if (!made) {
+        sqlite3_result_error_nomem(context);
+        return;
+    }
+    write_keyword(tag, key, value, made, len);
+    sqlite3_result_text64(context, made, len, sqlite3_free, SQLITE_UTF8);
+}
+
+static void extensions_form(sqlite3_context *context, int count, sqlite3_value **values) {
+    (void)count;
+    written(context, values, langtag_extensions_form);
 }
 
 static void canonical(sqlite3_context *context, int count, sqlite3_value **values) {
@@ -237,6 +294,8 @@ int sqlite3_sqlitelangtag_init(sqlite3 *db, char **message, const sqlite3_api_ro
     } functions[] = {
         {"langtag_part", 2, part},
         {"langtag_keyword", 2, keyword},
+        {"langtag_set_keyword", 3, set_keyword},
+        {"langtag_extensions_form", 1, extensions_form},
         {"langtag_canonical", 1, canonical},
         {"langtag_is_valid", 1, is_valid},
         {"langtag_suggestion", 1, suggestion},

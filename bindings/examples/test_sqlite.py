@@ -33,6 +33,9 @@ def shown(expression):
 QUERIES = {
     "tag": lambda tag: f"SELECT {','.join(shown(f'langtag_part({text(tag)}, {name!r})') for name in PARTS)}",
     "keyword": lambda tag, key: f"SELECT {shown(f'langtag_keyword({text(tag)}, {text(key)})')}",
+    "with-keyword": lambda tag, key, value: "SELECT " + shown(
+        f"langtag_set_keyword({text(tag)}, {text(key)}, {'NULL' if value == b'-' else text(value)})"),
+    "extensions-form": lambda tag: f"SELECT {shown(f'langtag_extensions_form({text(tag)})')}",
     "canonical": lambda tag: f"SELECT {shown(f'langtag_canonical({text(tag)})')}",
     "maximized": lambda tag: f"SELECT {shown(f'langtag_maximize({text(tag)})')}",
     "minimized": lambda tag: f"SELECT {shown(f'langtag_minimize({text(tag)})')}",
@@ -62,6 +65,15 @@ def answer_tag(said):
     return "".join(f"\n  {name} {part}" for name, part in found if part is not None)
 
 
+#: The answer for each message of langtag_set_keyword.
+REFUSED = {"the key is not a letter or a digit, and then a letter": "bad key", "not a normal language tag": "no parts",
+           "the value is not subtags of 3 to 8 letters or digits": "bad value"}
+
+
+def answer_with_keyword(said):
+    return bytes_of(said) if said[:2] == "X'" else REFUSED.get(re.sub(r".*langtag_set_keyword: (.*?)( \(\d+\))?$", r"\1", said), said)
+
+
 def answer_match(said):
     if said == "-":
         return said
@@ -73,6 +85,8 @@ def answer_match(said):
 ANSWERS = {
     "tag": answer_tag,
     "keyword": lambda said: "-" if said == "NULL" else bytes_of(said) or "''",
+    "with-keyword": answer_with_keyword,
+    "extensions-form": bytes_of,
     "canonical": lambda said: bytes_of(said) or "-",
     "suggestion": lambda said: bytes_of(said) or "-",
     "maximized": lambda said: bytes_of(said) or "-",
@@ -100,7 +114,7 @@ def adapted(row):
 
 
 FLOORS = {"table.txt": 255, "likely.txt": 250, "distance.txt": 140, "direction.txt": 325, "posix.txt": 150, "choices.txt": 285,
-          "unicode.txt": 25}
+          "unicode.txt": 25, "keywords.txt": 380, "extensions.txt": 630}
 
 TABLE = "CREATE TABLE texts (tag TEXT PRIMARY KEY COLLATE langtag); INSERT INTO texts VALUES ('zh-Hant'), ('de'), ('zh'), ('');"
 # Statements, and SQLite's output for them.
@@ -108,6 +122,10 @@ STATEMENTS = [
     ("SELECT langtag_part(NULL, 'script') IS NULL, langtag_part('zh-Hant', NULL) IS NULL;", "1|1"),
     ("SELECT langtag_canonical(NULL) IS NULL, langtag_is_valid(NULL) IS NULL, langtag_suggestion(NULL) IS NULL;", "1|1|1"),
     ("SELECT langtag_keyword(NULL, 'ca') IS NULL, langtag_keyword('de-u-ca', NULL) IS NULL, langtag_keyword('de-u-ca', 'ca');", "1|1|"),
+    ("SELECT langtag_set_keyword(NULL, 'ca', 'roc') IS NULL, langtag_set_keyword('de', NULL, 'roc') IS NULL, langtag_set_keyword('d_', 'c1', '') IS NULL;", "1|1|1"),
+    ("SELECT langtag_set_keyword('de-u-ca-roc', 'CA', NULL), langtag_set_keyword('de', 'kn', ''), langtag_set_keyword('de', 'ca', 1996);",
+     "de|de-u-kn|de-u-ca-1996"),
+    ("SELECT langtag_extensions_form(NULL) IS NULL, langtag_extensions_form('d_') IS NULL, langtag_extensions_form('x-a');", "1|1|x-a"),
     ("SELECT langtag_matches_basic('de', NULL) IS NULL, langtag_matches_extended(NULL, 'de') IS NULL;", "1|1"),
     ("SELECT langtag_part('zh-Hant', 'script'), typeof(langtag_canonical('iw')), typeof(langtag_is_valid('iw'));",
      "Hant|text|integer"),
@@ -134,9 +152,13 @@ STATEMENTS = [
 class Sqlite(unittest.TestCase):
     def test_rows(self):
         asked = [row for name in rows.wanted(FLOORS) for row in rows.read(rows.FOLDER / name) if row.call in QUERIES]
-        said, complaint = sqlite("".join(f"{QUERIES[row.call](*row.arguments)};\n" for row in asked))
-        self.assertEqual(complaint, "")
-        lines = dict(zip(((row.call, *row.arguments) for row in asked), said.splitlines()))
+        said, complaints = sqlite("".join(f"{QUERIES[row.call](*row.arguments)};\n" for row in asked))
+        errors = {int(number): error for number, error in re.findall(r"(?m)near line (\d+): (.*)$", complaints)}
+        self.assertEqual(len(errors), len(complaints.splitlines()))
+        self.assertEqual({asked[number - 1].call for number in errors} - {"with-keyword"}, set())
+        rest = iter(said.splitlines())
+        lines = {(row.call, *row.arguments): errors.get(number) or next(rest) for number, row in enumerate(asked, 1)}
+        self.assertEqual(list(rest), [])
         asker = rows.Asker({call: lambda *arguments, call=call: ANSWERS[call](lines[(call, *arguments)]) for call in QUERIES},
                            adapted)
         for name, floor in rows.wanted(FLOORS).items():
@@ -154,7 +176,8 @@ class Sqlite(unittest.TestCase):
         numbers = "WITH RECURSIVE n(k) AS (SELECT 1 UNION ALL SELECT k + 1 FROM n WHERE k < {})"
         calls = ("langtag_best_for_header('de', 'en', 'de-x-a' || k)", "langtag_maximize('de-x-a' || k)",
                  "langtag_part('de-x-a' || k, 'private_use')", "langtag_canonical('iw-x-a' || k)", "langtag_is_valid('de' || k)",
-                 "langtag_keyword('de-u-ca-a' || k, 'ca')", "langtag_from_posix('de_x@' || k)", "langtag_unknown_modifier('de@' || k)",
+                 "langtag_keyword('de-u-ca-a' || k, 'ca')", "langtag_set_keyword('de-u-ca-a', 'ca', 1000 + k)",
+                 "langtag_set_keyword('de-u-a' || k, 'ca', NULL)", "langtag_extensions_form('de-u-kn-ca-a' || k)", "langtag_from_posix('de_x@' || k)", "langtag_unknown_modifier('de@' || k)",
                  "langtag_matches_basic('de', 'de-x-a' || k)", "langtag_matches_extended('de', 'de-x-a' || k)")
         asked = ", ".join(f"count({call})" for call in calls)
         statements = "".join(f"{numbers.format(count)} SELECT {asked} FROM n;\n" for count in (100, 20_000))

@@ -9,8 +9,8 @@
  * It is proved that each function, for every input, ends, returns and writes what its comment says, and touches only
  * the memory of its arguments. No function allocates, keeps state between calls, calls back, prints, exits or sets
  * errno. So the functions may be called from several threads at once, and from signal handlers. Time grows linearly
- * with the length of the texts, except for langtag_repeats and for the calls that take a list of tags.
- * langtag_next_keyword and langtag_next_field compare each key with the subtags before it.
+ * with the length of the texts, except for langtag_repeats, langtag_extensions_form, and the calls that take a list of
+ * tags. langtag_next_keyword and langtag_next_field compare each key with the subtags before it.
  *
  * Only langtag_validity, langtag_canonical and langtag_is_canonical use the IANA registry.
  *
@@ -25,7 +25,7 @@
  *   4. Memory that a call may write through one argument (an out struct, `rest`, `passed`, a buffer, the bytes of langtag_fold and
  *      langtag_recommend) does not overlap the memory of any other argument. Texts that are only read may overlap.
  *   5. An x86-64 processor has SSE4.2 (x86-64-v2). Any aarch64 processor is supported. Calls follow the C calling
- *      convention of the platform. 4 KiB of the stack is free for each call, and 96 KiB for langtag_repeats.
+ *      convention of the platform. 8 KiB of the stack is free for each call, and 96 KiB for langtag_repeats.
  *
  * Offsets and lengths are in bytes, and offsets count from the start of the text. Case is that of ASCII letters only.
  */
@@ -276,6 +276,67 @@ enum langtag_part {
  */
 size_t langtag_with_part(const char *tag, size_t tag_len, uint32_t part, const char *text, size_t text_len,
                          char *buffer, size_t buffer_len);
+
+/*
+ * Writes a normal tag with a value of a key of the extension u to `buffer` (RFC 6067 section 2.1), and returns the
+ * length of the new tag. An empty value means true: the key then has no value. langtag_without_keyword removes a
+ * key.
+ *
+ *     char buffer[64];
+ *     size_t len = langtag_with_keyword("th-u-ca-gregory-nu-thai", 23, "ca", 2, "buddhist", 8, buffer, sizeof buffer);
+ *     if (len > 0 && len <= sizeof buffer) printf("%.*s\n", (int)len, buffer); // th-u-ca-buddhist-nu-thai
+ *
+ * A key that the tag already has keeps its position and its case, and its repetitions are removed. A new key is put
+ * before the first greater key, and a new extension u before the first greater singleton. All other bytes stay.
+ *
+ * As with snprintf, the result may be greater than `buffer_len`. It is then the size that is needed, and nothing is
+ * written. A size of tag_len + key_len + value_len + 4 is always enough. This sum must fit into a size_t. No NUL is
+ * written, and bytes after the new tag are left unchanged.
+ *
+ * Returns 0 and writes nothing in three cases. To find out which, ask in this order:
+ *
+ *   1. The key does not consist of a letter or digit and then a letter, such as c4:
+ *      langtag_without_keyword("und", 3, key, key_len, buffer, 0) returns 0.
+ *   2. A subtag of the value does not have three to eight letters or digits: this call with the tag "und" returns 0.
+ *   3. Otherwise the tag is not LANGTAG_NORMAL, and has no place for a keyword.
+ */
+size_t langtag_with_keyword(const char *tag, size_t tag_len, const char *key, size_t key_len, const char *value,
+                            size_t value_len, char *buffer, size_t buffer_len);
+
+/*
+ * Writes a normal tag without a key of the extension u to `buffer`, and returns its length, as langtag_with_keyword
+ * does: without ca, th-u-ca-gregory-nu-thai becomes th-u-nu-thai. Each keyword of the key is removed, and so is u if
+ * nothing else is in it. All other bytes stay. A size of tag_len is always enough.
+ *
+ * Returns 0 and writes nothing if the tag is not LANGTAG_NORMAL, or if the key does not consist of a letter or digit
+ * and then a letter.
+ */
+size_t langtag_without_keyword(const char *tag, size_t tag_len, const char *key, size_t key_len, char *buffer,
+                               size_t buffer_len);
+
+/*
+ * Writes a tag with its extensions u and t in canonical form to `buffer` (UTS #35, part 1, Annex C), and returns its
+ * length: en-u-nu-thai-ca-gregory-kn-true becomes en-u-ca-gregory-kn-nu-thai. As with langtag_with_part, nothing is
+ * written if the buffer is too short.
+ *
+ *     char buffer[64];
+ *     size_t len = langtag_extensions_form("de-u-CO-phonebk-ca-islamicc", 27, buffer, sizeof buffer);
+ *     if (len > 0 && len <= sizeof buffer) printf("%.*s\n", (int)len, buffer); // de-u-ca-islamic-civil-co-phonebk
+ *
+ * Attributes, keywords and fields are put in alphabetical order, each once and in lowercase. If a key is repeated,
+ * its first value counts. Types and subdivisions that CLDR replaces become their replacements. The value true is
+ * left out of u. The variants in the language of t are put in alphabetical order.
+ *
+ * All other bytes stay, and so does a tag without these extensions. Only the first u and the first t are changed. A
+ * t that UTS #35 does not allow, such as t-m0, stays as it is. The order of the extensions stays, too;
+ * langtag_canonical sorts them.
+ *
+ * Time is quadratic in the number of attributes, and of variants in the language of t. The form may be longer than
+ * the tag, but a size of 2 * len is always enough.
+ *
+ * Returns 0 and writes nothing if the text is not a tag.
+ */
+size_t langtag_extensions_form(const char *bytes, size_t len, char *buffer, size_t buffer_len);
 
 /* Where the repeated subtags of a tag are. A span has the length 0 if no such subtag is repeated. */
 typedef struct langtag_repeated {

@@ -196,6 +196,30 @@ public:
         return made;
     }
 
+    /* Returns the text of the tag with a value of a key of the extension u: tag.with_keyword("ca", "buddhist"). An empty value means
+     * true. Returns std::nullopt if the tag is not a normal tag, or the key or the value cannot be in a keyword. */
+    std::optional<std::string> with_keyword(std::string_view key, std::string_view value) const {
+        std::string made(text_.size() + key.size() + value.size() + 4, '\0');
+        const std::size_t len = langtag_with_keyword(text_.data(), text_.size(), langtag_bytes(key.data()), key.size(),
+                                                     langtag_bytes(value.data()), value.size(), &made[0], made.size());
+        if (len == 0) return std::nullopt;
+        made.resize(len);
+        return made;
+    }
+
+    /* Returns the text of the tag without a key of the extension u. Returns std::nullopt if the tag is not a normal tag, or the key
+     * cannot be in a keyword. */
+    std::optional<std::string> without_keyword(std::string_view key) const {
+        std::string made(text_.size(), '\0');
+        const std::size_t len = langtag_without_keyword(text_.data(), text_.size(), langtag_bytes(key.data()), key.size(), &made[0], made.size());
+        if (len == 0) return std::nullopt;
+        made.resize(len);
+        return made;
+    }
+
+    /* Returns the tag with its extensions u and t in canonical form (UTS #35, part 1, Annex C). */
+    std::string extensions_form() const { return written(langtag_extensions_form); }
+
     /* Returns the first subtag that makes the tag invalid, by the registry of registry_date, or std::nullopt if it is valid. */
     std::optional<langtag::invalid_subtag> invalid_subtag() const noexcept {
         langtag_span invalid;
@@ -371,15 +395,16 @@ public:
     std::string canonical() const { return view().canonical(); }
     std::string maximized() const { return view().maximized(); }
     std::string minimized() const { return view().minimized(); }
+    std::string extensions_form() const { return view().extensions_form(); }
 
     /* Changes one part; an empty text removes it. Returns false and leaves the tag unchanged if it is not a normal tag, or the text
      * is not such a part. */
-    bool set(part which, std::string_view given) {
-        auto made = view().with(which, given);
-        auto read = made ? parse(std::move(*made)) : std::nullopt;
-        if (read) *this = std::move(*read);
-        return read.has_value();
-    }
+    bool set(part which, std::string_view given) { return take(view().with(which, given)); }
+
+    /* Set and remove a keyword of the extension u. They return false and leave the tag unchanged if with_keyword or without_keyword
+     * would return std::nullopt. */
+    bool set_keyword(std::string_view key, std::string_view value) { return take(view().with_keyword(key, value)); }
+    bool remove_keyword(std::string_view key) { return take(view().without_keyword(key)); }
 
     /* Returns a tag with one part changed: t = t.with(part::script, "Latn").with(part::region, "RS"). Throws
      * std::invalid_argument if `set` would return false. */
@@ -392,6 +417,13 @@ public:
 private:
     owned_tag(std::string text, langtag::kind kind, const langtag_parts &parts) noexcept
         : text_(std::move(text)), kind_(kind), parts_(parts) {}
+
+    /* Becomes the tag with this text, if there is one. */
+    bool take(std::optional<std::string> made) {
+        auto read = made ? parse(std::move(*made)) : std::nullopt;
+        if (read) *this = std::move(*read);
+        return read.has_value();
+    }
 
     std::string text_;
     langtag::kind kind_;

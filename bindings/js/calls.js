@@ -145,6 +145,7 @@ export const canonical = (text) => askText("langtag_canonical", text);
 
 export const maximize = (text) => askText("langtag_maximize", text);
 export const minimize = (text) => askText("langtag_minimize", text);
+export const extensionsForm = (text) => askText("langtag_extensions_form", text);
 export const fromPosix = (name) => askText("langtag_from_posix", name);
 /** Returns the offset and length of a modifier that is not known, or undefined if there is none. */
 export const unknownModifier = (name) => beforeKeys("langtag_unknown_modifier", name);
@@ -211,6 +212,23 @@ export function withPart(tag, part, text) {
     const length = Number(calls.langtag_with_part(textsAddress, BigInt(tag.length), part, BigInt(second), BigInt(text.length),
         BigInt(made), BigInt(room)));
     return close(read(made, length));
+}
+
+/** Returns the tag with the value of a key of the extension u, or without the key if the value is undefined. Returns "" if the key or
+ * the value cannot be in a keyword, or if the tag is not normal. */
+export function withKeyword(tag, key, value) {
+    const given = value === undefined ? [tag, key] : [tag, key, value];
+    const size = given.reduce((sum, text) => sum + text.length, 0), room = size + 4;
+    open(size + room);
+    let at = texts;
+    const passed = given.flatMap((text) => {
+        write(text, at);
+        at += text.length;
+        return [BigInt(at - text.length), BigInt(text.length)];
+    });
+    const name = value === undefined ? "langtag_without_keyword" : "langtag_with_keyword";
+    const length = Number(calls[name](...passed, BigInt(at), BigInt(room)));
+    return close(read(at, length));
 }
 
 /** Returns the offset and length of the value of a key, or undefined if the key is absent. */

@@ -49,6 +49,9 @@ export interface InvalidSubtag {
 /** The subtags of an extension: "co-pinyin", or ["co", "pinyin"]. */
 export type Subtags = string | Iterable<string>;
 
+/** A key of the extension u and its new value: ["ca", "buddhist"]. null removes the key. */
+export type KeywordPair = readonly [key: string, value: string | null | undefined];
+
 /** The parts that `with` changes. A part that is undefined stays as it is, and null removes the part. */
 export interface Parts {
     /** The primary language with its extended languages, such as zh-yue. */
@@ -60,6 +63,11 @@ export interface Parts {
     extensions?: string | Iterable<readonly [string, Subtags]> | { [singleton: string]: Subtags } | null | undefined;
     /** The private-use part with its x, such as x-mine. */
     privateUse?: string | null | undefined;
+    /**
+     * The values of keys of the extension u: { ca: "buddhist", nu: null }, or a Map. Keys that are not named stay, null removes a key, and
+     * "" means true. They are set one after another, after all other parts. A new key is put before the first greater key.
+     */
+    keywords?: readonly KeywordPair[] | Iterable<KeywordPair> | { [key: string]: string | null | undefined } | undefined;
 }
 
 /** The extension t (RFC 6497 section 2.2). */
@@ -135,6 +143,11 @@ export class LanguageTag {
     maximize(): LanguageTag;
     /** Returns the tag without its likely subtags (UTS #35), by CLDR_VERSION: zh-Hant-TW becomes zh-TW. */
     minimize(): LanguageTag;
+    /**
+     * Returns the tag with its extensions u and t in canonical form (UTS #35, part 1, Annex C), by CLDR_VERSION: de-u-nu-thai-ca-roc becomes
+     * de-u-ca-roc-nu-thai. Each key stands once, with its first value. All other subtags stay.
+     */
+    extensionsForm(): LanguageTag;
     /** Whether the tag is written from right to left, by its script or its likely script: true for he, pa-PK and az-Arab. */
     get isRightToLeft(): boolean;
     /** Returns the tag in the case that RFC 5646 section 2.1.1 recommends: zh-hant-tw becomes zh-Hant-TW. */
@@ -309,10 +322,13 @@ export class InvalidRange extends RangeError {
     readonly text: string;
 }
 
-/** Thrown if a part cannot be changed. `text` is not such a part, or is undefined if the tag is not a normal tag. */
+/**
+ * Thrown if a part or a keyword cannot be changed. `text` is not such a part, or is undefined if the tag is not a normal tag. For keywords,
+ * `part` is "keywords", or the "key" or "value" that is wrong.
+ */
 export class EditError extends RangeError {
     private constructor();
-    readonly part: keyof Parts;
+    readonly part: keyof Parts | "key" | "value";
     readonly text: string | undefined;
 }
 

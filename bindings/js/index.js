@@ -71,7 +71,8 @@ export class InvalidRange extends Refusal {
 
 export class EditError extends Refusal {
     constructor(part, text) {
-        super(text === undefined ? "not a normal language tag" : `${quoted(text)} can't be the ${part} of a tag`, { part, text });
+        const whole = part === "key" || part === "value" ? "keyword" : "tag";
+        super(text === undefined ? "not a normal language tag" : `${quoted(text)} can't be the ${part} of a ${whole}`, { part, text });
     }
 }
 
@@ -116,6 +117,17 @@ function partText(value) {
         return [singleton, ...(typeof subtags === "string" ? [subtags] : subtags)].join("-");
     });
     return texts.join("-") || "-";
+}
+
+/** Returns the keys and values of keywords as a list of pairs, without the keys whose value is undefined. */
+function keywordPairs(value) {
+    if (typeof value !== "object" || value === null) throw new TypeError("keywords are a Map, or an object with a value for each key");
+    const pairs = [...(Symbol.iterator in value ? value : Object.entries(value))];
+    for (const pair of pairs) {
+        const isPair = Array.isArray(pair) && [pair[0], pair[1] ?? ""].every((text) => typeof text === "string");
+        if (!isPair) throw new TypeError("a keyword has a text as its key, and a text or null as its value");
+    }
+    return pairs.filter(([, text]) => text !== undefined);
 }
 
 export class LanguageTag {
@@ -298,14 +310,20 @@ export class LanguageTag {
         return calls.hash(this.text);
     }
 
+    extensionsForm() {
+        return new LanguageTag(calls.extensionsForm(this.text));
+    }
+
     with(parts) {
         for (const name of Object.keys(parts)) {
-            if (!PARTS.includes(name)) throw new TypeError(`a tag has no part ${quoted(name)}`);
+            if (!PARTS.includes(name) && name !== "keywords") throw new TypeError(`a tag has no part ${quoted(name)}`);
         }
         let tag = this;
         PARTS.forEach((name, part) => {
             if (parts[name] !== undefined) tag = tag.#withPart(part, parts[name]);
         });
+        const keywords = parts.keywords === undefined ? [] : keywordPairs(parts.keywords);
+        for (const [key, value] of keywords) tag = tag.#withKeyword(key, value ?? undefined);
         return tag;
     }
 
@@ -316,6 +334,15 @@ export class LanguageTag {
         const made = text === "" && value !== null && !isList ? "" : calls.withPart(this.text, part, text);
         if (made === "") throw new EditError(PARTS[part], text);
         return new LanguageTag(made);
+    }
+
+    #withKeyword(key, value) {
+        const made = calls.withKeyword(this.text, key, value);
+        if (made !== "") return new LanguageTag(made);
+        // A keyword can be set in und, so the library refuses the key or the value, if it refuses them there too.
+        if (calls.withKeyword("und", key) === "") throw new EditError("key", key);
+        if (value !== undefined && calls.withKeyword("und", key, value) === "") throw new EditError("value", value);
+        throw new EditError("keywords");
     }
 
     equals(other) {

@@ -421,6 +421,45 @@ SETTER(pg_langtag_set_variants, LANGTAG_PART_VARIANTS, "variants")
 SETTER(pg_langtag_set_extensions, LANGTAG_PART_EXTENSIONS, "extensions")
 SETTER(pg_langtag_set_private_use, LANGTAG_PART_PRIVATE_USE, "private use")
 
+/* Writes a tag with the value of a key, or without the key if `value` is NULL. Returns what the library returns. */
+static size_t write_keyword(const char *tag, size_t len, text *key, text *value, char *buffer, size_t room) {
+    if (value == NULL) return langtag_without_keyword(tag, len, BYTES(key), LEN(key), buffer, room);
+    return langtag_with_keyword(tag, len, BYTES(key), LEN(key), BYTES(value), LEN(value), buffer, room);
+}
+
+/* Raises an error that says why a keyword is not set. A keyword can be set in und, so the library refuses the key or the value, if it
+ * refuses them there too. */
+static void refuse_keyword(struct varlena *tag, text *key, text *value) {
+    char nothing[1];
+    const char *why = write_keyword("und", 3, key, NULL, nothing, 0) == 0    ? "A key is a letter or a digit, and then a letter."
+                      : write_keyword("und", 3, key, value, nothing, 0) == 0 ? "A value is subtags of 3 to 8 letters or digits with hyphens between them."
+                                                                             : "A tag for private use or an irregular one has no keywords.";
+    ereport(ERROR, (errcode(ERRCODE_INVALID_PARAMETER_VALUE),
+                    value == NULL ? errmsg("the keyword \"%s\" of language tag \"%s\" cannot be removed", shown(BYTES(key), LEN(key)), shown(BYTES(tag), LEN(tag)))
+                                  : errmsg("the keyword \"%s\" of language tag \"%s\" cannot be set to \"%s\"", shown(BYTES(key), LEN(key)),
+                                           shown(BYTES(tag), LEN(tag)), shown(BYTES(value), LEN(value))),
+                    errdetail("%s", why)));
+}
+
+/* Sets a keyword, or removes it if the value is NULL. A tag or a key that is NULL gives NULL. */
+PG_FUNCTION_INFO_V1(pg_langtag_set_keyword);
+Datum pg_langtag_set_keyword(PG_FUNCTION_ARGS) {
+    struct varlena *tag, *changed;
+    text *key, *value;
+    size_t room, len;
+    if (PG_ARGISNULL(0) || PG_ARGISNULL(1)) PG_RETURN_NULL();
+    tag = PG_GETARG_VARLENA_PP(0);
+    key = PG_GETARG_TEXT_PP(1);
+    value = PG_ARGISNULL(2) ? NULL : PG_GETARG_TEXT_PP(2);
+    room = LEN(tag) + LEN(key) + (value == NULL ? 0 : LEN(value)) + 4;
+    changed = palloc(VARHDRSZ + room);
+    len = write_keyword(BYTES(tag), LEN(tag), key, value, VARDATA(changed), room);
+    if (len == 0) refuse_keyword(tag, key, value);
+    SET_VARSIZE(changed, VARHDRSZ + len);
+    langtag_recommend(VARDATA(changed), len);
+    PG_RETURN_POINTER(changed);
+}
+
 /* Each tag got its recommended case when it was read. */
 PG_FUNCTION_INFO_V1(pg_langtag_recommended);
 Datum pg_langtag_recommended(PG_FUNCTION_ARGS) { PG_RETURN_POINTER(PG_GETARG_VARLENA_PP(0)); }
@@ -453,6 +492,15 @@ Datum pg_langtag_suggestion(PG_FUNCTION_ARGS) {
     PG_RETURN_POINTER(value_of(code, len));
 }
 
+/* The greatest length of a text for calls that take much more time for a longer text, and that cannot be interrupted. */
+#define LONGEST 8192
+
+static void check_length(const char *what, struct varlena *text) {
+    if (LEN(text) > LONGEST)
+        ereport(ERROR, (errcode(ERRCODE_PROGRAM_LIMIT_EXCEEDED),
+                        errmsg("the %s has %zu bytes, and may have %d", what, LEN(text), LONGEST)));
+}
+
 typedef size_t (*form_of)(const char *, size_t, char *, size_t);
 
 /* Returns a form of a tag in its recommended case, or NULL if the library writes none. A canonical form has at most twice as many
@@ -481,6 +529,12 @@ Datum pg_langtag_maximized(PG_FUNCTION_ARGS) { return form(fcinfo, langtag_maxim
 
 PG_FUNCTION_INFO_V1(pg_langtag_minimized);
 Datum pg_langtag_minimized(PG_FUNCTION_ARGS) { return form(fcinfo, langtag_minimize); }
+
+PG_FUNCTION_INFO_V1(pg_langtag_extensions_form);
+Datum pg_langtag_extensions_form(PG_FUNCTION_ARGS) {
+    check_length("tag", PG_GETARG_VARLENA_PP(0));
+    return form(fcinfo, langtag_extensions_form);
+}
 
 PG_FUNCTION_INFO_V1(pg_langtag_from_posix);
 Datum pg_langtag_from_posix(PG_FUNCTION_ARGS) { return form(fcinfo, langtag_from_posix); }
@@ -704,18 +758,9 @@ static Datum chosen(FunctionCallInfo fcinfo, choice *choose) {
 PG_FUNCTION_INFO_V1(pg_langtag_tag_for_header);
 Datum pg_langtag_tag_for_header(PG_FUNCTION_ARGS) { return chosen(fcinfo, langtag_tag_for_header_lenient); }
 
-/* The greatest length of a header for which distances are computed. */
-#define LONGEST_HEADER 8192
-
-static void check_header(text *header) {
-    if (LEN(header) > LONGEST_HEADER)
-        ereport(ERROR, (errcode(ERRCODE_PROGRAM_LIMIT_EXCEEDED),
-                        errmsg("the header has %zu bytes, and may have %d", LEN(header), LONGEST_HEADER)));
-}
-
 PG_FUNCTION_INFO_V1(pg_langtag_best_for_header);
 Datum pg_langtag_best_for_header(PG_FUNCTION_ARGS) {
-    check_header(PG_GETARG_TEXT_PP(1));
+    check_length("header", PG_GETARG_TEXT_PP(1));
     return chosen(fcinfo, langtag_best_for_header);
 }
 
@@ -730,7 +775,7 @@ Datum pg_langtag_match_for_header(PG_FUNCTION_ARGS) {
     langtag_best_match match;
     Datum values[4];
     bool nulls[4] = {false, false, false, false};
-    check_header(header);
+    check_length("header", header);
     if (get_call_result_type(fcinfo, NULL, &row) != TYPEFUNC_COMPOSITE) elog(ERROR, "a row is wanted");
     best = chosen_index(langtag_best_for_header, header, tags, count);
     if (best < 0) PG_RETURN_NULL();

@@ -74,6 +74,7 @@ def extensions():
         refused(tag.keyword), refused(tag.keyword, 5), refused(tag._value_of, 0), refused(tag._pairs, "u"), refused(tag._before_keys, None)
     made = Tag.__new__(Tag)
     refused(made.keyword, "ca"), refused(made._pairs, 0), refused(made._before_keys, 1)
+    refused(made.extensions_form), refused(made._set_keyword, "ca", "roc")
 
 
 def make():
@@ -86,6 +87,11 @@ def replace():
     Tag("de").replace(script="Latn", extensions={"u": ["co", "x1"]}, variants=())
     for wrong in ("Latin", "\ud800", b"x"):
         refused(Tag("de").replace, script=wrong)
+    for tag in (Tag("ar-u-ca-islamic-civil-kn"), Tag("de-a-bb-x-a"), Tag("de-u-" + "nu-latn-" * 100 + "kn")):
+        tag.replace(keywords={"ca": "roc", "kn": None, "nu": ""}), tag._set_keyword(b"ca", b"roc"), tag.extensions_form()
+        refused(tag.replace, keywords={"c1": "roc"}), refused(tag.replace, keywords={"ca": "ab"}), refused(tag.replace, keywords=5)
+        refused(tag._set_keyword, "ca"), refused(tag._set_keyword, 5, "roc"), refused(tag._set_keyword, "ca", 5)
+    refused(Tag("x-a").replace, keywords={"ca": "roc"}), refused(Lying("de")._set_keyword, "ca", "roc"), refused(Lying("de").extensions_form)
 
 
 def compare():

@@ -14,6 +14,7 @@ import sys
 import threading
 import time
 import tracemalloc
+import types
 import unittest
 import unittest.mock
 import weakref
@@ -185,7 +186,8 @@ class Values(unittest.TestCase):
 #: Each way in which an argument is refused.
 REFUSALS = (
     lambda text: Tag(text), lambda text: parse(text), lambda text: Range(text), lambda text: Tag.from_posix(text),
-    lambda text: Tag("de").replace(script=text), lambda text: Tag.from_parts(text), lambda text: Tag("x-a").replace(script="Latn"),
+    lambda text: Tag("de").replace(script=text), lambda text: Tag("de").replace(keywords={"ca": text}),
+    lambda text: Tag("de").replace(keywords={text: "roc"}), lambda text: Tag.from_parts(text), lambda text: Tag("x-a").replace(script="Latn"),
     lambda text: AcceptLanguage(text), lambda text: tag_for_header("de, " + text, ["de"]), lambda text: Range("de").matches_basic(text),
     lambda text: Range("de").matches_extended(text), lambda text: langtag.distance("de", text), lambda text: look_up([text], ["de"]),
     lambda text: look_up(["de"], [text]), lambda text: langtag.best_for_header("de", [text]), lambda text: tag_for_header("de", [text]),
@@ -424,6 +426,37 @@ class Edits(unittest.TestCase):
         with self.assertRaises(EditError):
             Tag("de").replace(script=Odd("Latn-US"))
         self.assertEqual(str(Tag("de").replace(script=Odd("Latn"))), "de-Latn")
+        self.assertEqual(str(Tag("de-u-ca-roc").replace(keywords={Odd("ca"): Odd("japanese")})), "de-u-ca-japanese")
+        self.assertEqual(str(Tag("de-u-ca-roc").replace(keywords={Odd("ca"): Odd("")})), "de-u-ca")
+        self.assertEqual(caught(lambda text: Tag("de").replace(keywords={Odd(text): Odd("roc")}), "ca-roc").part, "key")
+
+    def test_keywords(self):
+        tag = Tag("th-u-ca-gregory-nu-thai")
+        self.assertIs(tag.replace(keywords={}), tag)
+        self.assertIs(Tag("x-a").replace(keywords={}).kind, Kind.PRIVATE_USE)
+        self.assertEqual(str(tag.replace(keywords={"ca": "buddhist", "nu": None, "kn": ""})), "th-u-ca-buddhist-kn")
+        self.assertEqual(str(tag.replace(keywords=tag.keywords)), str(tag))
+        self.assertEqual(str(tag.replace(keywords=types.MappingProxyType({"CA": "Buddhist"}))), "th-u-ca-Buddhist-nu-thai")
+        self.assertEqual(str(tag.replace(keywords={"nu": "latn"}, extensions=None, region="TH")), "th-TH-u-nu-latn")
+        self.assertEqual(str(Tag.from_parts("ar", extensions={"u": "nu-latn"}, keywords={"ca": "islamic"})), "ar-u-ca-islamic-nu-latn")
+        self.assertEqual(str(Tag.from_parts("ar", keywords={"ca": None})), "ar")
+        self.assertEqual(Tag.from_parts("ar", keywords=tag.keywords).keywords, tag.keywords)
+
+    def test_keywords_that_are_none(self):
+        tag = Tag("th-u-ca-gregory")
+        for wrong, part, text in (({"nu": "thai", "c1": "roc"}, "key", "c1"), ({"ca": "roc", "nu": "ab"}, "value", "ab"),
+                                  ({"kn": None, "": None}, "key", ""), ({"ca": "\ud800"}, "value", "\ud800"), ({"ca": "ab-" * 100_000}, "value", "ab-" * 100_000)):
+            error = caught(lambda keywords: tag.replace(keywords=keywords), wrong)
+            self.assertEqual((type(error), error.part, error.text), (EditError, part, text))
+            self.assertLess(len(str(error)), 1200)
+        for text in ("x-a", "i-klingon"):
+            error = caught(lambda text: Tag(text).replace(keywords={"ca": "roc"}), text)
+            self.assertEqual((error.part, error.text, str(error)), ("keywords", None, "not a normal language tag"))
+        self.assertEqual(str(tag), "th-u-ca-gregory")
+        for other in (None, "ca", b"ca", 5, [("ca", "roc")], ["ca"], {"ca": True}, {"ca": 5}, {"ca": b"roc"}, {b"ca": "roc"}, {5: "roc"}, {"ca": ["roc"]},
+                      {"c1": "roc", "ca": 5}):
+            with self.assertRaises(TypeError):
+                tag.replace(keywords=other)
 
 
 class Memory(unittest.TestCase):
@@ -432,10 +465,11 @@ class Memory(unittest.TestCase):
         tag = Tag(f"iw-BU-heploc-t-de-m0-u{number}-u-attr-co-a{number:02}-x-a{number}")
         tag.keyword("co"), tag.keyword("zz"), tag.keywords, tag.attributes, tag.transform
         tag.canonical(), tag.recommended(), tag.folded(), tag.replace(script="Latn"), hash(tag), repr(tag), tag.is_valid
+        tag.extensions_form(), tag.replace(keywords={"ca": f"a{number:02}", "co": None})
         Tag.from_parts("de", private_use=f"x-a{number}"), Range(f"de-{number}").matches_extended(tag), tag == Tag("de")
         tag_for_header_lenient(f"de-x-a{number}, d!;q=2, fr;q=0.5", [tag, Tag("fr")], None)
         for wrong in (lambda: Tag(f"a_{number}"), lambda: tag.replace(script=f"a{number}"), lambda: Range(f"a_{number}"),
-                      lambda: AcceptLanguage(f"a_{number}")):
+                      lambda: AcceptLanguage(f"a_{number}"), lambda: tag.replace(keywords={f"a{number}": "roc"})):
             with self.assertRaises(ValueError):
                 wrong()
 
@@ -534,7 +568,7 @@ print(*sorted(name for base in (langtag._backend.TagBase, langtag._backend.Range
 class Help(unittest.TestCase):
     def test_that_it_shows_the_calls(self):
         said = pydoc.render_doc(langtag, renderer=pydoc.plaintext)
-        for name in ("matches_basic", "canonical", "key", "tag_for_header_lenient", "viable", "invalid_subtag", "private_use"):
+        for name in ("matches_basic", "canonical", "extensions_form", "keywords", "key", "tag_for_header_lenient", "viable", "invalid_subtag", "private_use"):
             self.assertIn(name, said)
         for name in ("with_traceback", "__getnewargs__", "_asdict", "add_note"):
             self.assertNotIn(f" {name}(", said)

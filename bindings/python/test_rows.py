@@ -215,6 +215,37 @@ def answer_edit(tag, part, given):
     return found
 
 
+def with_keyword(tag, keywords):
+    try:
+        return str(tag.replace(keywords=keywords))
+    except EditError as error:
+        wrong = {"key": "bad key", "value": "bad value", "keywords": "no parts"}[error.part]
+        whole = "not a normal language tag" if error.text is None else f"{error.text!r} can't be the {error.part} of a keyword"
+        assert (error.text is None, str(error)) == (error.part == "keywords", whole)
+        assert error.text in (None, *keywords, *keywords.values()) and copied(error)
+        return wrong
+
+
+def answer_with_keyword(tag, key, value):
+    """Sets the keyword alone, and between two other keywords, which must not change what is refused."""
+    tag, key, value = Tag(tag), key.decode(), None if value == b"-" else value.decode()
+    before, found = str(tag), with_keyword(tag, {key: value})
+    more = with_keyword(tag, {"0a": "before", key: value, "0b": ""})
+    assert str(tag) == before
+    if found in ("bad key", "bad value", "no parts"):
+        assert more == found or found.startswith("bad") and more == "no parts"
+    elif value is not None:
+        assert Tag(found).replace(keywords={"0a": "before", "0b": ""}) == Tag(more)
+        assert Tag(found).keyword(key) == Tag(more).keyword(key) == value
+    return found
+
+
+def answer_extensions_form(text):
+    form = Tag(text).extensions_form()
+    assert form.extensions_form() == form and type(form) is Tag
+    return str(form)
+
+
 def likely(text, form):
     tag = made(Tag, text)
     return "-" if tag is None else str(form(tag))
@@ -305,6 +336,7 @@ def answer_best_match(header, tags):
 
 
 ANSWERS = {
+    "with-keyword": answer_with_keyword, "extensions-form": answer_extensions_form,
     "keyword": answer_keyword, "keywords": answer_keywords, "transform": answer_transform,
     "attributes": lambda text: " ".join(Tag(text).attributes) or "-",
     "refused": answer_refused, "distance": answer_distance, "right-to-left": answer_direction, "posix": answer_posix,
@@ -319,7 +351,7 @@ ANSWERS = {
 }
 FLOORS = {"table.txt": 360, "texts.txt": 710, "negotiation.txt": 102, "edits.txt": 125, "likely.txt": 250,
           "refused.txt": 60, "distance.txt": 140, "direction.txt": 325, "posix.txt": 150, "choices.txt": 285, "lists.txt": 15,
-          "unicode.txt": 400}
+          "unicode.txt": 400, "keywords.txt": 380, "extensions.txt": 630}
 
 
 class Rows(unittest.TestCase):

@@ -14,6 +14,8 @@ FORMS = [
         "let Ok(ascii) = core::str::from_utf8(bytes) else { return Err(InvalidLangTag(bytes)); };",
     ),
     ("unsafe { String::from_utf8_unchecked(bytes) }", "String::from_utf8(bytes).unwrap_or_default()"),
+    # rustc knows the greatest element of a constant that is an array, but not of an array in a struct. So no part needs a bounds check.
+    ("TABLES.parts[", "crate::states::PARTS["),
 ]
 
 

@@ -225,6 +225,69 @@ static void check_likely(slice text, write_form *write, pages out) {
     SAME(write(form, len, again, sizeof again) == len && memcmp(form, again, len) == 0);
 }
 
+/* langtag_extensions_form: the form of the form is the form itself, and all parts but the extensions stay. */
+static void check_extensions_form(slice text, pages out) {
+    char form[2 * ROOM], again[2 * ROOM];
+    size_t len = check_room(text, langtag_extensions_form, form, out);
+    tag old = read_tag(text), new = read_tag((slice){form, len});
+    SAME(new.kind == old.kind && (len == 0) == (old.kind == 0) && len <= 2 * text.len);
+    for (int k = 0; k < 6; k++) SAME(k == 4 || has_same_bytes(new.parts[k], old.parts[k]));
+    SAME(langtag_extensions_form(form, len, again, sizeof again) == len && memcmp(form, again, len) == 0);
+}
+
+/* Whether a text is empty, or has subtags of three to eight letters and digits. */
+static bool is_value(slice text) {
+    subtags all = split(text);
+    for (size_t k = 0; text.len > 0 && k < all.count; k++)
+        if (all.of[k].len < 3 || all.of[k].len > 8 || !all_of(all.of[k], is_alphanum)) return false;
+    return true;
+}
+
+static bool has_keyword(slice tag, slice key, slice *value) {
+    langtag_span found;
+    if (!langtag_keyword(tag.at, tag.len, key.at, key.len, &found)) return false;
+    *value = at(tag, found);
+    return true;
+}
+
+/* langtag_without_keyword: the key is no longer found. If there was none, the tag stays. */
+static void check_removed(slice tag, slice key) {
+    char buffer[2 * ROOM];
+    slice value, made = {buffer, langtag_without_keyword(tag.at, tag.len, key.at, key.len, buffer, sizeof buffer)};
+    SAME(langtag_kind(made.at, made.len) == LANGTAG_NORMAL && made.len <= tag.len);
+    SAME(!has_keyword(made, key, &value));
+    SAME(has_keyword(tag, key, &value) ? made.len < tag.len : has_same_bytes(made, tag));
+}
+
+/* langtag_with_keyword: the value is found, and all parts but the extensions stay. */
+static void check_keyword(slice text, slice other, pages out) {
+    static const char *const values[] = {"", "buddhist", "islamic-civil", "ab", "abc-", "a_bc"};
+    char key[] = {(char)below(128), (char)below(128)}, filled[2 * ROOM + 8];
+    if (below(4)) memcpy(key, (const char *[]){"ca", "nu", "1a", "ZZ"}[below(4)], sizeof key);
+    slice asked = {key, below(8) ? 2 : below(2)}, value = {values[below(6)], 0}, found;
+    value.len = strlen(value.at);
+    if (below(3) == 0) value = other;
+    bool is_key = asked.len == 2 && is_alphanum((unsigned char)key[0]) && is_letter((unsigned char)key[1]);
+    bool is_set = read_tag(text).kind == 1 && is_key && is_value(value);
+    size_t most = text.len + value.len + 6, len = langtag_with_keyword(text.at, text.len, key, asked.len, value.at, value.len, out.last, 0);
+    SAME(is_set ? len > 0 && len <= most : len == 0);
+    size_t room = below(3) ? len : below(2 * ROOM + 8);
+    if (room > 0 && below(4) == 0) room--;
+    memset(filled, 0x5a, sizeof filled);
+    char *buffer = place(out, filled, room, below(2));
+    SAME(langtag_with_keyword(text.at, text.len, key, asked.len, value.at, value.len, buffer, room) == len);
+    size_t written = len <= room ? len : 0;
+    SAME(memcmp(buffer + written, filled, room - written) == 0);
+    SAME((langtag_without_keyword(text.at, text.len, key, asked.len, filled, 0) > 0) == (is_key && read_tag(text).kind == 1));
+    if (written == 0) return;
+    slice made = {buffer, len};
+    tag old = read_tag(text), new = read_tag(made);
+    SAME(new.kind == 1 && has_keyword(made, asked, &found) && has_same_bytes(found, value));
+    for (int k = 0; k < 6; k++) SAME(k == 4 || has_same_bytes(new.parts[k], old.parts[k]));
+    check_removed(text, asked);
+    check_removed(made, asked);
+}
+
 /* langtag_from_posix: a tag without codeset and modifier stays. langtag_unknown_modifier: the text after the first @. */
 static void check_posix(slice name, pages out) {
     char form[2 * ROOM];
@@ -362,6 +425,8 @@ static unsigned check_one(pages here, pages there, pages out) {
     check_likely(placed, langtag_maximize, out);
     check_likely(placed, langtag_minimize, out);
     check_posix(placed, out);
+    check_extensions_form(placed, out);
+    check_keyword(placed, neighbour, out);
     check_choice(placed, neighbour, neighbour);
     check_look_up(placed, neighbour);
     check_ranges(neighbour, placed);

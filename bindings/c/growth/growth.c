@@ -79,6 +79,10 @@ FUNCTION(next_accepted, rest = (langtag_span){0, len};
 FUNCTION(with_part, for (uint32_t part = 0; part <= LANGTAG_PART_PRIVATE_USE; part++)
          result = langtag_with_part(text, len, part, "x-a", 3, buffer, sizeof buffer) +
                   langtag_with_part("de", 2, part, text, len, buffer, sizeof buffer))
+FUNCTION(with_keyword, result = langtag_with_keyword(text, len, "zz", 2, "bbb", 3, buffer, sizeof buffer) +
+                                langtag_with_keyword("de", 2, "zz", 2, text + 3, len - 3, buffer, sizeof buffer))
+FUNCTION(without_keyword, result = langtag_without_keyword(text, len, "zz", 2, buffer, sizeof buffer))
+FUNCTION(extensions_form, result = langtag_extensions_form(text, len, buffer, sizeof buffer))
 
 static const struct function functions[] = {
     {"parse", parse},
@@ -125,6 +129,9 @@ static const struct function functions[] = {
     {"next_fallback", next_fallback},
     {"next_accepted", next_accepted},
     {"with_part", with_part},
+    {"with_keyword", with_keyword},
+    {"without_keyword", without_keyword},
+    {"extensions_form", extensions_form},
 };
 
 int main(void) { return count(functions, sizeof functions / sizeof *functions); }

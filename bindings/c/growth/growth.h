@@ -26,6 +26,8 @@ static const struct {
     {"extensions", "de", "-a-bb-A-cc", 0},
     {"singletons", "de", "-#-bb", 0},
     {"keywords", "de-u", "-##-bbb", 0},
+    {"letter_keys", "de-u", "-#z-bbb", 0},
+    {"one_key", "de-u", "-zz-bbb", 0},
     {"private", "x", "-aaaaaaaa", 0},
     {"singles", "de-x", "-a", 0},
     {"wildcards", "*", "-*-aa", 0},
@@ -37,6 +39,8 @@ static const struct {
     {"tags", "de", ",x-######", 0},
     {"refused", "de-DE;q=0", ",de;q=0.5", 4000},
     {"prefixed", "sl-rozaj", "-biske", 4000},
+    {"attributes", "de-u", "-a######", 4000},
+    {"transformed", "de-t-de", "-a######", 4000},
     {"many_variants", "de", "-a######", 100000},
     {"many_ranges", "de", ",a-######;q=0.#", 100000},
 };

@@ -12,13 +12,15 @@ import tempfile
 
 FEW = 5000  # instructions that a call may take for a text of any length
 MOST = 2.2
-# The cases that are known and documented to be quadratic: more than 8192 repeated variants, variants with prefixes, and a header in
-# which many ranges would find a tag that a range of weight 0 excludes.
+# The cases that are known and documented to be quadratic: more than 8192 repeated variants, variants with prefixes, a header in
+# which many ranges would find a tag that a range of weight 0 excludes, and the attributes of u and the variants of t, which are sorted.
 SQUARES = {
     ("repeats", "many_variants"): 3,
     ("repeated_variant", "many_variants"): 3,
     ("misplaced_variant", "prefixed"): 4.4,
     ("best_for_header", "refused"): 4.4,
+    ("extensions_form", "attributes"): 4.4,
+    ("extensions_form", "transformed"): 4.4,
 }
 # The functions that a header declares, and those that a Rattle source exports.
 DECLARED = re.compile(r'\blangtag_(\w+)\([^;{]*\);|extern "C" fn langtag_bench_(\w+)')

@@ -72,6 +72,19 @@ static size_t suggested_region(const char *bytes, size_t len, char *buffer, size
     return langtag_suggestion(LANGTAG_INVALID_REGION, bytes, len, buffer, buffer_len);
 }
 
+/* A tag with a calendar set, and without one, and a value of a calendar set in a tag. */
+static size_t with_calendar(const char *bytes, size_t len, char *buffer, size_t buffer_len) {
+    return langtag_with_keyword(bytes, len, "ca", 2, "buddhist", 8, buffer, buffer_len);
+}
+
+static size_t without_calendar(const char *bytes, size_t len, char *buffer, size_t buffer_len) {
+    return langtag_without_keyword(bytes, len, "ca", 2, buffer, buffer_len);
+}
+
+static size_t calendar_set(const char *bytes, size_t len, char *buffer, size_t buffer_len) {
+    return langtag_with_keyword("de-U-nu-latn", 12, "CA", 2, bytes, len, buffer, buffer_len);
+}
+
 static const struct {
     const char *name;
     write_call *call;
@@ -97,6 +110,21 @@ static const struct {
     {"suggestion", suggestion, {"fr-Latn-840-x", "-a", ""}, {"US", "", ""}},
     {"suggestion", suggested_language, {"deu", "u", ""}, {"", "", ""}},
     {"suggestion", suggested_region, {"UK", "K", ""}, {"", "", ""}},
+    {"with_keyword", with_calendar, {"de", "-abcde", ""}, {"de", "-abcde", "-u-ca-buddhist"}},
+    {"with_keyword", with_calendar, {"de-u-nu-latn-x", "-a", ""}, {"de-u-ca-buddhist-nu-latn-x", "-a", ""}},
+    {"with_keyword", with_calendar, {"de-a", "-bb", "-U-CA-gregory"}, {"de-a", "-bb", "-U-CA-buddhist"}},
+    {"with_keyword", with_calendar, {"de-u-ca", "-abc", "-ca-x-y"}, {"de-u-ca-buddhist-x-y", "", ""}},
+    {"with_keyword", with_calendar, {"x", "-a", ""}, {"", "", ""}},
+    {"with_keyword", calendar_set, {"abc", "-abcd", ""}, {"de-U-CA-abc", "-abcd", "-nu-latn"}},
+    {"with_keyword", calendar_set, {"abc", "-abcd", "-ab"}, {"", "", ""}},
+    {"without_keyword", without_calendar, {"de-u-ca", "-abc", "-nu-latn"}, {"de-u-nu-latn", "", ""}},
+    {"without_keyword", without_calendar, {"de-u", "-ca-abc", "-x-y"}, {"de-x-y", "", ""}},
+    {"without_keyword", without_calendar, {"de", "-abcde", "-u-nu"}, {"de", "-abcde", "-u-nu"}},
+    {"without_keyword", without_calendar, {"x", "-a", ""}, {"", "", ""}},
+    {"extensions_form", langtag_extensions_form, {"en-u-nu-THAI-CA-islamicc-x", "-a", ""}, {"en-u-ca-islamic-civil-nu-thai-x", "-a", ""}},
+    {"extensions_form", langtag_extensions_form, {"de-u-ca", "-ABC", "-kn-true"}, {"de-u-ca", "-abc", "-kn"}},
+    {"extensions_form", langtag_extensions_form, {"de-u", "-tz-CATHU", ""}, {"de-u-tz-cator", "", ""}},
+    {"extensions_form", langtag_extensions_form, {"x", "-A", ""}, {"x", "-A", ""}},
 };
 
 static void sweep_form(const char *name, write_call *call, const struct shape *given, const struct shape *other) {

@@ -165,6 +165,8 @@ static void answer_canonical(text *to, const text *arguments) {
 static void answer_maximized(text *to, const text *arguments) { put_form(to, arguments[0], langtag_maximize); }
 static void answer_minimized(text *to, const text *arguments) { put_form(to, arguments[0], langtag_minimize); }
 
+static void answer_extensions_form(text *to, const text *arguments) { put_form(to, arguments[0], langtag_extensions_form); }
+
 static void answer_posix(text *to, const text *arguments) { put_form(to, arguments[0], langtag_from_posix); }
 
 static void answer_unknown_modifier(text *to, const text *arguments) {
@@ -388,6 +390,43 @@ static void answer_keyword(text *to, const text *arguments) {
     else put_word(to, value.start == 1 && value.len == 2 ? " -" : " - with a span");
 }
 
+/* Calls langtag_without_keyword if the value is -, otherwise langtag_with_keyword. */
+static size_t change_keyword(text tag, text key, text value, char *buffer, size_t room) {
+    if (value.len == 1 && value.at[0] == '-') return langtag_without_keyword(tag.at, tag.len, key.at, key.len, buffer, room);
+    return langtag_with_keyword(tag.at, tag.len, key.at, key.len, value.at, value.len, buffer, room);
+}
+
+/* Asks what langtag.h says how to find out what was refused. */
+static const char *refused_keyword(text tag, text key, text value) {
+    text und = {(char[]){'u', 'n', 'd'}, 3, 3};
+    char none[] = {'~'};
+    if (langtag_without_keyword("und", 3, key.at, key.len, none, 0) == 0) return " bad key";
+    if (change_keyword(und, key, value, none, 0) == 0) return " bad value";
+    return langtag_kind(tag.at, tag.len) == LANGTAG_NORMAL ? " refused for no reason" : " no parts";
+}
+
+/* Writes to a buffer of the size that is always enough, and to a buffer that is too short. The call may change only the bytes of the
+ * new tag. */
+static void answer_with_keyword(text *to, const text *arguments) {
+    text tag = arguments[0], key = arguments[1], value = arguments[2];
+    bool is_removed = value.len == 1 && value.at[0] == '-';
+    size_t room = tag.len + (is_removed ? 0 : key.len + value.len + 4), at;
+    char *buffer = malloc(room + 1);
+    if (!buffer) abort();
+    memset(buffer, '~', room + 1);
+    size_t len = change_keyword(tag, key, value, buffer, room);
+    if (len == 0) put_word(to, refused_keyword(tag, key, value));
+    else if (len <= room) put_bytes(to, buffer, len);
+    else put_word(to, " longer than there is room");
+    for (at = len; at <= room; at++)
+        if (buffer[at] != '~') put_word(to, " and a byte after it");
+    memset(buffer, '~', room + 1);
+    if (len > 0 && change_keyword(tag, key, value, buffer, len - 1) != len) put_word(to, " whose length changes with the room");
+    for (at = 0; at <= room; at++)
+        if (buffer[at] != '~') put_word(to, " and a byte in too little room");
+    free(buffer);
+}
+
 /* Writes KEY=VALUE for each, and checks that each is found by its key. */
 static int put_pairs(text *to, text tag, next_pair *next, find_value *find) {
     size_t passed = 0;
@@ -490,5 +529,7 @@ call calls[] = {
     {"attributes", answer_attributes, 0, 0},
     {"transform", answer_transform, 0, 0},
     {"best-match", answer_best_match, 0, 0},
+    {"with-keyword", answer_with_keyword, 0, 0},
+    {"extensions-form", answer_extensions_form, 0, 0},
     {NULL, NULL, 0, 0},
 };

@@ -258,6 +258,26 @@ static std::string edit_of(const strings &asked) {
     return whole == made ? *made : "from_parts has another: " + whole.value_or("none");
 }
 
+/* Returns the tag with a keyword set or, if the value is -, removed; or what the call refuses. */
+static std::string with_keyword_of(const strings &asked) {
+    const std::string &key = asked[1], &value = asked[2];
+    const bool is_removed = value == "-";
+    const auto changed = [&](const tag &one) { return is_removed ? one.without_keyword(key) : one.with_keyword(key, value); };
+    const auto one = tag::parse(asked[0]), und = tag::parse("und");
+    if (!one) return "not a tag";
+    langtag::owned_tag owned(*one);
+    const auto made = changed(*one);
+    const bool is_set = is_removed ? owned.remove_keyword(key) : owned.set_keyword(key, value);
+    if (is_set != made.has_value() || owned.text() != made.value_or(asked[0])) return "an owned tag has another";
+    if (!made) return !und->without_keyword(key) ? "bad key" : !changed(*und) ? "bad value" : "no parts";
+    return tag::parse(*made) ? *made : "not a tag: " + *made;
+}
+
+static std::string extensions_form_of(const strings &asked) {
+    const auto one = tag::parse(asked[0]);
+    return one ? one->extensions_form() : "-";
+}
+
 static std::string refused_of(const strings &asked) {
     const auto found = langtag::refused(asked[0]);
     const std::size_t len = asked[0].size();
@@ -397,6 +417,8 @@ static const std::map<std::string, answer> calls = {
     {"attributes", attributes_of},
     {"transform", transform_of},
     {"best-match", best_match_of},
+    {"with-keyword", with_keyword_of},
+    {"extensions-form", extensions_form_of},
 };
 
 /* Returns a line in which each {N:piece} is expanded. */

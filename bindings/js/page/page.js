@@ -39,6 +39,20 @@ function partsOf(tag) {
     return parts.filter((part) => part.text);
 }
 
+/** What the keys of the extension u choose (UTS #35, part 1, Key And Type Definitions). */
+const KEYS = {
+    ca: "Calendar", cf: "Currency format", co: "Sort order", cu: "Currency", dx: "Scripts without dictionary breaks", em: "Emoji presentation",
+    fw: "First day of the week", hc: "Hour cycle", ka: "Punctuation in sort order", kb: "Backward accents in sort order", kc: "Case level in sort order",
+    kf: "Case first in sort order", kk: "Normalization in sort order", kn: "Numeric sort order", kr: "Reordering of scripts", ks: "Strength of sort order",
+    kv: "Ignored characters in sort order", lb: "Line breaks", lw: "Line breaks in words", ms: "Measurement system", mu: "Measurement unit",
+    nu: "Digits", rg: "Region override", sd: "Subdivision", ss: "Sentence breaks", tz: "Time zone", va: "Variant of the locale",
+};
+
+/** Returns the keywords of a tag as forms are shown. An empty value means true. */
+function keywordsOf(tag) {
+    return [...tag.keywords].slice(0, MOST).map(([key, value]) => [KEYS[key] === undefined ? `Key ${key}` : `${KEYS[key]} (${key})`, value || "true"]);
+}
+
 /** Shows a text as it is typed, in pieces. Only some pieces have a class. */
 function showPieces(id, pieces) {
     find(id).replaceChildren(...pieces.filter(([text]) => text !== "").map(([text, className]) => (className ? made("b", className, short(text)) : short(text))));
@@ -122,8 +136,9 @@ function showTag() {
     for (const head of find("tag-parts").tBodies[0].querySelectorAll("th")) head.scope = "row";
     const forms = [
         ["Name", describe(tag), "words"], ["Kind", tag.kind, "words"], ["Validity", validity, "words"], ["Recommended case", tag.toRecommended()], ["Canonical form", tag.canonical()],
+        ["With canonical extensions", tag.extensionsForm()],
         ["With likely subtags", tag.maximize()], ["Without them", tag.minimize()],
-        ["Written", tag.isRightToLeft ? "from right to left" : "from left to right", "words"],
+        ["Written", tag.isRightToLeft ? "from right to left" : "from left to right", "words"], ...keywordsOf(tag),
     ];
     find("tag-forms").replaceChildren(...forms.flatMap(([name, form, className]) => [made("dt", "", name), made("dd", className, short(String(form)))]));
 }

@@ -226,6 +226,38 @@ function answerEdit(text, name, given) {
     return found;
 }
 
+function withKeywords(tag, keywords) {
+    try {
+        return String(tag.with({ keywords }));
+    } catch (error) {
+        if (!(error instanceof EditError)) throw error;
+        assert(error.text === undefined || error.message === `${JSON.stringify(error.text)} can't be the ${error.part} of a keyword`, error.message);
+        assert((error.part === "keywords") === (error.text === undefined), "its text");
+        return { key: "bad key", value: "bad value", keywords: "no parts" }[error.part];
+    }
+}
+
+/** Sets the keyword by a Map, and by an object together with two other keywords, which must not change what is refused. */
+function answerWithKeyword(text, key, given) {
+    const tag = LanguageTag.parse(text), value = given === "-" ? null : given;
+    const found = withKeywords(tag, new Map([[key, value]]));
+    const more = withKeywords(tag, { "0a": "before", [key]: value, "0b": "" });
+    assert(tag.text === text, "the tag stays");
+    if (LanguageTag.canParse(found) && value !== null) {
+        assert(LanguageTag.parse(more).equals(LanguageTag.parse(found).with({ keywords: { "0a": "before", "0b": "" } })), "with other keywords");
+        assert(LanguageTag.parse(found).keyword(key) === value, "the value");
+    } else if (value !== null) {
+        assert(more === found || more === "no parts", "the refusal with other keywords");
+    }
+    return found;
+}
+
+function answerExtensionsForm(text) {
+    const form = LanguageTag.parse(text).extensionsForm();
+    assert(form.extensionsForm().text === form.text, "the form of the form");
+    return form.text;
+}
+
 const orEmpty = (text) => (text === "" ? "''" : text);
 const said = (pairs) => [...pairs].map(([key, value]) => `${key}=${value}`).join(" ");
 
@@ -241,6 +273,8 @@ function answerTransform(text) {
 }
 
 export const answers = {
+    "with-keyword": answerWithKeyword,
+    "extensions-form": answerExtensionsForm,
     keyword: (text, key) => orEmpty(LanguageTag.parse(text).keyword(key) ?? "-"),
     keywords: answerKeywords,
     attributes: (text) => LanguageTag.parse(text).attributes.join(" ") || "-",
@@ -274,4 +308,4 @@ export const answers = {
     edit: answerEdit,
 };
 
-export const FLOORS = { "table.txt": 360, "texts.txt": 710, "negotiation.txt": 102, "edits.txt": 125, "likely.txt": 200, "posix.txt": 150, "direction.txt": 300, "distance.txt": 130, "choices.txt": 275, "lists.txt": 15, "refused.txt": 60, "unicode.txt": 400 };
+export const FLOORS = { "table.txt": 360, "texts.txt": 710, "negotiation.txt": 102, "edits.txt": 125, "likely.txt": 200, "posix.txt": 150, "direction.txt": 300, "distance.txt": 130, "choices.txt": 275, "lists.txt": 15, "refused.txt": 60, "unicode.txt": 400, "keywords.txt": 380, "extensions.txt": 630 };

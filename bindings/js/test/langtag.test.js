@@ -251,6 +251,40 @@ test("edits", () => {
     }
 });
 
+test("keywords that are set and removed", () => {
+    const tag = LanguageTag.parse("th-u-ca-gregory-nu-thai");
+    const set = (keywords, of = tag) => String(of.with({ keywords }));
+    assert.equal(set({ ca: "buddhist", nu: null, kn: "" }), "th-u-ca-buddhist-kn");
+    assert.equal(set(new Map([["CA", "Buddhist"], ["nu", undefined]])), "th-u-ca-Buddhist-nu-thai");
+    assert.equal(set([["ca", "roc"], ["ca", "japanese"]]), "th-u-ca-japanese-nu-thai");
+    for (const nothing of [{}, [], new Map(), { ca: undefined }]) assert.equal(set(nothing), tag.text);
+    for (const nothing of [{}, undefined]) assert.equal(set(nothing, LanguageTag.parse("x-a")), "x-a");
+    assert.equal(set(tag.keywords), tag.text);
+    assert.equal(String(tag.with({ keywords: { nu: "latn" }, extensions: null, region: "TH" })), "th-TH-u-nu-latn");
+    assert.equal(String(LanguageTag.from({ language: "ar", extensions: { u: "nu-latn" }, keywords: { ca: "islamic" } })), "ar-u-ca-islamic-nu-latn");
+    for (const [keywords, part, text] of [[{ nu: "thai", c1: "roc" }, "key", "c1"], [{ ca: "roc", nu: "ab" }, "value", "ab"], [{ "": null }, "key", ""],
+        [{ "\u00e9": "roc" }, "key", "\u00e9"], [{ ca: "\ud800" }, "value", "\ud800"], [{ ca: "ab-".repeat(100_000) }, "value", "ab-".repeat(100_000)]]) {
+        const error = thrown(() => tag.with({ keywords }));
+        assert.ok(error instanceof EditError && error.message.length < 600);
+        assert.deepEqual([error.part, error.text], [part, text]);
+    }
+    assert.equal(tag.text, "th-u-ca-gregory-nu-thai");
+    const { part, text, message } = thrown(() => LanguageTag.parse("i-klingon").with({ keywords: { ca: "roc" } }));
+    assert.deepEqual([part, text, message], ["keywords", undefined, "not a normal language tag"]);
+    for (const keywords of [null, "ca", 5, ["ca"], [["ca", 5]], [[5, "roc"]], [["ca"], ["nu", true]], { ca: true }, { ca: ["roc"] }, { ca: { text: "roc" } }, { c1: "roc", ca: 5 }]) {
+        assert.throws(() => tag.with({ keywords }), TypeError);
+    }
+    const long = `de-u-ca-${"abcdefgh-".repeat(2000)}abc`;
+    assert.equal(set({ ca: long.slice(8) }, LanguageTag.parse("de")), long);
+    assert.equal(set({ ca: null }, LanguageTag.parse(long)), "de");
+});
+
+test("the form of extensions", () => {
+    assert.equal(LanguageTag.parse("en-u-nu-thai-ca-gregory-kn-true").extensionsForm().text, "en-u-ca-gregory-kn-nu-thai");
+    assert.equal(LanguageTag.parse("de-u-ca-islamicc").extensionsForm().keyword("ca"), "islamic-civil");
+    assert.equal(LanguageTag.parse("x-a").extensionsForm().text, "x-a");
+});
+
 test("the code that is meant by one that is not registered", () => {
     const of = (text) => LanguageTag.parse(text).invalidSubtag;
     assert.deepEqual({ ...of("ger-AT") }, { fault: "language", subtag: "ger", start: 0, suggestion: "de" });

@@ -43,6 +43,7 @@ const modules = ["langtag64.wasm", "langtag32.wasm"].map((name) => new Raw(name)
 const ONE = {
     kind: [], viable: [], stop: [], grandfathered: [], is_canonical: [], range_kind: [], fold: [], recommend: [], parse: ["out"], validity: ["out"],
     repeats: ["out"], canonical: ["buffer", "room"], maximize: ["buffer", "room"], minimize: ["buffer", "room"], is_right_to_left: [], from_posix: ["buffer", "room"], unknown_modifier: ["out"],
+    extensions_form: ["buffer", "room"],
 };
 const TWO = { eq: [], cmp: [], matches_basic: [], matches_extended: [], distance: [] };
 
@@ -64,6 +65,10 @@ for (const line of readFileSync(process.argv[2], "latin1").split("\n")) {
     if (call === "tag") for (const [name, more] of Object.entries(ONE)) same(name, texts, more);
     if (call === "match") {
         for (const [name, more] of Object.entries(TWO)) same(name, texts, more);
+        for (const key of ["ca", "0Z", "a1"]) {
+            same("with_keyword", [texts[1], Buffer.from(key), Buffer.from("islamic-civil")], ["buffer", "room"]);
+            same("without_keyword", [texts[1], Buffer.from(key)], ["buffer", "room"]);
+        }
         for (const part of [0, 1, 2, 3, 4, 5]) same("with_part", [texts[1]], [part, "out", 0n, "buffer", "room"]);
     }
 }

@@ -57,7 +57,7 @@ test("a tag's parts, by name and section", { skip }, async () => {
 test("validity and forms", { skip }, async () => {
     await type("tag", "IW-latn-il");
     assert.deepEqual(await forms(), { Name: "Hebrew (Latin, Israel)", Kind: "normal", Validity: "valid", "Recommended case": "iw-Latn-IL", "Canonical form": "he-latn-il",
-        "With likely subtags": "IW-latn-il", "Without them": "IW-latn-il", Written: "from left to right" });
+        "With canonical extensions": "IW-latn-il", "With likely subtags": "IW-latn-il", "Without them": "IW-latn-il", Written: "from left to right" });
     await type("tag", "zh-hant-TW");
     assert.deepEqual([(await forms())["With likely subtags"], (await forms())["Without them"]], ["zh-hant-TW", "zh-TW"]);
     await type("tag", "de-1996-1996");
@@ -69,6 +69,15 @@ test("validity and forms", { skip }, async () => {
     assert.equal((await forms()).Name, "Yue Chinese");
     await type("tag", "qt-FR");
     assert.match(await summary("tag"), /^A tag, not valid: language 'qt' is not registered/);
+});
+
+test("keywords by name, and the form of extensions", { skip }, async () => {
+    await type("tag", "th-u-NU-thai-ca-islamicc-kn-zz-abc-ca-roc");
+    const { "Canonical form": canonical, "With canonical extensions": form, "Digits (nu)": digits, "Calendar (ca)": calendar, "Numeric sort order (kn)": numeric, "Key zz": other } = await forms();
+    assert.deepEqual([canonical, form], ["th-u-NU-thai-ca-islamicc-kn-zz-abc-ca-roc", "th-u-ca-islamic-civil-kn-nu-thai-zz-abc"]);
+    assert.deepEqual([digits, calendar, numeric, other], ["thai", "islamicc", "true", "abc"]);
+    await type("tag", "x-u-ca-roc");
+    assert.ok(!("Calendar (ca)" in (await forms())));
 });
 
 test("a refusal, and what could stand there", { skip }, async () => {

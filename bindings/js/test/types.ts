@@ -7,7 +7,8 @@ const subtags: string[] | undefined = tag.extensions.get("u");
 const fault: Fault | undefined = tag.invalidSubtag?.fault;
 const meant: string | undefined = tag.invalidSubtag?.suggestion;
 const other = tag.with({ script: "Latn", region: null, variants: ["1996"], extensions: { u: ["co", "pinyin"] }, privateUse: undefined });
-const again = LanguageTag.from({ language: "de", extensions: other.extensions });
+const again = LanguageTag.from({ language: "de", extensions: other.extensions, keywords: tag.keywords });
+const form: LanguageTag = again.with({ keywords: { ca: "buddhist", nu: null, kn: undefined } }).with({ keywords: [["ca", "roc"]] }).extensionsForm();
 const found: "de" | "fr" = tagForHeader("fr", ["de", "fr"] as const, "de");
 const none: LanguageTag | undefined = lookUp(["fr", LanguageRange.parse("*")], [tag, again]);
 const best: "de" | "fr" | undefined = bestForRanges([...(["fr"] as readonly string[]), LanguageRange.parse("de")], ["de", "fr"] as const);
@@ -24,9 +25,9 @@ try {
     LanguageTag.parse(structuredClone(tag));
 } catch (error) {
     if (error instanceof InvalidTag) console.log(error.text, error.offset, error.viable, error.message);
-    if (error instanceof EditError) console.log(error.part === "script");
+    if (error instanceof EditError) console.log(error.part === "script" || error.part === "key");
 }
-console.log(script, subtags, fault, found, none, best, absent, weights, sorted, kinds, REGISTRY_DATE.length, tag.fnv1a() > 0n, tag.equals("ZH"));
+console.log(script, subtags, form, fault, found, none, best, absent, weights, sorted, kinds, REGISTRY_DATE.length, tag.fnv1a() > 0n, tag.equals("ZH"));
 
 // @ts-expect-error a number is not a text
 LanguageTag.parse(5);

@@ -19,3 +19,11 @@ SELECT * FROM kind('i-ami');
 -- Keywords: the value of a key, which is empty if the key has none, and all keys and values in an array of rows.
 SELECT keyword('ar-u-ca-islamic-civil-kn', 'CA') AS ca, keyword('de-u-kn', 'kn') = '' AS kn, keyword('de-u-kn', 'ca') AS absent, keyword('x-u-ca', 'ca') AS private;
 SELECT keywords('ar-u-attr-ca-islamic-civil-kn-nu-latn-ca-roc') AS k, keywords('de') AS none, (keywords('de-u-nu-latn'))[1][2] AS nu;
+-- Keywords that are set, and removed by NULL. A tag keeps its recommended case.
+SELECT set_keyword('th-u-ca-gregory-nu-thai', 'CA', 'Buddhist') AS set, set_keyword('th-u-ca-gregory-nu-thai', 'ca', NULL) AS removed, set_keyword('zh-hant-x-a', 'KN', '') AS empty,
+    set_keyword(set_keyword('de', 'nu', 'latn'), 'ca', 'roc') AS both, set_keyword('de', NULL, 'roc') AS no_key, set_keyword(NULL, 'ca', 'roc') AS no_tag;
+SELECT set_keyword('de', 'c1', 'roc');
+SELECT set_keyword('x-a', 'c1', NULL);
+SELECT set_keyword('de-u-ca-roc', 'ca', 'ああ');
+SELECT set_keyword('x-a', 'ca', 'roc');
+SELECT set_keyword('i-klingon', 'ca', NULL);

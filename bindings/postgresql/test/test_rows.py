@@ -24,7 +24,7 @@ BEGIN
     RETURN coalesce(said, '-');
 EXCEPTION WHEN OTHERS THEN
     GET STACKED DIAGNOSTICS state = RETURNED_SQLSTATE, why = PG_EXCEPTION_DETAIL;
-    RETURN state || CASE WHEN why ~ 'no such part' THEN ' no parts' ELSE '' END;
+    RETURN state || CASE WHEN why ~ 'no such part|no keywords' THEN ' no parts' WHEN why ~ '^A key is ' THEN ' bad key' WHEN why ~ '^A value is ' THEN ' bad value' ELSE '' END;
 END $$;
 -- All of a tag, as the rows have it, and that a tag is as its own text comes in.
 CREATE FUNCTION all_of(t langtag) RETURNS text LANGUAGE sql AS $$
@@ -91,6 +91,12 @@ def edit(tag, part, given):
     return f"SELECT set_{part.decode()}({text(tag)}::langtag, {text(given)})::text"
 
 
+def with_keyword(tag, key, value):
+    """Sets a keyword. The tag has its recommended case, and so have the key and the value."""
+    value = "NULL" if value == b"-" else text(value)
+    return f"SELECT set_keyword({text(tag)}::langtag, {text(key)}, {value})::text"
+
+
 def ranges(asked, names):
     """Makes a header from ranges: they are joined by commas, and each "-*" is removed."""
     return header(asked.replace(b"-*", b"").replace(b" ", b", "), names) if asked else None
@@ -121,6 +127,7 @@ QUERIES = {
     "posix": lambda name: f"SELECT from_posix({text(name)})::text",
     "unknown-modifier": lambda name: f"SELECT unknown_modifier({text(name)})",
     "best": best, "best-match": best_match, "header": header, "ranges": ranges, "edit": edit,
+    "with-keyword": with_keyword, "extensions-form": lambda tag: f"SELECT extensions_form({text(tag)}::langtag)::text",
 }
 NO_TAG = "22P02"
 HOW = {"t t": "both", "t f": "basic", "f t": "extended", "f f": "neither", NO_TAG: "neither"}
@@ -137,6 +144,8 @@ ANSWERS = {
     "match": lambda said: HOW.get(said, said),
     "order": lambda said: {"-1": "before", "0": "equal", "1": "after"}.get(said, said),
     "edit": lambda said: {"22023": "refused", "22023 no parts": "no parts"}.get(said, said.lower()),
+    "with-keyword": lambda said: said.removeprefix("22023 ").lower(),
+    "extensions-form": str.lower,
 }
 
 
@@ -160,7 +169,7 @@ def adapted(row):
         return "before" if a != b and b.startswith(a) else "after" if a != b and a.startswith(b) else wanted
     if row.call == "header":
         return row.text.split(" | ")[-1].lower()
-    return wanted.lower() if row.call in ("canonical", "posix", "maximized", "minimized", "edit", "ranges", "best", "best-match", "keyword", "keywords") else wanted
+    return wanted.lower() if row.call in ("canonical", "posix", "maximized", "minimized", "edit", "ranges", "best", "best-match", "keyword", "keywords", "with-keyword", "extensions-form") else wanted
 
 
 def query(row):
@@ -226,6 +235,12 @@ class Rows(unittest.TestCase):
 
     def test_extensions(self):
         self.ask("unicode.txt", 150)
+
+    def test_keywords(self):
+        self.ask("keywords.txt", 375)
+
+    def test_forms_of_extensions(self):
+        self.ask("extensions.txt", 630)
 
 
 class Registry(unittest.TestCase):

@@ -194,6 +194,7 @@ class TagBase(_Value):
     canonical = functools.partialmethod(_form, _c.langtag_canonical)
     maximized = functools.partialmethod(_form, _c.langtag_maximize)
     minimized = functools.partialmethod(_form, _c.langtag_minimize)
+    extensions_form = functools.partialmethod(_form, _c.langtag_extensions_form)
     _grandfathered = functools.partialmethod(_Value._ask, _c.langtag_grandfathered)
 
     @property
@@ -211,6 +212,12 @@ class TagBase(_Value):
 
     def _set(self, part: int, text: Text) -> Any:
         made = _written(_c.langtag_with_part, self._data, part, bytes_of(text), len(bytes_of(text)))
+        return self._base(made) if made else None
+
+    def _set_keyword(self, key: Text, value: Text | None) -> Any:
+        texts = [bytes_of(text) for text in (key, value) if text is not None]
+        write = _c.langtag_without_keyword if value is None else _c.langtag_with_keyword
+        made = _written(write, self._data, *(it for text in texts for it in (text, len(text))))
         return self._base(made) if made else None
 
     def _at(self, span: Span) -> str:

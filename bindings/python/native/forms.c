@@ -42,17 +42,22 @@ PyObject *lt_recommended(PyObject *object, PyObject *unused) {
 
 typedef size_t Form(const char *bytes, size_t len, char *buffer, size_t buffer_len);
 
-/* Returns a form of a tag, as bytes. */
-static PyObject *form_of(const Value *self, Form *form) {
-    char room[192];
+static size_t write_form(const Value *self, Form *form, char *buffer, size_t room) {
     const char *data = self->text.data;
     size_t len = (size_t)self->text.len;
     LET_GO(self->text.len);
-    size_t wanted = form(data, len, room, sizeof room);
+    size_t wanted = form(data, len, buffer, room);
     TAKE_BACK();
+    return wanted;
+}
+
+/* Returns a form of a tag, as bytes. */
+static PyObject *form_of(const Value *self, Form *form) {
+    char room[192];
+    size_t wanted = write_form(self, form, room, sizeof room);
     if (wanted <= sizeof room) return PyBytes_FromStringAndSize(room, (Py_ssize_t)wanted);
     PyObject *made = PyBytes_FromStringAndSize(NULL, (Py_ssize_t)wanted);
-    if (made) form(data, len, PyBytes_AsString(made), wanted);
+    if (made) write_form(self, form, PyBytes_AsString(made), wanted);
     return made;
 }
 
@@ -74,6 +79,11 @@ PyObject *lt_maximized(PyObject *self, PyObject *unused) {
 PyObject *lt_minimized(PyObject *self, PyObject *unused) {
     (void)unused;
     return tag_by(self, langtag_minimize);
+}
+
+PyObject *lt_extensions_form(PyObject *self, PyObject *unused) {
+    (void)unused;
+    return tag_by(self, langtag_extensions_form);
 }
 
 PyObject *lt_is_canonical(PyObject *object, void *unused) {
@@ -123,5 +133,35 @@ PyObject *lt_set(PyObject *object, PyObject *arguments) {
     if (lt_lacks(self) || !PyArg_ParseTuple(arguments, "IO", &part, &from) || lt_text(from, &given)) return NULL;
     PyObject *made = with_part(self, part, given);
     Py_DECREF(given.owner);
+    return made;
+}
+
+/* Writes the tag with a keyword set, or removed if the value has no owner. Returns what the library returns. */
+static size_t write_keyword(const Value *self, Text key, Text value, char *buffer, size_t room) {
+    const char *data = self->text.data;
+    size_t len = (size_t)self->text.len, key_len = (size_t)key.len, value_len = (size_t)value.len;
+    if (!value.owner) return langtag_without_keyword(data, len, key.data, key_len, buffer, room);
+    return langtag_with_keyword(data, len, key.data, key_len, value.data, value_len, buffer, room);
+}
+
+/* Returns the tag with a keyword set or removed, or None if the library refuses it. */
+static PyObject *with_keyword(const Value *self, Text key, Text value) {
+    char nothing[1];
+    size_t wanted = write_keyword(self, key, value, nothing, 0);
+    if (!wanted) return lt_none();
+    PyObject *made = PyBytes_FromStringAndSize(NULL, (Py_ssize_t)wanted);
+    if (!made) return NULL;
+    write_keyword(self, key, value, PyBytes_AsString(made), wanted);
+    return tag_of(self, made, NULL);
+}
+
+PyObject *lt_set_keyword(PyObject *object, PyObject *arguments) {
+    Value *self = (Value *)object;
+    PyObject *key_from, *value_from, *made = NULL;
+    Text key, value = {NULL, NULL, 0};
+    if (lt_lacks(self) || !PyArg_ParseTuple(arguments, "OO", &key_from, &value_from) || lt_text(key_from, &key)) return NULL;
+    if (value_from == Py_None || !lt_text(value_from, &value)) made = with_keyword(self, key, value);
+    Py_XDECREF(value.owner);
+    Py_DECREF(key.owner);
     return made;
 }

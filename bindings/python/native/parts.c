@@ -161,6 +161,10 @@ PyMethodDef lt_tag_methods[] = {
     {"minimized", lt_minimized, METH_NOARGS,
      "minimized($self, /)\n--\n\n"
      "Returns the tag without its likely subtags (UTS #35, part 1): zh-Hant-TW becomes zh-TW."},
+    {"extensions_form", lt_extensions_form, METH_NOARGS,
+     "extensions_form($self, /)\n--\n\n"
+     "Returns the tag with its extensions u and t in canonical form (UTS #35, part 1, Annex C), by CLDR_VERSION: de-u-nu-thai-ca-roc\n"
+     "becomes de-u-ca-roc-nu-thai. Each key stands once, with its first value. All other subtags stay."},
     {"folded", lt_folded, METH_NOARGS,
      "folded($self, /)\n--\n\n"
      "Returns the text in lowercase, which is the same for all equal tags. It is a key for stores that compare bytes, and for\n"
@@ -172,6 +176,7 @@ PyMethodDef lt_tag_methods[] = {
     {"_validity", tag_validity, METH_NOARGS, NULL},
     {"_grandfathered", tag_grandfathered, METH_NOARGS, NULL},
     {"_set", lt_set, METH_VARARGS, NULL},
+    {"_set_keyword", lt_set_keyword, METH_VARARGS, NULL},
     {"_value_of", lt_value_of, METH_VARARGS, NULL},
     {"_pairs", lt_pairs, METH_O, NULL},
     {"_before_keys", lt_before_keys, METH_O, NULL},

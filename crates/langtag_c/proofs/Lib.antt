@@ -10,6 +10,7 @@ mod PlaceLaws
 mod RangesAt
 mod ReadingLaws
 mod PartLaws
+mod KeywordTexts
 mod TagLengths
 mod LikelyForms
 mod DateLaws

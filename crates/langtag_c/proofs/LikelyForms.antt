@@ -5,10 +5,13 @@ use Rattle.langtag_registry.proofs.CanonicalParts as canonical
 use Rattle.langtag_registry.specs.Canonical.{IsCanonicalForm}
 use Rattle.langtag_likely.specs.Maximal.{IsMaximalForm, IsMinimalForm, maximal_record, minimal_record}
 use Rattle.langtag_match.specs.Locale.{locale_place}
-use Rattle.langtag_likely.specs.Posix.{IsTagOfName, NamesTag, hyphenated, with_said}
+use Rattle.langtag_match.specs.Wanted.{hyphened}
+use Rattle.langtag_likely.specs.Posix.{IsTagOfName, NamesTag, with_said}
 use Rattle.langtag_likely.proofs.FormLaws.{form_is_tag}
 use Rattle.langtag_likely.proofs.GoodForms.{maximal_well_formed, minimal_well_formed}
 use Rattle.langtag_likely.proofs.PosixLaws.{said_well_formed}
+use Rattle.langtag_unicode.proofs.FormRecords.{form_well_formed}
+use Rattle.langtag_unicode.specs.Form.{IsExtensionsForm, extensions_record}
 use Rattle.langtag_c.proofs.TagLengths.{some_tag}
 
 pub some_canonical : (old new : List ℕ) → IsTag old → IsCanonicalForm old new → 1 ≤ length new
@@ -20,5 +23,8 @@ some_maximal old new tag is = some_tag new (form_is_tag maximal_record maximal_w
 pub some_minimal : (old new : List ℕ) → IsTag old → IsMinimalForm old new → 1 ≤ length new
 some_minimal old new tag is = some_tag new (form_is_tag minimal_record minimal_well_formed old new tag is)
 
+pub some_extensions : (old new : List ℕ) → IsTag old → IsExtensionsForm old new → 1 ≤ length new
+some_extensions old new tag is = some_tag new (form_is_tag extensions_record form_well_formed old new tag is)
+
 pub some_named : (name new : List ℕ) → NamesTag name → IsTagOfName name new → 1 ≤ length new
-some_named name new names is = some_tag new (form_is_tag (with_said name) (said_well_formed name) (hyphenated (locale_place name)) new names.tag is)
+some_named name new names is = some_tag new (form_is_tag (with_said name) (said_well_formed name) (hyphened (locale_place name)) new names.tag is)

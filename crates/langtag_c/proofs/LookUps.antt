@@ -12,9 +12,9 @@ use Rattle.std.proofs.lemmas.Option.{get_or_from_slice_get, slice_get_read, slic
 use Rattle.langtag.specs.declared.lang_tag.LangTag.{LangTag}
 use Rattle.langtag.specs.Text.{lang_tag_text}
 use Rattle.langtag_scan.specs.Case.{are_alike}
-use Rattle.langtag_match.specs.AcceptLanguage.{Element, FallsTo, IsByWeight, StandsAt, acceptable, are_good, bad_part, element, elements, is_comma, is_good, items, weight_in}
+use Rattle.langtag_match.specs.AcceptLanguage.{Element, IsByWeight, StandsAt, acceptable, are_good, bad_part, element, elements, is_comma, is_good, items, weight_in}
 use Rattle.langtag_match.specs.Fallback.{fallbacks}
-use Rattle.langtag_match.specs.Stable.{IsOrderedBy, with_key}
+use Rattle.langtag_match.specs.Stable.{with_key}
 use Rattle.langtag_match.specs.declared.accept_language_error.ElementPart.{ElementPart}
 use Rattle.langtag_match.proofs.Offsets.{item_stands, sum_by-slice_split, width}
 use Rattle.langtag_c.specs.Choice.{IsTagAt}
@@ -24,6 +24,8 @@ use Rattle.langtag_c.specs.Spans.{HasBytes, span_text}
 use Rattle.langtag_c.specs.TagsAt.{tag_at, tags_at}
 use Rattle.langtag_c.specs.declared.span.Span.{Span}
 use Rattle.langtag_c.proofs.TagsAt.{are_tags_at, is_tag_at, one_tag_at}
+use Rattle.langtag_match.proofs.Readings.{AtMost, IsFalling, AtMost-weaker}
+use Rattle.std.proofs.lemmas.Bool.{le-ltb, lt-ltb, ltb-false, ltb-true}
 
 -- ---- the elements by falling weight
 
@@ -35,28 +37,6 @@ put e (f ∷ fs) = if nat_lt e.weight f.weight then f ∷ put e fs else e ∷ f 
 abbrev by_weight : List Element → List Element
 by_weight [] = []
 by_weight (e ∷ es) = put e (by_weight es)
-
-abbrev AtMost : ℕ → List Element → Type 0
-AtMost n es = AllByRecursion (λ e. e.weight ≤ n) es
-
-abbrev IsFalling : List Element → Type 0
-IsFalling es = IsOrderedBy weight_in FallsTo es
-
-lighter : (a b : ℕ) → nat_lt a b ≡ true → a < b
-lighter a b is = grind (arith, nat_tests)
-
-not_lighter : (a b : ℕ) → nat_lt a b ≡ false → b ≤ a
-not_lighter a b is = grind (arith, nat_tests)
-
-is_lighter : (a b : ℕ) → a < b → nat_lt a b ≡ true
-is_lighter a b less = grind (arith, nat_tests)
-
-is_not_lighter : (a b : ℕ) → b ≤ a → nat_lt a b ≡ false
-is_not_lighter a b less = grind (arith, nat_tests)
-
-AtMost-weaker : (n m : ℕ) (es : List Element) → n ≤ m → AtMost n es → AtMost m es
-AtMost-weaker n m [] less all = tt
-AtMost-weaker n m (e ∷ es) less all = let one = all.0 in (omega (arith, less, one), AtMost-weaker n m es less all.1)
 
 AtMost-put : (n : ℕ) (e : Element) (fs : List Element) → e.weight ≤ n → AtMost n fs → AtMost n (put e fs)
 AtMost-put n e [] less all = (less, tt)
@@ -72,10 +52,10 @@ IsFalling-put e (f ∷ fs) falls = by_test (nat_lt e.weight f.weight) refl (IsFa
   where
     by_test : (b : Bool) → nat_lt e.weight f.weight ≡ b → IsFalling (put e fs) → IsFalling (put e (f ∷ fs))
     by_test true is others =
-        let less = lighter e.weight f.weight is in
+        let less = ltb-true e.weight f.weight is in
         rw is (AtMost-put f.weight e fs (omega (arith, less)) falls.0, others)
     by_test false is others =
-        let more = not_lighter e.weight f.weight is in
+        let more = ltb-false e.weight f.weight is in
         rw is ((more, AtMost-weaker f.weight e.weight fs more falls.0), falls)
 
 IsFalling-by_weight : (es : List Element) → IsFalling (by_weight es)
@@ -157,7 +137,7 @@ is_by_weight es = record {
 
 none_above : (n : ℕ) (es : List Element) → AtMost n es → above n es ≡ []
 none_above n [] all = refl
-none_above n (e ∷ es) all = rw (is_not_lighter n e.weight all.0) (none_above n es all.1)
+none_above n (e ∷ es) all = rw (le-ltb n e.weight all.0) (none_above n es all.1)
 
 above-put : (n : ℕ) (e : Element) (fs : List Element) → nat_lt n e.weight ≡ false → above n (put e fs) ≡ above n fs
 above-put n e [] low = rw low refl
@@ -206,7 +186,7 @@ module _ (tags : List (Option (List ℕ))) where
   found-put-some :
       (n : ℕ) (e : Element) (fs : List Element) (index : ℕ) (found : Option ℕ) → IsFalling fs → n < e.weight → found_by e ≡ Some index →
       option_or (first_found tags (above n (put e fs))) found ≡ option_or (first_found tags (above e.weight fs)) (Some index)
-  found-put-some n e [] index found falls less some = rw (is_lighter n e.weight less, some) refl
+  found-put-some n e [] index found falls less some = rw (lt-ltb n e.weight less, some) refl
   found-put-some n e (f ∷ fs) index found falls less some =
       by_test (nat_lt e.weight f.weight) refl (found-put-some n e fs index found falls.1 less some)
     where
@@ -221,11 +201,11 @@ module _ (tags : List (Option (List ℕ))) where
           option_or (first_found tags (above n (put e fs))) found ≡ option_or (first_found tags (above e.weight fs)) (Some index) →
           option_or (first_found tags (above n (put e (f ∷ fs)))) found ≡ option_or (first_found tags (above e.weight (f ∷ fs))) (Some index)
       by_test true is others =
-          let more = lighter e.weight f.weight is in
-          rw (is, is_lighter n f.weight (omega (arith, less, more))) (heavier (found_by f) others)
+          let more = ltb-true e.weight f.weight is in
+          rw (is, lt-ltb n f.weight (omega (arith, less, more))) (heavier (found_by f) others)
       by_test false is others =
-          let few = none_above e.weight (f ∷ fs) (not_lighter e.weight f.weight is, AtMost-weaker f.weight e.weight fs (not_lighter e.weight f.weight is) falls.0) in
-          rw few (rw (is, is_lighter n e.weight less, some) refl)
+          let few = none_above e.weight (f ∷ fs) (ltb-false e.weight f.weight is, AtMost-weaker f.weight e.weight fs (ltb-false e.weight f.weight is) falls.0) in
+          rw few (rw (is, lt-ltb n e.weight less, some) refl)
 
   heaviest-found :
       (es : List Element) (found : Option ℕ) (n : ℕ) →
@@ -241,7 +221,7 @@ module _ (tags : List (Option (List ℕ))) where
       by_found None none is others = others found n ∙ ap (λ o. option_or o found) (sym (found-put n e (by_weight es) none))
       by_found (Some index) some is others =
           others (Some index) e.weight
-          ∙ sym (found-put-some n e (by_weight es) index found (IsFalling-by_weight es) (lighter n e.weight is) some)
+          ∙ sym (found-put-some n e (by_weight es) index found (IsFalling-by_weight es) (ltb-true n e.weight is) some)
 
       by_test :
           (b : Bool) → nat_lt n e.weight ≡ b →
@@ -377,7 +357,7 @@ module _ {X : Type 0} (all : List (List ℕ)) (yielded : List X) (x : X) (item :
     module _ (e : Element) (is : element item ≡ Some e) where
       pub after_light : e.weight ≤ weight → Goes found weight
       after_light light =
-          rw (elements-some e is) (rw (is_not_lighter weight e.weight light) refl)
+          rw (elements-some e is) (rw (le-ltb weight e.weight light) refl)
 
       pub after_lost : first_index_alike tags (fallbacks e.range) ≡ None → Goes found weight
       after_lost none = rw (elements-some e is) (by_test (nat_lt weight e.weight) refl)
@@ -390,7 +370,7 @@ module _ {X : Type 0} (all : List (List ℕ)) (yielded : List X) (x : X) (item :
           by_test false is = rw is refl
 
       pub after_found : (index : ℕ) → weight < e.weight → first_index_alike tags (fallbacks e.range) ≡ Some index → Goes (Some index) e.weight
-      after_found index heavy some = rw (elements-some e is) (rw (is_lighter weight e.weight heavy, some) refl)
+      after_found index heavy some = rw (elements-some e is) (rw (lt-ltb weight e.weight heavy, some) refl)
 
 -- ---- a bad item, by what stands before it
 

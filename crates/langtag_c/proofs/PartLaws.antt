@@ -50,7 +50,7 @@ part_sets (PrivateUse part) text old new is set =
 
 -- ---- bytes that are not UTF-8 are no text of a part
 
-IsUtf8-joined : (ss : List (List ℕ)) (text : List ℕ) → AllByRecursion IsSubtag ss → join ss ≡ text → IsUtf8 text
+pub IsUtf8-joined : (ss : List (List ℕ)) (text : List ℕ) → AllByRecursion IsSubtag ss → join ss ≡ text → IsUtf8 text
 IsUtf8-joined ss text each joined = IsUtf8-from_ascii text (IsAscii-spelled text ss joined each)
 
 IsUtf8-text : (p : PartName) (text : List ℕ) → IsTextOf p text → IsUtf8 text

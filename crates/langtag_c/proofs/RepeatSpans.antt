@@ -8,7 +8,7 @@ use Rattle.std.proofs.lemmas.Option.{slice_get-map}
 use Rattle.langtag_scan.specs.Ends.{ends_of, to_region, to_variants}
 use Rattle.langtag_scan.specs.Record.{Record, Extension, IsWellFormed, extension_flat}
 use Rattle.langtag_scan.specs.Parts.{extensions_part}
-use Rattle.langtag_scan.specs.Subtags.{join, subtags}
+use Rattle.langtag_scan.specs.Subtags.{join}
 use Rattle.langtag_scan.proofs.Joins.{hyphenated, hyphenated-append, join-hyphenated, length-join-append}
 use Rattle.langtag_extension.specs.Spelling.{SpellsExtensions, extension_spelling}
 use Rattle.langtag_c.specs.Repeats.{member_span}

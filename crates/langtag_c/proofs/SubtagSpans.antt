@@ -6,7 +6,7 @@ use Rattle.std.proofs.lemmas.Grind.{common_steps}
 use Rattle.std.proofs.lemmas.List.{at_drop_more, drop-drop, take-append-drop, take-take, take_all, drop_all, length-take, length-drop}
 use Rattle.std.proofs.lemmas.List.Splits.{slice_split_at, slice_split_none}
 use Rattle.langtag_scan.specs.Subtags.{is_hyphen, IsHyphenFree, NoHyphenWithin, join, segments, subtags}
-use Rattle.langtag_scan.proofs.SubtagLists.{length-subtags}
+use Rattle.langtag_scan.proofs.SubtagLists.{length-subtags, subtags-segments}
 use Rattle.langtag_unicode.specs.Keys.{length_with_hyphens}
 use Rattle.langtag_scan.specs.Case.{are_alike}
 use Rattle.langtag_unicode.specs.Keywords.{before_key, value_of}
@@ -19,11 +19,6 @@ use Rattle.langtag_c.proofs.ExtensionSpans.{length-span, span-first, span-rest}
 -- no subtag is empty
 abbrev pub AllSome : List (List ℕ) → Type 0
 AllSome ss = AllByRecursion (λ s. 1 ≤ length s) ss
-
--- the subtags of a text that has some
-subtags-segments : (text : List ℕ) → 0 < length text → subtags text ≡ segments text
-subtags-segments [] some = absurd (omega (arith, some))
-subtags-segments (b ∷ text) some = refl
 
 -- after a hyphen there is another subtag
 after-hyphen : (first text : List ℕ) → AllSome (first ∷ segments text) → segments text ≡ subtags text

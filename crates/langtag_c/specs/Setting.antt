@@ -1,11 +1,14 @@
--- Setting a part of a normal tag to a text, or removing it (RFC 5646 sections 2.2.1 to 2.2.7).
-use Rattle.std.specs.Prelude.{ℕ, List, [], ◌∷◌, slice_get, Option, IfSome, MatchOption, IsTrue}
+-- Setting a part of a normal tag to a text, or removing it (RFC 5646 sections 2.2.1 to 2.2.7), and likewise a keyword
+-- of its extension `u` (RFC 6067 section 2.1).
+use Rattle.std.specs.Prelude.{◌≡◌, ℕ, ◌+◌, List, length, [], ◌∷◌, None, slice_get, Option, IfSome, MatchOption, IsTrue}
 use Rattle.langtag_scan.specs.Class.{is_script, is_region}
+use Rattle.langtag_scan.specs.Subtags.{subtags}
 use Rattle.langtag_scan.specs.Tag.{IsNormal}
 use Rattle.langtag_language.specs.Language.{IsLanguage}
 use Rattle.langtag_place.specs.Variants.{IsVariants}
 use Rattle.langtag_extension.specs.Spelling.{IsExtensions}
 use Rattle.langtag_private.specs.PrivateUse.{IsPrivateUse}
+use Rattle.langtag_unicode.specs.Edit.{keyword_error}
 use Rattle.langtag_unicode.specs.Transform.{some_text}
 use Rattle.langtag.specs.Edit.{SetsLanguage, SetsScript, SetsRegion, SetsVariants, SetsExtensions, SetsPrivateUse}
 use Rattle.langtag.specs.declared.part.Part.{Part}
@@ -53,3 +56,15 @@ IsPartText number text = MatchOption (part_numbered number) ⊥ (λ part. IsText
 -- the tag is a normal tag, and the text is a text of the part with the number
 abbrev pub CanSet : ℕ → List ℕ → List ℕ → Type 0
 CanSet number text tag = IsNormal tag × IsPartText number text
+
+-- the tag is a normal tag, and the key and the value can be a keyword
+abbrev pub CanSetKeyword : List ℕ → List ℕ → List ℕ → Type 0
+CanSetKeyword key value tag = IsNormal tag × (keyword_error key (subtags value) ≡ None)
+
+-- the tag is a normal tag, and the key can be in a keyword
+abbrev pub CanRemoveKeyword : List ℕ → List ℕ → Type 0
+CanRemoveKeyword key tag = CanSetKeyword key [] tag
+
+-- a tag with a keyword set is no longer than this: the tag, the key, the value, and `-u--`
+abbrev pub keyword_bound : List ℕ → List ℕ → List ℕ → ℕ
+keyword_bound key value tag = length tag + length key + length value + 4

@@ -10,14 +10,14 @@ use Rattle.std.proofs.lemmas.List.{length-map, length-append, map-append}
 use Rattle.std.proofs.lemmas.Bool.Decides.{nat_tests}
 use Rattle.std.proofs.lemmas.List.Folds.{list_any-append}
 use Rattle.std.proofs.lemmas.List.Splits.{length-slice_split, join_with_byte-slice_split}
-use Rattle.std.proofs.lemmas.Str.Ascii.{lowercase-uppercase, lowercase-lowercase}
+use Rattle.std.proofs.lemmas.Str.Ascii.{lowercase-uppercase}
 use Rattle.std.proofs.Math.ListN.{get_or-map}
 use Rattle.std.proofs.lemmas.Str.Ascii.{IsAscii-map, lowercase_ascii}
 use Rattle.std.specs.Str.{IsAscii}
 use Rattle.langtag_scan.specs.Case.{fold_byte, fold_text, Alike}
 use Rattle.langtag_scan.specs.Class.{is_single}
 use Rattle.langtag_scan.specs.Subtags.{is_hyphen, IsHyphenFree, join, segments}
-use Rattle.langtag_scan.proofs.CaseLaw.{hyphen-fold, length-fold, segments-fold, join-fold}
+use Rattle.langtag_scan.proofs.CaseLaw.{hyphen-fold, length-fold, segments-fold, join-fold, fold_text-twice}
 use Rattle.langtag_scan.proofs.SubtagLists.{segments-join, segments-hyphen_free}
 use Rattle.std.proofs.lemmas.List.Elements.{All-nil, All-cons, All-head, All-tail}
 use Rattle.langtag_case.specs.Walk.{later}
@@ -29,11 +29,6 @@ use Rattle.langtag_case.specs.RecommendedCase.{title_text, by_length, recommende
 fold-upper : (b : ℕ) → fold_byte (to_ascii_uppercase b) ≡ fold_byte b
 unfolding fold_byte
 fold-upper b = lowercase-uppercase b
-
--- what is folded stays
-fold-fold : (b : ℕ) → fold_byte (fold_byte b) ≡ fold_byte b
-unfolding fold_byte
-fold-fold b = lowercase-lowercase b
 
 -- and has the capital of the letter
 upper-fold : (b : ℕ) → to_ascii_uppercase (fold_byte b) ≡ to_ascii_uppercase b
@@ -47,23 +42,19 @@ map-same : (f g h : ℕ → ℕ) → ((b : ℕ) → f (g b) ≡ h b) → (s : Li
 map-same f g h same [] = refl
 map-same f g h same (b ∷ s) = rw (same b, map-same f g h same s) refl
 
--- a folded text stays
-pub fold_text-fold : (s : List ℕ) → fold_text (fold_text s) ≡ fold_text s
-fold_text-fold s = map-same fold_byte fold_byte fold_byte fold-fold s
-
 -- titlecase is that of the fold
 title-fold : (s : List ℕ) → title_text (fold_text s) ≡ title_text s
 title-fold [] = refl
-title-fold (b ∷ s) = rw (upper-fold b, fold_text-fold s) refl
+title-fold (b ∷ s) = rw (upper-fold b, fold_text-twice s) refl
 
 -- and folds as the subtag does
 fold-title : (s : List ℕ) → fold_text (title_text s) ≡ fold_text s
 fold-title [] = refl
-fold-title (b ∷ s) = rw (fold-upper b, fold_text-fold s) refl
+fold-title (b ∷ s) = rw (fold-upper b, fold_text-twice s) refl
 
 -- the case of a subtag is that of its fold, and its fold is that of the subtag
 pub by_length-fold : (s : List ℕ) → by_length (fold_text s) ≡ by_length s
-by_length-fold s = rw (length-fold s, map-same to_ascii_uppercase fold_byte to_ascii_uppercase upper-fold s, title-fold s, fold_text-fold s) refl
+by_length-fold s = rw (length-fold s, map-same to_ascii_uppercase fold_byte to_ascii_uppercase upper-fold s, title-fold s, fold_text-twice s) refl
 
 -- so does a choice of two that do
 fold-cond : (v : Bool) (a b s : List ℕ) → fold_text a ≡ fold_text s → fold_text b ≡ fold_text s → fold_text (cond v a b) ≡ fold_text s
@@ -74,7 +65,7 @@ fold-cond false a b s h k = k
 fold-by_length : (s : List ℕ) → fold_text (by_length s) ≡ fold_text s
 fold-by_length s =
     fold-cond (length s == 2) _ _ s (map-same fold_byte to_ascii_uppercase fold_byte fold-upper s)
-    (fold-cond (length s == 4) _ _ s (fold-title s) (fold_text-fold s))
+    (fold-cond (length s == 4) _ _ s (fold-title s) (fold_text-twice s))
 
 -- the fold is as long
 single-fold : (s : List ℕ) → is_single (fold_text s) ≡ is_single s
@@ -89,12 +80,12 @@ any_single-fold (s ∷ ss) = rw (single-fold s, any_single-fold ss) refl
 recommended_subtag-fold : (before : List (List ℕ)) (s : List ℕ) → recommended_subtag (map fold_text before) (fold_text s) ≡ recommended_subtag before s
 recommended_subtag-fold before s =
     ap (λ (v : Bool). cond v (fold_text (fold_text s)) (by_length (fold_text s))) (rw (length-map before fold_text, any_single-fold before) refl)
-    ∙ ap (λ t. cond ((length before == 0) || list_any is_single before) t (by_length (fold_text s))) (fold_text-fold s)
+    ∙ ap (λ t. cond ((length before == 0) || list_any is_single before) t (by_length (fold_text s))) (fold_text-twice s)
     ∙ ap (λ t. cond ((length before == 0) || list_any is_single before) (fold_text s) t) (by_length-fold s)
 
 -- and folds as it did
 fold-recommended_subtag : (before : List (List ℕ)) (s : List ℕ) → fold_text (recommended_subtag before s) ≡ fold_text s
-fold-recommended_subtag before s = fold-cond ((length before == 0) || list_any is_single before) _ _ s (fold_text-fold s) (fold-by_length s)
+fold-recommended_subtag before s = fold-cond ((length before == 0) || list_any is_single before) _ _ s (fold_text-twice s) (fold-by_length s)
 
 -- ---- lists of subtags
 

@@ -4,9 +4,9 @@ use Rattle.std.specs.Prelude.{codes}
 use Rattle.std.specs.Option.{option_map_or}
 use Rattle.langtag_scan.specs.Case.{Alike, are_alike, fold_text}
 use Rattle.langtag_scan.specs.CaseLaws.{are_alike-decides}
-use Rattle.langtag_scan.specs.Class.{is_letter, is_digit, is_primary, is_extended, is_script, is_region}
+use Rattle.langtag_scan.specs.Class.{is_primary, is_extended, is_script, is_region}
 use Rattle.langtag_scan.specs.Subtags.{subtags}
-use Rattle.langtag_scan.proofs.CaseLaw.{all-fold, fold_text-twice, is_digit-fold, is_letter-fold, length-fold}
+use Rattle.langtag_scan.proofs.CaseLaw.{fold_text-twice, length-fold, classes-fold}
 use Rattle.langtag_match.specs.Listed.{basic_text}
 use Rattle.langtag_match.specs.Wanted.{hyphened}
 use Rattle.langtag_match.proofs.AlikeTexts.{hyphened-fold, is_star-fold, subtags-fold}
@@ -18,6 +18,7 @@ use Rattle.langtag_choice.specs.Nearness.{is_form, unlikely, unlikely_form}
 use Rattle.langtag_likely.specs.TextFields.{text_fields, fields_of_subtags, counted, counts, last_language, after_language, script_of, after_script, region_of}
 use Rattle.langtag_likely.proofs.AlikeFields.{AlikeFields, AlikeOptions, are_alike-right, suffices-alike, by_options, by_same, are_alike-left}
 use Rattle.langtag_choice.proofs.DistanceCase.{forms-alike, matching-alike}
+use Rattle.langtag_scan.specs.Stage.{Classes}
 
 -- ---- bytes and subtags
 
@@ -25,20 +26,16 @@ hyphened-alike : (a b : List ℕ) → Alike a b → Alike (hyphened a) (hyphened
 hyphened-alike a b alike = sym (hyphened-fold a) ∙ ap hyphened alike ∙ hyphened-fold b
 
 is_primary-fold : (s : List ℕ) → is_primary (fold_text s) ≡ is_primary s
-unfolding is_primary
-is_primary-fold s = rw (length-fold s, all-fold is_letter is_letter-fold s) refl
+is_primary-fold s = ap (λ (c : Classes). c.primary) (classes-fold s)
 
 is_extended-fold : (s : List ℕ) → is_extended (fold_text s) ≡ is_extended s
-unfolding is_extended
-is_extended-fold s = rw (length-fold s, all-fold is_letter is_letter-fold s) refl
+is_extended-fold s = ap (λ (c : Classes). c.extended) (classes-fold s)
 
 is_script-fold : (s : List ℕ) → is_script (fold_text s) ≡ is_script s
-unfolding is_script
-is_script-fold s = rw (length-fold s, all-fold is_letter is_letter-fold s) refl
+is_script-fold s = ap (λ (c : Classes). c.script) (classes-fold s)
 
 is_region-fold : (s : List ℕ) → is_region (fold_text s) ≡ is_region s
-unfolding is_region
-is_region-fold s = rw (length-fold s, all-fold is_letter is_letter-fold s, all-fold is_digit is_digit-fold s) refl
+is_region-fold s = ap (λ (c : Classes). c.region) (classes-fold s)
 
 -- ---- the fields of subtags
 

@@ -4,7 +4,6 @@ use Rattle.std.specs.Prelude.{◌&&◌, ◌||◌, codes}
 use Rattle.std.specs.List.{after_first, before_first, list_all, position_or_len}
 use Rattle.std.specs.Option.{option_map_or}
 use Rattle.std.proofs.lemmas.Bool.{and_from, and_parts, both_ways, eq-eqb, false_from_ne_true, ltb-true, or_parts, eqb-false, not-true}
-use Rattle.std.proofs.lemmas.Bool.Decides.{nat_tests}
 use Rattle.std.proofs.lemmas.List.Sums.{take_while-cons}
 use Rattle.langtag_scan.specs.Case.{Alike, are_alike, fold_byte, fold_text}
 use Rattle.langtag_scan.specs.CaseLaws.{are_alike-decides}
@@ -31,6 +30,7 @@ use Rattle.langtag_likely.proofs.RowsFound.{alike_length}
 use Rattle.langtag_likely.proofs.TextParts.{all_fields, next_part, no_fields}
 use Rattle.langtag_likely.proofs.CommonTexts.{some_length}
 use Rattle.langtag_match.proofs.Prefixes.{length-alike}
+use Rattle.langtag_scan.proofs.Disjoint.{extended_three}
 
 -- ---- heads
 
@@ -77,13 +77,9 @@ first_letter x text other = by_mark (is_separator x) refl
         let letters = and_parts (length (x ∷ before_first is_separator text) == 3) (are_letters (x ∷ before_first is_separator text)) yes in
         both_ways (is_letter x) other (and_parts (is_letter x) (are_letters (before_first is_separator text)) letters.1).0))
 
-extended_length : (text : List ℕ) → is_extended text ≡ true → length text ≡ 3
-unfolding is_extended
-extended_length text is = grind (arith, nat_tests)
-
 pub few_extended : (text : List ℕ) → length text ≤ 2 → is_extended (before_first is_separator text) ≡ false
 few_extended text few = false_from_ne_true _ (λ yes.
-    let three = extended_length (before_first is_separator text) yes in
+    let three = (extended_three (before_first is_separator text) yes).0 in
     let most = length-take (position_or_len is_separator text) text in
     omega (arith, three, most, few))
 
@@ -98,7 +94,7 @@ longer x y z n text other = by_marks (is_separator x) (is_separator y) (is_separ
     by_marks false true c first second third = rw (first, second) refl
     by_marks false false true first second third = rw (first, second, third) refl
     by_marks false false false first second third = false_from_ne_true _ (λ yes.
-        let three = extended_length (before_first is_separator (x ∷ y ∷ z ∷ n ∷ text)) yes in
+        let three = (extended_three (before_first is_separator (x ∷ y ∷ z ∷ n ∷ text)) yes).0 in
         let whole : before_first is_separator (x ∷ y ∷ z ∷ n ∷ text) ≡ x ∷ y ∷ z ∷ n ∷ before_first is_separator text =
         unmarked x (y ∷ z ∷ n ∷ text) first ∙ ap (λ t. x ∷ t) (unmarked y (z ∷ n ∷ text) second ∙ ap (λ t. y ∷ t) (unmarked z (n ∷ text) third ∙ ap (λ t. z ∷ t) (unmarked n text other))) in
         let four = ap length whole in

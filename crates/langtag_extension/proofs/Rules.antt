@@ -8,7 +8,7 @@ use Rattle.langtag_scan.specs.Record.{Extension, IsWellFormedExtension, extensio
 use Rattle.langtag_scan.specs.Subtags.{join, subtags}
 use Rattle.langtag_scan.proofs.BoolFacts.{between_true}
 use Rattle.langtag_scan.proofs.SubtagFacts.{IsSubtag, of_one, of_extension_subtag, singleton_alphanumeric}
-use Rattle.langtag_scan.proofs.SubtagLists.{each_from_test, test_from_each, each_subtag, subtags-joined, join-subtags, length-after_first}
+use Rattle.langtag_scan.proofs.SubtagLists.{each_from_test, test_from_each, each_subtag, subtags-joined, join-subtags, length-after_first, each-append}
 use Rattle.langtag_extension.specs.ExtensionTexts.{goes_on, opens, groups, group_texts, extension_texts}
 use Rattle.langtag_extension.specs.Decided.{is_extension_list, is_extension_text, are_extension_texts, is_extensions_text, are_extension_subtags}
 use Rattle.langtag_extension.specs.Spelling.{extension_spelling, SpellsExtension, IsExtension, SpellsExtensions, IsExtensions}
@@ -108,13 +108,10 @@ groups-flat (e ∷ es) fits =
     ∙ ap (λ gs. extension_flat e ∷ gs) (groups-flat es fits.1)
 
 -- all of them are subtags, so they are found again in their join
-all_subtags-append : (xs ys : List (List ℕ)) → AllByRecursion IsSubtag xs → AllByRecursion IsSubtag ys → AllByRecursion IsSubtag (xs ++ ys)
-all_subtags-append [] ys here there = there
-all_subtags-append (x ∷ xs) ys here there = (here.0, all_subtags-append xs ys here.1 there)
 
 pub all_subtags-flat : (es : List Extension) → AllByRecursion IsWellFormedExtension es → AllByRecursion IsSubtag (flat_map extension_flat es)
 all_subtags-flat [] fits = tt
-all_subtags-flat (e ∷ es) fits = all_subtags-append (extension_flat e) (flat_map extension_flat es) (subtags-flat e fits.0) (all_subtags-flat es fits.1)
+all_subtags-flat (e ∷ es) fits = each-append IsSubtag (extension_flat e) (flat_map extension_flat es) (subtags-flat e fits.0) (all_subtags-flat es fits.1)
 
 -- they are the subtags of their join
 pub subtags-flat_map : (es : List Extension) → AllByRecursion IsWellFormedExtension es → subtags (join (flat_map extension_flat es)) ≡ flat_map extension_flat es

@@ -3,7 +3,7 @@ use Rattle.std.proofs.Common.{◌≡◌, ℕ, true, false, Bool, cond, not, List
 use Rattle.std.specs.Prelude.{◌&&◌, ◌||◌, codes}
 use Rattle.std.specs.List.{list_all}
 use Rattle.std.specs.Option.{option_map_or}
-use Rattle.std.proofs.lemmas.Bool.{and_parts}
+use Rattle.std.proofs.lemmas.Bool.{and_parts, not-true}
 use Rattle.langtag_scan.specs.Case.{Alike, are_alike, fold_text}
 use Rattle.langtag_likely.specs.Likely.{Fields, Likely, are_alike_fields, likely_for, looked_up, or_else, or_other, filled, known, known_fields, add_likely, language_alone, without_script, without_region}
 use Rattle.langtag_likely.specs.LikelySubtags.{other_rows, likely_subtags}
@@ -15,10 +15,6 @@ use Rattle.langtag_likely.proofs.SettledRows.{is_there, is_language_row, is_kept
 clash : {P : Type 0} (b : Bool) → b ≡ true → b ≡ false → P
 clash true t f = absurd cc
 clash false t f = absurd cc
-
-from_not : (b : Bool) → not b ≡ true → b ≡ false
-from_not true h = absurd cc
-from_not false h = refl
 
 -- what holds either way
 pub either_way : {P : Type 0} (b : Bool) → (b ≡ true → P) → (b ≡ false → P) → P
@@ -144,7 +140,7 @@ whole_of row h =
     let c = and_parts _ _ a.1 in
     let r = and_parts _ _ c.0 in
     let d = and_parts _ _ c.1 in
-    record { script = b.0; script_known = from_not _ b.1; region = r.0; region_known = from_not _ r.1; language_known = from_not _ d.0; kept = d.1 }
+    record { script = b.0; script_known = not-true _ b.1; region = r.0; region_known = not-true _ r.1; language_known = not-true _ d.0; kept = d.1 }
 
 -- of another row: its language, if it has one, has a row of its own
 other_of :
@@ -167,7 +163,7 @@ language_of : (row : Likely) → is_language_row row ≡ true → IsOfLanguage r
 language_of row h =
     let a = and_parts _ _ h in
     let b = and_parts _ _ a.1 in
-    record { language = a.0; script = absent _ (from_not _ b.0); region = absent _ (from_not _ b.1) }
+    record { language = a.0; script = absent _ (not-true _ b.0); region = absent _ (not-true _ b.1) }
 
 record StaysUnknown (row : Likely) : Type 0 where
   from_language : is_there row.from.language ≡ false
@@ -182,7 +178,7 @@ unknown_of row h =
     let b = and_parts _ _ a.0 in
     let c = and_parts _ _ a.1 in
     let d = and_parts _ _ c.0 in
-    record { from_language = from_not _ b.0; some = b.1; script = d.0; region = d.1; settles = c.1 }
+    record { from_language = not-true _ b.0; some = b.1; script = d.0; region = d.1; settles = c.1 }
 
 -- a field is alike that of the right side, which keeps the left side, if it is on the left side where it is written
 field_alike :
@@ -315,7 +311,7 @@ module _ (f : Fields) (row : Likely) (key : Fields) (is_key : IsKey f key) (from
           by_row None h = absurd cc
           by_row (Some v) h =
               let no_other : or_other most.language v.language ≡ most.language =
-              or_other_absent most.language v.language none ∙ absent v.language (from_not (is_there v.language) h) ∙ sym no_language in
+              or_other_absent most.language v.language none ∙ absent v.language (not-true (is_there v.language) h) ∙ sym no_language in
               let same : filled most v ≡ most = rw (no_other, or_other_there most.script v.script script_there, or_other_there most.region v.region region_there) refl in
               ap Some same
 

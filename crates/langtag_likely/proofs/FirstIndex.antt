@@ -8,19 +8,10 @@ use Rattle.std.specs.Result.{result_ok}
 use Rattle.std.proofs.lemmas.Bool.{and_parts, ltb-true, eq-eqb, ne_eqb, true_from_ne_false, both_ways}
 use Rattle.std.proofs.lemmas.Bool.Decides.{eqb_tells}
 use Rattle.langtag_tables.specs.Numbers.{climbs_from}
-use Rattle.langtag_tables.proofs.Rising.{IsSearched, climb_searched, searched_apart}
+use Rattle.langtag_tables.proofs.Rising.{IsSearched, climb_searched, searched_apart, above_first}
 use Rattle.langtag_likely.specs.Numbers.{first_index}
 use Rattle.std.proofs.lemmas.List.Folds.{list_all_at}
 use Rattle.std.proofs.lemmas.List.Sorted.{searched}
-
-above_first : (low : ℕ) (numbers : List ℕ) (k : ℕ) → climbs_from low numbers ≡ true → k < length numbers → low < get_or numbers k 0
-above_first low [] k climbs inside = absurd (omega (arith, inside))
-above_first low (n ∷ numbers) zero climbs inside = ltb-true low n (and_parts (ltb low n) (climbs_from n numbers) climbs).0
-above_first low (n ∷ numbers) (suc k) climbs inside =
-    let parts = and_parts (ltb low n) (climbs_from n numbers) climbs in
-    let first = ltb-true low n parts.0 in
-    let later = above_first n numbers k parts.1 (omega (arith, inside)) in
-    omega (arith, first, later)
 
 index_found :
     (low : ℕ) (keys : List ℕ) (key i : ℕ) → climbs_from low keys ≡ true → i < length keys → get_or keys i 0 ≡ key → first_index keys key ≡ Some i

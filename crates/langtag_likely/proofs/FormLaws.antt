@@ -1,19 +1,11 @@
 -- What a tag becomes where its record becomes another.
-use Rattle.std.proofs.Common.{◌≡◌, ℕ, true, false, Bool, List, inl, inr, ◌⊎◌, refl, sym, ap, subst, ◌∙◌, ◌++◌, [], length, drop, append-nil, arith}
-use Rattle.std.proofs.lemmas.Bool.{both_ways}
+use Rattle.std.proofs.Common.{◌≡◌, ℕ, List, inl, inr, sym, ap, subst, ◌∙◌, ◌++◌, [], length, drop, append-nil, arith}
 use Rattle.langtag_scan.specs.Record.{Record, Spells, IsWellFormed, spell}
 use Rattle.langtag_scan.specs.Tag.{IsNormal, IsTag}
-use Rattle.langtag_scan.proofs.NormalTexts.{spelled_once, normal_from_runs, runs_from_normal}
+use Rattle.langtag_scan.proofs.NormalTexts.{spelled_once, normal_or_not}
 use Rattle.langtag_likely.specs.Maximal.{IsForm}
 use Rattle.std.proofs.lemmas.List.{drop_all}
 use Rattle.langtag_output.specs.Writes.{Writes}
-
-decided : {P : Type 0} (b : Bool) → (b ≡ true → P) → (P → b ≡ true) → P ⊎ (P → ⊥)
-decided true holds is = inl (holds refl)
-decided false holds is = inr (λ p. both_ways false refl (is p))
-
-pub normal_or_not : (text : List ℕ) → IsNormal text ⊎ (IsNormal text → ⊥)
-normal_or_not text = decided _ (normal_from_runs text) (runs_from_normal text)
 
 -- what is written is also what follows from it
 pub rewritten : {P Q : List ℕ → Type 0} (before after : List ℕ) (len : ℕ) → ((text : List ℕ) → P text → Q text) → Writes P before after len → Writes Q before after len

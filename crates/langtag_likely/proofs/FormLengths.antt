@@ -1,53 +1,43 @@
 -- How long the maximal and the minimal form of a tag may be.
 use Rattle.std.specs.Option.{option_map_or}
-use Rattle.std.proofs.Common.{◌≡◌, ℕ, ◌+◌, ◌≤◌, List, [], ◌∷◌, ◌++◌, length, Option, None, Some, IfSome, IsTrue, inl, inr, ap, arith, length-append}
-use Rattle.std.specs.List.{flat_map}
+use Rattle.std.proofs.Common.{ℕ, ◌+◌, ◌≤◌, List, [], ◌∷◌, length, Option, None, Some, IfSome, IsTrue, inl, inr, ap, arith, length-append}
 use Rattle.langtag_scan.specs.Class.{is_script, is_region}
-use Rattle.langtag_scan.specs.Record.{Record, IsWellFormed, extension_flat, private_part_flat, one_flat, spell}
+use Rattle.langtag_scan.specs.Record.{Record, IsWellFormed, one_flat, spell}
 use Rattle.langtag_scan.specs.Tag.{IsNormal}
-use Rattle.langtag_scan.proofs.Disjoint.{script_four, region_two_three}
-use Rattle.langtag_scan.proofs.Joins.{hyphenated, length-hyphenated, length-join}
+use Rattle.langtag_scan.proofs.Disjoint.{script_four, region_short}
+use Rattle.langtag_scan.proofs.Joins.{hyphenated}
 use Rattle.langtag_scan.proofs.SubtagFacts.{of_primary}
 use Rattle.langtag_likely.specs.Likely.{Fields, add_likely, remove_likely}
 use Rattle.langtag_likely.specs.LikelySubtags.{likely_subtags}
 use Rattle.langtag_likely.specs.Maximal.{IsForm, fields_of, put_fields, put_language, subtag_of, maximal_record, minimal_record}
-use Rattle.langtag_likely.proofs.FormLaws.{normal_or_not}
+use Rattle.langtag_scan.proofs.NormalTexts.{normal_or_not}
 use Rattle.langtag_likely.proofs.GoodForms.{maximal_well_formed, minimal_well_formed}
+use Rattle.langtag_scan.proofs.PartOffsets.{length-spell}
 
 -- a script and a region with the hyphen before them
-script_short : (o : Option (List ℕ)) → IfSome o (λ s. IsTrue (is_script s)) → length (hyphenated (one_flat o)) ≤ 5
-script_short None is = omega arith
-script_short (Some s) is =
+script_size : (o : Option (List ℕ)) → IfSome o (λ s. IsTrue (is_script s)) → length (hyphenated (one_flat o)) ≤ 5
+script_size None is = omega arith
+script_size (Some s) is =
     let four = (script_four s is).0 in
     let all = length-append (45 ∷ s) [] in
     omega (arith, four, all)
 
-region_short : (o : Option (List ℕ)) → IfSome o (λ s. IsTrue (is_region s)) → length (hyphenated (one_flat o)) ≤ 4
-region_short None is = omega arith
-region_short (Some s) is =
+region_size : (o : Option (List ℕ)) → IfSome o (λ s. IsTrue (is_region s)) → length (hyphenated (one_flat o)) ≤ 4
+region_size None is = omega arith
+region_size (Some s) is =
+    let three = region_short s is in
     let all = length-append (45 ∷ s) [] in
-    elim (region_two_three s is) [
-      | inl two ↦ omega (arith, two.0, all)
-      | inr three ↦ omega (arith, three.0, all)
-    ]
+    omega (arith, three, all)
 
 -- the fields of another tag
 put_length : (r : Record) (f : Fields) → IsWellFormed (put_fields r f) → length (spell (put_fields r f)) ≤ length (spell r) + 17
 put_length r f well =
-    let rest = r.variants ++ (flat_map extension_flat r.extensions ++ private_part_flat r.private_use) in
-    let primary = put_language r.primary r.extended f.language in
-    let old = length-join r.primary (r.extended ++ (one_flat r.script ++ (one_flat r.region ++ rest))) in
-    let old_1 = length-hyphenated r.extended (one_flat r.script ++ (one_flat r.region ++ rest)) in
-    let old_2 = length-hyphenated (one_flat r.script) (one_flat r.region ++ rest) in
-    let old_3 = length-hyphenated (one_flat r.region) rest in
-    let new = length-join primary (r.extended ++ (one_flat (subtag_of f.script) ++ (one_flat (subtag_of f.region) ++ rest))) in
-    let new_1 = length-hyphenated r.extended (one_flat (subtag_of f.script) ++ (one_flat (subtag_of f.region) ++ rest)) in
-    let new_2 = length-hyphenated (one_flat (subtag_of f.script)) (one_flat (subtag_of f.region) ++ rest) in
-    let new_3 = length-hyphenated (one_flat (subtag_of f.region)) rest in
-    let language = (of_primary primary well.primary).short in
-    let script = script_short (subtag_of f.script) well.script in
-    let region = region_short (subtag_of f.region) well.region in
-    omega (arith, old, old_1, old_2, old_3, new, new_1, new_2, new_3, language, script, region)
+    let old = length-spell r in
+    let new = length-spell (put_fields r f) in
+    let language = (of_primary (put_language r.primary r.extended f.language) well.primary).short in
+    let script = script_size (subtag_of f.script) well.script in
+    let region = region_size (subtag_of f.region) well.region in
+    omega (arith, old, new, language, script, region)
 
 by_fields : (r : Record) (o : Option Fields) → IsWellFormed (option_map_or (put_fields r) o r) → length (spell (option_map_or (put_fields r) o r)) ≤ length (spell r) + 17
 by_fields r None well = omega arith

@@ -1,19 +1,19 @@
 -- The tag of a POSIX locale's name: its parts, and its length.
-use Rattle.std.proofs.Common.{◌≡◌, ℕ, suc, ◌+◌, ◌≤◌, true, false, Bool, cond, List, [], ◌∷◌, ◌++◌, length, Option, None, Some, inl, IsTrue, refl, sym, ap, subst, ◌∙◌, arith}
-use Rattle.std.specs.Prelude.{◌==◌, ◌||◌, codes, IfSome, MatchOption}
-use Rattle.std.specs.List.{after_first, before_first, flat_map}
+use Rattle.std.proofs.Common.{◌≡◌, ℕ, suc, ◌+◌, ◌≤◌, true, false, Bool, cond, List, [], ◌∷◌, length, Option, None, Some, inl, IsTrue, refl, sym, ap, subst, ◌∙◌, arith}
+use Rattle.std.specs.Prelude.{◌||◌, codes, IfSome, MatchOption}
+use Rattle.std.specs.List.{after_first, before_first}
 use Rattle.std.specs.Borrow.{Bor}
 use Rattle.std.specs.Option.{option_map, option_or}
 use Rattle.std.specs.Str.{IsUtf8}
 use Rattle.std.proofs.lemmas.Str.{IsUtf8-from_ascii}
-use Rattle.std.proofs.lemmas.Bool.{and_parts, eqb-true}
+use Rattle.std.proofs.lemmas.Bool.{and_parts}
 use Rattle.std.proofs.lemmas.List.{length-append}
 use Rattle.langtag_scan.specs.Case.{are_alike, fold_byte}
-use Rattle.langtag_scan.specs.Class.{are_letters, is_letter, is_digit, is_script, is_variant}
-use Rattle.langtag_scan.specs.Record.{EachRecord, Record, IsWellFormed, Spells, extension_flat, one_flat, private_part_flat, spell}
+use Rattle.langtag_scan.specs.Class.{is_letter, is_digit, is_script, is_variant}
+use Rattle.langtag_scan.specs.Record.{EachRecord, Record, IsWellFormed, Spells, spell}
 use Rattle.langtag_scan.specs.Tag.{IsNormal, IsTag}
 use Rattle.langtag_scan.proofs.Ascii.{IsAscii-spelled}
-use Rattle.langtag_scan.proofs.Joins.{hyphenated, length-hyphenated, length-join}
+use Rattle.langtag_scan.proofs.Joins.{hyphenated}
 use Rattle.langtag_scan.proofs.SubtagFacts.{of_script}
 use Rattle.langtag.specs.Edit.{with_script}
 use Rattle.langtag.proofs.EditLaws.{script-replaces}
@@ -28,6 +28,8 @@ use Rattle.langtag_likely.specs.Maximal.{IsForm}
 use Rattle.langtag_likely.specs.Modifiers.{is_script_code, modifier_script, modifier_variant}
 use Rattle.langtag_match.specs.Locale.{front_of, is_hash}
 use Rattle.langtag_likely.specs.Posix.{is_underscore, modifier_of, said_script, script_behind, with_said, with_said_script, with_said_variant}
+use Rattle.langtag_scan.proofs.Disjoint.{script_four}
+use Rattle.langtag_scan.proofs.PartOffsets.{length-spell}
 
 -- ---- the table of scripts has the codes of the list: by computation
 
@@ -138,19 +140,10 @@ script_or (Some s) b = refl
 
 pub longer_by_script : (r : Record) (script : List ℕ) → length script ≡ 4 → length (spell (with_script r (Some script))) ≤ length (spell r) + 5
 longer_by_script r script four =
-    let rest = one_flat r.region ++ (r.variants ++ (flat_map extension_flat r.extensions ++ private_part_flat r.private_use)) in
-    let new = length-join r.primary (r.extended ++ (one_flat (Some script) ++ rest)) in
-    let old = length-join r.primary (r.extended ++ (one_flat r.script ++ rest)) in
-    let a = length-hyphenated r.extended (one_flat (Some script) ++ rest) in
-    let b = length-hyphenated r.extended (one_flat r.script ++ rest) in
-    let c = length-hyphenated (one_flat (Some script)) rest in
-    let d = length-hyphenated (one_flat r.script) rest in
-    let e : length (hyphenated (script ∷ [])) ≡ suc (length script + 0) = ap suc (length-append script []) in
-    omega (arith, new, old, a, b, c, d, e, four)
-
-script_length : (script : List ℕ) → is_script script ≡ true → length script ≡ 4
-unfolding is_script
-script_length script is = eqb-true (length script) 4 (and_parts (length script == 4) (are_letters script) is).0
+    let old = length-spell r in
+    let new = length-spell (with_script r (Some script)) in
+    let one : length (hyphenated (script ∷ [])) ≡ suc (length script + 0) = ap suc (length-append script []) in
+    omega (arith, old, new, one, four)
 
 -- a text that is spelled with a script, and what the other text's record spells
 pub set_script :
@@ -159,7 +152,7 @@ pub set_script :
 unfolding IsTag IsNormal
 set_script old new script is (r, spells) set =
     let spelled = set r spells in
-    let longer = longer_by_script r script (script_length script is) in
+    let longer = longer_by_script r script (script_four script is).0 in
     let few : length new ≤ length old + 5 = omega (arith, longer, ap length spelled.1, ap length spells.1) in
     (inl (with_script r (Some script), spelled), few, record_form (with_said_script (Some script)) old new r spells (sym spelled.1))
 

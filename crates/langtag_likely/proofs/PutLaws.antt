@@ -8,8 +8,8 @@ use Rattle.langtag_scan.specs.CaseLaws.{are_alike-decides}
 use Rattle.langtag_scan.specs.Ends.{ends_of}
 use Rattle.langtag_scan.specs.Record.{Record, one_flat, extension_flat, private_part_flat, spell}
 use Rattle.langtag_scan.specs.Subtags.{join}
-use Rattle.langtag_scan.proofs.Joins.{hyphenated, hyphenated-append, join-append, length-hyphenated, length-join, drop-join}
-use Rattle.langtag_scan.proofs.PartOffsets.{ends_in_order}
+use Rattle.langtag_scan.proofs.Joins.{hyphenated, hyphenated-append, join-append, length-join, drop-join}
+use Rattle.langtag_scan.proofs.PartOffsets.{ends_in_order, length-spell}
 use Rattle.langtag_language.specs.Language.{SpellsLanguage}
 use Rattle.langtag_tables.proofs.Letters.{primary_length, extended_primary}
 use Rattle.langtag_likely.specs.Likely.{Fields, or_other}
@@ -84,12 +84,6 @@ subtag-length : (s : List ℕ) → length (hyphenated (one_flat (subtag_of s))) 
 subtag-length [] = omega arith
 subtag-length (b ∷ s) = let same = ap length (append-nil s) in omega (arith, same)
 
-all_lengths :
-    (x : List ℕ) (es ss gs others : List (List ℕ)) →
-    length (join (x ∷ (es ++ (ss ++ (gs ++ others)))))
-    ≡ length x + (length (hyphenated es) + (length (hyphenated ss) + (length (hyphenated gs) + length (hyphenated others))))
-all_lengths x es ss gs others = simp (length-join, length-hyphenated)
-
 put_language-length : (p : List ℕ) (es : List (List ℕ)) (l : List ℕ) → length (put_language p es l) ≤ length p + length l
 put_language-length p [] l = by_test (are_alike (codes "und") p) l
   where
@@ -102,11 +96,9 @@ put_language-length p (e ∷ es) l = omega arith
 -- a tag with other fields is longer by no more than these and two hyphens
 pub put_length : (r : Record) (f : Fields) → length (spell (put_fields r f)) ≤ length (spell r) + (length f.language + (length f.script + (length f.region + 2)))
 put_length r f =
-    let others = r.variants ++ (flat_map extension_flat r.extensions ++ private_part_flat r.private_use) in
-    let language = put_language r.primary r.extended f.language in
     let a = put_language-length r.primary r.extended f.language in
     let b = subtag-length f.script in
     let c = subtag-length f.region in
-    let new = all_lengths language r.extended (one_flat (subtag_of f.script)) (one_flat (subtag_of f.region)) others in
-    let old = all_lengths r.primary r.extended (one_flat r.script) (one_flat r.region) others in
+    let new = length-spell (put_fields r f) in
+    let old = length-spell r in
     omega (arith, a, b, c, new, old)

@@ -1,5 +1,5 @@
 -- What the tables suggest is a text, and stands in the lists.
-use Rattle.std.proofs.Common.{◌≡◌, ℕ, ◌≤◌, true, List, [], length, get_or, map, Option, None, Some, option_map, refl, ap, ◌∙◌}
+use Rattle.std.proofs.Common.{◌≡◌, ℕ, true, List, [], get_or, map, Option, None, Some, option_map, refl, ap, ◌∙◌}
 use Rattle.std.specs.Str.{IsUtf8}
 use Rattle.std.proofs.lemmas.Str.{IsUtf8-from_ascii}
 use Rattle.langtag_scan.specs.Case.{folded_number}
@@ -12,15 +12,11 @@ use Rattle.langtag_likely.specs.Rows.{no_row}
 use Rattle.langtag_likely.specs.Suggestion.{suggested_region}
 use Rattle.langtag_likely.proofs.AliasLaws.{region_found, region_key}
 use Rattle.langtag_likely.proofs.AliasTables.{replacements_alone}
-use Rattle.langtag_likely.proofs.FieldClasses.{from_region, region_length}
 
 pub utf8_name : (name : List ℕ) → are_alphanumeric name ≡ true → IsUtf8 name
 utf8_name name plain = IsUtf8-from_ascii name (IsAscii-each is_alphanumeric alphanumeric_below name plain)
 
 -- ---- regions
-
-pub region_short : (code : List ℕ) → is_region code ≡ true → length code ≤ 4
-region_short code is = region_length code (from_region code is)
 
 region_in : (o : Option ℕ) → option_map (λ i. (get_or region_replacements i no_row).to.region) o ≡ option_map (λ to. to.region) (option_map (λ i. (get_or region_replacements i no_row).to) o)
 region_in None = refl

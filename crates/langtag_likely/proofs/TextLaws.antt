@@ -6,12 +6,12 @@ use Rattle.langtag_scan.specs.Case.{Alike, fold_text}
 use Rattle.langtag_scan.specs.Record.{Record, IsWellFormed, spell}
 use Rattle.langtag_scan.specs.Tag.{IsNormal}
 use Rattle.langtag_scan.proofs.CaseLaw.{alike_normal, alike_parts, spelled_alike}
-use Rattle.langtag_scan.proofs.NormalTexts.{spelled_once}
+use Rattle.langtag_scan.proofs.NormalTexts.{spelled_once, normal_or_not}
 use Rattle.langtag_likely.specs.Likely.{Fields, add_likely, remove_likely}
 use Rattle.langtag_likely.specs.LikelySubtags.{likely_subtags}
 use Rattle.langtag_likely.specs.Maximal.{IsForm, IsMaximalForm, IsMinimalForm, fields_of, put_fields, maximal_record, minimal_record}
 use Rattle.langtag_likely.specs.MaximalLaws.{IsAlikeForm, UndoesMinimal, UndoesMaximal, TellsAsMaximal, KeepsOthers}
-use Rattle.langtag_likely.proofs.FormLaws.{kept_form, normal_or_not, record_form}
+use Rattle.langtag_likely.proofs.FormLaws.{kept_form, record_form}
 use Rattle.langtag_likely.proofs.FormsTwice.{maximal-twice, minimal-twice, minimal-of_maximal, maximal-of_minimal, maximal-alike, minimal-alike}
 use Rattle.langtag_likely.proofs.GoodForms.{maximal_well_formed, minimal_well_formed}
 

@@ -1,6 +1,6 @@
 -- The tag for a locale name: language[_territory][.codeset][@modifier] (IEEE Std 1003.1, section 8.2), or a name as
 -- Java and Android print it, with a script after `_#`.
-use Rattle.std.specs.Prelude.{◌≡◌, ℕ, ◌≤◌, ◌==◌, Bool, false, List, [], ◌∷◌, length, map, Option, None, Some, codes, if◌then◌else◌}
+use Rattle.std.specs.Prelude.{◌≡◌, ℕ, ◌≤◌, ◌==◌, Bool, false, List, [], ◌∷◌, length, Option, None, Some, codes, if◌then◌else◌}
 use Rattle.std.specs.List.{before_first, after_first}
 use Rattle.std.specs.Borrow.{Bor}
 use Rattle.langtag_scan.specs.Case.{are_alike}
@@ -14,15 +14,12 @@ use Rattle.langtag_likely.specs.Maximal.{IsForm}
 use Rattle.langtag_likely.specs.Modifiers.{modifier_script, modifier_variant}
 use Rattle.langtag_likely.specs.declared.posix_error.PosixError.{PosixError}
 use Rattle.langtag_likely.specs.declared.posix_error.PosixError.TheVariants.{NoTag, Memory}
+use Rattle.langtag_match.specs.Wanted.{hyphened}
 
 -- ---- the parts of a name
 
 abbrev pub is_at : ℕ → Bool
 is_at b = b == 64
-
--- the text with each `_` replaced by `-`
-abbrev pub hyphenated : List ℕ → List ℕ
-hyphenated text = map (λ b. if b == 95 then 45 else b) text
 
 abbrev pub is_underscore : ℕ → Bool
 is_underscore b = b == 95
@@ -57,8 +54,8 @@ with_said name r = with_said_variant (modifier_variant (modifier_of name)) (with
 -- a language and a territory, joined by a hyphen, are a tag other than `POSIX`, and not too long; `C` and the empty
 -- text are not tags
 pub record IsLocalePlace (place : List ℕ) : Type 0 where
-  pub tag : IsTag (hyphenated place)
-  pub other : are_alike (hyphenated place) (codes "POSIX") ≡ false
+  pub tag : IsTag (hyphened place)
+  pub other : are_alike (hyphened place) (codes "POSIX") ≡ false
   pub short : length place ≤ 255
 
 -- `IsLocalePlace` holds for the language and the territory of the name
@@ -67,7 +64,7 @@ NamesTag name = IsLocalePlace (locale_place name)
 
 -- the tag of a name: its language and territory as a tag, with the script and the variant that the name gives
 abbrev pub IsTagOfName : List ℕ → List ℕ → Type 0
-IsTagOfName name tag = IsForm (with_said name) (hyphenated (locale_place name)) tag
+IsTagOfName name tag = IsForm (with_said name) (hyphened (locale_place name)) tag
 
 -- the error: the name has no tag, and the error contains the name; or allocation failed
 abbrev pub IsRefusal : Bor (List ℕ) → PosixError → Type 0

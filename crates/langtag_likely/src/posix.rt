@@ -7,9 +7,10 @@ ghost use Rattle.langtag_place.specs.Text.{script_text};
 ghost use Rattle.langtag_scan.specs.Class.{is_variant};
 ghost use Rattle.langtag.specs.Text.{lang_tag_text, lang_tag_buf_text};
 ghost use Rattle.langtag_match.specs.Locale.{front_of};
+ghost use Rattle.langtag_match.specs.Wanted.{hyphened};
 ghost use Rattle.langtag_output.specs.Writes.{Writes};
 ghost use Rattle.langtag_likely.specs.Maximal.{IsForm};
-ghost use Rattle.langtag_likely.specs.Posix.{IsLocalePlace, IsRefusal, IsTagOfName, NamesTag, hyphenated, modifier_of, script_behind, with_said_script, with_said_variant};
+ghost use Rattle.langtag_likely.specs.Posix.{IsLocalePlace, IsRefusal, IsTagOfName, NamesTag, modifier_of, script_behind, with_said_script, with_said_variant};
 
 use crate::forms::tag_of;
 use crate::modifiers::{modifier_script, modifier_variant, script_of};
@@ -127,7 +128,7 @@ fn script_behind(front: &[u8]) -> Option<Script<'_>>
 /// Writes a language and a territory into `room`, and returns them as a tag.
 fn tag_of_place<'a>(place: &[u8], room: &'a mut [u8; MOST]) -> Option<LangTag<'a>>
     ensures { MatchOption result (IsLocalePlace place.now → ⊥)
-        (λ tag. IsLocalePlace place.now × (lang_tag_text tag ≡ hyphenated place.now)) }
+        (λ tag. IsLocalePlace place.now × (lang_tag_text tag ≡ hyphened place.now)) }
 {
     let bytes = room.get_mut(..place.len())?;
     bytes.copy_from_slice(place);
@@ -141,7 +142,7 @@ fn tag_of_place<'a>(place: &[u8], room: &'a mut [u8; MOST]) -> Option<LangTag<'a
 
 /// Writes a hyphen in place of each `_`.
 fn hyphenate(bytes: &mut [u8])
-    ensures { bytes.new ≡ hyphenated bytes.old }
+    ensures { bytes.new ≡ hyphened bytes.old }
 {
     for byte in bytes.iter_mut() {
         if *byte == b'_' {

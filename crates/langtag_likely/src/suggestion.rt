@@ -57,7 +57,7 @@ pub fn suggested_language(code: &str) -> Option<&'static str>
 /// suggested_region("UK"); // Some("GB")
 /// suggested_region("GB"); // None
 /// ```
-#[tactic(auto, using(crate::proofs::SuggestionLaws::region_short), unfolding(crate::specs::Suggestion::suggested_region))]
+#[tactic(auto, using(langtag_scan::proofs::Disjoint::region_short), unfolding(crate::specs::Suggestion::suggested_region))]
 pub fn suggested_region(code: &str) -> Option<&'static str>
     ensures { option_map (λ text. text.now) result ≡ spec.suggested_region code.now }
 {

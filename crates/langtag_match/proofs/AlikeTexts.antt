@@ -3,13 +3,14 @@ use Rattle.std.proofs.Common.{◌≡◌, ℕ, ◌<◌, eqb, Bool, true, false, c
 use Rattle.std.specs.List.{list_all}
 use Rattle.std.proofs.lemmas.Bool.Decides.{nat_tests, eqb_tells}
 use Rattle.langtag_scan.specs.Case.{fold_byte, fold_text}
-use Rattle.langtag_scan.proofs.CaseLaw.{all-fold, is_digit-fold, is_letter-fold, length-fold, segments-fold}
-use Rattle.langtag.specs.Class.{is_letter, is_alphanumeric, is_private_subtag}
+use Rattle.langtag_scan.proofs.CaseLaw.{all-fold, is_letter-fold, length-fold, segments-fold, classes-fold}
+use Rattle.langtag.specs.Class.{is_letter, is_private_subtag}
 use Rattle.langtag.specs.Subtags.{subtags}
 use Rattle.langtag_match.specs.AcceptLanguage.{is_space, from_first, trimmed}
 use Rattle.langtag_match.specs.Range.{is_star, is_first_subtag, are_basic_range, is_basic_range}
 use Rattle.langtag_match.specs.Wanted.{hyphened_byte, hyphened}
 use Rattle.langtag_match.proofs.ChangedTexts.{reverse-changed}
+use Rattle.langtag_scan.specs.Stage.{Classes}
 
 -- ---- bytes
 
@@ -24,9 +25,6 @@ is_space-fold b = rw (mark-fold 32 (omega arith) b, mark-fold 9 (omega arith) b)
 pub underscore-fold : (b : ℕ) → eqb (fold_byte b) 95 ≡ eqb b 95
 unfolding fold_byte
 underscore-fold b = grind (arith, nat_tests)
-
-is_alphanumeric-fold : (b : ℕ) → is_alphanumeric (fold_byte b) ≡ is_alphanumeric b
-is_alphanumeric-fold b = rw (is_letter-fold b, is_digit-fold b) refl
 
 hyphened_byte-fold : (b : ℕ) → hyphened_byte (fold_byte b) ≡ fold_byte (hyphened_byte b)
 unfolding fold_byte
@@ -70,8 +68,7 @@ is_first_subtag-fold : (subtag : List ℕ) → is_first_subtag (fold_text subtag
 is_first_subtag-fold subtag = rw (length-fold subtag, all-fold is_letter is_letter-fold subtag) refl
 
 is_private_subtag-fold : (subtag : List ℕ) → is_private_subtag (fold_text subtag) ≡ is_private_subtag subtag
-unfolding is_private_subtag
-is_private_subtag-fold subtag = rw (length-fold subtag, all-fold is_alphanumeric is_alphanumeric-fold subtag) refl
+is_private_subtag-fold subtag = ap (λ (c : Classes). c.private_subtag) (classes-fold subtag)
 
 are_private-fold : (subtags : List (List ℕ)) → list_all is_private_subtag (map fold_text subtags) ≡ list_all is_private_subtag subtags
 are_private-fold [] = refl

@@ -7,10 +7,10 @@ use Rattle.std.proofs.lemmas.List.Elements.{All-from_recursion}
 use Rattle.std.proofs.lemmas.Slice.Eq.{bytes_eq-Decides}
 use Rattle.langtag_scan.specs.Case.{Alike, fold_byte, fold_text}
 use Rattle.langtag_scan.specs.Class.{has_length, is_alphanumeric, is_letter, is_digit, are_alphanumeric, is_private_subtag}
-use Rattle.langtag_scan.specs.Subtags.{IsHyphenFree, is_hyphen, join, segments, subtags}
+use Rattle.langtag_scan.specs.Subtags.{IsHyphenFree, is_hyphen, join, subtags}
 use Rattle.langtag_scan.proofs.Joins.{hyphenated, join-hyphenated, length-join}
 use Rattle.langtag_scan.proofs.SubtagFacts.{no_hyphen_each, of_private_subtag}
-use Rattle.langtag_scan.proofs.SubtagLists.{join-subtags, segments-join}
+use Rattle.langtag_scan.proofs.SubtagLists.{join-subtags, segments-join, subtags-segments}
 use Rattle.langtag_match.proofs.AlikeTexts.{hyphened-fold, mark-fold}
 use Rattle.langtag_match.proofs.BasicRanges.{is_language_range-from_basic}
 use Rattle.langtag_match.proofs.WantedTexts.{first_in_range}
@@ -108,10 +108,6 @@ each_free (s ∷ ss) each =
     let k = and_parts (is_range_subtag s) (are_range_subtags ss) each in
     (All-from_recursion (λ b. is_hyphen b ≡ false) s (range_free s k.0).0, each_free ss k.1)
 
-subtags_some : (text : List ℕ) → 0 < length text → subtags text ≡ segments text
-subtags_some [] some = absurd (omega (arith, some))
-subtags_some (b ∷ text) some = refl
-
 module _ (first : List ℕ) (others : List (List ℕ)) (is : are_extended_range (first ∷ others) ≡ true) where
   others_in_range : are_range_subtags others ≡ true
   others_in_range = (and_parts (is_star first || is_first_subtag first) (are_range_subtags others) is).1
@@ -130,7 +126,7 @@ module _ (first : List ℕ) (others : List (List ℕ)) (is : are_extended_range 
   -- the subtags of a range are found again in their join
   subtags-range : subtags (join (first ∷ others)) ≡ first ∷ others
   subtags-range =
-      subtags_some (join (first ∷ others)) (omega (arith, length-join first others, (range_free first first_range).1))
+      subtags-segments (join (first ∷ others)) (omega (arith, length-join first others, (range_free first first_range).1))
       ∙ segments-join first others (All-from_recursion IsHyphenFree (first ∷ others) (each_free (first ∷ others) (rw (first_range, others_in_range) refl)))
 
 filter_range : (ss : List (List ℕ)) → are_range_subtags ss ≡ true → are_range_subtags (filter is_plain ss) ≡ true

@@ -21,13 +21,13 @@ one_reading header first second (good, by) (also, order) =
 abbrev pub by_weight : WeightedRange → WeightedRange → Ordering
 by_weight v w = nat_cmp w.weight v.weight
 
-abbrev IsFalling : List Element → Type 0
+abbrev pub IsFalling : List Element → Type 0
 IsFalling elements = IsOrderedBy weight_in FallsTo elements
 
-abbrev AtMost : ℕ → List Element → Type 0
+abbrev pub AtMost : ℕ → List Element → Type 0
 AtMost n elements = AllByRecursion (λ element. element.weight ≤ n) elements
 
-AtMost-weaker : (n m : ℕ) (es : List Element) → n ≤ m → AtMost n es → AtMost m es
+pub AtMost-weaker : (n m : ℕ) (es : List Element) → n ≤ m → AtMost n es → AtMost m es
 AtMost-weaker n m [] few low = tt
 AtMost-weaker n m (e ∷ es) few low = let one = low.0 in (omega arith, AtMost-weaker n m es few low.1)
 

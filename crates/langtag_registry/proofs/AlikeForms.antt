@@ -1,5 +1,5 @@
 -- The canonical forms of alike texts are alike.
-use Rattle.std.proofs.Common.{◌≡◌, ℕ, ◌==◌, true, false, Bool, cond, List, [], ◌∷◌, ◌++◌, map, filter, Option, None, Some, option_map, unwrap_or, inl, inr, ◌⊎◌, refl, sym, ap, ◌∙◌}
+use Rattle.std.proofs.Common.{◌≡◌, ℕ, ◌==◌, true, false, Bool, cond, List, [], ◌∷◌, ◌++◌, map, Option, None, Some, option_map, unwrap_or, inl, inr, ◌⊎◌, refl, sym, ap, ◌∙◌}
 use Rattle.std.specs.List.{flat_map}
 use Rattle.std.proofs.lemmas.List.{map-append}
 use Rattle.langtag_scan.specs.AlikeRecords.{fold_extension, fold_private_use, fold_record, AlikeRecords}
@@ -15,6 +15,7 @@ use Rattle.langtag_registry.specs.Registered.{is_registered_extlang}
 use Rattle.langtag_registry.specs.Subtags.{tag_preferred}
 use Rattle.langtag_registry.proofs.ReplacedSubtags.{replaced, replaced-alike, IgnoresCase, value_for-alike, language-alike, region-alike, variant-alike, extlang-alike, registered_extlang-alike}
 use Rattle.langtag_registry.proofs.TwiceLaws.{Way, as_whole, as_it_is, by_parts, way_of}
+use Rattle.langtag_registry.proofs.ExtensionOrder.{those_of}
 
 -- ---- what is folded once is folded
 
@@ -67,16 +68,13 @@ variants-fold (v ∷ vs) =
     ap (λ z. z ∷ map fold_text (canonical_variants (map fold_text vs))) (replaced-alike preferred_variant variant-alike (fold_text v) v (fold_text-twice v))
     ∙ ap (λ zs. fold_text (replaced preferred_variant v) ∷ zs) (variants-fold vs)
 
-abbrev of_singleton : ℕ → List Extension → List Extension
-of_singleton b es = filter (λ e. are_alike_bytes b e.singleton) es
-
 of_singleton-fold :
-    (b : ℕ) (es : List Extension) → map fold_extension (of_singleton b (map fold_extension es)) ≡ map fold_extension (of_singleton b es)
+    (b : ℕ) (es : List Extension) → map fold_extension (those_of b (map fold_extension es)) ≡ map fold_extension (those_of b es)
 of_singleton-fold b [] = refl
 of_singleton-fold b (e ∷ es) =
-    let folded = of_singleton b (map fold_extension es) in
+    let folded = those_of b (map fold_extension es) in
     ap (λ c. map fold_extension (cond (fold_byte b == c) (fold_extension e ∷ folded) folded)) (fold_byte-twice e.singleton)
-    ∙ by_test (are_alike_bytes b e.singleton) folded (of_singleton b es) (of_singleton-fold b es)
+    ∙ by_test (are_alike_bytes b e.singleton) folded (those_of b es) (of_singleton-fold b es)
   where
     by_test :
         (t : Bool) (folded others : List Extension) → map fold_extension folded ≡ map fold_extension others →
@@ -87,13 +85,13 @@ of_singleton-fold b (e ∷ es) =
 
 of_singletons-fold :
     (bs : List ℕ) (es : List Extension) →
-    map fold_extension (flat_map (λ b. of_singleton b (map fold_extension es)) bs) ≡ map fold_extension (flat_map (λ b. of_singleton b es) bs)
+    map fold_extension (flat_map (λ b. those_of b (map fold_extension es)) bs) ≡ map fold_extension (flat_map (λ b. those_of b es) bs)
 of_singletons-fold [] es = refl
 of_singletons-fold (b ∷ bs) es =
-    map-append fold_extension (of_singleton b (map fold_extension es)) _
-    ∙ ap (λ z. z ++ map fold_extension (flat_map (λ c. of_singleton c (map fold_extension es)) bs)) (of_singleton-fold b es)
-    ∙ ap (λ z. map fold_extension (of_singleton b es) ++ z) (of_singletons-fold bs es)
-    ∙ sym (map-append fold_extension (of_singleton b es) _)
+    map-append fold_extension (those_of b (map fold_extension es)) _
+    ∙ ap (λ z. z ++ map fold_extension (flat_map (λ c. those_of c (map fold_extension es)) bs)) (of_singleton-fold b es)
+    ∙ ap (λ z. map fold_extension (those_of b es) ++ z) (of_singletons-fold bs es)
+    ∙ sym (map-append fold_extension (those_of b es) _)
 
 in_order-fold : (es : List Extension) → map fold_extension (in_order (map fold_extension es)) ≡ map fold_extension (in_order es)
 unfolding in_order

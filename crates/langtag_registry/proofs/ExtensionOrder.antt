@@ -29,7 +29,7 @@ by_singletons ss texts = flat_map (λ singleton. of_singleton singleton texts) s
 
 -- ---- the texts tell the singletons
 
-abbrev those_of : ℕ → List Extension → List Extension
+abbrev pub those_of : ℕ → List Extension → List Extension
 those_of s es = filter (λ e. are_alike_bytes s e.singleton) es
 
 of_singleton-spelled : (s : ℕ) (es : List Extension) → of_singleton s (spellings es) ≡ spellings (those_of s es)
@@ -121,7 +121,7 @@ abbrev pub AreMarked : List Bool → List (List ℕ) → List (List ℕ) → Typ
 AreMarked marks all left = (s : ℕ) → slice_index_or marks (fold_byte s) false ≡ false → of_singleton s all ≡ of_singleton s left
 
 -- a byte that stays unmarked was so, and is not the one that was marked
-unmarked : (marks : List Bool) (k j : ℕ) → k < length marks → get_or (set marks k true) j false ≡ false → (k ≡ j → ⊥) × (get_or marks j false ≡ false)
+pub unmarked : (marks : List Bool) (k j : ℕ) → k < length marks → get_or (set marks k true) j false ≡ false → (k ≡ j → ⊥) × (get_or marks j false ≡ false)
 unmarked marks k j inside none =
     let apart : k ≡ j → ⊥ = λ same. both_ways _ none (get_or-set_at marks k j true false (sym same) inside) in
     (apart, sym (get_or-set_other marks k j true false (λ same. apart (sym same))) ∙ none)

@@ -18,6 +18,7 @@ use Rattle.std.proofs.lemmas.List.{at_drop_more, take_more}
 use Rattle.langtag_registry.specs.Registered.{is_registered_language, is_registered_extlang, is_registered_script, is_registered_region, is_registered_variant}
 use Rattle.langtag_registry.specs.Fault.{Told, language, extlang, second_extlang, script, region, variant, repeated_variant, repeated_singleton, unless, extlang_faults, language_faults, script_faults, region_faults, variant_faults, singleton_faults, faults}
 use Rattle.langtag_registry.specs.Valid.{IsValidRecord}
+use Rattle.std.proofs.lemmas.Bool.{not-true}
 
 abbrev pub first : List Told → Option Told
 first list = slice_get list 0
@@ -138,10 +139,6 @@ holds : (b : Bool) (t : Told) → unless b t ≡ [] → b ≡ true
 holds true t none = refl
 holds false t none = absurd cc
 
-not_true : (b : Bool) → not b ≡ true → b ≡ false
-not_true true h = absurd cc
-not_true false h = refl
-
 extlangs_valid : (ss : List (List ℕ)) → extlang_faults ss ≡ [] → AllByRecursion (λ s. IsTrue (is_registered_extlang s)) ss × (length ss ≤ 1)
 extlangs_valid [] none = (tt, omega arith)
 extlangs_valid (s ∷ []) none = ((holds (is_registered_extlang s) (extlang s) (none_left _ (map second_extlang []) none), tt), omega arith)
@@ -162,7 +159,7 @@ variants_valid seen [] none = (tt, refl)
 variants_valid seen (v ∷ vs) none =
     let known = holds (is_registered_variant v) (variant v) (none_left _ _ none) in
     let others = none_right (unless (is_registered_variant v) (variant v)) _ none in
-    let new = not_true _ (holds (not (list_any (are_alike v) seen)) (repeated_variant v) (none_left _ _ others)) in
+    let new = not-true _ (holds (not (list_any (are_alike v) seen)) (repeated_variant v) (none_left _ _ others)) in
     let later = variants_valid (seen ++ v ∷ []) vs (none_right (unless (not (list_any (are_alike v) seen)) (repeated_variant v)) _ others) in
     ((known, later.0), rw new later.1)
 

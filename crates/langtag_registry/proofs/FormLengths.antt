@@ -1,12 +1,12 @@
 -- How long the canonical form of a tag may be.
-use Rattle.std.proofs.Common.{◌≡◌, ℕ, ◌+◌, ◌*◌, ◌≤◌, true, leb, List, [], ◌∷◌, ◌++◌, length, map, Option, None, Some, unwrap_or, IfSome, IsTrue, inl, inr, refl, sym, ap, ◌∙◌, arith, length-append}
+use Rattle.std.proofs.Common.{◌≡◌, ℕ, ◌+◌, ◌*◌, ◌≤◌, true, leb, List, [], ◌∷◌, length, map, Option, None, Some, unwrap_or, IfSome, IsTrue, inl, inr, refl, sym, ap, ◌∙◌, arith, length-append}
 use Rattle.std.specs.List.{list_all, AllByRecursion, flat_map, sum_by}
 use Rattle.std.proofs.lemmas.Bool.{leb-true}
 use Rattle.std.proofs.lemmas.Bool.Decides.{nat_tests}
 use Rattle.std.proofs.lemmas.List.Sums.{sum_by-cons}
 use Rattle.langtag_scan.specs.Class.{is_region, is_variant}
-use Rattle.langtag_scan.specs.Record.{Extension, Record, IsWellFormed, Spells, extension_flat, private_part_flat, one_flat, spell}
-use Rattle.langtag_scan.proofs.Joins.{hyphenated, length-hyphenated, length-join}
+use Rattle.langtag_scan.specs.Record.{Extension, Record, IsWellFormed, Spells, extension_flat, one_flat, spell}
+use Rattle.langtag_scan.proofs.Joins.{hyphenated, length-hyphenated}
 use Rattle.langtag_scan.proofs.SubtagFacts.{of_primary, of_variant}
 use Rattle.langtag_registry.specs.Canonical.{canonical_record, canonical_primary, canonical_extended, canonical_region, canonical_variants, in_order, canonical_bound, IsCanonicalForm}
 use Rattle.langtag_registry.specs.Fields.{preferred_tag}
@@ -16,6 +16,8 @@ use Rattle.langtag_registry.proofs.ReplacedSubtags.{extlang_cases}
 use Rattle.langtag_registry.proofs.TwiceLaws.{Way, as_whole, as_it_is, by_parts, way_of}
 use Rattle.langtag_registry.proofs.Values.{value_good}
 use Rattle.langtag_registry.proofs.WellFormedForms.{canonical_record_well_formed}
+use Rattle.langtag_scan.proofs.Disjoint.{region_short}
+use Rattle.langtag_scan.proofs.PartOffsets.{length-spell}
 
 -- the bytes of some subtags, each with its hyphen
 abbrev size : List (List ℕ) → ℕ
@@ -32,10 +34,6 @@ extended_size (e ∷ []) =
       | inr (none, other) ↦ rw other (omega arith)
     ]
 extended_size (e ∷ f ∷ es) = omega arith
-
-region_short : (s : List ℕ) → is_region s ≡ true → length s ≤ 4
-unfolding is_region
-region_short s h = grind (arith, nat_tests)
 
 region_size : (o : Option (List ℕ)) → IfSome o (λ s. IsTrue (is_region s)) → size (one_flat o) ≤ 5
 region_size None is = omega arith
@@ -72,25 +70,13 @@ size-extensions [] = refl
 size-extensions (e ∷ es) =
     length-hyphenated (extension_flat e) (flat_map extension_flat es) ∙ ap (λ n. extension_size e + n) (size-extensions es) ∙ sym (sum_by-cons extension_size e es)
 
-size-parts :
-    (a b c d e f : List (List ℕ)) → size (a ++ (b ++ (c ++ (d ++ (e ++ f))))) ≡ size a + size b + size c + size d + size e + size f
-size-parts a b c d e f =
-    let one = length-hyphenated a (b ++ (c ++ (d ++ (e ++ f)))) in
-    let two = length-hyphenated b (c ++ (d ++ (e ++ f))) in
-    let three = length-hyphenated c (d ++ (e ++ f)) in
-    let four = length-hyphenated d (e ++ f) in
-    let five = length-hyphenated e f in
-    omega (arith, one, two, three, four, five)
-
 -- variants grow most: by less than their own length
 pub form_length : (r : Record) → IsWellFormed r → 5 * length (spell (canonical_record r)) ≤ 9 * length (spell r) + 70
 unfolding canonical_record
 form_length r well =
     let new = canonical_record_well_formed r well in
-    let old_all = length-join r.primary (r.extended ++ (one_flat r.script ++ (one_flat r.region ++ (r.variants ++ (flat_map extension_flat r.extensions ++ private_part_flat r.private_use))))) in
-    let new_all = length-join (canonical_primary r.primary r.extended) (canonical_extended r.extended ++ (one_flat r.script ++ (one_flat (canonical_region r.region) ++ (canonical_variants r.variants ++ (flat_map extension_flat (in_order r.extensions) ++ private_part_flat r.private_use))))) in
-    let old_parts = size-parts r.extended (one_flat r.script) (one_flat r.region) r.variants (flat_map extension_flat r.extensions) (private_part_flat r.private_use) in
-    let new_parts = size-parts (canonical_extended r.extended) (one_flat r.script) (one_flat (canonical_region r.region)) (canonical_variants r.variants) (flat_map extension_flat (in_order r.extensions)) (private_part_flat r.private_use) in
+    let old_all = length-spell r in
+    let new_all = length-spell (canonical_record r) in
     let primary = (of_primary (canonical_primary r.primary r.extended) new.primary).short in
     let extended = extended_size r.extended in
     let region = region_size (canonical_region r.region) new.region in
@@ -98,7 +84,7 @@ form_length r well =
     let old_extensions = size-extensions r.extensions in
     let new_extensions = size-extensions (in_order r.extensions) in
     let extensions = in_order-weight extension_size r.extensions in
-    omega (arith, old_all, new_all, old_parts, new_parts, primary, extended, region, variants, old_extensions, new_extensions, extensions)
+    omega (arith, old_all, new_all, primary, extended, region, variants, old_extensions, new_extensions, extensions)
 
 -- ---- every text
 

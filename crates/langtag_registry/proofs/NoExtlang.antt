@@ -1,7 +1,7 @@
 -- The canonical form of a valid tag has no extended language, but for the grandfathered `zh-min`.
 use Rattle.std.proofs.Common.{◌≡◌, ℕ, zero, suc, true, false, Bool, not, ◌||◌, List, [], ◌∷◌, map, codes, Option, None, Some, is_some, slice_get, unwrap_or, IsTrue, inl, inr, refl, sym, ap, subst, ◌∙◌}
 use Rattle.std.specs.List.{list_all, AllByRecursion}
-use Rattle.std.proofs.lemmas.Bool.{and_parts, or_cases, both_ways}
+use Rattle.std.proofs.lemmas.Bool.{and_parts, or_cases, both_ways, not-true}
 use Rattle.langtag_scan.specs.Case.{fold_byte, fold_text, Alike, are_alike}
 use Rattle.langtag_scan.specs.CaseLaws.{are_alike-decides}
 use Rattle.langtag_scan.specs.Class.{is_letter, is_extended}
@@ -42,10 +42,6 @@ all_fit : list_all is_fit grandfathered_tags ≡ true
 unfolding grandfathered_tags tag_preferred preferred_tag fold_byte is_extended is_letter
 all_fit = refl
 
-false_from_not : (b : Bool) → not b ≡ true → b ≡ false
-false_from_not true h = absurd cc
-false_from_not false h = refl
-
 entry_fit : (list : List Grandfathered) (k : ℕ) (entry : Grandfathered) → list_all is_fit list ≡ true → slice_get list k ≡ Some entry → is_fit entry ≡ true
 entry_fit [] k entry all at = absurd cc
 entry_fit (e ∷ list) zero entry all at =
@@ -82,7 +78,7 @@ grandfathered_none old none other (k, (entry, at, alike)) = λ r spells.
           elim (or_cases (are_alike (codes "zh-min") entry.text) _ others) [
             | inl same ↦ absurd (other ((are_alike-decides (codes "zh-min") entry.text).0 same ∙ alike))
             | inr second ↦
-                let there : like.0.extended ≡ [] = none_extended like.0 entry.text like.1 (false_from_not (second_is_extended (segments entry.text)) second) in
+                let there : like.0.extended ≡ [] = none_extended like.0 entry.text like.1 (not-true (second_is_extended (segments entry.text)) second) in
                 none_folded r.extended (ap (λ z. z.extended) like.2 ∙ ap (map fold_text) there)
           ]
     ]

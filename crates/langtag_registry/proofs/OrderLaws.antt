@@ -15,6 +15,7 @@ use Rattle.langtag.specs.Repeat.{are_alike_bytes}
 use Rattle.langtag_registry.specs.Canonical.{singletons, in_order}
 use Rattle.langtag_tables.specs.Numbers.{climbs_from}
 use Rattle.langtag_tables.proofs.Rising.{rises_from}
+use Rattle.langtag_scan.proofs.SubtagLists.{each-append}
 
 -- ---- lists that are gathered key by key
 
@@ -241,13 +242,9 @@ module _ {A : Type 0} (key : A → ℕ) where
       by_test true later = (all.0, later)
       by_test false later = later
 
-  append-each : (P : A → Type 0) (xs ys : List A) → AllByRecursion P xs → AllByRecursion P ys → AllByRecursion P (xs ++ ys)
-  append-each P [] ys all more = more
-  append-each P (x ∷ xs) ys all more = (all.0, append-each P xs ys all.1 more)
-
   gather-each : (P : A → Type 0) (keys : List ℕ) (xs : List A) → AllByRecursion P xs → AllByRecursion P (gather keys xs)
   gather-each P [] xs all = tt
-  gather-each P (k ∷ keys) xs all = append-each P (filter (has k) xs) (gather keys xs) (filter-each P (has k) xs all) (gather-each P keys xs all)
+  gather-each P (k ∷ keys) xs all = each-append P (filter (has k) xs) (gather keys xs) (filter-each P (has k) xs all) (gather-each P keys xs all)
 
 -- ---- extensions
 

@@ -1,12 +1,12 @@
 -- A text has one canonical form, and that is its own.
-use Rattle.std.proofs.Common.{◌≡◌, ℕ, true, false, Bool, not, ◌&&◌, List, [], ◌∷◌, map, Option, None, Some, is_some, unwrap_or, inl, inr, ◌⊎◌, refl, sym, ap, subst, ◌∙◌}
+use Rattle.std.proofs.Common.{◌≡◌, ℕ, true, Bool, not, ◌&&◌, List, [], ◌∷◌, map, Option, None, Some, is_some, unwrap_or, inl, inr, ◌⊎◌, refl, sym, ap, subst, ◌∙◌}
 use Rattle.std.specs.List.{list_all, position}
 use Rattle.std.specs.Option.{option_map_or}
-use Rattle.std.proofs.lemmas.Bool.{and_parts, both_ways}
+use Rattle.std.proofs.lemmas.Bool.{and_parts}
 use Rattle.langtag_scan.specs.Case.{fold_byte, are_alike}
 use Rattle.langtag_scan.specs.Record.{Extension, Record, Spells, spell}
 use Rattle.langtag_scan.specs.Tag.{IsNormal}
-use Rattle.langtag_scan.proofs.NormalTexts.{normal_from_runs, runs_from_normal, spelled_once}
+use Rattle.langtag_scan.proofs.NormalTexts.{spelled_once, normal_or_not}
 use Rattle.langtag.specs.Registered.{IsGrandfathered, text_of}
 use Rattle.langtag.specs.declared.grandfathered.TheConstants.{GRANDFATHERED}
 use Rattle.langtag.proofs.RegisteredLaws.{first_alike_found, none_alike}
@@ -139,13 +139,6 @@ preferred_itself text new is =
 
 -- ---- every text
 
-decided : {P : Type 0} (b : Bool) → (b ≡ true → P) → (P → b ≡ true) → P ⊎ (P → ⊥)
-decided true holds is = inl (holds refl)
-decided false holds is = inr (λ p. both_ways false refl (is p))
-
-is_normal : (text : List ℕ) → IsNormal text ⊎ (IsNormal text → ⊥)
-is_normal text = decided _ (normal_from_runs text) (runs_from_normal text)
-
 is_grandfathered : (text : List ℕ) → IsGrandfathered text ⊎ (IsGrandfathered text → ⊥)
 unfolding IsGrandfathered
 is_grandfathered text = by_option (position (λ tag. are_alike (text_of tag) text) GRANDFATHERED) refl
@@ -170,7 +163,7 @@ way_of old = by_whole (preferred_tag old) refl
 
     by_old : preferred_tag old ≡ None → IsGrandfathered old ⊎ (IsGrandfathered old → ⊥) → Way old
     by_old none (inl is) = as_it_is none (inl is)
-    by_old none (inr new) = by_normal none new (is_normal old)
+    by_old none (inr new) = by_normal none new (normal_or_not old)
 
     by_whole : (o : Option (List ℕ)) → preferred_tag old ≡ o → Way old
     by_whole None none = by_old none (is_grandfathered old)

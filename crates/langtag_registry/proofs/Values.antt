@@ -12,7 +12,7 @@ use Rattle.langtag_scan.proofs.FoldedNumbers.{folded_number-tells}
 use Rattle.langtag_registry.specs.Entry.{Entry, value_for}
 use Rattle.langtag_tables.specs.Numbers.{climbs_from}
 use Rattle.langtag_registry.specs.Tables.{AreKeysOf, AreEndsOf, end_number}
-use Rattle.langtag_tables.proofs.Rising.{IsSearched, searched_apart}
+use Rattle.langtag_tables.proofs.Rising.{IsSearched, searched_apart, above_first}
 
 -- ---- a value beside a number
 
@@ -21,15 +21,6 @@ numbers_of list = map folded_number (map (λ e. e.subtag) list)
 
 abbrev pub are_plain : List Entry → Bool
 are_plain list = list_all are_alphanumeric (map (λ e. e.subtag) list)
-
-above_first : (low : ℕ) (numbers : List ℕ) (k : ℕ) → climbs_from low numbers ≡ true → k < length numbers → low < get_or numbers k 0
-above_first low [] k climbs inside = absurd (omega (arith, inside))
-above_first low (n ∷ numbers) zero climbs inside = ltb-true low n (and_parts (ltb low n) (climbs_from n numbers) climbs).0
-above_first low (n ∷ numbers) (suc k) climbs inside =
-    let parts = and_parts (ltb low n) (climbs_from n numbers) climbs in
-    let first = ltb-true low n parts.0 in
-    let later = above_first n numbers k parts.1 (omega (arith, inside)) in
-    omega (arith, first, later)
 
 -- a subtag is the text where the numbers are the same
 alike_by_number : (e : Entry) (list : List Entry) (text : List ℕ) (same : Bool) → are_plain (e ∷ list) ≡ true → are_alphanumeric text ≡ true → (folded_number text == folded_number e.subtag) ≡ same → are_alike e.subtag text ≡ same

@@ -77,7 +77,7 @@ starts_with_digit-fold [] = refl
 starts_with_digit-fold (b ∷ s) = is_digit-fold b
 
 -- a subtag and its fold are of the same classes
-classes-fold : (s : List ℕ) → classes_of (fold_text s) ≡ classes_of s
+pub classes-fold : (s : List ℕ) → classes_of (fold_text s) ≡ classes_of s
 unfolding is_primary is_extended is_script is_region is_variant is_extension_subtag is_private_subtag
 classes-fold s =
     let letters = all-fold is_letter is_letter-fold in

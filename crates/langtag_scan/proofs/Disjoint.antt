@@ -27,6 +27,10 @@ pub region_two_three : (s : List ℕ) → is_region s ≡ true → ((length s �
 unfolding is_region
 region_two_three s h = grind (arith, nat_tests)
 
+pub region_short : (s : List ℕ) → is_region s ≡ true → length s ≤ 3
+unfolding is_region
+region_short s h = grind (arith, nat_tests)
+
 pub variant_long :
     (s : List ℕ) → is_variant s ≡ true →
     ((5 ≤ length s) × (length s ≤ 8) × (are_alphanumeric s ≡ true)) ⊎ ((length s ≡ 4) × (are_alphanumeric s ≡ true) × (starts_with_digit s ≡ true))

@@ -1,7 +1,7 @@
 -- A text is normal exactly where its segments may follow one another, and its record is the only one.
-use Rattle.std.proofs.Common.{◌≡◌, append-nil, cond, eqb, leb, length, ℕ, true, cond, List, [], ◌∷◌, Some, sym, ap, ◌∙◌}
+use Rattle.std.proofs.Common.{◌≡◌, append-nil, cond, eqb, leb, length, ℕ, true, cond, List, [], ◌∷◌, Some, sym, ap, ◌∙◌, Bool, false, inl, inr, ◌⊎◌, refl}
 use Rattle.std.specs.List.{AllByRecursion}
-use Rattle.std.proofs.lemmas.Bool.{and_parts}
+use Rattle.std.proofs.lemmas.Bool.{and_parts, both_ways}
 use Rattle.std.proofs.lemmas.List.Splits.{join_with_byte-slice_split}
 use Rattle.langtag_scan.specs.Class.{is_primary, is_singleton}
 use Rattle.langtag_scan.specs.Record.{Record, IsWellFormed, flat, spell}
@@ -69,3 +69,11 @@ unfolding IsNormal
 runs_from_normal t n =
     let same : segments t ≡ flat n.0 = ap segments (sym n.1.1) ∙ spelled_segments n.0 n.1.0 in
     ap (runs Start) same ∙ (decode_complete n.0 n.1.0).run
+
+-- so a text is normal or not
+pub normal_or_not : (t : List ℕ) → IsNormal t ⊎ (IsNormal t → ⊥)
+normal_or_not t = by_run (runs Start (segments t)) refl
+  where
+    by_run : (run : Bool) → runs Start (segments t) ≡ run → IsNormal t ⊎ (IsNormal t → ⊥)
+    by_run true run = inl (normal_from_runs t run)
+    by_run false run = inr (λ normal. both_ways _ run (runs_from_normal t normal))

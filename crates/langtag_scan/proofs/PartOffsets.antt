@@ -1,5 +1,5 @@
 -- Each part of a record stands between the end of the part before and its own end.
-use Rattle.std.proofs.Common.{◌≡◌, ℕ, List, [], ◌++◌, take, drop, arith, sym, ap, ◌∙◌, append_assoc, append-nil}
+use Rattle.std.proofs.Common.{◌≡◌, ℕ, List, [], ◌++◌, take, drop, arith, sym, ap, ◌∙◌, append_assoc, append-nil, ◌+◌, length}
 use Rattle.std.specs.List.{flat_map}
 use Rattle.langtag_scan.specs.Ends.{to_script, to_region, to_variants, to_extensions, ends_of}
 use Rattle.langtag_scan.specs.Record.{Record, extension_flat, one_flat, private_part_flat, flat, spell}
@@ -7,7 +7,7 @@ use Rattle.langtag_scan.specs.Subtags.{join}
 use Rattle.langtag_scan.specs.Parts.{language_part, private_use_part, present, parts, text_between}
 use Rattle.langtag_scan.specs.Parts.{AreInOrder}
 use Rattle.langtag_scan.specs.declared.ends.Ends.{Ends}
-use Rattle.langtag_scan.proofs.Joins.{join-hyphenated, hyphenated-append, hyphenated-present, join-append, take-join, length-join, length-hyphenated, joined, joined-one, joined-private, text_between-join, text_between-lists}
+use Rattle.langtag_scan.proofs.Joins.{join-hyphenated, hyphenated-append, hyphenated-present, join-append, take-join, length-join, length-hyphenated, joined, joined-one, joined-private, text_between-join, text_between-lists, hyphenated}
 
 -- the subtags from a part on
 abbrev from_extensions : Record → List (List ℕ)
@@ -54,6 +54,13 @@ ends_in_order r = record {
   extensions = simp (length-join, length-hyphenated) (omega arith);
   private_use = simp (length-join, length-hyphenated) (omega arith);
 }
+
+-- a text is as long as its first subtag and the others, each with a hyphen
+pub length-spell :
+    (r : Record) →
+    length (spell r) ≡ length r.primary + length (hyphenated r.extended) + length (hyphenated (one_flat r.script)) + length (hyphenated (one_flat r.region))
+    + length (hyphenated r.variants) + length (hyphenated (flat_map extension_flat r.extensions)) + length (hyphenated (private_part_flat r.private_use))
+length-spell r = simp (length-join, length-hyphenated) (omega arith)
 
 -- ---- the parts that are there, joined
 

@@ -23,6 +23,7 @@ use Rattle.langtag_scan.proofs.KindLaws.{classes_of-kind}
 use Rattle.langtag_scan.proofs.ReadingLaws.{IsPartRead, reads_nothing, reads_after, refused_stops, stuck_stops}
 use Rattle.langtag_scan.proofs.Running.{empty_begun, begun_push, begun_parts}
 use Rattle.langtag_scan.proofs.StageLaws.{after_not_start}
+use Rattle.langtag_scan.proofs.PartOffsets.{ends_equal}
 
 pub position_of-push : (q : List ℕ) (b : ℕ) → position_of (q ++ b ∷ []) ≡ position_after (position_of q) b
 position_of-push q b = fold-append position_after nothing_read q (b ∷ [])
@@ -34,18 +35,6 @@ pub record IsMarked (places : List ℕ) (n : ℕ) (e : Ends) : Type 0 where
   pub six : length places ≡ 6
   pub below : (k : ℕ) → get_or places k 0 ≤ n
   pub is : e ≡ ends_at places e.whole
-
-abbrev ends_with : ℕ → ℕ → ℕ → ℕ → ℕ → ℕ → Ends
-ends_with language script region variants extensions whole =
-    record { language = language; script = script; region = region; variants = variants; extensions = extensions; whole = whole }
-
-ends_equal :
-    (a b : Ends) → a.language ≡ b.language → a.script ≡ b.script → a.region ≡ b.region → a.variants ≡ b.variants → a.extensions ≡ b.extensions → a.whole ≡ b.whole →
-    a ≡ b
-ends_equal a b language script region variants extensions whole =
-    let same : ends_with a.language a.script a.region a.variants a.extensions a.whole ≡ ends_with b.language b.script b.region b.variants b.extensions b.whole =
-    rw (language, script, region, variants, extensions, whole) refl in
-    same
 
 placed : (places : List ℕ) (k n j : ℕ) → k < length places → get_or (set places k n) j 0 ≡ cond (eqb j k) n (get_or places j 0)
 placed places k n j within = grind (arith, common_steps)
@@ -109,6 +98,14 @@ Tracks q places o = MatchOption o (HasStopped q) (IsTracked q places)
 -- the place that is set with the byte that leads there
 abbrev pub place_before : Option Begun → ℕ
 place_before o = option_map_or (λ s. cond (eqb s.size 0) (place_of s.stage) 5) o 5
+
+pub place_before_within : (o : Option Begun) → place_before o < 6
+place_before_within None = omega arith
+place_before_within (Some s) = by_size (eqb s.size 0)
+  where
+    by_size : (v : Bool) → cond v (place_of s.stage) 5 < 6
+    by_size true = place_within s.stage
+    by_size false = omega arith
 
 pub tracks_nothing : Tracks [] (replicate 6 0) (Some (fresh Start))
 tracks_nothing = record {

@@ -1,10 +1,11 @@
 -- What the position after some bytes says of them: whether a tag begins so, and what they are as a whole text.
 use Rattle.std.proofs.Common.{◌≡◌, ℕ, ◌+◌, ◌<◌, Bool, true, false, cond, ◌&&◌, List, [], ◌∷◌, ◌++◌, length, take, get_or, set, Option, Some, None, inl, inr, refl, sym, ap, subst, ◌∙◌, arith, append-nil}
 use Rattle.std.specs.List.{position}
+use Rattle.std.specs.Prelude.{replicate}
 use Rattle.std.specs.Option.{option_map_or, is_none}
 use Rattle.std.specs.Str.{bytes_eq}
 use Rattle.std.proofs.lemmas.Bool.{both_ways}
-use Rattle.std.proofs.lemmas.List.{take_more, take_all, length-take}
+use Rattle.std.proofs.lemmas.List.{take_more, take_all, length-take, get_or-replicate, set-get_or}
 use Rattle.std.proofs.lemmas.List.Quantifiers.{position-Some}
 use Rattle.std.proofs.lemmas.Slice.Eq.{bytes_eq-Decides}
 use Rattle.langtag_scan.specs.Case.{fold_text}
@@ -21,7 +22,7 @@ use Rattle.langtag_scan.specs.declared.state.Ending.{Ending}
 use Rattle.langtag_scan.specs.declared.state.Ending.TheVariants.{NoTag, Normal, PrivateUse, Irregular}
 use Rattle.langtag_scan.proofs.IrregularTexts.{seventeen_folded, irregular_from_fold, irregular_fold, possible_viable, possible_prefix}
 use Rattle.langtag_scan.proofs.Outcomes.{Decides, decided}
-use Rattle.langtag_scan.proofs.PositionLaws.{Tracks, IsTracked, FollowsIrregular, follows_irregular, place_before, tracks_push, stage_is, marked_end, position-None, position_of-push}
+use Rattle.langtag_scan.proofs.PositionLaws.{Tracks, IsTracked, FollowsIrregular, follows_irregular, place_before, place_before_within, tracks_nothing, tracks_push, stage_is, marked_end, position-None, position_of-push}
 use Rattle.langtag_scan.proofs.ReadingLaws.{reads_viable, reads_ended}
 use Rattle.langtag_scan.proofs.Running.{found_after}
 use Rattle.langtag_scan.proofs.StageLaws.{after_not_start}
@@ -158,6 +159,14 @@ tracks_next t places i b place within next is known =
     let long : length (take i t) ≡ i = omega (arith, length-take i t, within) in
     let here : Tracks (take i t ++ b ∷ []) (set places place i) (position_of (take i t ++ b ∷ [])).begun = rw step (rw (same, long) at pushed) in
     subst (λ q. Tracks q (set places place i) (position_of q).begun) next here
+
+-- the first byte, which ends no part
+pub tracks_first : (t : List ℕ) (b : ℕ) → 0 < length t → b ∷ [] ≡ take 1 t → Tracks (take 1 t) (replicate 6 0) (position_of (take 1 t)).begun
+tracks_first t b within next =
+    let place = part_before (position_of (b ∷ [])) in
+    let unchanged : set (replicate 6 0) place 0 ≡ replicate 6 0 =
+    ap (set (replicate 6 0) place) (sym (get_or-replicate 6 place 0 0 (place_before_within (position_of (b ∷ [])).begun))) ∙ set-get_or (replicate 6 0) place 0 in
+    subst (λ places. Tracks (take 1 t) places (position_of (take 1 t)).begun) unchanged (tracks_next t (replicate 6 0) 0 b place within next refl tracks_nothing)
 
 -- after which no tag can follow
 pub dead_next :

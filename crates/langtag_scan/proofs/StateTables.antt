@@ -79,7 +79,7 @@ leads p number class =
 -- and the tables say of the number what the position says
 is_described_by : Position → ℕ → Bool
 is_described_by p number =
-    agree_below (leads p number) (λ class. true) 29 && (eqb (get_or table.PARTS.now number 0) (part_before p) && says (get_or table.KINDS.now number 0) (ending_of p))
+    agree_below (leads p number) (λ class. true) 29 && (eqb (get_or table.TABLES.now.parts number 0) (part_before p) && says (get_or table.TABLES.now.kinds number 0) (ending_of p))
 
 abbrev is_described : Position → Bool
 is_described p = is_described_by p (state_of p)
@@ -264,14 +264,14 @@ module _ (q : List ℕ) (number : ℕ) (live : number < table.NONE) (stands : St
   -- where each class of bytes leads, and what the other tables have
   abbrev Said : Type 0
   Said =
-      (agree_below (leads (position_of q) number) (λ class. true) 29 ≡ true) × (get_or table.PARTS.now number 0 ≡ part_before (position_of q))
-      × (says (get_or table.KINDS.now number 0) (ending_of (position_of q)) ≡ true)
+      (agree_below (leads (position_of q) number) (λ class. true) 29 ≡ true) × (get_or table.TABLES.now.parts number 0 ≡ part_before (position_of q))
+      × (says (get_or table.TABLES.now.kinds number 0) (ending_of (position_of q)) ≡ true)
 
   said : Said
   unfolding is_described_by
   said =
       let first = and_parts (agree_below (leads (position_of q) number) (λ class. true) 29) _ described in
-      let part = and_parts (eqb (get_or table.PARTS.now number 0) (part_before (position_of q))) _ first.1 in
+      let part = and_parts (eqb (get_or table.TABLES.now.parts number 0) (part_before (position_of q))) _ first.1 in
       (first.0, eqb-true _ _ part.0, part.1)
 
   pub stands_push : (b : ℕ) → b < 256 →
@@ -284,11 +284,11 @@ module _ (q : List ℕ) (number : ℕ) (live : number < table.NONE) (stands : St
       position_after-class (position_of q) b within ∙ sym (position_of-push q b) in
       (record { reached = ap is_reached (sym next) ∙ parts.0; is = eqb-true _ _ first.0 ∙ ap state_of next }, same_from_beq _ _ parts.1 ∙ ap is_dead next)
 
-  pub stands_part : get_or table.PARTS.now number 0 ≡ part_before (position_of q)
+  pub stands_part : get_or table.TABLES.now.parts number 0 ≡ part_before (position_of q)
   stands_part = said.1
 
-  pub stands_ending : ending_by (get_or table.KINDS.now number 0) ≡ ending_of (position_of q)
-  stands_ending = ending_from (get_or table.KINDS.now number 0) (ending_of (position_of q)) said.2
+  pub stands_ending : ending_by (get_or table.TABLES.now.kinds number 0) ≡ ending_of (position_of q)
+  stands_ending = ending_from (get_or table.TABLES.now.kinds number 0) (ending_of (position_of q)) said.2
 
 pub stands_nothing : Stands [] table.START
 unfolding states_along folded_texts irregular_texts grandfathered_tags fold_byte
@@ -303,16 +303,16 @@ stands_after (Some next) n q is (stands, dead) = (sym dead ∙ ne_eqb n 164 (λ 
 
 -- ---- the numbers
 
-rows_within : list_all (λ row. (eqb (length row) table.NONE) && list_all (λ n. leb n table.NONE) row) table.NEXT.now ≡ true
+rows_within : list_all (λ row. (eqb (length row) table.NONE) && list_all (λ n. leb n table.NONE) row) table.TABLES.now.next ≡ true
 rows_within = refl
 
 pub next_within : (class number : ℕ) → class < 29 → number < table.NONE → next_number class number ≤ table.NONE
 next_within class number in_rows in_row =
-    let row = and_parts (eqb (length (get_or table.NEXT.now class [])) table.NONE) _ (AllPass-from_list_all (λ row. (eqb (length row) table.NONE) && list_all (λ n. leb n table.NONE) row) table.NEXT.now rows_within class [] in_rows) in
-    leb-true _ _ (AllPass-from_list_all (λ n. leb n table.NONE) (get_or table.NEXT.now class []) row.1 number 0 (omega (arith, eqb-true _ _ row.0)))
+    let row = and_parts (eqb (length (get_or table.TABLES.now.next class [])) table.NONE) _ (AllPass-from_list_all (λ row. (eqb (length row) table.NONE) && list_all (λ n. leb n table.NONE) row) table.TABLES.now.next rows_within class [] in_rows) in
+    leb-true _ _ (AllPass-from_list_all (λ n. leb n table.NONE) (get_or table.TABLES.now.next class []) row.1 number 0 (omega (arith, eqb-true _ _ row.0)))
 
-parts_within : list_all (λ n. ltb n 6) table.PARTS.now ≡ true
+parts_within : list_all (λ n. ltb n 6) table.TABLES.now.parts ≡ true
 parts_within = refl
 
-pub part_within : (number : ℕ) → number < table.NONE → get_or table.PARTS.now number 0 < 6
-part_within number within = ltb-true _ _ (AllPass-from_list_all (λ n. ltb n 6) table.PARTS.now parts_within number 0 within)
+pub part_within : (number : ℕ) → number < table.NONE → get_or table.TABLES.now.parts number 0 < 6
+part_within number within = ltb-true _ _ (AllPass-from_list_all (λ n. ltb n 6) table.TABLES.now.parts parts_within number 0 within)

@@ -78,7 +78,8 @@ segments-join first (second ∷ texts) free =
     slice_split_at is_hyphen first 45 (join (second ∷ texts)) (All-head IsHyphenFree first (second ∷ texts) free) refl
     ∙ ap (λ rest. first ∷ rest) (segments-join second texts (All-tail IsHyphenFree first (second ∷ texts) free))
 
-subtags-segments : (text : List ℕ) → 0 < length text → subtags text ≡ segments text
+-- the subtags of a text that has some
+pub subtags-segments : (text : List ℕ) → 0 < length text → subtags text ≡ segments text
 subtags-segments [] some = absurd (omega (arith, some))
 subtags-segments (b ∷ text) some = refl
 
@@ -95,6 +96,11 @@ each_from_test test (s ∷ ss) h = let k = and_parts (test s) (list_all test ss)
 pub test_from_each : (test : List ℕ → Bool) (ss : List (List ℕ)) → AllByRecursion (λ s. IsTrue (test s)) ss → list_all test ss ≡ true
 test_from_each test [] h = refl
 test_from_each test (s ∷ ss) h = rw (h.0, test_from_each test ss h.1) refl
+
+-- what holds of each member of two lists holds of each member of both
+pub each-append : {X : Type 0} (P : X → Type 0) (xs ys : List X) → AllByRecursion P xs → AllByRecursion P ys → AllByRecursion P (xs ++ ys)
+each-append P [] ys these those = those
+each-append P (x ∷ xs) ys these those = (these.0, each-append P xs ys these.1 those)
 
 -- the members of a class of subtags are subtags
 pub each_subtag :

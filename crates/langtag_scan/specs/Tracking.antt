@@ -10,7 +10,7 @@ use Rattle.langtag_scan.specs.declared.states.TheConstants as table
 
 -- the state after one more byte, which has this class
 abbrev pub next_number : ℕ → ℕ → ℕ
-next_number class number = slice_index (slice_index_or table.NEXT.now class []) number
+next_number class number = slice_index (slice_index_or table.TABLES.now.next class []) number
 
 -- the number of the state for the subtag that is being read, or `NONE` if no such subtag may follow the stage
 abbrev pub begun_number : Begun → ℕ

@@ -57,9 +57,14 @@ fn read<S: ByteSource>(source: &mut S) -> Option<Found>
         (S.reads source.new ≡ S.reads source.old + n) × (S.reach source.new ≡ max (S.reach source.old) n) }
 {
     let len = source.len();
-    let mut state = State::start();
+    if len == 0 {
+        return None;
+    }
+    // The first byte ends no part. It is read here, so that the address of the tables is found before the loop, and
+    // not for each byte.
+    let mut state = State::start().after(source.byte(0))?;
     let mut marks = Marks::new();
-    let mut index = 0;
+    let mut index = 1;
     while index < len {
         state = state.after(source.byte(index))?;
         marks.set(state.part_before(), index);

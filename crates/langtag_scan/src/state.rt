@@ -29,7 +29,7 @@ ghost use Rattle.std.specs.Prelude.{◌≡◌, ℕ, ◌<◌, ◌++◌, ◌∷◌
 ghost use Rattle.langtag_scan.specs.Position.{position_of, part_before, ending_of, is_dead};
 ghost use Rattle.langtag_scan.specs.Tracking.{Stands, IsPlace, next_number};
 
-use crate::states::{CLASSES, KINDS, NEXT, NONE, PARTS, START};
+use crate::states::{CLASSES, NONE, START, TABLES};
 
 /// A state, by its number in the tables.
 #[derive(Clone, Copy)]
@@ -72,7 +72,7 @@ impl State {
         requires { class < 29 }
         ensures { MatchOption result (next_number class self.number ≡ 164) (λ next. next.number ≡ next_number class self.number) }
     {
-        let number = NEXT[class][self.number] as usize;
+        let number = TABLES.next[class][self.number] as usize;
         if number < NONE {
             Some(State { number })
         } else {
@@ -87,7 +87,7 @@ impl State {
         ensures within { result < 6 }
         ensures part { (q : List ℕ) → Stands q self.number → result ≡ part_before (position_of q) }
     {
-        PARTS[self.number] as usize
+        TABLES.parts[self.number] as usize
     }
 
     /// Returns what the text is if it ends after the bytes that were read.
@@ -96,7 +96,7 @@ impl State {
         ensures place { IsPlace result }
         ensures ending { (q : List ℕ) → Stands q self.number → result ≡ ending_of (position_of q) }
     {
-        match KINDS[self.number] {
+        match TABLES.kinds[self.number] {
             place if place < 6 => Ending::Normal(place as usize),
             6 => Ending::NoTag,
             7 => Ending::PrivateUse,

@@ -36,6 +36,16 @@ climb_rises low (n ∷ numbers) climb =
     let above = ltb-true low n parts.0 in
     rw (le-leb low n (omega (arith, above)), climb_rises n numbers parts.1) refl
 
+-- a list that climbs is above its lower bound
+pub above_first : (low : ℕ) (numbers : List ℕ) (k : ℕ) → climbs_from low numbers ≡ true → k < length numbers → low < get_or numbers k 0
+above_first low [] k climbs inside = absurd (omega (arith, inside))
+above_first low (n ∷ numbers) zero climbs inside = ltb-true low n (and_parts (ltb low n) (climbs_from n numbers) climbs).0
+above_first low (n ∷ numbers) (suc k) climbs inside =
+    let parts = and_parts (ltb low n) (climbs_from n numbers) climbs in
+    let first = ltb-true low n parts.0 in
+    let later = above_first n numbers k parts.1 (omega (arith, inside)) in
+    omega (arith, first, later)
+
 -- a list that climbs can be searched
 pub climb_searched : (numbers : List ℕ) → climbs_from 0 numbers ≡ true → (i j : ℕ) → i ≤ j → j < length numbers → get_or numbers i 0 ≤ get_or numbers j 0
 climb_searched numbers climb i j order inside = rises_at 0 numbers i j (climb_rises 0 numbers climb) order inside

@@ -1,72 +1,45 @@
 //! Setting and removing parts of a tag.
 use crate::support::{are_answered, cut};
 use langtag::{
-    EditError, Extensions, LangTagBuf, Language, NormalLangTag, NormalLangTagBuf, PrivateUse,
+    EditError, Extensions, LangTagBuf, Language, NormalLangTag, NormalLangTagBuf, Part, PrivateUse,
     Region, Script, Variants,
 };
 use std::alloc::{AllocError, Global};
 
-/// A part of a tag and its text, or `None` to remove the part.
-#[derive(Clone, Copy)]
-enum Part<'a> {
-    Language(Language<'a>),
-    Script(Option<Script<'a>>),
-    Region(Option<Region<'a>>),
-    Variants(Variants<'a>),
-    Extensions(Extensions<'a>),
-    PrivateUse(Option<PrivateUse<'a>>),
+/// Returns the part with this text, or `None` if the text is not such a part. The empty text removes a part.
+fn part_of<'a>(name: &str, text: &'a str) -> Option<Part<'a>> {
+    Some(match name {
+        "language" => Part::Language(Language::new(text).ok()?),
+        "script" => Part::Script(Script::new(text).ok()),
+        "region" => Part::Region(Region::new(text).ok()),
+        "variants" => Part::Variants(Variants::new(text).ok()?),
+        "extensions" => Part::Extensions(Extensions::new(text).ok()?),
+        "private_use" => Part::PrivateUse(PrivateUse::new(text).ok()),
+        _ => return None,
+    })
 }
 
-impl<'a> Part<'a> {
-    /// Returns the part with this text, or `None` if the text is not such a part.
-    fn of(name: &str, text: &'a str) -> Option<Part<'a>> {
-        if text == "none" {
-            return Part::absent(name);
-        }
-        Some(match name {
-            "language" => Part::Language(Language::new(text).ok()?),
-            "script" => Part::Script(Some(Script::new(text).ok()?)),
-            "region" => Part::Region(Some(Region::new(text).ok()?)),
-            "variants" => Part::Variants(Variants::new(text).ok()?),
-            "extensions" => Part::Extensions(Extensions::new(text).ok()?),
-            "private_use" => Part::PrivateUse(Some(PrivateUse::new(text).ok()?)),
-            _ => return None,
-        })
+/// Sets a part of a tag of any kind.
+fn set(tag: &mut LangTagBuf, alloc: Global, part: Part<'_>) -> Result<(), EditError> {
+    match part {
+        Part::Language(part) => tag.set_language(alloc, part),
+        Part::Script(part) => tag.set_script(alloc, part),
+        Part::Region(part) => tag.set_region(alloc, part),
+        Part::Variants(part) => tag.set_variants(alloc, part),
+        Part::Extensions(part) => tag.set_extensions(alloc, part),
+        Part::PrivateUse(part) => tag.set_private_use(alloc, part),
     }
+}
 
-    fn absent(name: &str) -> Option<Part<'a>> {
-        match name {
-            "script" => Some(Part::Script(None)),
-            "region" => Some(Part::Region(None)),
-            "variants" => Some(Part::Variants(Variants::EMPTY)),
-            "extensions" => Some(Part::Extensions(Extensions::EMPTY)),
-            "private_use" => Some(Part::PrivateUse(None)),
-            _ => None,
-        }
-    }
-
-    /// Sets the part of a tag of any kind.
-    fn set(self, alloc: Global, tag: &mut LangTagBuf) -> Result<(), EditError> {
-        match self {
-            Part::Language(part) => tag.set_language(alloc, part),
-            Part::Script(part) => tag.set_script(alloc, part),
-            Part::Region(part) => tag.set_region(alloc, part),
-            Part::Variants(part) => tag.set_variants(alloc, part),
-            Part::Extensions(part) => tag.set_extensions(alloc, part),
-            Part::PrivateUse(part) => tag.set_private_use(alloc, part),
-        }
-    }
-
-    /// Sets the part of a normal tag.
-    fn set_normal(self, alloc: Global, tag: &mut NormalLangTagBuf) -> Result<(), AllocError> {
-        match self {
-            Part::Language(part) => tag.set_language(alloc, part),
-            Part::Script(part) => tag.set_script(alloc, part),
-            Part::Region(part) => tag.set_region(alloc, part),
-            Part::Variants(part) => tag.set_variants(alloc, part),
-            Part::Extensions(part) => tag.set_extensions(alloc, part),
-            Part::PrivateUse(part) => tag.set_private_use(alloc, part),
-        }
+/// Sets a part of a normal tag.
+fn set_normal(tag: &mut NormalLangTagBuf, alloc: Global, part: Part<'_>) -> Result<(), AllocError> {
+    match part {
+        Part::Language(part) => tag.set_language(alloc, part),
+        Part::Script(part) => tag.set_script(alloc, part),
+        Part::Region(part) => tag.set_region(alloc, part),
+        Part::Variants(part) => tag.set_variants(alloc, part),
+        Part::Extensions(part) => tag.set_extensions(alloc, part),
+        Part::PrivateUse(part) => tag.set_private_use(alloc, part),
     }
 }
 
@@ -75,26 +48,40 @@ impl<'a> Part<'a> {
 fn edited(alloc: Global, question: &str) -> Result<String, AllocError> {
     let (text, part) = cut(question);
     let (name, given) = cut(part);
-    let (Ok(tag), Some(part)) = (NormalLangTag::new(text), Part::of(name, given)) else {
+    let (Ok(tag), Some(part)) = (NormalLangTag::new(text), part_of(name, given)) else {
         return String::from_str(alloc, "not a normal tag and a part");
     };
-    let mut owned = tag.as_lang_tag().try_to_owned(alloc)?;
-    if part.set(alloc, &mut owned).is_err() {
-        return unchanged(alloc, owned.as_str(), text);
-    }
-    let mut normal = tag.try_to_owned(alloc)?;
-    if part.set_normal(alloc, &mut normal).is_err() {
-        return unchanged(alloc, normal.as_str(), text);
-    }
-    let len = normal.as_str().len();
-    if normal.as_str() != owned.as_str() {
+    let answer = edited_tag(alloc, tag, part)?;
+    let edited = edited_normal(alloc, tag, part)?;
+    if edited.as_str() != answer.as_str() {
         return String::from_str(alloc, "another answer of a normal tag");
     }
-    let edited = normal.into_string();
-    if len > text.len() && edited.capacity() != len {
+    if edited.len() > text.len() && edited.capacity() != edited.len() {
         return String::from_str(alloc, "room to spare");
     }
     Ok(edited)
+}
+
+/// Returns a tag after a part is set, by the type of a tag of any kind.
+fn edited_tag(alloc: Global, tag: NormalLangTag<'_>, part: Part<'_>) -> Result<String, AllocError> {
+    let mut owned = tag.as_lang_tag().try_to_owned(alloc)?;
+    match set(&mut owned, alloc, part) {
+        Ok(()) => Ok(owned.into_string()),
+        Err(_) => unchanged(alloc, owned.as_str(), tag.as_str()),
+    }
+}
+
+/// Returns a tag after a part is set, by the type of a normal tag.
+fn edited_normal(
+    alloc: Global,
+    tag: NormalLangTag<'_>,
+    part: Part<'_>,
+) -> Result<String, AllocError> {
+    let mut owned = tag.try_to_owned(alloc)?;
+    match set_normal(&mut owned, alloc, part) {
+        Ok(()) => Ok(owned.into_string()),
+        Err(_) => unchanged(alloc, owned.as_str(), tag.as_str()),
+    }
 }
 
 /// Returns an error if a tag is unchanged, so that the test repeats the call.
@@ -111,16 +98,16 @@ const EDITS: &[(&str, &str)] = &[
     ("zh-min-nan-Hant|language|de", "de-Hant"),
     ("fr|script|Latn", "fr-Latn"),
     ("sr-Cyrl-RS|script|Latn", "sr-Latn-RS"),
-    ("sr-Cyrl-RS|script|none", "sr-RS"),
+    ("sr-Cyrl-RS|script|", "sr-RS"),
     ("fr-Latn|region|FR", "fr-Latn-FR"),
     ("es-ES-1996|region|419", "es-419-1996"),
-    ("es-419-a-bb|region|none", "es-a-bb"),
+    ("es-419-a-bb|region|", "es-a-bb"),
     ("sl|variants|rozaj-biske-1994", "sl-rozaj-biske-1994"),
-    ("sl-rozaj-x-a|variants|none", "sl-x-a"),
+    ("sl-rozaj-x-a|variants|", "sl-x-a"),
     ("de|extensions|a-bb-U-co", "de-a-bb-U-co"),
-    ("de-a-bb-x-c|extensions|none", "de-x-c"),
+    ("de-a-bb-x-c|extensions|", "de-x-c"),
     ("de-1996|private_use|x-12345678-y", "de-1996-x-12345678-y"),
-    ("de-x-y|private_use|none", "de"),
+    ("de-x-y|private_use|", "de"),
 ];
 
 #[test]

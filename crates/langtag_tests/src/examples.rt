@@ -1,5 +1,5 @@
 //! Tests that call the worked examples, and show properties that no contract states.
-use crate::support::{are_answered, cut};
+use crate::support::{are_answered, cut, repeated};
 use langtag::{GrandfatheredLangTag, LangTag, LangTagBuf, NormalLangTag, Script, ScriptBuf};
 use langtag_examples::{
     Catalogue, Counts, find_in_scripts, replace_script, tag_for_request, tag_or_break,
@@ -100,27 +100,31 @@ const COUNTS: &[(&str, &str)] = &[("x", "all"), ("x-aa", "all")];
 /// the start of the tag in Latin, and whether setting the old script gives the old tag. Then it returns the text that
 /// the catalogue finds, and whether the tag is unchanged. The piece after `+` is repeated 100 times.
 fn in_latin(alloc: Global, question: &str) -> Result<String, AllocError> {
-    let (start, piece) = question.split_once('+').unwrap_or((question, ""));
-    let mut text = String::from_str(alloc, start)?;
-    for _ in 0..100 {
-        text.push_str(piece)?;
-    }
+    let text = repeated(alloc, question, 100)?;
     let (Ok(tag), Ok(latin)) = (NormalLangTag::new(text.as_str()), Script::new("Latn")) else {
         return String::from_str(alloc, "not a normal tag");
     };
-    let mut tag = tag.try_to_owned(alloc)?;
-    let old = replace_script(&mut tag, alloc, Some(latin))?;
-    let mut catalogue = Catalogue::new(alloc);
-    catalogue.put(
-        owned(alloc, tag.as_str())?,
-        String::from_str(alloc, "Zdravo")?,
-    )?;
-    let form = String::from_str(alloc, tag.as_str().get(..10).unwrap_or(tag.as_str()))?;
-    replace_script(&mut tag, alloc, old.as_ref().map(ScriptBuf::as_script))?;
-    let is_back = tag.as_str() == text.as_str();
-    let found = find_in_scripts(&catalogue, &mut tag, alloc, latin)?.unwrap_or("none");
-    let is_as_it_was = tag.as_str() == text.as_str();
+    let mut changed = tag.try_to_owned(alloc)?;
+    let old = replace_script(&mut changed, alloc, Some(latin))?;
+    let catalogue = catalogue_of(alloc, changed.as_str())?;
+    let form = String::from_str(alloc, start_of(changed.as_str()))?;
+    replace_script(&mut changed, alloc, old.as_ref().map(ScriptBuf::as_script))?;
+    let is_back = changed.as_str() == tag.as_str();
+    let found = find_in_scripts(&catalogue, &mut changed, alloc, latin)?.unwrap_or("none");
+    let is_as_it_was = changed.as_str() == tag.as_str();
     format!(in alloc; "{form} {is_back} {found} {is_as_it_was}")
+}
+
+/// Returns a catalogue with a text for one tag.
+fn catalogue_of(alloc: Global, tag: &str) -> Result<Catalogue, AllocError> {
+    let mut catalogue = Catalogue::new(alloc);
+    catalogue.put(owned(alloc, tag)?, String::from_str(alloc, "Zdravo")?)?;
+    Ok(catalogue)
+}
+
+/// Returns the first ten bytes of a text, or the whole text if it is shorter.
+fn start_of(text: &str) -> &str {
+    text.get(..10).unwrap_or(text)
 }
 
 const IN_LATIN: &[(&str, &str)] = &[

@@ -22,14 +22,14 @@ fn form(alloc: Global, call: &str, text: &str) -> Result<String, AllocError> {
         return String::from_str(alloc, "not a tag");
     };
     let form = match call {
-        "recommended" => tag.try_to_recommended_case(alloc)?,
-        "canonical" => canonical(alloc, tag)?,
-        "extlang_form" => extlang_form(alloc, tag)?,
-        "maximized" => maximized(alloc, tag)?,
-        "minimized" => minimized(alloc, tag)?,
+        "recommended" => tag.try_to_recommended_case(alloc),
+        "canonical" => canonical(alloc, tag),
+        "extlang_form" => extlang_form(alloc, tag),
+        "maximized" => maximized(alloc, tag),
+        "minimized" => minimized(alloc, tag),
         _ => return of_normal(alloc, call, tag),
     };
-    Ok(form.into_string())
+    Ok(form?.into_string())
 }
 
 /// Returns a form of a normal tag: its recommended case, or a tag of its parts up to the region.
@@ -38,11 +38,11 @@ fn of_normal(alloc: Global, call: &str, tag: LangTag<'_>) -> Result<String, Allo
         return String::from_str(alloc, "not a normal tag");
     };
     let form = if call == "from_parts" {
-        NormalLangTagBuf::from_parts(alloc, tag.language(), tag.script(), tag.region())?
+        NormalLangTagBuf::from_parts(alloc, tag.language(), tag.script(), tag.region())
     } else {
-        tag.try_to_recommended_case(alloc)?
+        tag.try_to_recommended_case(alloc)
     };
-    Ok(form.into_string())
+    Ok(form?.into_string())
 }
 
 /// Returns the tag for a POSIX locale name.

@@ -1,6 +1,6 @@
 //! The text types: whether each type accepts the shortest text, the longest text, other long texts and texts of
 //! digits. The tests also show that each type displays and copies them.
-use crate::support::{are_answered, cut};
+use crate::support::{are_answered, cut, repeated};
 use langtag::{
     ExtendedLangTag, Extension, ExtensionSubtag, Extensions, LangTag, Language, LanguageExtension,
     NormalLangTag, PrimaryLanguage, PrivateUse, PrivateUseSubtag, Region, Script, Variant,
@@ -14,21 +14,21 @@ use std::fmt::Display;
 macro_rules! told {
     ($type:ident, $text:ident, $alloc:ident) => {
         match $type::new($text) {
-            Ok(value) => shown($alloc, $text, &value, &value.try_to_owned($alloc)?),
+            Ok(value) => shown($alloc, $text, &value, value.try_to_owned($alloc)),
             Err(refusal) => refusal.to_string($alloc),
         }
     };
 }
 
-/// Returns `accepted` if both forms of a value display its text, and otherwise what they display.
-fn shown<T: Display, U: Display>(
+/// Returns `accepted` if a value and its copy display its text, and otherwise what they display.
+fn shown<T: Display, U: Display + Drop>(
     alloc: Global,
     text: &str,
     value: &T,
-    owned: &U,
+    copy: Result<U, AllocError>,
 ) -> Result<String, AllocError> {
     let lent = value.to_string(alloc)?;
-    let kept = owned.to_string(alloc)?;
+    let kept = copy?.to_string(alloc)?;
     if lent.as_str() == text && kept.as_str() == text {
         return String::from_str(alloc, "accepted");
     }
@@ -102,11 +102,7 @@ fn range(text: &str, alloc: Global) -> Result<String, AllocError> {
 /// Returns whether a type accepts a text. The piece after `+` is repeated 300 times.
 fn told(alloc: Global, question: &str) -> Result<String, AllocError> {
     let (name, text) = cut(question);
-    let (start, piece) = text.split_once('+').unwrap_or((text, ""));
-    let mut whole = String::from_str(alloc, start)?;
-    for _ in 0..300 {
-        whole.push_str(piece)?;
-    }
+    let whole = repeated(alloc, text, 300)?;
     let text = whole.as_str();
     match name {
         "PrimaryLanguage" => primary_language(text, alloc),

@@ -10,13 +10,13 @@ use Rattle.langtag_likely.proofs.RowsFound.{alike_length}
 use Rattle.langtag_scan.proofs.CaseLaw.{fold_text-twice, is_digit-fold, is_letter-fold, length-fold}
 use Rattle.langtag_scan.proofs.SubtagFacts.{of_extension_subtag}
 use Rattle.langtag_scan.proofs.SubtagLists.{each_subtag, subtags-joined}
-use Rattle.langtag_scan.specs.Case.{are_alike, fold_byte, fold_text}
+use Rattle.langtag_scan.specs.Case.{are_alike, fold_text}
 use Rattle.langtag_scan.specs.CaseLaws.{are_alike-decides}
 use Rattle.langtag_scan.specs.Class.{are_alphanumeric, has_length, is_extension_subtag}
 use Rattle.langtag_scan.specs.Subtags.{join, subtags}
 use Rattle.langtag_unicode.specs.Edit.{is_this_key, is_type, is_unicode_key, keyword_error, put_keyword, with_keyword, without_keyword, without_within}
 use Rattle.langtag_unicode.specs.Form as form
-use Rattle.langtag_unicode.specs.Form.{in_alphabet, is_before, letters_and_digits, put_among, unicode_form, unicode_value}
+use Rattle.langtag_unicode.specs.Form.{in_alphabet, letters_and_digits, unicode_form, unicode_value}
 use Rattle.langtag_unicode.specs.Keywords.{before_key, is_key, value_of}
 use Rattle.langtag_unicode.proofs.Each.{each-alphabet}
 use Rattle.langtag_unicode.proofs.FormRecords.{Good, good-value, types-unicode}

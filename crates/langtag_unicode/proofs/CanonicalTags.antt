@@ -4,7 +4,7 @@ use Rattle.std.proofs.lemmas.Bool.{false≢true}
 use Rattle.std.specs.List.{AllByRecursion}
 use Rattle.std.specs.Option.{is_some}
 use Rattle.langtag_extension.specs.Spelling.{find_extension}
-use Rattle.langtag_scan.specs.Case.{fold_byte, fold_text}
+use Rattle.langtag_scan.specs.Case.{fold_byte}
 use Rattle.langtag_scan.specs.Record.{Extension, IsWellFormed, IsWellFormedExtension, Record}
 use Rattle.langtag_unicode.specs.Edit.{IsCanonicalKeyword, at_place, changed_from, edited_record, extension_of, is_place_of_u, is_this_key, keyword_error, with_keyword}
 use Rattle.langtag_unicode.specs.Form.{extension_form, extensions_record, forms_after, is_of, is_transform, unicode_form}

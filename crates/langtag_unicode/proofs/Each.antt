@@ -6,10 +6,6 @@ use Rattle.langtag_unicode.specs.Form.{in_alphabet, is_before, put_among}
 use Rattle.langtag_unicode.specs.Keywords.{before_key}
 
 module _ {X : Type 0} (P : X → Type 0) where
-  pub each-append : (xs ys : List X) → AllByRecursion P xs → AllByRecursion P ys → AllByRecursion P (xs ++ ys)
-  each-append [] ys these those = those
-  each-append (x ∷ xs) ys these those = (these.0, each-append xs ys these.1 those)
-
   pub each-front : (xs ys : List X) → AllByRecursion P (xs ++ ys) → AllByRecursion P xs
   each-front [] ys all = tt
   each-front (x ∷ xs) ys all = (all.0, each-front xs ys all.1)

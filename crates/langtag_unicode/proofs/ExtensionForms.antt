@@ -13,7 +13,7 @@ use Rattle.langtag_scan.specs.Ends.{ends_of}
 use Rattle.langtag_scan.specs.Record.{Extension, IsWellFormed, IsWellFormedExtension, Record, extension_flat, one_flat, private_part_flat, spell}
 use Rattle.langtag_scan.specs.Subtags.{is_hyphen, join, segments}
 use Rattle.langtag_unicode.specs.Form.{extension_form, extensions_record, forms_after, is_language_id, is_language_or_none, is_of, is_transform, transform_form, unicode_form}
-use Rattle.langtag_unicode.specs.Head.{head}
+use Rattle.langtag_scan.specs.Ends.{to_variants}
 
 -- some extensions are left, and their forms are put after those before them
 pub record AreLeft (all : List Extension) (after_u after_t : Bool) (texts : List (List ℕ)) (start out : Output) : Type 0 where
@@ -82,7 +82,7 @@ form_tested u t a b e one two = ap (λ x. form_by x (is_of 116 e && not t && is_
 -- ---- the whole tag
 
 -- what precedes the extensions, at the start of a tag
-pub head-cut : (r : Record) → take (length (join (head r))) (spell r) ≡ join (head r)
+pub head-cut : (r : Record) → take (length (join (to_variants r))) (spell r) ≡ join (to_variants r)
 head-cut r =
     let others = flat_map extension_flat r.extensions ++ private_part_flat r.private_use in
     let cut = take-join r.primary (r.extended ++ (one_flat r.script ++ (one_flat r.region ++ r.variants))) others in
@@ -93,7 +93,7 @@ flat-head p a b c d e = simp append_assoc
 
 -- a tag with other extensions, put subtag by subtag
 pub extensions_joined :
-    (r : Record) → IsWellFormed r → (es : List Extension) → fold with_subtag [] (head r ++ (flat_map extension_flat es ++ private_part_flat r.private_use)) ≡ spell (record r { extensions = es })
+    (r : Record) → IsWellFormed r → (es : List Extension) → fold with_subtag [] (to_variants r ++ (flat_map extension_flat es ++ private_part_flat r.private_use)) ≡ spell (record r { extensions = es })
 unfolding with_subtag
 extensions_joined r fits es =
     ap (fold with_subtag []) (flat-head r.primary r.extended (one_flat r.script) (one_flat r.region) r.variants (flat_map extension_flat es ++ private_part_flat r.private_use))
@@ -101,7 +101,7 @@ extensions_joined r fits es =
 
 pub form_joined :
     (r : Record) → IsWellFormed r →
-    fold with_subtag [] (head r ++ (flat_map extension_flat (forms_after false false r.extensions) ++ private_part_flat r.private_use)) ≡ spell (extensions_record r)
+    fold with_subtag [] (to_variants r ++ (flat_map extension_flat (forms_after false false r.extensions) ++ private_part_flat r.private_use)) ≡ spell (extensions_record r)
 unfolding extensions_record
 form_joined r fits = extensions_joined r fits (forms_after false false r.extensions)
 

@@ -6,9 +6,9 @@ use Rattle.std.proofs.lemmas.List.FromFn.{get_or-range_with_len}
 use Rattle.std.specs.List.{AllByRecursion, flat_map, list_all, list_any, range_with_len}
 use Rattle.std.specs.Option.{option_map, option_map_or}
 use Rattle.std.specs.Prelude.{codes}
-use Rattle.langtag_scan.proofs.CaseLaw.{fold_text-twice, is_digit-fold, is_letter-fold, length-fold}
+use Rattle.langtag_scan.proofs.CaseLaw.{fold_text-twice, classes-fold}
 use Rattle.langtag_scan.proofs.SubtagFacts.{of_extension_subtag}
-use Rattle.langtag_scan.proofs.SubtagLists.{each_from_test, each_subtag, subtags-joined}
+use Rattle.langtag_scan.proofs.SubtagLists.{each_from_test, each_subtag, subtags-joined, each-append}
 use Rattle.langtag_scan.specs.Case.{are_alike, fold_byte, fold_text}
 use Rattle.langtag_scan.specs.CaseLaws.{are_alike-decides}
 use Rattle.langtag_scan.specs.Class.{are_alphanumeric, has_length, is_alphanumeric, is_digit, is_extension_subtag, is_letter, is_mark, is_region, is_script, is_singleton}
@@ -22,26 +22,19 @@ use Rattle.langtag_unicode.specs.Form.{extension_form, extensions_record, forms_
 use Rattle.langtag_unicode.specs.Keywords.{before_key, is_key, value_of}
 use Rattle.langtag_unicode.specs.Transform.{is_field_key}
 use Rattle.langtag_registry.proofs.PrefixLaws.{list_all_get}
-use Rattle.langtag_unicode.proofs.Each.{each-alphabet, each-append, each-before}
+use Rattle.langtag_unicode.proofs.Each.{each-alphabet, each-before}
 use Rattle.langtag_unicode.proofs.ExtensionForms.{form_by, form_tested}
 use Rattle.langtag_unicode.proofs.FormSizes.{field-two, key-two}
+use Rattle.langtag_scan.specs.Stage.{Classes}
 
 -- each is a subtag of an extension
 abbrev pub Good : List (List ℕ) → Type 0
 Good ss = AllByRecursion (λ s. IsTrue (is_extension_subtag s)) ss
 
-pub good-append : (xs ys : List (List ℕ)) → Good xs → Good ys → Good (xs ++ ys)
-good-append = each-append (λ s. IsTrue (is_extension_subtag s))
-
 -- ---- case
 
-alphanumeric-fold : (s : List ℕ) → are_alphanumeric (fold_text s) ≡ are_alphanumeric s
-alphanumeric-fold [] = refl
-alphanumeric-fold (b ∷ s) = rw (is_letter-fold b, is_digit-fold b, alphanumeric-fold s) refl
-
 good-fold : (s : List ℕ) → is_extension_subtag (fold_text s) ≡ is_extension_subtag s
-unfolding is_extension_subtag
-good-fold s = rw (length-fold s, alphanumeric-fold s) refl
+good-fold s = ap (λ (c : Classes). c.extension_subtag) (classes-fold s)
 
 good-lower : (ss : List (List ℕ)) → Good ss → Good (map fold_text ss)
 good-lower [] good = tt
@@ -147,7 +140,7 @@ good-flat : (f : ℕ → List (List ℕ)) → ((a : ℕ) → is_alphanumeric a �
 good-flat f good [] all = tt
 good-flat f good (a ∷ xs) all =
     let parts = and_parts (is_alphanumeric a) (are_alphanumeric xs) all in
-    good-append (f a) (flat_map f xs) (good a parts.0) (good-flat f good xs parts.1)
+    each-append _ (f a) (flat_map f xs) (good a parts.0) (good-flat f good xs parts.1)
 
 letters_alphanumeric : are_alphanumeric letters_and_digits ≡ true
 unfolding is_letter is_digit
@@ -254,7 +247,7 @@ one_part n a b c both first some = omega (arith, both, first, some)
 
 good-unicode_form : (ss : List (List ℕ)) → Good ss → Good (unicode_form ss)
 good-unicode_form ss good =
-    good-append (in_alphabet (before_key is_key ss)) (form.keywords_form is_key unicode_value ss) (good-alphabet _ (good-before is_key ss good))
+    each-append _ (in_alphabet (before_key is_key ss)) (form.keywords_form is_key unicode_value ss) (good-alphabet _ (good-before is_key ss good))
     (good-keywords is_key unicode_value good-unicode ss good)
 
 some-unicode_form : (ss : List (List ℕ)) → Good ss → 1 ≤ length ss → 1 ≤ length (unicode_form ss)
@@ -294,14 +287,14 @@ good-language (s ∷ ss) good =
     let after = form.after_one is_script ss in
     let good_after = good-after is_script ss good.1 in (
       good-fold s ∙ good.0,
-      good-append (map fold_text (form.one_of is_script ss)) _ (good-lower _ (good-one is_script ss good.1))
-          (good-append (map fold_text (form.one_of is_region after)) _ (good-lower _ (good-one is_region after good_after))
+      each-append _ (map fold_text (form.one_of is_script ss)) _ (good-lower _ (good-one is_script ss good.1))
+          (each-append _ (map fold_text (form.one_of is_region after)) _ (good-lower _ (good-one is_region after good_after))
           (good-alphabet (form.after_one is_region after) (good-after is_region after good_after))),
     )
 
 good-transform_form : (ss : List (List ℕ)) → Good ss → Good (transform_form ss)
 good-transform_form ss good =
-    good-append (form.language_form (before_key is_field_key ss)) (form.keywords_form is_field_key transform_value ss) (good-language _ (good-before is_field_key ss good))
+    each-append _ (form.language_form (before_key is_field_key ss)) (form.keywords_form is_field_key transform_value ss) (good-language _ (good-before is_field_key ss good))
     (good-keywords is_field_key transform_value good-transform ss good)
 
 some-transform_form : (ss : List (List ℕ)) → Good ss → 1 ≤ length ss → 1 ≤ length (transform_form ss)

@@ -1,10 +1,10 @@
 -- How long the form of a tag may be: at most twice as long as the tag.
 use Rattle.std.proofs.Common.{◌≡◌, ℕ, ◌+◌, ◌*◌, ◌≤◌, ◌&&◌, ◌||◌, ◌==◌, not, leb, Bool, true, false, cond, List, [], ◌∷◌, ◌++◌, length, map, find, Option, None, Some, unwrap_or, inl, inr, refl, sym, ap, subst, ◌∙◌, arith, eqb-true}
-use Rattle.std.proofs.lemmas.Bool.{and_parts, eq-eqb, false≢true, leb-true}
+use Rattle.std.proofs.lemmas.Bool.{and_parts, eq-eqb, false≢true, leb-true, not-true}
 use Rattle.std.specs.Prelude.{codes}
 use Rattle.std.specs.List.{flat_map, list_all}
 use Rattle.std.specs.Option.{option_map, option_map_or}
-use Rattle.langtag_likely.proofs.FormLaws.{normal_or_not}
+use Rattle.langtag_scan.proofs.NormalTexts.{normal_or_not}
 use Rattle.langtag_likely.proofs.RowsFound.{alike_length}
 use Rattle.langtag_scan.proofs.CaseLaw.{length-fold}
 use Rattle.langtag_scan.proofs.Joins.{length-join}
@@ -12,7 +12,7 @@ use Rattle.langtag_scan.proofs.SubtagLists.{join-subtags}
 use Rattle.langtag_scan.specs.Case.{are_alike, fold_byte, fold_text}
 use Rattle.langtag_scan.specs.CaseLaws.{are_alike-decides}
 use Rattle.langtag_scan.specs.Class.{is_region, is_script}
-use Rattle.langtag_scan.specs.Record.{Extension, Record, extension_flat, one_flat, private_part_flat, spell}
+use Rattle.langtag_scan.specs.Record.{Extension, Record, extension_flat, spell}
 use Rattle.langtag_scan.specs.Subtags.{join, subtags}
 use Rattle.langtag_scan.specs.Tag.{IsNormal}
 use Rattle.langtag_unicode.specs.Alias.{Alias, TypeAlias, alias_for, type_alias_for}
@@ -24,6 +24,7 @@ use Rattle.langtag_unicode.specs.Keywords.{before_key, is_key, value_of}
 use Rattle.langtag_unicode.specs.Transform.{is_field_key}
 use Rattle.langtag_unicode.proofs.ExtensionForms.{form_by, form_tested}
 use Rattle.langtag_unicode.proofs.SubtagTexts.{before-from, from_key, length-with_hyphens}
+use Rattle.langtag_scan.proofs.PartOffsets.{length-spell}
 
 -- the bytes of some subtags, each with a hyphen
 abbrev pub size : List (List ℕ) → ℕ
@@ -106,17 +107,13 @@ letters_apart : are_apart letters_and_digits ≡ true
 unfolding fold_byte
 letters_apart = refl
 
-not_false : (b : Bool) → not b ≡ true → b ≡ false
-not_false true h = absurd (false≢true h)
-not_false false h = refl
-
 -- what is more only where a letter is another is so once at most
 module _ (n extra : ℕ) (f g : ℕ → ℕ) (apart : (a : ℕ) → (fold_byte a == n) ≡ false → f a ≤ g a) (any : (a : ℕ) → f a ≤ extra + g a) where
   never : (xs : List ℕ) → list_all (λ b. not (fold_byte b == n)) xs ≡ true → total f xs ≤ total g xs
   never [] all = omega arith
   never (a ∷ xs) all =
       let parts = and_parts (not (fold_byte a == n)) (list_all (λ b. not (fold_byte b == n)) xs) all in
-      let one = apart a (not_false _ parts.0) in
+      let one = apart a (not-true _ parts.0) in
       let later = never xs parts.1 in
       omega (arith, one, later)
 
@@ -380,35 +377,21 @@ forms-size u t (e ∷ es) =
 
 -- ---- the whole tag
 
-size-parts : (a b c d e f : List (List ℕ)) → size (a ++ (b ++ (c ++ (d ++ (e ++ f))))) ≡ size a + size b + size c + size d + size e + size f
-size-parts a b c d e f =
-    let one = size-append a (b ++ (c ++ (d ++ (e ++ f)))) in
-    let two = size-append b (c ++ (d ++ (e ++ f))) in
-    let three = size-append c (d ++ (e ++ f)) in
-    let four = size-append d (e ++ f) in
-    let five = size-append e f in
-    omega (arith, one, two, three, four, five)
-
 -- a tag with other extensions is longer by what these have more
 pub extensions-length : (r : Record) (es : List Extension) → length (spell (record r { extensions = es })) + size (flat_map extension_flat r.extensions) ≡ length (spell r) + size (flat_map extension_flat es)
 extensions-length r es =
-    let private_use = private_part_flat r.private_use in
-    let old_all = length-join r.primary (r.extended ++ (one_flat r.script ++ (one_flat r.region ++ (r.variants ++ (flat_map extension_flat r.extensions ++ private_use))))) in
-    let new_all = length-join r.primary (r.extended ++ (one_flat r.script ++ (one_flat r.region ++ (r.variants ++ (flat_map extension_flat es ++ private_use))))) in
-    let old_same = length-with_hyphens (r.extended ++ (one_flat r.script ++ (one_flat r.region ++ (r.variants ++ (flat_map extension_flat r.extensions ++ private_use))))) in
-    let new_same = length-with_hyphens (r.extended ++ (one_flat r.script ++ (one_flat r.region ++ (r.variants ++ (flat_map extension_flat es ++ private_use))))) in
-    let old_parts = size-parts r.extended (one_flat r.script) (one_flat r.region) r.variants (flat_map extension_flat r.extensions) private_use in
-    let new_parts = size-parts r.extended (one_flat r.script) (one_flat r.region) r.variants (flat_map extension_flat es) private_use in
-    omega (arith, old_all, new_all, old_same, new_same, old_parts, new_parts)
+    let old_all = length-spell r in
+    let new_all = length-spell (record r { extensions = es }) in
+    let old = length-with_hyphens (flat_map extension_flat r.extensions) in
+    let new = length-with_hyphens (flat_map extension_flat es) in
+    omega (arith, old_all, new_all, old, new)
 
 -- and no shorter than its extensions
 extensions-short : (r : Record) → size (flat_map extension_flat r.extensions) ≤ length (spell r)
 extensions-short r =
-    let private_use = private_part_flat r.private_use in
-    let all = length-join r.primary (r.extended ++ (one_flat r.script ++ (one_flat r.region ++ (r.variants ++ (flat_map extension_flat r.extensions ++ private_use))))) in
-    let same = length-with_hyphens (r.extended ++ (one_flat r.script ++ (one_flat r.region ++ (r.variants ++ (flat_map extension_flat r.extensions ++ private_use))))) in
-    let parts = size-parts r.extended (one_flat r.script) (one_flat r.region) r.variants (flat_map extension_flat r.extensions) private_use in
-    omega (arith, all, same, parts)
+    let all = length-spell r in
+    let extensions = length-with_hyphens (flat_map extension_flat r.extensions) in
+    omega (arith, all, extensions)
 
 pub form_length : (r : Record) → length (spell (extensions_record r)) ≤ 2 * length (spell r)
 unfolding extensions_record

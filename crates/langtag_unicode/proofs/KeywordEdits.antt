@@ -6,7 +6,7 @@ use Rattle.std.specs.List.{flat_map}
 use Rattle.std.specs.Option.{is_some}
 use Rattle.langtag_output.specs.Output.{with_subtag}
 use Rattle.langtag_scan.specs.Record.{Extension, IsWellFormed, Record, extension_flat, private_part_flat, spell}
-use Rattle.langtag_unicode.specs.Head.{head}
+use Rattle.langtag_scan.specs.Ends.{to_variants}
 use Rattle.langtag_unicode.proofs.ExtensionForms.{extensions_joined}
 use Rattle.langtag_unicode.specs.Edit.{at_place, belongs, changed_from, edited, edited_record, is_place, is_place_of_u, put_keyword, with_changed_u, without_keyword, without_within}
 
@@ -64,6 +64,6 @@ module _ (change : List (List ℕ) → List (List ℕ)) (stands : Bool) (e : Ext
 
 pub edited_joined :
     (key : List ℕ) (value : Option (List (List ℕ))) (r : Record) → IsWellFormed r →
-    fold with_subtag [] (head r ++ (flat_map extension_flat (with_changed_u (edited key value) r.extensions) ++ private_part_flat r.private_use)) ≡ spell (edited_record key value r)
+    fold with_subtag [] (to_variants r ++ (flat_map extension_flat (with_changed_u (edited key value) r.extensions) ++ private_part_flat r.private_use)) ≡ spell (edited_record key value r)
 unfolding edited_record
 edited_joined key value r fits = extensions_joined r fits (with_changed_u (edited key value) r.extensions)

@@ -1,8 +1,5 @@
 -- Keywords in the order of their keys: what is marked, and what is put.
-use Rattle.std.proofs.Common.{◌≡◌, ℕ, ◌<◌, Bool, true, false, cond, ◌&&◌, List, [], ◌∷◌, ◌++◌, length, map, get_or, set, None, Some, slice_index_or, refl, sym, ap, ◌∙◌}
-use Rattle.std.proofs.lemmas.Bool.{both_ways}
-use Rattle.std.proofs.lemmas.Grind.{get_or-set_at}
-use Rattle.std.proofs.lemmas.List.{get_or-set_other}
+use Rattle.std.proofs.Common.{◌≡◌, ℕ, ◌<◌, Bool, true, false, cond, ◌&&◌, List, [], ◌∷◌, ◌++◌, length, map, set, None, Some, slice_index_or, refl, ap, ◌∙◌}
 use Rattle.std.specs.List.{flat_map}
 use Rattle.std.specs.Option.{option_map_or}
 use Rattle.langtag_scan.specs.Case.{are_alike, fold_text}
@@ -10,6 +7,7 @@ use Rattle.langtag_scan.specs.Subtags.{join, subtags}
 use Rattle.langtag_scan.specs.CaseLaws.{are_alike-decides}
 use Rattle.langtag_unicode.specs.Keywords.{before_key, value_of}
 use Rattle.langtag_unicode.specs.Form.{keyword_form}
+use Rattle.langtag_registry.proofs.ExtensionOrder.{unmarked}
 
 -- a key whose place is not marked stands only in what is left
 abbrev pub AreMarkedSo : (List ℕ → ℕ) → (List ℕ → Bool) → List Bool → List (List ℕ) → List (List ℕ) → Type 0
@@ -29,11 +27,6 @@ pub marked-other :
     AreMarkedSo index opens marks all left → AreMarkedSo index opens marks all rest
 marked-other index opens marks all left rest s first other so_far key none =
     so_far key none ∙ ap (value_of opens key) first ∙ value_of-other opens key s rest false (are_alike s key) other refl refl
-
-unmarked : (marks : List Bool) (k j : ℕ) → k < length marks → get_or (set marks k true) j false ≡ false → (k ≡ j → ⊥) × (get_or marks j false ≡ false)
-unmarked marks k j inside none =
-    let apart : k ≡ j → ⊥ = λ same. both_ways _ none (get_or-set_at marks k j true false (sym same) inside) in
-    (apart, sym (get_or-set_other marks k j true false (λ same. apart (sym same))) ∙ none)
 
 -- a key, whose place is marked
 pub marked-key :

@@ -1,14 +1,14 @@
 -- A tag with a keyword set or removed is a tag: its extensions are well-formed.
-use Rattle.std.proofs.Common.{◌≡◌, ℕ, Bool, true, false, cond, ◌&&◌, ◌||◌, List, [], ◌∷◌, ◌++◌, length, find, Option, None, Some, unwrap_or, refl, ap, ◌∙◌, arith}
+use Rattle.std.proofs.Common.{◌≡◌, ℕ, Bool, true, false, cond, ◌||◌, List, [], ◌∷◌, ◌++◌, find, Option, None, Some, unwrap_or, refl, ap, arith}
 use Rattle.std.proofs.lemmas.Bool.{and_parts, false≢true}
 use Rattle.std.specs.List.{AllByRecursion}
 use Rattle.std.specs.Option.{is_some}
 use Rattle.langtag_extension.specs.Spelling.{find_extension}
 use Rattle.langtag_scan.specs.Class.{is_alphanumeric, is_digit, is_extension_subtag, is_letter, is_mark, is_singleton}
 use Rattle.langtag_scan.specs.Record.{Extension, IsWellFormed, IsWellFormedExtension, Record}
-use Rattle.langtag_unicode.specs.Edit.{at_place, belongs, changed_from, edited, edited_record, extension_of, is_place, is_place_of_u, is_this_key, is_type, is_unicode_key, keyword_error, put_keyword, with_keyword, without_keyword, without_within}
-use Rattle.langtag_unicode.proofs.Each.{each-append}
-use Rattle.langtag_unicode.proofs.FormRecords.{Good, good-append, good-key}
+use Rattle.langtag_scan.proofs.SubtagLists.{each-append}
+use Rattle.langtag_unicode.specs.Edit.{at_place, belongs, changed_from, edited, edited_record, extension_of, is_place, is_place_of_u, is_this_key, is_unicode_key, keyword_error, put_keyword, without_keyword, without_within}
+use Rattle.langtag_unicode.proofs.FormRecords.{Good, good-key}
 use Rattle.langtag_unicode.proofs.KeywordLaws.{allowed_from, types-each}
 
 -- ---- the subtags of `u`
@@ -28,7 +28,7 @@ good-put key stands keyword (s ∷ ss) these good = by_test (is_place key stands
   where
     by_test :
         (b : Bool) → Good (put_keyword key stands keyword ss) → Good (cond b (keyword ++ without_keyword key (s ∷ ss)) (s ∷ put_keyword key stands keyword ss))
-    by_test true later = good-append keyword (without_keyword key (s ∷ ss)) these (good-without key false (s ∷ ss) good)
+    by_test true later = each-append _ keyword (without_keyword key (s ∷ ss)) these (good-without key false (s ∷ ss) good)
     by_test false later = (good.0, later)
 
 good-standing : (key : List ℕ) (ss : List (List ℕ)) → is_extension_subtag key ≡ true → Good ss → is_extension_subtag (unwrap_or (find (is_this_key key) ss) key) ≡ true
@@ -70,7 +70,7 @@ u_singleton = refl
 module _ (change : List (List ℕ) → List (List ℕ)) (keeps : (ss : List (List ℕ)) → Good ss → Good (change ss)) where
   good-place : (stands : Bool) (e : Extension) → IsWellFormedExtension e → AllByRecursion IsWellFormedExtension (at_place change stands e)
   good-place true e fits = good-extension_of e.singleton (change e.subtags) fits.singleton (keeps e.subtags fits.subtags)
-  good-place false e fits = each-append IsWellFormedExtension (extension_of 117 (change [])) (e ∷ []) (good-extension_of 117 (change []) u_singleton (keeps [] tt)) (fits, tt)
+  good-place false e fits = each-append _ (extension_of 117 (change [])) (e ∷ []) (good-extension_of 117 (change []) u_singleton (keeps [] tt)) (fits, tt)
 
   good-changed : (stands : Bool) (es : List Extension) → AllByRecursion IsWellFormedExtension es → AllByRecursion IsWellFormedExtension (changed_from change stands es)
   good-changed stands [] fits = good-extension_of 117 (change []) u_singleton (keeps [] tt)
@@ -79,7 +79,7 @@ module _ (change : List (List ℕ) → List (List ℕ)) (keeps : (ss : List (Lis
       by_test :
           (b : Bool) → AllByRecursion IsWellFormedExtension (changed_from change stands es) →
           AllByRecursion IsWellFormedExtension (cond b (at_place change stands e ++ es) (e ∷ changed_from change stands es))
-      by_test true later = each-append IsWellFormedExtension (at_place change stands e) es (good-place stands e fits.0) fits.1
+      by_test true later = each-append _ (at_place change stands e) es (good-place stands e fits.0) fits.1
       by_test false later = (fits.0, later)
 
 -- ---- the record

@@ -4,7 +4,7 @@ use Rattle.std.proofs.lemmas.Bool.{and_parts}
 use Rattle.std.specs.List.{flat_map}
 use Rattle.std.specs.Option.{is_some}
 use Rattle.langtag_extension.specs.Spelling.{find_extension}
-use Rattle.langtag_likely.proofs.FormLaws.{normal_or_not}
+use Rattle.langtag_scan.proofs.NormalTexts.{normal_or_not}
 use Rattle.langtag_likely.proofs.RowsFound.{alike_length}
 use Rattle.langtag_likely.specs.Maximal.{IsForm}
 use Rattle.langtag_scan.specs.Case.{are_alike}

@@ -1,11 +1,11 @@
 -- A key that is set twice has the second value, and the tag is the one that the second call alone gives.
-use Rattle.std.proofs.Common.{◌≡◌, ℕ, ◌≤◌, Bool, true, false, cond, ◌&&◌, ◌==◌, nat_lt, not, List, [], ◌∷◌, ◌++◌, length, find, Option, None, Some, unwrap_or, refl, sym, ap, subst, ◌∙◌, arith, append-nil, append_assoc}
+use Rattle.std.proofs.Common.{◌≡◌, ℕ, ◌≤◌, Bool, true, false, cond, ◌&&◌, not, List, [], ◌∷◌, ◌++◌, length, find, Option, None, Some, unwrap_or, refl, sym, ap, subst, ◌∙◌, arith, append-nil, append_assoc}
 use Rattle.std.proofs.lemmas.Bool.{and_parts, false≢true}
 use Rattle.std.specs.Option.{is_some}
 use Rattle.langtag_extension.specs.Spelling.{find_extension}
 use Rattle.langtag_scan.specs.Case.{are_alike, fold_byte, fold_text}
 use Rattle.langtag_scan.specs.Record.{Extension, Record}
-use Rattle.langtag_unicode.specs.Edit.{at_place, belongs, changed_from, edited, edited_record, extension_of, is_place, is_place_of_u, is_this_key, keyword_error, put_keyword, with_changed_u, with_keyword, without_keyword, without_within}
+use Rattle.langtag_unicode.specs.Edit.{at_place, belongs, changed_from, edited_record, extension_of, is_place, is_place_of_u, is_this_key, keyword_error, put_keyword, with_changed_u, with_keyword, without_keyword, without_within}
 use Rattle.langtag_unicode.specs.Form.{is_before, is_of}
 use Rattle.langtag_unicode.specs.Keywords.{is_key}
 use Rattle.langtag_unicode.proofs.KeywordEdits.{put-here, put-later, without-gone, without-kept}

@@ -2,17 +2,17 @@
 use Rattle.std.proofs.Common.{◌≡◌, ℕ, ◌+◌, Bool, true, false, cond, ◌&&◌, ◌==◌, not, List, [], ◌∷◌, ◌++◌, length, take, drop, Option, Some, refl, ap, sym, ◌∙◌}
 use Rattle.std.specs.List.{list_any}
 use Rattle.std.specs.Option.{option_map}
-use Rattle.std.specs.Str.{bytes_eq}
 use Rattle.std.proofs.lemmas.List.{take_more}
 use Rattle.std.proofs.lemmas.List.Folds.{list_any-append}
 use Rattle.std.proofs.lemmas.Map.Steps.{list_any_congr}
 use Rattle.langtag_scan.specs.Case.{fold_text, are_alike, Alike}
-use Rattle.langtag_scan.specs.CaseLaws.{are_alike-decides, on_alike_equiv}
+use Rattle.langtag_scan.specs.CaseLaws.{on_alike_equiv}
 use Rattle.langtag_scan.specs.Subtags.{join}
 use Rattle.langtag_scan.proofs.CaseLaw.{is_letter-fold, is_digit-fold, length-fold}
 use Rattle.langtag.proofs.RepeatLaws.{IsAt-drop}
 use Rattle.langtag_unicode.specs.Keywords.{Keyword, before_key, value_among, value_of, is_key, is_new_key, keywords_after, keywords_of, each_once_after}
 use Rattle.langtag_unicode.specs.Transform.{is_field_key}
+use Rattle.langtag_likely.proofs.AlikeFields.{alike_is, are_alike-right}
 
 -- ---- a step
 
@@ -75,18 +75,12 @@ is_field_key-fold (a ∷ b ∷ c ∷ s) = refl
 is_field_key-alike : RespectsCase is_field_key
 is_field_key-alike a b same = sym (is_field_key-fold a) ∙ ap is_field_key same ∙ is_field_key-fold b
 
-alike-right : (s k l : List ℕ) → Alike k l → are_alike s k ≡ are_alike s l
-alike-right s k l same = ap (λ t. bytes_eq (fold_text s) t) same
-
 -- a key is looked up in any case
 pub value_of-alike : (test : List ℕ → Bool) (k l : List ℕ) (ss : List (List ℕ)) → Alike k l → value_of test k ss ≡ value_of test l ss
 value_of-alike test k l [] same = refl
-value_of-alike test k l (s ∷ ss) same = rw (alike-right s k l same, value_of-alike test k l ss same) refl
+value_of-alike test k l (s ∷ ss) same = rw (are_alike-right s k l same, value_of-alike test k l ss same) refl
 
 -- ---- a look-up and the walk
-
-alike-same : (s key : List ℕ) → are_alike s key ≡ true → Alike s key
-alike-same s key h = (are_alike-decides s key).0 h
 
 -- one more subtag that the key is not alike
 still-none : (key s : List ℕ) (before : List (List ℕ)) → list_any (are_alike key) before ≡ false → are_alike s key ≡ false → list_any (are_alike key) (before ++ s ∷ []) ≡ false
@@ -113,7 +107,7 @@ module _ (test : List ℕ → Bool) (respects : RespectsCase test) (key : List �
   by_key before ss s others true false is_opened e none later =
       by_old (list_any (are_alike s) before) (record { key = s; value = join (before_key test ss) }) others (option_map join (value_of test key ss)) e (later e)
   by_key before ss s others false true closed e none later =
-      let wrong : false ≡ true = sym closed ∙ respects s key (alike-same s key e) ∙ is in
+      let wrong : false ≡ true = sym closed ∙ respects s key (alike_is s key e) ∙ is in
       absurd cc
   by_key before ss s others false false closed e none later = later e
 

@@ -6,7 +6,6 @@ pub mod Alias
 pub mod Aliases
 pub mod Form
 pub mod Alphabet
-pub mod Head
 pub mod Marks
 pub mod Edit
 pub mod Locale

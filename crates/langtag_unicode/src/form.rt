@@ -14,7 +14,7 @@ ghost use Rattle.langtag_scan.specs.Record as model;
 ghost use Rattle.langtag_scan.specs.Subtags.{join, subtags};
 ghost use Rattle.langtag_scan.specs.Tag.{IsTag};
 ghost use Rattle.langtag_unicode.specs.Form as spec;
-ghost use Rattle.langtag_unicode.specs.Head.{head};
+ghost use Rattle.langtag_scan.specs.Ends.{to_variants};
 
 use crate::alphabet::push_in_alphabet;
 use crate::keys::Keys;
@@ -132,7 +132,7 @@ fn put_parts(tag: NormalLangTag<'_>, buffer: &mut [u8]) -> usize
 /// Appends the part of a tag before its extensions.
 pub(crate) fn push_head(out: &mut Output<'_>, tag: NormalLangTag<'_>)
     ensures same_buffer { out.new.buffer.ghost_name ≡ out.old.buffer.ghost_name }
-    ensures pushed { model.EachRecord (normal_lang_tag_text tag.entry) (λ r. Pushes (head r) out.old out.new) }
+    ensures pushed { model.EachRecord (normal_lang_tag_text tag.entry) (λ r. Pushes (to_variants r) out.old out.new) }
 {
     let text = tag.as_str();
     out.push_subtag(&text.as_bytes()[..tag.ends().variants]);

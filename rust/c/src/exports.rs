@@ -13,9 +13,9 @@ use crate::calls::parse::Parts;
 use crate::calls::repeats::Repeated;
 use crate::calls::span::Span;
 use crate::calls::{
-    accepted, best_match, canonical, choice, compare, direction, fallback, grandfathered, keyword,
-    likely, look_up, parse, posix, range as ranges, recommend, refused, registry_date, repeats,
-    suggestion, transform, validity, viable, walk, with_part,
+    accepted, best_match, canonical, choice, compare, direction, extensions_form, fallback,
+    grandfathered, keyword, likely, look_up, parse, posix, range as ranges, recommend, refused,
+    registry_date, repeats, suggestion, transform, validity, viable, walk, with_keyword, with_part,
 };
 use core::slice;
 
@@ -257,6 +257,51 @@ pub unsafe extern "C" fn langtag_with_part(
         lent(text, text_len),
         taken(buffer, buffer_len),
     )
+}
+
+#[no_mangle]
+pub unsafe extern "C" fn langtag_with_keyword(
+    tag: *const u8,
+    tag_len: usize,
+    key: *const u8,
+    key_len: usize,
+    value: *const u8,
+    value_len: usize,
+    buffer: *mut u8,
+    buffer_len: usize,
+) -> usize {
+    with_keyword::langtag_with_keyword(
+        lent(tag, tag_len),
+        lent(key, key_len),
+        lent(value, value_len),
+        taken(buffer, buffer_len),
+    )
+}
+
+#[no_mangle]
+pub unsafe extern "C" fn langtag_without_keyword(
+    tag: *const u8,
+    tag_len: usize,
+    key: *const u8,
+    key_len: usize,
+    buffer: *mut u8,
+    buffer_len: usize,
+) -> usize {
+    with_keyword::langtag_without_keyword(
+        lent(tag, tag_len),
+        lent(key, key_len),
+        taken(buffer, buffer_len),
+    )
+}
+
+#[no_mangle]
+pub unsafe extern "C" fn langtag_extensions_form(
+    bytes: *const u8,
+    len: usize,
+    buffer: *mut u8,
+    buffer_len: usize,
+) -> usize {
+    extensions_form::langtag_extensions_form(lent(bytes, len), taken(buffer, buffer_len))
 }
 
 #[no_mangle]

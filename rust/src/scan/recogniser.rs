@@ -35,9 +35,14 @@ pub fn recognise<S: ByteSource>(source: &mut S) -> Option<Found> {
 #[inline(always)]
 fn read<S: ByteSource>(source: &mut S) -> Option<Found> {
     let len = source.len();
-    let mut state = State::start();
+    if len == 0 {
+        return None;
+    }
+    // The first byte ends no part. It is read here, so that the address of the tables is found before the loop, and
+    // not for each byte.
+    let mut state = State::start().after(source.byte(0))?;
     let mut marks = Marks::new();
-    let mut index = 0;
+    let mut index = 1;
     while index < len {
         state = state.after(source.byte(index))?;
         marks.set(state.part_before(), index);

@@ -28,7 +28,7 @@
 //! of a stage, what is known about the subtag after that stage, and the irregular tag that the bytes may become. It is
 //! proved that each step from one state to the next matches the step between the positions that the states represent.
 
-use crate::scan::states::{CLASSES, KINDS, NEXT, NONE, PARTS, START};
+use crate::scan::states::{CLASSES, NONE, START, TABLES};
 
 /// A state, by its number in the tables.
 #[derive(Clone, Copy)]
@@ -63,7 +63,7 @@ impl State {
     /// Returns the state after one more byte, which has this class, or `None` if no tag begins with these bytes.
     #[inline(always)]
     fn after_class(self, class: usize) -> Option<Self> {
-        let number = NEXT[class][self.number] as usize;
+        let number = TABLES.next[class][self.number] as usize;
         if number < NONE {
             Some(State { number })
         } else {
@@ -75,13 +75,13 @@ impl State {
     /// if that byte is not a hyphen after a part.
     #[inline(always)]
     pub(crate) fn part_before(self) -> usize {
-        PARTS[self.number] as usize
+        crate::scan::states::PARTS[self.number] as usize
     }
 
     /// Returns what the text is if it ends after the bytes that were read.
     #[inline(always)]
     pub(crate) fn ending(self) -> Ending {
-        match KINDS[self.number] {
+        match TABLES.kinds[self.number] {
             place if place < 6 => Ending::Normal(place as usize),
             6 => Ending::NoTag,
             7 => Ending::PrivateUse,

@@ -78,6 +78,7 @@ fn answer(row: &Row) -> String {
         "attributes" => unicode::distinct(row.str(0)),
         "transform" => unicode::transformed(row.str(0)),
         "extensions-form" => unicode::form(row.str(0)),
+        "with-keyword" => unicode::edited(row.str(0), row.str(1), row.str(2)),
         "is-locale" => unicode::is_identifier(row.str(0)),
         call => panic!("no call: {call}"),
     }
@@ -110,6 +111,7 @@ files! {
     choices: "choices.txt", 285, ["best", "best-match"];
     preferences: "lists.txt", 15, ["best-accepted", "best-ranges"];
     extensions: "extensions.txt", 630, ["extensions-form"];
+    setters: "keywords.txt", 380, ["with-keyword"];
     locales: "locale.txt", 75, ["is-locale"];
     keywords: "unicode.txt", 500, ["keyword", "keywords", "attributes", "transform"];
 }

@@ -70,3 +70,38 @@ pub fn form(text: &str) -> String {
     assert_eq!(buffer, form.as_str().as_bytes(), "{text}");
     form.as_str().into()
 }
+
+/// Returns the tag with a keyword set, or removed if the value is `-`. A value that is set must be read again, and an error must leave the buffer unchanged.
+pub fn edited(text: &str, key: &str, value: &str) -> String {
+    let mut buffer = vec![b'!'; text.len() + key.len() + value.len() + 4];
+    let written = match value {
+        "-" => write_without_keyword(tag(text), key, &mut buffer),
+        _ => write_with_keyword(tag(text), key, value, &mut buffer),
+    };
+    let error = match written {
+        Ok(length) => {
+            let made = std::str::from_utf8(&buffer[..length]).expect("a tag is ASCII");
+            assert!(
+                value == "-" || keyword(tag(made), key) == Some(value),
+                "{made}"
+            );
+            return made.into();
+        }
+        Err(error) => error,
+    };
+    assert!(buffer.iter().all(|byte| *byte == b'!'), "{text}");
+    match error {
+        KeywordError::Key => "bad key".into(),
+        KeywordError::Value(offset) => {
+            let subtag = value[offset..].split('-').next().unwrap_or("");
+            assert!(
+                subtag.len() < 3
+                    || subtag.len() > 8
+                    || !subtag.bytes().all(|byte| byte.is_ascii_alphanumeric()),
+                "{value}"
+            );
+            "bad value".into()
+        }
+        KeywordError::NotNormal => "no parts".into(),
+    }
+}

@@ -1,13 +1,14 @@
 use Rattle.std.proofs.Common.{ap, ◌∙◌}
 use Rattle.langtag_scan.specs.Case.{fold_byte}
 use Rattle.langtag_case.specs.RecommendedCase.{recommended_text}
-use Rattle.langtag_case.proofs.RecommendedLaws.{fold_text-fold, recommended-fold, recommended_alike, alike_recommended, recommended_twice, recommended_each}
+use Rattle.langtag_case.proofs.RecommendedLaws.{recommended-fold, recommended_alike, alike_recommended, recommended_twice, recommended_each}
 use Rattle.langtag_case.proofs.RecordLaw.{recommended_spelled}
 use Rattle.langtag_case.proofs.recommended_case.make_recommended_case.Goals as goal
+use Rattle.langtag_scan.proofs.CaseLaw.{fold_text-twice}
 
 pub capitalise_pieces-requires : goal.capitalise_pieces-requires
 unfolding fold_byte
-capitalise_pieces-requires c = rw c.make_ascii_lowercase.ensures.after (fold_text-fold _)
+capitalise_pieces-requires c = rw c.make_ascii_lowercase.ensures.after (fold_text-twice _)
 
 pub returns-clause-case : goal.returns-clause-case
 unfolding fold_byte

@@ -6,10 +6,11 @@ use Rattle.langtag_match.specs.Locale.{locale_place}
 use Rattle.langtag_likely.specs.Likely.{or_else}
 use Rattle.langtag_likely.specs.Maximal.{IsForm}
 use Rattle.langtag_likely.specs.Modifiers.{modifier_script, modifier_variant}
-use Rattle.langtag_likely.specs.Posix.{IsLocalePlace, hyphenated, modifier_of, said_script, script_behind, with_said_script, with_said_variant}
+use Rattle.langtag_likely.specs.Posix.{IsLocalePlace, modifier_of, said_script, script_behind, with_said_script, with_said_variant}
 use Rattle.langtag_likely.proofs.FormLaws.{rewritten}
 use Rattle.langtag_likely.proofs.PosixLaws.{form_composed, modifier_variant-fits, said_script-fits, script_or, script_well_formed, variant_of}
 use Rattle.langtag_likely.proofs.posix.write_from_posix.Goals as goal
+use Rattle.langtag_match.specs.Wanted.{hyphened}
 
 pub write_with_variant-requires : goal.write_with_variant-requires
 write_with_variant-requires c = variant_of _ _ c.modifier_variant.ensures (modifier_variant-fits _)
@@ -19,18 +20,18 @@ returns-clause-written c =
     let name = c.args.name.now in
     let mid = lang_tag_text c.tag_with_script-tag.result in
     let place_is = c.locale_place.ensures in
-    let tag_is = c.in_ok-tag.ensures.1 ∙ ap hyphenated place_is in
+    let tag_is = c.in_ok-tag.ensures.1 ∙ ap hyphened place_is in
     let script_is : option_map script_text c.or.result ≡ said_script name =
     ap (option_map script_text) c.or.ensures ∙ script_or c.modifier_script.result c.script_behind-script.result
     ∙ ap (λ s. or_else s (option_map script_text c.script_behind-script.result)) (c.modifier_script.ensures ∙ ap modifier_script c.front_and_modifier.ensures.modifier)
     ∙ ap (or_else (modifier_script (modifier_of name))) (c.script_behind-script.ensures ∙ ap script_behind c.front_and_modifier.ensures.front) in
     let variant_is : option_map (λ v. v.now) c.modifier_variant.result ≡ modifier_variant (modifier_of name) =
     c.modifier_variant.ensures ∙ ap modifier_variant c.front_and_modifier.ensures.modifier in
-    let first : IsForm (with_said_script (said_script name)) (hyphenated (locale_place name)) mid =
-    subst (λ s. IsForm (with_said_script s) (hyphenated (locale_place name)) mid) script_is
+    let first : IsForm (with_said_script (said_script name)) (hyphened (locale_place name)) mid =
+    subst (λ s. IsForm (with_said_script s) (hyphened (locale_place name)) mid) script_is
     (subst (λ t. IsForm (with_said_script (option_map script_text c.or.result)) t mid) tag_is c.tag_with_script-tag.ensures) in (
       subst IsLocalePlace place_is c.in_ok-tag.ensures.0,
       rewritten _ _ _ (λ text is.
           form_composed (with_said_script (said_script name)) (with_said_variant (modifier_variant (modifier_of name))) (script_well_formed (said_script name) (said_script-fits name))
-          (hyphenated (locale_place name)) mid text first (subst (λ v. IsForm (with_said_variant v) mid text) variant_is is)) c.write_with_variant.ensures,
+          (hyphened (locale_place name)) mid text first (subst (λ v. IsForm (with_said_variant v) mid text) variant_is is)) c.write_with_variant.ensures,
     )

@@ -1,4 +1,5 @@
-use Rattle.std.proofs.Common.{◌≡◌, ◌+◌, ◌<◌, [], ◌∷◌, ◌++◌, length, take, get_or, set, refl, sym, ap, subst, ◌∙◌, arith}
+use Rattle.std.proofs.Common.{◌≡◌, ◌+◌, ◌<◌, [], ◌∷◌, ◌++◌, length, take, get_or, set, sym, ap, subst, ◌∙◌, arith}
+use Rattle.std.specs.Prelude.{replicate}
 use Rattle.langtag_scan.specs.Machine.{ends_at}
 use Rattle.langtag_scan.specs.Found.{IsFoundOf}
 use Rattle.langtag_scan.specs.Position.{position_of, is_dead}
@@ -6,35 +7,42 @@ use Rattle.langtag_scan.specs.Tracking.{Stands}
 use Rattle.langtag_scan.specs.declared.finding.Finding.TheVariants as finding
 use Rattle.langtag_scan.specs.declared.state.Ending.TheVariants.{NoTag, Normal, PrivateUse, Irregular}
 use Rattle.langtag_scan.proofs.PositionLaws.{Tracks, tracks_nothing}
-use Rattle.langtag_scan.proofs.RecogniserLaws.{viable_nothing, alive_viable, next_prefix, tracks_next, dead_next, text_ended, whole_stop}
+use Rattle.langtag_scan.proofs.RecogniserLaws.{viable_nothing, alive_viable, next_prefix, tracks_first, tracks_next, dead_next, text_ended, whole_stop}
+use Rattle.langtag_scan.proofs.StateTables.{stands_nothing, stands_ending}
 use Rattle.langtag_scan.proofs.recogniser.read.Goals as goal
 
 pub loop-index-init : goal.loop-index-init
-loop-index-init g c = record {
-  bytes = refl;
-  reads = omega arith;
-  reach = omega arith;
-  within = omega arith;
-  stands = c.start-state.ensures;
-  tracks = rw c.new-marks.ensures tracks_nothing;
-  viable = viable_nothing;
-}
+loop-index-init g c =
+    let t = g.S.ByteSource.bytes c.args.source.now in
+    let within : 0 < length t = omega (arith, c.len-len.ensures, c.if-len-eq0.false) in
+    let next : c.byte.result ∷ [] ≡ take 1 t = next_prefix t 0 c.byte.result within c.byte.ensures.value in
+    let after = c.in_ok-state.ensures [] c.start.ensures in
+    let tracks = tracks_first t c.byte.result within next in
+    record {
+      bytes = c.byte.ensures.bytes;
+      reads = omega arith;
+      reach = omega arith;
+      within = omega arith;
+      stands = subst (λ q. Stands q c.in_ok-state.state.number) next after.1;
+      tracks = rw c.new-marks.ensures tracks;
+      viable = alive_viable (take 1 t) (replicate 6 0) tracks (ap (λ q. is_dead (position_of q)) (sym next) ∙ after.0);
+    }
 
 pub loop-index-preserved : goal.loop-index-preserved
 loop-index-preserved g c =
     let t = g.S.ByteSource.bytes c.args.source.now in
     let i = c.loop-index.index in
+    let byte = c.byte-in-loop-index in
     let known = c.loop-index.invariant in
     let within : i < length t = omega (arith, c.len-len.ensures) in
-    let is_next : c.byte.result ≡ get_or t i 0 = cc in
-    let next = next_prefix t i c.byte.result within is_next in
-    let after = c.in_ok-state.ensures (take i t) known.stands in
-    let stands = subst (λ q. Stands q c.in_ok-state.state.number) next after.1 in
-    let part = c.part_before.ensures.part (take i t ++ c.byte.result ∷ []) after.1 in
+    let next = next_prefix t i byte.result within (byte.ensures.value ∙ ap (λ l. get_or l i 0) known.bytes) in
+    let after = c.in_ok-state-2.ensures (take i t) known.stands in
+    let stands = subst (λ q. Stands q c.in_ok-state-2.state.number) next after.1 in
+    let part = c.part_before.ensures.part (take i t ++ byte.result ∷ []) after.1 in
     let tracks : Tracks (take (i + 1) t) c.set.new.self.places (position_of (take (i + 1) t)).begun =
-    rw c.set.ensures (tracks_next t c.loop-index.marks.places i c.byte.result c.part_before.result within next part known.tracks) in
+    rw c.set.ensures (tracks_next t c.loop-index.marks.places i byte.result c.part_before.result within next part known.tracks) in
     record {
-      bytes = cc;
+      bytes = byte.ensures.bytes ∙ known.bytes;
       reads = omega arith;
       reach = omega arith;
       within = omega arith;
@@ -43,23 +51,47 @@ loop-index-preserved g c =
       viable = alive_viable (take (i + 1) t) c.set.new.self.places tracks (ap (λ q. is_dead (position_of q)) (sym next) ∙ after.0);
     }
 
+pub returns-then-len-eq0-clause-found : goal.returns-then-len-eq0-clause-found
+returns-then-len-eq0-clause-found g c =
+    let t = g.S.ByteSource.bytes c.args.source.now in
+    text_ended t (replicate 6 0) 0 NoTag (omega (arith, c.len-len.ensures, c.if-len-eq0.true)) tracks_nothing (stands_ending [] 0 (omega arith) stands_nothing)
+
+pub returns-then-len-eq0-clause-reads : goal.returns-then-len-eq0-clause-reads
+returns-then-len-eq0-clause-reads g c =
+    (0, whole_stop (g.S.ByteSource.bytes c.args.source.now) 0 (omega (arith, c.len-len.ensures, c.if-len-eq0.true)) viable_nothing, omega arith, omega arith)
+
 pub returns-in_err-state-clause-found : goal.returns-in_err-state-clause-found
 returns-in_err-state-clause-found g c =
     let t = g.S.ByteSource.bytes c.args.source.now in
-    let i = c.loop-index.index in
-    let known = c.loop-index.invariant in
-    let is_next : c.byte.result ≡ get_or t i 0 = cc in
-    let dead = c.in_err-state.ensures (take i t) known.stands in
-    rw c.from_residual.ensures (dead_next t c.loop-index.marks.places i c.byte.result (omega (arith, c.len-len.ensures)) is_next known.viable known.tracks dead).0
+    let dead = c.in_err-state.ensures [] c.start.ensures in
+    rw c.from_residual.ensures (dead_next t (replicate 6 0) 0 c.byte.result (omega (arith, c.len-len.ensures, c.if-len-eq0.false)) c.byte.ensures.value viable_nothing tracks_nothing dead).0
 
 pub returns-in_err-state-clause-reads : goal.returns-in_err-state-clause-reads
 returns-in_err-state-clause-reads g c =
     let t = g.S.ByteSource.bytes c.args.source.now in
+    let dead = c.in_err-state.ensures [] c.start.ensures in
+    let stop = (dead_next t (replicate 6 0) 0 c.byte.result (omega (arith, c.len-len.ensures, c.if-len-eq0.false)) c.byte.ensures.value viable_nothing tracks_nothing dead).1 in
+    (1, stop, omega arith, omega arith)
+
+pub returns-in_err-state-2-clause-found : goal.returns-in_err-state-2-clause-found
+returns-in_err-state-2-clause-found g c =
+    let t = g.S.ByteSource.bytes c.args.source.now in
     let i = c.loop-index.index in
+    let byte = c.byte-in-loop-index in
     let known = c.loop-index.invariant in
-    let is_next : c.byte.result ≡ get_or t i 0 = cc in
-    let dead = c.in_err-state.ensures (take i t) known.stands in
-    let stop = (dead_next t c.loop-index.marks.places i c.byte.result (omega (arith, c.len-len.ensures)) is_next known.viable known.tracks dead).1 in
+    let is_next = byte.ensures.value ∙ ap (λ l. get_or l i 0) known.bytes in
+    let dead = c.in_err-state-2.ensures (take i t) known.stands in
+    rw c.from_residual-in_err-state-2.ensures (dead_next t c.loop-index.marks.places i byte.result (omega (arith, c.len-len.ensures)) is_next known.viable known.tracks dead).0
+
+pub returns-in_err-state-2-clause-reads : goal.returns-in_err-state-2-clause-reads
+returns-in_err-state-2-clause-reads g c =
+    let t = g.S.ByteSource.bytes c.args.source.now in
+    let i = c.loop-index.index in
+    let byte = c.byte-in-loop-index in
+    let known = c.loop-index.invariant in
+    let is_next = byte.ensures.value ∙ ap (λ l. get_or l i 0) known.bytes in
+    let dead = c.in_err-state-2.ensures (take i t) known.stands in
+    let stop = (dead_next t c.loop-index.marks.places i byte.result (omega (arith, c.len-len.ensures)) is_next known.viable known.tracks dead).1 in
     (i + 1, stop, omega arith, omega arith)
 
 pub returns-in-NoTag-clause-found : goal.returns-in-NoTag-clause-found

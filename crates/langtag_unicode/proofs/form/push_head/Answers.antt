@@ -5,7 +5,7 @@ use Rattle.langtag_scan.proofs.SubtagFacts.{of_primary}
 use Rattle.langtag_scan.specs.Record.{one_flat}
 use Rattle.langtag_scan.specs.Subtags.{join}
 use Rattle.langtag_scan.specs.Tag.{IsNormal}
-use Rattle.langtag_unicode.specs.Head.{head}
+use Rattle.langtag_scan.specs.Ends.{to_variants}
 use Rattle.langtag_unicode.proofs.ExtensionForms.{head-cut, head_inside}
 use Rattle.langtag_unicode.proofs.form.push_head.Goals as goal
 
@@ -22,5 +22,5 @@ returns-clause-pushed c = λ r spells.
     (pushes_same _ _ _ _
     (ap (λ t. t ∷ [])
     (ap (λ n. take n c.as_bytes.result.now) (ap (λ e. e.variants) (c.ends.ensures r spells))
-    ∙ ap (take (length (join (head r)))) (c.as_bytes.ensures.value ∙ c.as_str-text.ensures.same_text ∙ sym spells.1) ∙ head-cut r))
+    ∙ ap (take (length (join (to_variants r)))) (c.as_bytes.ensures.value ∙ c.as_str-text.ensures.same_text ∙ sym spells.1) ∙ head-cut r))
     c.push_subtag.ensures.pushed)

@@ -5,7 +5,7 @@ use Rattle.langtag_registry.proofs.Pushed.{pushes_both}
 use Rattle.langtag_scan.specs.Record.{extension_flat, private_part_flat, spell}
 use Rattle.langtag_unicode.specs.Edit.{with_changed_u}
 use Rattle.langtag_unicode.specs.EditText.{edited_by, edited_record_by, value_subtags}
-use Rattle.langtag_unicode.specs.Head.{head}
+use Rattle.langtag_scan.specs.Ends.{to_variants}
 use Rattle.langtag_unicode.proofs.KeywordEdits.{edited_joined}
 use Rattle.langtag_unicode.proofs.keyword_setters.put_parts.Goals as goal
 
@@ -14,7 +14,7 @@ returns c = λ r spells.
     let pushed =
     let extensions = flat_map extension_flat (with_changed_u (edited_by c.args.edit) r.extensions) in
     let private_use = private_part_flat r.private_use in
-    pushes_both (head r) (extensions ++ private_use) _ _ _ (c.push_head.ensures.pushed r spells)
+    pushes_both (to_variants r) (extensions ++ private_use) _ _ _ (c.push_head.ensures.pushed r spells)
     (pushes_both extensions private_use _ _ _
     (c.push_edited.ensures.pushed r.extensions (record { members = spells.0.extensions; joined = sym (c.extensions.ensures r spells) }))
     (c.push_private_use.ensures.pushed r.private_use (c.private_use.ensures r spells))) in
