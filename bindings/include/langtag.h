@@ -25,7 +25,7 @@
  *   4. Memory that a call may write through one argument (an out struct, `rest`, `passed`, a buffer, the bytes of langtag_fold and
  *      langtag_recommend) does not overlap the memory of any other argument. Texts that are only read may overlap.
  *   5. An x86-64 processor has SSE4.2 (x86-64-v2). Any aarch64 processor is supported. Calls follow the C calling
- *      convention of the platform. 8 KiB of the stack is free for each call, and 96 KiB for langtag_repeats.
+ *      convention of the platform. 4 KiB of the stack is free for each call, and 96 KiB for langtag_repeats.
  *
  * Offsets and lengths are in bytes, and offsets count from the start of the text. Case is that of ASCII letters only.
  */

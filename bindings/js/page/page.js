@@ -48,8 +48,12 @@ const KEYS = {
     nu: "Digits", rg: "Region override", sd: "Subdivision", ss: "Sentence breaks", tz: "Time zone", va: "Variant of the locale",
 };
 
+/** The keywords and the form of extensions of a longer tag are not shown, since they take time in proportion to the square of its length. */
+const LONG = 20_000;
+
 /** Returns the keywords of a tag as forms are shown. An empty value means true. */
 function keywordsOf(tag) {
+    if (tag.text.length > LONG) return [];
     return [...tag.keywords].slice(0, MOST).map(([key, value]) => [KEYS[key] === undefined ? `Key ${key}` : `${KEYS[key]} (${key})`, value || "true"]);
 }
 
@@ -136,7 +140,7 @@ function showTag() {
     for (const head of find("tag-parts").tBodies[0].querySelectorAll("th")) head.scope = "row";
     const forms = [
         ["Name", describe(tag), "words"], ["Kind", tag.kind, "words"], ["Validity", validity, "words"], ["Recommended case", tag.toRecommended()], ["Canonical form", tag.canonical()],
-        ["With canonical extensions", tag.extensionsForm()],
+        ["With canonical extensions", tag.text.length > LONG ? "not shown for so long a tag" : tag.extensionsForm()],
         ["With likely subtags", tag.maximize()], ["Without them", tag.minimize()],
         ["Written", tag.isRightToLeft ? "from right to left" : "from left to right", "words"], ...keywordsOf(tag),
     ];

@@ -27,7 +27,8 @@ pub(crate) fn push_keywords(out: &mut Output<'_>, text: &str, keys: Keys)
     ensures same_buffer { out.new.buffer.ghost_name ≡ out.old.buffer.ghost_name }
     ensures pushed { Pushes (spec.keywords_form (opens_keyword keys) (canonical_value_of keys) (subtags text.now)) out.old out.new }
 {
-    let marks = marked_keys(text, keys);
+    let mut marks = [false; KEY_COUNT];
+    mark_keys(&mut marks, text, keys);
     let firsts = marked_firsts(text, keys);
     for first in LETTERS_AND_DIGITS {
         if !firsts[digit(first)] {
@@ -69,18 +70,16 @@ fn push_keyword(out: &mut Output<'_>, text: &str, keys: Keys, key: &[u8])
     }
 }
 
-/// Returns which keys may occur in a text.
-fn marked_keys(text: &str, keys: Keys) -> [bool; KEY_COUNT]
-    ensures { AreMarked key_index (opens_keyword keys) result (subtags text.now) }
+/// Marks the keys that occur in a text.
+fn mark_keys(marks: &mut [bool; KEY_COUNT], text: &str, keys: Keys)
+    ensures { AreMarked key_index (opens_keyword keys) marks.new (subtags text.now) }
 {
-    let mut marks = [false; KEY_COUNT];
     for subtag in Subtags::new(text) {
         let key = subtag.as_bytes();
         if keys.has(key) {
             marks[key_index(key)] = true;
         }
     }
-    marks
 }
 
 /// Returns which letters and digits may begin a key in a text.

@@ -19,7 +19,8 @@ const KEY_COUNT: usize = 1296;
 ///
 /// The text is read twice, and then once for each key in it. There are at most 1,296 keys.
 pub(crate) fn push_keywords(out: &mut Output<'_>, text: &str, keys: Keys) {
-    let marks = marked_keys(text, keys);
+    let mut marks = [false; KEY_COUNT];
+    mark_keys(&mut marks, text, keys);
     let firsts = marked_firsts(text, keys);
     for first in LETTERS_AND_DIGITS {
         if !firsts[digit(first)] {
@@ -55,16 +56,14 @@ fn push_keyword(out: &mut Output<'_>, text: &str, keys: Keys, key: &[u8]) {
     }
 }
 
-/// Returns which keys may occur in a text.
-fn marked_keys(text: &str, keys: Keys) -> [bool; KEY_COUNT] {
-    let mut marks = [false; KEY_COUNT];
+/// Marks the keys that occur in a text.
+fn mark_keys(marks: &mut [bool; KEY_COUNT], text: &str, keys: Keys) {
     for subtag in Subtags::new(text) {
         let key = subtag.as_bytes();
         if keys.has(key) {
             marks[key_index(key)] = true;
         }
     }
-    marks
 }
 
 /// Returns which letters and digits may begin a key in a text.

@@ -3,7 +3,7 @@ use Rattle.langtag_scan.specs.Subtags.{subtags}
 use Rattle.langtag_unicode.specs.Keys.{opens_keyword}
 use Rattle.langtag_unicode.specs.Marks.{key_index}
 use Rattle.langtag_unicode.proofs.KeywordForms.{AreMarkedSo}
-use Rattle.langtag_unicode.proofs.keyword_form.marked_keys.Given as goal
+use Rattle.langtag_unicode.proofs.keyword_form.mark_keys.Given as goal
 
 -- a key whose place is not marked stands only in what is left
 abbrev pub invariant-loop-subtag : goal.invariant-loop-subtag

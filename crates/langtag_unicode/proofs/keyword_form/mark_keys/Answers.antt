@@ -1,4 +1,4 @@
-use Rattle.std.proofs.Common.{rules, true, refl, sym, ap, ◌∙◌, arith}
+use Rattle.std.proofs.Common.{rules, true, sym, ap, ◌∙◌, arith}
 use Rattle.std.proofs.lemmas.List.{length-set}
 use Rattle.langtag_scan.specs.Case.{fold_text}
 use Rattle.langtag_scan.specs.Subtags.{subtags}
@@ -6,10 +6,10 @@ use Rattle.langtag_unicode.specs.Keys.{opens_keyword}
 use Rattle.langtag_unicode.specs.Keywords.{value_of}
 use Rattle.langtag_unicode.specs.Marks.{key_index}
 use Rattle.langtag_unicode.proofs.KeywordForms.{marked-key, marked-other}
-use Rattle.langtag_unicode.proofs.keyword_form.marked_keys.Goals as goal
+use Rattle.langtag_unicode.proofs.keyword_form.mark_keys.Goals as goal
 
 pub loop-subtag-init : goal.loop-subtag-init
-loop-subtag-init c = record { can_next = tt; is_finite = tt; long = refl; so_far = λ key none. search rules }
+loop-subtag-init c = record { can_next = tt; is_finite = tt; long = search rules; so_far = λ key none. search rules }
 
 pub loop-subtag-preserved-then-has : goal.loop-subtag-preserved-then-has
 loop-subtag-preserved-then-has c = record {
