@@ -15,6 +15,8 @@ mod feed;
 #[cfg(test)]
 mod forms;
 #[cfg(test)]
+mod keywords;
+#[cfg(test)]
 mod program;
 #[cfg(test)]
 mod scan;
