@@ -37,7 +37,7 @@ use langtag_output::Output;
 /// tags have a form after `langtag_registry::canonical`: `zh-yue` becomes `yue`, and `i-klingon` becomes `tlh`.
 ///
 /// If the buffer is too short, it stays unchanged, and the length says how long a buffer must be. It does not allocate.
-/// The time is quadratic in the number of variants, and of attributes.
+/// The time is quadratic in the number of variants, and of attributes. It needs as much stack as `is_locale`.
 ///
 /// ```
 /// use langtag::LangTag;

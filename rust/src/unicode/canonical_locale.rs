@@ -26,7 +26,7 @@ use crate::unicode::subtags::nonempty;
 /// tags have a form after `langtag::registry::canonical`: `zh-yue` becomes `yue`, and `i-klingon` becomes `tlh`.
 ///
 /// If the buffer is too short, it stays unchanged, and the length says how long a buffer must be. It does not allocate.
-/// The time is quadratic in the number of variants, and of attributes.
+/// The time is quadratic in the number of variants, and of attributes. It needs as much stack as `is_locale`.
 ///
 /// ```
 /// # fn main() -> Result<(), Box<dyn std::error::Error>> {
