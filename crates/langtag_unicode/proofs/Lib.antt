@@ -14,6 +14,7 @@ pub mod KeywordLaws
 pub mod LocaleExtensions
 pub mod LocaleTables
 pub mod IdentifierForms
+pub mod LocaleRecords
 pub mod VariantForms
 pub mod KeywordRecords
 pub mod KeywordTwice
