@@ -15,6 +15,7 @@ pub mod LocaleExtensions
 pub mod LocaleTables
 pub mod IdentifierForms
 pub mod LocaleRecords
+pub mod LocaleSizes
 pub mod VariantForms
 pub mod KeywordRecords
 pub mod KeywordTwice

@@ -1,5 +1,5 @@
 //! The canonical form of a Unicode locale identifier (UTS #35, part 1, Annex C).
-ghost use Rattle.std.specs.Prelude.{◌≡◌, ◌<◌, ◌^◌, IfOk, IfSome, IsTrue, List, None, Some, [], length, unwrap_or, ℕ};
+ghost use Rattle.std.specs.Prelude.{◌≡◌, ◌≤◌, ◌+◌, ◌*◌, IfOk, IfSome, IsTrue, None, Some, [], length, unwrap_or};
 ghost use Rattle.std.specs.Option.{option_map};
 ghost use Rattle.langtag.specs.Text.{lang_tag_buf_text, lang_tag_text, normal_lang_tag_text};
 ghost use Rattle.langtag_language.specs.Language.{EachLanguageSpelling};
@@ -49,14 +49,14 @@ pub fn locale_form(alloc: Global, tag: LangTag<'_>) -> Result<Option<LangTagBuf>
     ensures form { IfOk result (λ form. spec.IsWholeForm (lang_tag_text tag.entry) (option_map lang_tag_buf_text form)) }
 {
     if is_locale(tag) {
-        return form_of(alloc, tag);
+        return owned_form(alloc, tag);
     }
     let canonical_tag = canonical(alloc, tag)?;
-    form_of(alloc, canonical_tag.as_lang_tag())
+    owned_form(alloc, canonical_tag.as_lang_tag())
 }
 
 /// Returns the form of a tag, or `None` if the tag is not a Unicode locale identifier.
-fn form_of(alloc: Global, tag: LangTag<'_>) -> Result<Option<LangTagBuf>, AllocError>
+fn owned_form(alloc: Global, tag: LangTag<'_>) -> Result<Option<LangTagBuf>, AllocError>
     ensures { IfOk result (λ form. spec.IsLocaleForm (lang_tag_text tag.entry) (option_map lang_tag_buf_text form)) }
 {
     let Some(tag) = tag.as_normal() else {
@@ -93,8 +93,9 @@ fn form_bytes(alloc: Global, tag: NormalLangTag<'_>) -> Result<Vec<u8>, AllocErr
 /// Returns `None` if the tag is not a Unicode locale identifier, as [`is_locale`](crate::is_locale) finds. Many of these
 /// tags have a form after `langtag_registry::canonical`: `zh-yue` becomes `yue`, and `i-klingon` becomes `tlh`.
 ///
-/// If the buffer is too short, it stays unchanged, and the length says how long a buffer must be. It does not allocate.
-/// The time is quadratic in the number of variants, and of attributes.
+/// If the buffer is too short, it stays unchanged, and the length says how long a buffer must be. A buffer of twice the
+/// length of the tag and 27 more bytes is always long enough. It does not allocate. The time is quadratic in the number
+/// of variants, and of attributes.
 ///
 /// ```
 /// use langtag::LangTag;
@@ -106,8 +107,8 @@ fn form_bytes(alloc: Global, tag: NormalLangTag<'_>) -> Result<Vec<u8>, AllocErr
 /// write_locale_form(LangTag::new("zh-yue")?, &mut buffer); // None
 /// ```
 pub fn write_locale_form(tag: LangTag<'_>, buffer: &mut [u8]) -> Option<usize>
-    ensures form { ((form : List ℕ) → spec.IsLocaleForm (lang_tag_text tag.entry) (Some form) → length form < 2 ^ 64) →
-        IfSome result (λ len. Writes (λ form. spec.IsLocaleForm (lang_tag_text tag.entry) (Some form)) buffer.old buffer.new len) }
+    ensures form { IfSome result (λ len. Writes (λ form. spec.IsLocaleForm (lang_tag_text tag.entry) (Some form)) buffer.old buffer.new len) }
+    ensures bounded { IfSome result (λ len. len ≤ 2 * length (lang_tag_text tag.entry) + 27) }
     ensures none { result ≡ None → spec.IsLocaleForm (lang_tag_text tag.entry) None }
     ensures unchanged { result ≡ None → buffer.new ≡ buffer.old }
 {
@@ -121,8 +122,7 @@ pub fn write_locale_form(tag: LangTag<'_>, buffer: &mut [u8]) -> Option<usize>
 /// Writes the form of a Unicode locale identifier.
 fn write_parts(tag: NormalLangTag<'_>, buffer: &mut [u8]) -> usize
     requires { IsLocale (normal_lang_tag_text tag) }
-    ensures { model.EachRecord (normal_lang_tag_text tag.entry) (λ r. length (spec.locale_text r) < 2 ^ 64
-        → Writes (λ form. form ≡ spec.locale_text r) buffer.old buffer.new result) }
+    ensures { model.EachRecord (normal_lang_tag_text tag.entry) (λ r. Writes (λ form. form ≡ spec.locale_text r) buffer.old buffer.new result) }
 {
     let len = put_parts(tag, &mut []);
     if len <= buffer.len() {

@@ -1,7 +1,7 @@
 use Rattle.std.proofs.Common.{refl, sym, subst, ◌∙◌}
 use Rattle.langtag_scan.specs.Tag.{IsNormal, IsTag}
 use Rattle.langtag_unicode.proofs.LocaleRecords.{locale_tag}
-use Rattle.langtag_unicode.proofs.canonical_locale.form_of.Goals as goal
+use Rattle.langtag_unicode.proofs.canonical_locale.owned_form.Goals as goal
 
 pub returns-in_default : goal.returns-in_default
 unfolding IsNormal
