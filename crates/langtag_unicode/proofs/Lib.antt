@@ -16,6 +16,7 @@ pub mod LocaleTables
 pub mod IdentifierForms
 pub mod LocaleRecords
 pub mod LocaleSizes
+pub mod LocaleAgain
 pub mod VariantForms
 pub mod KeywordRecords
 pub mod KeywordTwice

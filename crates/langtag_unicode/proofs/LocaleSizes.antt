@@ -170,7 +170,7 @@ extension-size e allowed =
 abbrev weight : List Extension → ℕ → ℕ
 weight es singleton = option_map_or (λ e. size (extension_flat e)) (find_extension singleton es) 0
 
-singletons_apart : are_apart singletons ≡ true
+pub singletons_apart : are_apart singletons ≡ true
 unfolding fold_byte
 singletons_apart = refl
 
