@@ -111,7 +111,7 @@ form-blocks ss =
     each [] = tt
     each (k ∷ keys) = (by_value k (value_of is_key k ss), each keys)
 
-alike-back : (a b : List ℕ) → are_alike a b ≡ false → are_alike b a ≡ false
+pub alike-back : (a b : List ℕ) → are_alike a b ≡ false → are_alike b a ≡ false
 alike-back a b apart = by_test (are_alike b a) refl
   where
     by_test : (t : Bool) → are_alike b a ≡ t → are_alike b a ≡ false

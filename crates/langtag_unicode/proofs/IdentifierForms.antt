@@ -1,9 +1,10 @@
 -- The form of a language identifier has a language, and maybe a script and a region.
-use Rattle.std.proofs.Common.{◌≡◌, ℕ, Bool, true, false, cond, List, [], ◌∷◌, ◌++◌, ◌&&◌, length, fold, Option, Some, None, option_map, unwrap_or, refl, sym, ap, ◌∙◌, append_assoc}
+use Rattle.std.proofs.Common.{◌≡◌, ℕ, Bool, true, false, cond, List, [], ◌∷◌, ◌++◌, ◌&&◌, ◌==◌, not, length, map, fold, Option, Some, None, option_map, unwrap_or, refl, sym, ap, ◌∙◌, append_assoc}
 use Rattle.std.proofs.lemmas.List.{length-map}
 use Rattle.std.specs.List.{flat_map, list_all}
-use Rattle.std.specs.Option.{option_map_or}
+use Rattle.std.specs.Option.{is_none, option_map_or}
 use Rattle.std.specs.Prelude.{IfSome, IsTrue, find}
+use Rattle.langtag.specs.Repeat.{are_alike_bytes, repeat}
 use Rattle.langtag_case.proofs.RecommendedLaws.{recommended_alike}
 use Rattle.langtag_case.specs.RecommendedCase.{recommended_text}
 use Rattle.langtag_likely.proofs.FieldClasses.{from_region, from_script}
@@ -25,7 +26,8 @@ use Rattle.langtag_scan.specs.Record.{IsWellFormed, Record, Spells, extension_fl
 use Rattle.langtag_scan.specs.Subtags.{segments}
 use Rattle.langtag_scan.specs.Tag.{IsNormal}
 use Rattle.langtag_unicode.specs.Alias.{Alias, TypeAlias, alias_for}
-use Rattle.langtag_unicode.specs.Locale.{is_locale_record}
+use Rattle.langtag_unicode.specs.Form.{is_unicode_language}
+use Rattle.langtag_unicode.specs.Locale.{is_locale_extension, is_locale_record}
 use Rattle.langtag_unicode.specs.LocaleAliases as list
 use Rattle.langtag_unicode.specs.LocaleForm as form
 use Rattle.langtag_unicode.specs.LocaleForm.{IsLocaleForm, extensions_in_order, has_variant, identifier_flat, identifier_form, language_after, locale_record, locale_text, new_variants, record_fields, sign_for}
@@ -33,12 +35,15 @@ use Rattle.langtag_unicode.proofs.LocaleTables.{both, found_good, found_has, hei
 
 -- a language, and a script and a region, either of which may be absent
 pub record AreSubtags (f : Fields) : Type 0 where
-  pub language : is_primary f.language ≡ true
+  pub language : is_unicode_language f.language ≡ true
   pub script : is_script_field f.script ≡ true
   pub region : is_region_field f.region ≡ true
 
+pub language_primary : (f : Fields) → AreSubtags f → is_primary f.language ≡ true
+language_primary f are = (both (is_primary f.language) (not (length f.language == 4)) are.language).0
+
 abbrev are_subtags : Fields → Bool
-are_subtags f = is_primary f.language && (is_script_field f.script && is_region_field f.region)
+are_subtags f = is_unicode_language f.language && (is_script_field f.script && is_region_field f.region)
 
 -- ---- by computation
 
@@ -46,13 +51,13 @@ languages_good : list_all (λ row. are_subtags row.to) language_aliases ≡ true
 unfolding language_aliases class.is_primary class.is_script class.is_region class.is_letter class.is_digit fold_byte
 languages_good = refl
 
-variant_languages_primary : list_all {X = TypeAlias} (λ alias. is_primary alias.new) list.variant_languages ≡ true
+variant_languages_good : list_all {X = TypeAlias} (λ alias. is_unicode_language alias.new) list.variant_languages ≡ true
 unfolding list.variant_languages class.is_primary class.is_letter fold_byte
-variant_languages_primary = refl
+variant_languages_good = refl
 
-sign_languages_primary : list_all {X = Alias} (λ alias. is_primary alias.new) list.sign_languages ≡ true
+sign_languages_good : list_all {X = Alias} (λ alias. is_unicode_language alias.new) list.sign_languages ≡ true
 unfolding list.sign_languages class.is_primary class.is_letter fold_byte
-sign_languages_primary = refl
+sign_languages_good = refl
 
 regions_good : list_all (λ row. is_region_field row.to.region) region_replacements ≡ true
 unfolding region_replacements class.is_region class.is_letter class.is_digit fold_byte
@@ -96,7 +101,7 @@ replaced_subtags f are = by_found (likely_for language_aliases (language_alone f
     by_found None none = are
     by_found (Some to) found =
         let good = row_good are_subtags language_aliases (language_alone f) to languages_good found in
-        let parts = both (is_primary to.language) (is_script_field to.script && is_region_field to.region) good in
+        let parts = both (is_unicode_language to.language) (is_script_field to.script && is_region_field to.region) good in
         let others = both (is_script_field to.script) (is_region_field to.region) parts.1 in
         record {
           language = parts.0;
@@ -104,22 +109,22 @@ replaced_subtags f are = by_found (likely_for language_aliases (language_alone f
           region = either_good is_region_field f.region to.region are.region others.1;
         }
 
-fold_primary :
-    (variants : List (List ℕ)) (aliases : List TypeAlias) (language : List ℕ) → list_all {X = TypeAlias} (λ alias. is_primary alias.new) aliases ≡ true → is_primary language ≡ true →
-    is_primary (fold (language_after variants) language aliases) ≡ true
-fold_primary variants [] language all is = is
-fold_primary variants (a ∷ aliases) language all is =
-    fold_primary variants aliases (language_after variants language a) (both (is_primary a.new) (list_all {X = TypeAlias} (λ alias. is_primary alias.new) aliases) all).1
-    (by_test (are_alike a.key language && has_variant variants a.old) (both (is_primary a.new) (list_all {X = TypeAlias} (λ alias. is_primary alias.new) aliases) all).0)
+fold_language :
+    (variants : List (List ℕ)) (aliases : List TypeAlias) (language : List ℕ) → list_all {X = TypeAlias} (λ alias. is_unicode_language alias.new) aliases ≡ true → is_unicode_language language ≡ true →
+    is_unicode_language (fold (language_after variants) language aliases) ≡ true
+fold_language variants [] language all is = is
+fold_language variants (a ∷ aliases) language all is =
+    fold_language variants aliases (language_after variants language a) (both (is_unicode_language a.new) (list_all {X = TypeAlias} (λ alias. is_unicode_language alias.new) aliases) all).1
+    (by_test (are_alike a.key language && has_variant variants a.old) (both (is_unicode_language a.new) (list_all {X = TypeAlias} (λ alias. is_unicode_language alias.new) aliases) all).0)
   where
-    by_test : (b : Bool) → is_primary a.new ≡ true → is_primary (cond b a.new language) ≡ true
+    by_test : (b : Bool) → is_unicode_language a.new ≡ true → is_unicode_language (cond b a.new language) ≡ true
     by_test true new = new
     by_test false new = is
 
 variant_subtags : (variants : List (List ℕ)) (f : Fields) → AreSubtags f → AreSubtags (form.variant_language variants f)
 unfolding form.variant_language
 variant_subtags variants f are = record {
-  language = fold_primary variants list.variant_languages f.language variant_languages_primary are.language;
+  language = fold_language variants list.variant_languages f.language variant_languages_good are.language;
   script = are.script;
   region = are.region;
 }
@@ -128,8 +133,8 @@ sign_subtags : (f : Fields) → AreSubtags f → AreSubtags (form.sign_language 
 unfolding form.sign_language
 sign_subtags f are = by_sign (sign_for f) refl
   where
-    found : (b : Bool) (new : List ℕ) → cond b (alias_for list.sign_languages f.region) None ≡ Some new → is_primary new ≡ true
-    found true new is = found_good is_primary (λ alias. are_alike alias.old f.region) list.sign_languages new sign_languages_primary is
+    found : (b : Bool) (new : List ℕ) → cond b (alias_for list.sign_languages f.region) None ≡ Some new → is_unicode_language new ≡ true
+    found true new is = found_good is_unicode_language (λ alias. are_alike alias.old f.region) list.sign_languages new sign_languages_good is
     found false new is = absurd cc
 
     by_sign : (o : Option (List ℕ)) → sign_for f ≡ o → AreSubtags (option_map_or (form.without_sgn f) o f)
@@ -215,26 +220,34 @@ optional_good : (test good : List ℕ → Bool) → good [] ≡ true → ((s : L
 optional_good test good none some None is = none
 optional_good test good none some (Some s) is = some s is
 
-pub record_subtags : (r : Record) → IsWellFormed r → AreSubtags (record_fields r)
-record_subtags r fits = record {
-  language = fits.primary;
+pub locale_language : (r : Record) → is_locale_record r ≡ true → is_unicode_language r.primary ≡ true
+locale_language r locale =
+    let language = is_unicode_language r.primary in
+    let alone = length r.extended == 0 in
+    let variants = is_none (repeat are_alike r.variants) in
+    let singletons = is_none (repeat are_alike_bytes (map (λ e. e.singleton) r.extensions)) in
+    (both language alone (both (language && alone) variants (both (language && alone && variants) singletons (both (language && alone && variants && singletons) (list_all is_locale_extension r.extensions) locale).0).0).0).0
+
+pub record_subtags : (r : Record) → IsWellFormed r → is_locale_record r ≡ true → AreSubtags (record_fields r)
+record_subtags r fits locale = record {
+  language = locale_language r locale;
   script = optional_good is_script is_script_field refl from_script r.script fits.script;
   region = optional_good is_region is_region_field refl from_region r.region fits.region;
 }
 
 -- the form, put subtag by subtag
 pub locale_joined :
-    (r : Record) → IsWellFormed r →
+    (r : Record) → IsWellFormed r → is_locale_record r ≡ true →
     fold with_subtag []
     (identifier_flat (identifier_form r.variants (record_fields r)) (new_variants r.variants (record_fields r))
     ++ (flat_map extension_flat (extensions_in_order r.extensions) ++ private_part_flat r.private_use))
     ≡ spell (locale_record r)
 unfolding locale_record with_subtag
-locale_joined r fits =
+locale_joined r fits locale =
     let f : Fields = identifier_form r.variants (record_fields r) in
     ap (fold with_subtag [])
     (flat-parts f.language (one_flat (subtag_of f.script)) (one_flat (subtag_of f.region)) (new_variants r.variants (record_fields r)) (flat_map extension_flat (extensions_in_order r.extensions)) (private_part_flat r.private_use))
-    ∙ sym (with_joined [] f.language _ (of_primary f.language (form_subtags r.variants (record_fields r) (record_subtags r fits)).language).some)
+    ∙ sym (with_joined [] f.language _ (of_primary f.language (language_primary f (form_subtags r.variants (record_fields r) (record_subtags r fits locale)))).some)
 
 -- ---- the text
 

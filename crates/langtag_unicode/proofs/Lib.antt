@@ -17,6 +17,8 @@ pub mod IdentifierForms
 pub mod LocaleRecords
 pub mod LocaleSizes
 pub mod LocaleAgain
+pub mod LocaleTransforms
+pub mod LocaleSettled
 pub mod VariantForms
 pub mod KeywordRecords
 pub mod KeywordTwice

@@ -124,11 +124,10 @@ module _ (es : List Extension) where
           (o : Option Extension) → find_extension m es ≡ o → (fold_byte m == fold_byte n) ≡ false → AllByRecursion (λ y. are_alike_bytes y s ≡ false) (bytes ms) →
           AllByRecursion (λ y. are_alike_bytes y s ≡ false) (map (λ e. e.singleton) (option_map_or (λ e. locale_extension_form e ∷ []) o [] ++ flat_map (extension_at es) ms))
       by_found None none other later = later
-      by_found (Some e) found other later =
-          (
-            ap (λ b. b == fold_byte s) (form_singleton e ∙ eqb-true _ _ (found_is _ es e found)) ∙ ap (λ b. fold_byte m == b) same ∙ other,
-            later,
-          )
+      by_found (Some e) found other later = (
+        ap (λ b. b == fold_byte s) (form_singleton e ∙ eqb-true _ _ (found_is _ es e found)) ∙ ap (λ b. fold_byte m == b) same ∙ other,
+        later,
+      )
 
   bytes-apart : (ns : List ℕ) → are_apart ns ≡ true → Apart are_alike_bytes (bytes ns)
   bytes-apart [] all = tt
@@ -195,6 +194,3 @@ unicode_form-may ss good may =
     each-append _ (in_alphabet (before_key is_key ss)) _
     (each-alphabet (λ s. IsTrue (is_unicode_subtag s)) (λ s is. unicode_subtag-fold s ∙ is) (before_key is_key ss) (each-before (λ s. IsTrue (is_unicode_subtag s)) is_key ss may))
     (subst MayBeInU (sym (form-blocks ss)) (keywords-may ss good may all_keys))
-
--- all of this, in one name
-pub ruleset form_again = (none_repeated, new_variants-apart, singletons-apart, unicode_form-may)

@@ -36,7 +36,7 @@ use Rattle.langtag_unicode.specs.LocaleForm.{extension_at, extensions_in_order, 
 use Rattle.langtag_unicode.specs.Transform.{is_field_key}
 use Rattle.langtag_unicode.proofs.Each.{each-alphabet}
 use Rattle.langtag_unicode.proofs.FormRecords.{Good, good-keywords, good-transform, good-unicode_form, some-transform, some-unicode_form}
-use Rattle.langtag_unicode.proofs.IdentifierForms.{AreSubtags, form_subtags, record_subtags}
+use Rattle.langtag_unicode.proofs.IdentifierForms.{AreSubtags, form_subtags, language_primary, record_subtags}
 use Rattle.langtag_unicode.proofs.LocaleExtensions.{locale_form_by, locale_form_tested, transform_allowed}
 use Rattle.langtag_unicode.proofs.LocaleTables.{both, found_good, found_has}
 use Rattle.langtag_unicode.proofs.VariantForms.{forms}
@@ -44,7 +44,7 @@ use Rattle.langtag_unicode.proofs.VariantForms.{forms}
 -- ---- the variants
 
 -- each is a variant
-abbrev AreVariants : List (List ℕ) → Type 0
+abbrev pub AreVariants : List (List ℕ) → Type 0
 AreVariants vs = AllByRecursion (λ v. IsTrue (is_variant v)) vs
 
 pairs_good : list_all {X = TypeAlias} (λ alias. is_variant alias.new) list.variant_pairs ≡ true
@@ -85,7 +85,7 @@ forms_good language variants [] are = tt
 forms_good language variants (v ∷ vs) are =
     each-append _ (one_flat (subtag_of (variant_form language variants v))) (forms language variants vs) (variant_good language variants v are.0) (forms_good language variants vs are.1)
 
-new_variants_good : (variants : List (List ℕ)) (f : Fields) → AreVariants variants → AreVariants (new_variants variants f)
+pub new_variants_good : (variants : List (List ℕ)) (f : Fields) → AreVariants variants → AreVariants (new_variants variants f)
 new_variants_good variants f are =
     each-alphabet (λ v. IsTrue (is_variant v)) (λ v is. ap (λ (c : Classes). c.variant) (classes-fold v) ∙ is) (forms (language_replaced f).language variants variants)
     (forms_good (language_replaced f).language variants variants are)
@@ -125,7 +125,7 @@ variants_good (v ∷ vs) are = (long_good v (of_variant v are.0) long, variants_
 
 identifier_good : (f : Fields) (vs : List (List ℕ)) → AreSubtags f → AreVariants vs → Good (identifier_flat f vs)
 identifier_good f vs subtags variants = (
-  primary_good f.language subtags.language,
+  primary_good f.language (language_primary f subtags),
   each-append _ (one_flat (subtag_of f.script)) (one_flat (subtag_of f.region) ++ vs) (script_good f.script subtags.script)
       (each-append _ (one_flat (subtag_of f.region)) vs (region_good f.region subtags.region) (variants_good vs variants)),
 )
@@ -142,12 +142,12 @@ first_good test good none some (s ∷ ss) = by_test (test s) refl
 
 pub fields_good : (s : List ℕ) (ss : List (List ℕ)) → is_unicode_language s ≡ true → AreSubtags (identifier_fields s ss)
 fields_good s ss is = record {
-  language = (both (is_primary s) (not (length s == 4)) is).0;
+  language = is;
   script = first_good is_script is_script_field refl from_script ss;
   region = first_good is_region is_region_field refl from_region (after_one is_script ss);
 }
 
-different_variants : (vs : List (List ℕ)) → are_different_variants vs ≡ true → AreVariants vs
+pub different_variants : (vs : List (List ℕ)) → are_different_variants vs ≡ true → AreVariants vs
 different_variants [] are = tt
 different_variants (v ∷ vs) are =
     let parts = both (is_variant v && not (list_any (are_alike v) vs)) (are_different_variants vs) are in
@@ -226,9 +226,9 @@ pub locale_well_formed : (r : Record) → IsWellFormed r → is_locale_record r 
 unfolding locale_record
 locale_well_formed r fits locale =
     let form : Fields = identifier_form r.variants (record_fields r) in
-    let subtags = form_subtags r.variants (record_fields r) (record_subtags r fits) in
+    let subtags = form_subtags r.variants (record_fields r) (record_subtags r fits locale) in
     record {
-      primary = subtags.language;
+      primary = language_primary form subtags;
       extended = tt;
       few = omega arith;
       short = inr refl;

@@ -28,7 +28,7 @@ use Rattle.langtag_unicode.specs.LocaleAliases as list
 use Rattle.langtag_unicode.specs.LocaleForm.{extension_at, extensions_in_order, has_variant, identifier_fields, identifier_flat, identifier_form, identifier_variants, is_pair_of, locale_extension_form, locale_record, locale_text, locale_transform_form, new_variants, record_fields, singletons, transform_language_form, variant_form}
 use Rattle.langtag_unicode.specs.Transform.{is_field_key}
 use Rattle.langtag_unicode.proofs.FormSizes.{alphabet-size, are_apart, field-two, keywords-size, once, one-size, size, size-append, total, total-none, transform-grows, unicode-size}
-use Rattle.langtag_unicode.proofs.IdentifierForms.{AreSubtags, form_subtags, record_subtags, same_length}
+use Rattle.langtag_unicode.proofs.IdentifierForms.{AreSubtags, form_subtags, language_primary, record_subtags, same_length}
 use Rattle.langtag_unicode.proofs.LocaleExtensions.{flat_of_each, locale_form_by, locale_form_tested, transform_allowed}
 use Rattle.langtag_unicode.proofs.LocaleRecords.{all_allowed, fields_good}
 use Rattle.langtag_unicode.proofs.LocaleTables.{both, found_has, found_is}
@@ -47,7 +47,7 @@ region-size (b ∷ s) is = let three = region_short (b ∷ s) is in omega (arith
 
 fields-size : (f : Fields) → AreSubtags f → length f.language + (size (one_flat (subtag_of f.script)) + size (one_flat (subtag_of f.region))) ≤ 17
 fields-size f are =
-    let eight = (of_primary f.language are.language).short in
+    let eight = (of_primary f.language (language_primary f are)).short in
     let script = script-size f.script are.script in
     let region = region-size f.region are.region in
     omega (arith, eight, script, region)
@@ -252,7 +252,7 @@ pub locale_length : (r : Record) → IsWellFormed r → is_locale_record r ≡ t
 unfolding locale_record
 locale_length r fits locale =
     let form : Fields = identifier_form r.variants (record_fields r) in
-    let fields = fields-size form (form_subtags r.variants (record_fields r) (record_subtags r fits)) in
+    let fields = fields-size form (form_subtags r.variants (record_fields r) (record_subtags r fits locale)) in
     let variants = new_variants-size r.variants (record_fields r) in
     let extensions = extensions-size r.extensions (all_allowed r locale) in
     let old = primary_length r.primary fits.primary in
@@ -267,11 +267,13 @@ locale_length r fits locale =
     let g = length-with_hyphens (flat_map extension_flat r.extensions) in
     omega (arith, fields, variants, extensions, old, same, new_all, old_all, a, b, c, d, e, g)
 
+-- the record of a Unicode locale identifier is allowed
+pub spelled_locale : (tag : List ℕ) (r : Record) → IsLocale tag → Spells r tag → is_locale_record r ≡ true
+spelled_locale tag r (q, also, locale) spells = ap is_locale_record (spelled_once r q spells.0 also.0 (spells.1 ∙ sym also.1)) ∙ locale
+
 -- the form of a tag that fits into memory has a length
 pub form_short : (tag : List ℕ) (r : Record) → IsLocale tag → Spells r tag → length tag < 2 ^ 63 → length (locale_text r) < 2 ^ 64
-form_short tag r (q, also, locale) spells short =
-    let same = spelled_once r q spells.0 also.0 (spells.1 ∙ sym also.1) in
-    omega (arith, locale_length r spells.0 (ap is_locale_record same ∙ locale), ap length spells.1, short)
+form_short tag r is spells short = omega (arith, locale_length r spells.0 (spelled_locale tag r is spells), ap length spells.1, short)
 
 -- what is written is no longer
 pub written_bounded :

@@ -10,7 +10,7 @@ ghost use Rattle.langtag_output.specs.Output.{IsCounted};
 ghost use Rattle.langtag_output.specs.Writes.{Writes};
 ghost use Rattle.langtag_place.specs.Text.{region_text, script_text};
 ghost use Rattle.langtag_scan.specs.Record as model;
-ghost use Rattle.langtag_unicode.specs.Locale.{IsLocale};
+ghost use Rattle.langtag_unicode.specs.Locale as identifier;
 ghost use Rattle.langtag_unicode.specs.LocaleForm as spec;
 
 use crate::form::{push_private_use, tag_of};
@@ -70,7 +70,7 @@ fn owned_form(alloc: Global, tag: LangTag<'_>) -> Result<Option<LangTagBuf>, All
 
 /// Returns the bytes of the form of a Unicode locale identifier. It allocates once, exactly their number.
 fn form_bytes(alloc: Global, tag: NormalLangTag<'_>) -> Result<Vec<u8>, AllocError>
-    requires { IsLocale (normal_lang_tag_text tag) }
+    requires { identifier.IsLocale (normal_lang_tag_text tag) }
     ensures { IfOk result (λ bytes. model.EachRecord (normal_lang_tag_text tag.entry) (λ r. bytes.items ≡ spec.locale_text r)) }
 {
     let mut bytes = vec![in alloc; 0; put_parts(tag, &mut [])]?;
@@ -106,10 +106,13 @@ fn form_bytes(alloc: Global, tag: NormalLangTag<'_>) -> Result<Vec<u8>, AllocErr
 /// buffer.get(..5); // Some(&b"de-GB"[..])
 /// write_locale_form(LangTag::new("zh-yue")?, &mut buffer); // None
 /// ```
+#[tactic(auto, using(crate::proofs::LocaleSettled::locale_settled))]
 pub fn write_locale_form(tag: LangTag<'_>, buffer: &mut [u8]) -> Option<usize>
     ensures form { IfSome result (λ len. Writes (λ form. spec.IsLocaleForm (lang_tag_text tag.entry) (Some form)) buffer.old buffer.new len) }
     ensures bounded { IfSome result (λ len. len ≤ 2 * length (lang_tag_text tag.entry) + 27) }
     ensures none { result ≡ None → spec.IsLocaleForm (lang_tag_text tag.entry) None }
+    ensures locale { (r : model.Record) → model.IsWellFormed r → IsTrue (identifier.is_locale_record r)
+        → IsTrue (identifier.is_locale_record (spec.locale_record r)) }
     ensures unchanged { result ≡ None → buffer.new ≡ buffer.old }
 {
     let normal = tag.as_normal()?;
@@ -121,7 +124,7 @@ pub fn write_locale_form(tag: LangTag<'_>, buffer: &mut [u8]) -> Option<usize>
 
 /// Writes the form of a Unicode locale identifier.
 fn write_parts(tag: NormalLangTag<'_>, buffer: &mut [u8]) -> usize
-    requires { IsLocale (normal_lang_tag_text tag) }
+    requires { identifier.IsLocale (normal_lang_tag_text tag) }
     ensures { model.EachRecord (normal_lang_tag_text tag.entry) (λ r. Writes (λ form. form ≡ spec.locale_text r) buffer.old buffer.new result) }
 {
     let len = put_parts(tag, &mut []);
@@ -134,7 +137,7 @@ fn write_parts(tag: NormalLangTag<'_>, buffer: &mut [u8]) -> usize
 
 /// Writes as much of the form, before its case is changed, as fits into a buffer, and returns its full length.
 fn put_parts(tag: NormalLangTag<'_>, buffer: &mut [u8]) -> usize
-    requires { IsLocale (normal_lang_tag_text tag) }
+    requires { identifier.IsLocale (normal_lang_tag_text tag) }
     ensures { model.EachRecord (normal_lang_tag_text tag.entry) (λ r. IsCounted (model.spell (spec.locale_record r)) buffer.old buffer.new result) }
 {
     let mut out = Output::new(buffer);

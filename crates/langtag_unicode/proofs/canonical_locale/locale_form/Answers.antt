@@ -3,7 +3,6 @@ use Rattle.std.proofs.lemmas.Result.{IfOk-weaker}
 use Rattle.langtag.specs.Part.{PartOf}
 use Rattle.langtag.specs.Text.{lang_tag_text}
 use Rattle.langtag_unicode.specs.Locale.{is_locale_record}
-use Rattle.langtag_unicode.proofs.LocaleAgain.{form_again}
 use Rattle.langtag_unicode.proofs.LocaleRecords.{locale_from}
 use Rattle.langtag_unicode.proofs.canonical_locale.locale_form.Goals as goal
 
