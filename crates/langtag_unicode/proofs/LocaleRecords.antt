@@ -28,11 +28,11 @@ use Rattle.langtag_scan.specs.Stage.{Classes}
 use Rattle.langtag_scan.specs.Tag.{IsNormal, IsTag}
 use Rattle.langtag_tables.proofs.Letters.{primary_length}
 use Rattle.langtag_unicode.specs.Alias.{Alias, TypeAlias, alias_for, type_alias_for}
-use Rattle.langtag_unicode.specs.Form.{after_one, are_different_variants, are_fields, is_language_or_none, is_of, is_transform, is_unicode_language, keywords_form, one_of, transform_value, unicode_form}
+use Rattle.langtag_unicode.specs.Form.{after_one, are_different_variants, are_fields, is_language_or_none, is_of, is_transform, is_unicode_language, keywords_form, one_of, transform_value}
 use Rattle.langtag_unicode.specs.Keywords.{before_key}
 use Rattle.langtag_unicode.specs.Locale.{IsLocale, is_locale_extension, is_locale_record}
 use Rattle.langtag_unicode.specs.LocaleAliases as list
-use Rattle.langtag_unicode.specs.LocaleForm.{extension_at, extensions_in_order, first_subtag, has_variant, identifier_fields, identifier_flat, identifier_form, identifier_variants, is_pair_of, locale_extension_form, locale_record, locale_text, locale_transform_form, new_variants, record_fields, singletons, transform_language_form, variant_form}
+use Rattle.langtag_unicode.specs.LocaleForm.{extension_at, first_subtag, has_variant, identifier_fields, identifier_flat, identifier_form, identifier_variants, is_pair_of, locale_extension_form, locale_record, locale_text, locale_transform_form, new_variants, record_fields, singletons, transform_language_form, variant_form}
 use Rattle.langtag_unicode.specs.Transform.{is_field_key}
 use Rattle.langtag_unicode.proofs.Each.{each-alphabet}
 use Rattle.langtag_unicode.proofs.FormRecords.{Good, good-keywords, good-transform, good-unicode_form, some-transform, some-unicode_form}

@@ -1,10 +1,9 @@
 -- How long the form of a Unicode locale identifier may be: at most half as long again as the tag, and 28 bytes.
-use Rattle.std.proofs.Common.{◌≡◌, ℕ, ◌+◌, ◌*◌, ◌<◌, ◌≤◌, ◌^◌, leb, Bool, true, false, not, cond, ◌&&◌, ◌||◌, ◌==◌, List, [], ◌∷◌, ◌++◌, length, map, Option, Some, None, option_map, unwrap_or, refl, sym, ap, subst, ◌∙◌, arith, eqb-true}
+use Rattle.std.proofs.Common.{◌≡◌, ℕ, ◌+◌, ◌*◌, ◌<◌, ◌≤◌, ◌^◌, leb, Bool, true, false, not, cond, ◌||◌, ◌==◌, List, [], ◌∷◌, ◌++◌, length, Option, Some, None, option_map, unwrap_or, refl, sym, ap, ◌∙◌, arith, eqb-true}
 use Rattle.std.proofs.lemmas.Bool.{eq-eqb, false≢true, leb-true}
 use Rattle.std.specs.Prelude.{find}
 use Rattle.std.specs.List.{flat_map, list_all}
-use Rattle.std.specs.Option.{is_none, is_some, option_map_or}
-use Rattle.langtag.specs.Repeat.{are_alike_bytes, repeat}
+use Rattle.std.specs.Option.{is_some, option_map_or}
 use Rattle.langtag_extension.specs.Spelling.{find_extension}
 use Rattle.langtag_likely.proofs.RowsFound.{alike_length}
 use Rattle.langtag_likely.specs.Good.{is_region_field, is_script_field}
@@ -18,14 +17,14 @@ use Rattle.langtag_scan.proofs.PartOffsets.{length-spell}
 use Rattle.langtag_scan.proofs.SubtagFacts.{of_primary}
 use Rattle.langtag_scan.specs.Case.{are_alike, fold_byte}
 use Rattle.langtag_scan.specs.Class.{is_primary, is_region, is_script}
-use Rattle.langtag_scan.specs.Record.{Extension, IsWellFormed, Record, Spells, extension_flat, one_flat, private_part_flat, spell}
+use Rattle.langtag_scan.specs.Record.{Extension, IsWellFormed, Record, Spells, extension_flat, one_flat, spell}
 use Rattle.langtag_tables.proofs.Letters.{primary_length}
 use Rattle.langtag_unicode.specs.Alias.{Alias, TypeAlias, type_alias_for}
 use Rattle.langtag_unicode.specs.Form.{after_one, are_different_variants, are_fields, is_language_or_none, is_of, is_transform, is_unicode_language, keywords_form, transform_value}
 use Rattle.langtag_unicode.specs.Keywords.{before_key}
 use Rattle.langtag_unicode.specs.Locale.{IsLocale, is_locale_extension, is_locale_record}
 use Rattle.langtag_unicode.specs.LocaleAliases as list
-use Rattle.langtag_unicode.specs.LocaleForm.{extension_at, extensions_in_order, has_variant, identifier_fields, identifier_flat, identifier_form, identifier_variants, is_pair_of, locale_extension_form, locale_record, locale_text, locale_transform_form, new_variants, record_fields, singletons, transform_language_form, variant_form}
+use Rattle.langtag_unicode.specs.LocaleForm.{extension_at, extensions_in_order, has_variant, identifier_fields, identifier_form, identifier_variants, is_pair_of, locale_extension_form, locale_record, locale_text, locale_transform_form, new_variants, record_fields, singletons, transform_language_form, variant_form}
 use Rattle.langtag_unicode.specs.Transform.{is_field_key}
 use Rattle.langtag_unicode.proofs.FormSizes.{alphabet-size, are_apart, field-two, keywords-size, once, one-size, size, size-append, total, total-none, transform-grows, unicode-size}
 use Rattle.langtag_unicode.proofs.IdentifierForms.{AreSubtags, form_subtags, language_primary, record_subtags, same_length}

@@ -1,7 +1,6 @@
 -- The form of an allowed `t` is allowed: its language is a unicode_language_id, and each field has a value.
-use Rattle.std.proofs.Common.{◌≡◌, ℕ, ◌≤◌, leb, Bool, true, false, not, cond, ◌&&◌, ◌||◌, ◌==◌, List, [], ◌∷◌, ◌++◌, length, map, find, Option, Some, None, option_map, unwrap_or, inl, inr, refl, sym, ap, subst, ◌∙◌, append-nil, append_assoc, arith}
+use Rattle.std.proofs.Common.{◌≡◌, ℕ, ◌≤◌, leb, Bool, true, false, not, cond, ◌&&◌, ◌||◌, List, [], ◌∷◌, ◌++◌, length, map, find, Option, Some, None, option_map, unwrap_or, inl, inr, refl, sym, ap, subst, ◌∙◌, append-nil, append_assoc, arith}
 use Rattle.std.proofs.lemmas.Bool.{false≢true, leb-true}
-use Rattle.std.proofs.lemmas.Bool.Decides.{nat_tests}
 use Rattle.std.specs.List.{AllByRecursion, flat_map, list_all, list_any}
 use Rattle.std.specs.Option.{option_map_or}
 use Rattle.langtag_likely.specs.Good.{is_region_field, is_script_field}
@@ -27,7 +26,6 @@ use Rattle.langtag_unicode.specs.Transform.{is_field_key}
 use Rattle.langtag_unicode.proofs.CanonicalKeywords.{alike-back}
 use Rattle.langtag_unicode.proofs.FormRecords.{Good, good-value}
 use Rattle.langtag_unicode.proofs.IdentifierForms.{AreSubtags, language_primary}
-use Rattle.langtag_unicode.proofs.KeySplits.{all_keys, flat-pairs}
 use Rattle.langtag_unicode.proofs.LocaleAgain.{Apart}
 use Rattle.langtag_unicode.proofs.LocaleRecords.{AreVariants}
 use Rattle.langtag_unicode.proofs.LocaleTables.{both, found_has}

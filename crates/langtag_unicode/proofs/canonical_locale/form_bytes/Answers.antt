@@ -1,4 +1,4 @@
-use Rattle.std.proofs.Common.{◌≡◌, ◌++◌, [], append-nil, drop, length, take, refl, ap, ◌∙◌, arith}
+use Rattle.std.proofs.Common.{◌≡◌, ◌++◌, [], append-nil, drop, length, ap, ◌∙◌, arith}
 use Rattle.std.proofs.lemmas.List.{drop_all, take_at}
 use Rattle.langtag_case.specs.RecommendedCase.{recommended_text}
 use Rattle.langtag_scan.specs.Record.{spell}
