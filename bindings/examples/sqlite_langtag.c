@@ -127,7 +127,12 @@ static const char *why_refused(text key, text value) {
 
 static void set_keyword(sqlite3_context *context, int count, sqlite3_value **values) {
     (void)count;
+    const int removes = sqlite3_value_type(values[2]) == SQLITE_NULL;
     const text tag = text_of(values[0]), key = text_of(values[1]), value = text_of(values[2]);
+    if (!removes && !value.at) { /* no memory for the text of a number, which is no reason to remove the key */
+        sqlite3_result_error_nomem(context);
+        return;
+    }
     if (!tag.at || !key.at || !langtag_kind(tag.at, tag.len)) return; /* NULL */
     char none;
     size_t len = write_keyword(tag, key, value, &none, 0);

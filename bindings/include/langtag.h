@@ -295,7 +295,7 @@ size_t langtag_with_part(const char *tag, size_t tag_len, uint32_t part, const c
  *
  * Returns 0 and writes nothing in three cases. To find out which, ask in this order:
  *
- *   1. The key does not consist of a letter or digit and then a letter, such as c4:
+ *   1. The key, such as c4, does not consist of a letter or digit and then a letter:
  *      langtag_without_keyword("und", 3, key, key_len, buffer, 0) returns 0.
  *   2. A subtag of the value does not have three to eight letters or digits: this call with the tag "und" returns 0.
  *   3. Otherwise the tag is not LANGTAG_NORMAL, and has no place for a keyword.
@@ -305,8 +305,8 @@ size_t langtag_with_keyword(const char *tag, size_t tag_len, const char *key, si
 
 /*
  * Writes a normal tag without a key of the extension u to `buffer`, and returns its length, as langtag_with_keyword
- * does: without ca, th-u-ca-gregory-nu-thai becomes th-u-nu-thai. Each keyword of the key is removed, and so is u if
- * nothing else is in it. All other bytes stay. A size of tag_len is always enough.
+ * does: without ca, th-u-ca-gregory-nu-thai becomes th-u-nu-thai. Each keyword of the key is removed from the first u,
+ * and so is this u if nothing else is in it. All other bytes stay. A size of tag_len is always enough.
  *
  * Returns 0 and writes nothing if the tag is not LANGTAG_NORMAL, or if the key does not consist of a letter or digit
  * and then a letter.

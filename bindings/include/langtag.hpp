@@ -418,7 +418,7 @@ private:
     owned_tag(std::string text, langtag::kind kind, const langtag_parts &parts) noexcept
         : text_(std::move(text)), kind_(kind), parts_(parts) {}
 
-    /* Becomes the tag with this text, if there is one. */
+    /* Replaces the tag by the tag with this text. Returns false and changes nothing if there is no text, or it is not a tag. */
     bool take(std::optional<std::string> made) {
         auto read = made ? parse(std::move(*made)) : std::nullopt;
         if (read) *this = std::move(*read);

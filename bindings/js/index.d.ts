@@ -145,7 +145,7 @@ export class LanguageTag {
     minimize(): LanguageTag;
     /**
      * Returns the tag with its extensions u and t in canonical form (UTS #35, part 1, Annex C), by CLDR_VERSION: de-u-nu-thai-ca-roc becomes
-     * de-u-ca-roc-nu-thai. Each key stands once, with its first value. All other subtags stay.
+     * de-u-ca-roc-nu-thai. Each key stands once, with its first value. The rest of the tag stays.
      */
     extensionsForm(): LanguageTag;
     /** Whether the tag is written from right to left, by its script or its likely script: true for he, pa-PK and az-Arab. */

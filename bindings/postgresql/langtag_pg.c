@@ -492,7 +492,7 @@ Datum pg_langtag_suggestion(PG_FUNCTION_ARGS) {
     PG_RETURN_POINTER(value_of(code, len));
 }
 
-/* The greatest length of a text for calls that take much more time for a longer text, and that cannot be interrupted. */
+/* The greatest length of a text for calls whose time grows faster than the text, and that cannot be interrupted. */
 #define LONGEST 8192
 
 static void check_length(const char *what, struct varlena *text) {

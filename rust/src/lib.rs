@@ -25,7 +25,8 @@
 //! - [`registry`]: the IANA Language Subtag Registry: which tags are valid, and their canonical forms (RFC 5646)
 //! - [`likely`]: likely subtags (UTS #35)
 //! - [`choice`]: the best tag for a reader, and the distance of two tags (UTS #35)
-//! - [`unicode`]: the extensions `u` and `t`, with keywords, such as a calendar, and transforms (RFC 6067, RFC 6497)
+//! - [`unicode`]: the extensions `u` and `t`, with keywords, such as a calendar, and transforms (RFC 6067, RFC 6497);
+//!   Unicode locale identifiers and their canonical form (UTS #35)
 //!
 //! # What is proved
 //!

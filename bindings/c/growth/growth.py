@@ -12,8 +12,8 @@ import tempfile
 
 FEW = 5000  # instructions that a call may take for a text of any length
 MOST = 2.2
-# The cases that are known and documented to be quadratic: more than 8192 repeated variants, variants with prefixes, a header in
-# which many ranges would find a tag that a range of weight 0 excludes, and the attributes of u and the variants of t, which are sorted.
+# The cases that are known and documented to be quadratic. They have more than 8192 repeated variants, or variants with prefixes, or
+# attributes of u or variants of t, which are sorted. Or many ranges of a header would find a tag that a range of weight 0 excludes.
 SQUARES = {
     ("repeats", "many_variants"): 3,
     ("repeated_variant", "many_variants"): 3,

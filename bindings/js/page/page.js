@@ -48,10 +48,10 @@ const KEYS = {
     nu: "Digits", rg: "Region override", sd: "Subdivision", ss: "Sentence breaks", tz: "Time zone", va: "Variant of the locale",
 };
 
-/** The keywords and the form of extensions of a longer tag are not shown, since they take time in proportion to the square of its length. */
+/** The length of the longest tag whose keywords and form of extensions are shown. They take time in proportion to its square. */
 const LONG = 20_000;
 
-/** Returns the keywords of a tag as forms are shown. An empty value means true. */
+/** Returns the name and the value of each keyword of a tag, at most MOST of them. An empty value is shown as true. */
 function keywordsOf(tag) {
     if (tag.text.length > LONG) return [];
     return [...tag.keywords].slice(0, MOST).map(([key, value]) => [KEYS[key] === undefined ? `Key ${key}` : `${KEYS[key]} (${key})`, value || "true"]);

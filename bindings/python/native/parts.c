@@ -164,7 +164,7 @@ PyMethodDef lt_tag_methods[] = {
     {"extensions_form", lt_extensions_form, METH_NOARGS,
      "extensions_form($self, /)\n--\n\n"
      "Returns the tag with its extensions u and t in canonical form (UTS #35, part 1, Annex C), by CLDR_VERSION: de-u-nu-thai-ca-roc\n"
-     "becomes de-u-ca-roc-nu-thai. Each key stands once, with its first value. All other subtags stay."},
+     "becomes de-u-ca-roc-nu-thai. Each key stands once, with its first value. The rest of the tag stays."},
     {"folded", lt_folded, METH_NOARGS,
      "folded($self, /)\n--\n\n"
      "Returns the text in lowercase, which is the same for all equal tags. It is a key for stores that compare bytes, and for\n"

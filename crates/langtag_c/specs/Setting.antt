@@ -1,5 +1,5 @@
--- Setting a part of a normal tag to a text, or removing it (RFC 5646 sections 2.2.1 to 2.2.7), and likewise a keyword
--- of its extension `u` (RFC 6067 section 2.1).
+-- Setting a part of a normal tag to a text, or removing it (RFC 5646 sections 2.2.1 to 2.2.7). Setting and removing a
+-- keyword of its extension `u` (RFC 6067 section 2.1).
 use Rattle.std.specs.Prelude.{◌≡◌, ℕ, ◌+◌, List, length, [], ◌∷◌, None, slice_get, Option, IfSome, MatchOption, IsTrue}
 use Rattle.langtag_scan.specs.Class.{is_script, is_region}
 use Rattle.langtag_scan.specs.Subtags.{subtags}

@@ -25,9 +25,11 @@ use Rattle.langtag_unicode.specs.Transform.{is_field_key}
 
 -- ---- the language, the script and the region
 
+-- the fields with another language
 abbrev pub with_language : Fields → List ℕ → Fields
 with_language f language = record { language = language; script = f.script; region = f.region }
 
+-- the fields with another region
 abbrev pub with_region : Fields → List ℕ → Fields
 with_region f region = record { language = f.language; script = f.script; region = region }
 
@@ -43,10 +45,12 @@ language_after variants language alias = if are_alike alias.key language && has_
 unfoldable pub variant_language : List (List ℕ) → Fields → Fields
 variant_language variants f = with_language f (fold (language_after variants) f.language variant_languages)
 
+-- the fields of a sign language, which takes the place of `sgn` and the region
 abbrev pub without_sgn : Fields → List ℕ → Fields
 without_sgn f language = record { language = language; script = f.script; region = [] }
 
--- the language that `sgn` with a region becomes, or `None`
+-- the language that `sgn` with a region becomes, or `None`; `sgn-NO` becomes `nsl`, as in IANA's registry, where CLDR has
+-- `nsi`
 abbrev pub sign_for : Fields → Option (List ℕ)
 sign_for f = if are_alike f.language (codes "sgn") then alias_for sign_languages f.region else None
 
@@ -81,6 +85,7 @@ new_region f =
     unwrap_or (or_else (option_map (λ to. to.region) (likely_for region_replacements (region_alone f)))
     (option_map (λ regions. heir (likely_region f) (segments regions)) (alias_for region_heirs f.region))) f.region
 
+-- the fields with that region
 unfoldable pub region_replaced : Fields → Fields
 region_replaced f = with_region f (new_region f)
 
@@ -88,11 +93,13 @@ region_replaced f = with_region f (new_region f)
 abbrev pub new_script : Fields → List ℕ
 new_script f = unwrap_or (alias_for script_aliases f.script) f.script
 
+-- the fields with that script
 unfoldable pub script_replaced : Fields → Fields
 script_replaced f = record { language = f.language; script = new_script f; region = f.region }
 
--- the seven steps: the language alone, with a variant, `sgn`; a region of a variant, a region; `sgn` again, since a new
--- region may fit, as in `sgn-DD`; and the script
+-- the seven steps. They replace the language, the language with a variant, and `sgn` with a region. They add the region of
+-- a variant, and replace the region. They replace `sgn` again, since the new region may fit, as in `sgn-DD`, and then the
+-- script
 unfoldable pub identifier_form : List (List ℕ) → Fields → Fields
 identifier_form variants f =
     script_replaced (sign_language (region_replaced (variant_region variants (sign_language (variant_language variants (language_replaced f))))))

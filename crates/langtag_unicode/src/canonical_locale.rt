@@ -95,7 +95,7 @@ fn form_bytes(alloc: Global, tag: NormalLangTag<'_>) -> Result<Vec<u8>, AllocErr
 ///
 /// If the buffer is too short, it stays unchanged, and the length says how long a buffer must be. A buffer of twice the
 /// length of the tag and 27 more bytes is always long enough. It does not allocate. The time is quadratic in the number
-/// of variants, and of attributes.
+/// of variants, and of attributes. It needs as much stack as `is_locale`.
 ///
 /// ```
 /// use langtag::LangTag;

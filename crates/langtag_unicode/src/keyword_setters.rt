@@ -78,8 +78,8 @@ pub fn write_with_keyword(
 }
 
 /// Writes a tag without a key of the extension `u` (RFC 6067 section 2.1) to a buffer, and returns its length in bytes:
-/// without `ca`, `th-u-ca-gregory-nu-thai` becomes `th-u-nu-thai`. Each keyword of the key is removed, and so is `u` if
-/// nothing else is in it. All other bytes stay.
+/// without `ca`, `th-u-ca-gregory-nu-thai` becomes `th-u-nu-thai`. Each keyword of the key is removed from the first `u`,
+/// and so is this `u` if nothing else is in it. All other bytes stay.
 ///
 /// If the buffer is too short, it stays unchanged, and the length says how long a buffer must be. The length of the
 /// tag is always enough. It does not allocate.

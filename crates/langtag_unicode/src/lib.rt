@@ -1,5 +1,5 @@
 //! Unicode's extensions of language tags: the attributes and keywords of `u` (RFC 6067), and the language and fields of
-//! `t` (RFC 6497). UTS #35, part 1, defines both.
+//! `t` (RFC 6497). UTS #35, part 1, defines both, and Unicode locale identifiers with their canonical form.
 //!
 //! ```
 //! use langtag::LangTag;

@@ -18,7 +18,7 @@ use crate::transform_form::is_transform;
 use langtag::{Extension, Extensions, LangTag, NormalLangTag, Subtags};
 
 /// Returns whether a tag is a Unicode locale identifier (UTS #35, part 1, section 'Unicode Locale Identifier'), as
-/// ICU and JavaScript's `Intl` take it.
+/// JavaScript's `Intl` requires.
 ///
 /// Such a tag has a language of two, three, or five to eight letters, and no extended language. No variant and no
 /// singleton is repeated. Each key of `u` ends with a letter. In `t`, the language meets the same rules, and each field
@@ -26,7 +26,8 @@ use langtag::{Extension, Extensions, LangTag, NormalLangTag, Subtags};
 ///
 /// `x-a`, `i-klingon`, `zh-yue` and `und-t-m0` are tags, but they are not Unicode locale identifiers.
 ///
-/// The time is quadratic in the number of variants in the language of `t`.
+/// Repeated variants are found by `NormalLangTag::repeated_variant`, which needs 92 kB of stack, and takes quadratic time
+/// beyond 8,192 variants. The time is also quadratic in the number of variants in the language of `t`.
 ///
 /// ```
 /// use langtag::LangTag;

@@ -17,7 +17,7 @@ use crate::subtags::split_first;
 use langtag::case_insensitive_eq;
 use langtag_likely::{TagFields, add_likely, language_replaced, region_replacement};
 
-/// Returns the fields in their form. The fields are of a language identifier with these variants.
+/// Returns the form of the fields of a language identifier with these variants.
 #[tactic(auto, unfolding(crate::specs::LocaleForm::identifier_form))]
 pub(crate) fn identifier_form<'a>(fields: TagFields<'a>, variants: Option<&str>) -> TagFields<'a>
     ensures { field_texts result ≡ spec.identifier_form (segments_left variants.entry) (field_texts fields.entry) }
@@ -56,7 +56,7 @@ fn language_with<'a>(language: &'a [u8], variants: Option<&str>) -> &'a [u8]
     language
 }
 
-/// Returns the fields of a sign language if the language is `sgn`, and the region has a sign language.
+/// Returns the fields of the sign language if the language is `sgn` and the region has one. Otherwise the fields stay.
 #[tactic(auto, unfolding(crate::specs::LocaleForm::sign_language))]
 fn sign_language<'a>(fields: TagFields<'a>) -> TagFields<'a>
     ensures { field_texts result ≡ spec.sign_language (field_texts fields.entry) }
@@ -173,7 +173,7 @@ fn likely_region<'a>(fields: TagFields<'a>) -> &'a [u8]
     }
 }
 
-/// Returns the language and the script, for the look-up of likely subtags.
+/// Returns the language and the script, for the look-up of likely subtags. `und` counts as no language.
 fn without_region<'a>(fields: TagFields<'a>) -> TagFields<'a>
     ensures { field_texts result ≡ spec.without_region (field_texts fields.entry) }
 {

@@ -10,7 +10,7 @@ use crate::unicode::locale_tables as tables;
 use crate::unicode::locale_variants::variant_languages;
 use crate::unicode::subtags::split_first;
 
-/// Returns the fields in their form. The fields are of a language identifier with these variants.
+/// Returns the form of the fields of a language identifier with these variants.
 #[inline]
 pub(crate) fn identifier_form<'a>(fields: TagFields<'a>, variants: Option<&str>) -> TagFields<'a> {
     let fields = variant_language(language_replaced(fields), variants);
@@ -41,7 +41,7 @@ fn language_with<'a>(language: &'a [u8], variants: Option<&str>) -> &'a [u8] {
     language
 }
 
-/// Returns the fields of a sign language if the language is `sgn`, and the region has a sign language.
+/// Returns the fields of the sign language if the language is `sgn` and the region has one. Otherwise the fields stay.
 #[inline]
 fn sign_language<'a>(fields: TagFields<'a>) -> TagFields<'a> {
     match sign_for(fields) {
@@ -133,7 +133,7 @@ fn likely_region<'a>(fields: TagFields<'a>) -> &'a [u8] {
     }
 }
 
-/// Returns the language and the script, for the look-up of likely subtags.
+/// Returns the language and the script, for the look-up of likely subtags. `und` counts as no language.
 #[inline]
 fn without_region<'a>(fields: TagFields<'a>) -> TagFields<'a> {
     let is_unknown = case_insensitive_eq(b"und", fields.language);

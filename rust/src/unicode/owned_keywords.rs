@@ -51,7 +51,7 @@ pub fn set_keyword(tag: &mut LangTagBuf, key: &str, value: &str) -> Result<(), S
 }
 
 /// Removes a key of the extension `u` ([RFC 6067 section 2.1]): without `ca`, `th-u-ca-gregory-nu-thai` becomes
-/// `th-u-nu-thai`. Each keyword of the key is removed, and so is `u` if nothing else is in it.
+/// `th-u-nu-thai`. Each keyword of the key is removed from the first `u`, and so is this `u` if nothing else is in it.
 ///
 /// It allocates the new text, as [`set_keyword`] does, even if the tag does not have the key.
 ///
