@@ -7,7 +7,7 @@ use std::cell::Cell;
 use langtag::likely::{from_posix, maximized, minimized, PosixError};
 use langtag::matching::{tag_for_header, AcceptLanguage, AcceptLanguageError, LanguageRange};
 use langtag::registry::{canonical, extlang_form};
-use langtag::unicode::{extensions_form, SetKeywordError};
+use langtag::unicode::{extensions_form, locale_form, SetKeywordError};
 use langtag::*;
 
 thread_local! {
@@ -110,6 +110,7 @@ fn tags_in_another_form() {
         refuse_each("maximized", || is_memory(maximized(tag)));
         refuse_each("minimized", || is_memory(minimized(tag)));
         refuse_each("form of extensions", || is_memory(extensions_form(tag)));
+        refuse_each("form as a locale", || is_memory(locale_form(tag)));
         refuse_each("recommended case", || {
             is_memory(tag.try_to_recommended_case())
         });

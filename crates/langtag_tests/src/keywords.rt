@@ -1,7 +1,7 @@
-//! Setting and removing keywords of an owned tag, and the canonical form of its extensions.
+//! Setting and removing keywords of an owned tag, and the canonical forms of its extensions and of the whole tag.
 use crate::support::{are_answered, cut};
 use langtag::LangTag;
-use langtag_unicode::{SetKeywordError, extensions_form, remove_keyword, set_keyword};
+use langtag_unicode::{SetKeywordError, extensions_form, locale_form, remove_keyword, set_keyword};
 use std::alloc::{AllocError, Global};
 
 /// Returns the tag after a key is set, or removed if the value is `none`. The question is `TAG|KEY|VALUE`. If an
@@ -35,6 +35,17 @@ fn formed(alloc: Global, text: &str) -> Result<String, AllocError> {
     Ok(extensions_form(alloc, tag)?.into_string())
 }
 
+/// Returns the canonical form of a tag as a Unicode locale identifier, or `-`.
+fn localized(alloc: Global, text: &str) -> Result<String, AllocError> {
+    let Ok(tag) = LangTag::new(text) else {
+        return String::from_str(alloc, "not a tag");
+    };
+    match locale_form(alloc, tag)? {
+        Some(form) => Ok(form.into_string()),
+        None => String::from_str(alloc, "-"),
+    }
+}
+
 #[test]
 fn keywords_are_set_and_removed(rt: HostRuntime) {
     let rows = [
@@ -63,4 +74,18 @@ fn extensions_have_their_form(rt: HostRuntime) {
         ("en-x-true", "en-x-true"),
     ];
     are_answered(&rt, rt.alloc(), &rows, formed);
+}
+
+#[test]
+fn tags_have_a_form_as_locales(rt: HostRuntime) {
+    let rows = [
+        ("ger-UK-u-ca-islamicc", "de-GB-u-ca-islamic-civil"),
+        ("zh-yue-t-en-m0-names", "yue-t-en-m0-prprname"),
+        ("en-GB-oed", "en-GB-oxendict"),
+        ("i-klingon", "tlh"),
+        ("i-default", "-"),
+        ("x-a", "-"),
+        ("zh-yue-t-m0", "-"),
+    ];
+    are_answered(&rt, rt.alloc(), &rows, localized);
 }

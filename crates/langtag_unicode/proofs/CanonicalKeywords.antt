@@ -26,7 +26,7 @@ use Rattle.langtag_unicode.proofs.KeywordLaws.{AreNoKeys, alike-itself, allowed_
 
 -- ---- values in canonical form have no keys
 
-key-fold : (s : List ℕ) → is_key (fold_text s) ≡ is_key s
+pub key-fold : (s : List ℕ) → is_key (fold_text s) ≡ is_key s
 key-fold s = ap (λ n. n == 2) (length-fold s)
 
 no_keys-before : (ss : List (List ℕ)) → AreNoKeys (before_key is_key ss)
@@ -71,10 +71,10 @@ no_keys-lower [] types = tt
 no_keys-lower (s ∷ ss) types = (key-fold s ∙ type-no_key s types.0, no_keys-lower ss types.1)
 
 -- the values in canonical form
-abbrev values : List (List ℕ) → List ℕ → Option (List (List ℕ))
+abbrev pub values : List (List ℕ) → List ℕ → Option (List (List ℕ))
 values ss key = option_map (λ w. map fold_text (subtags (unicode_value key (join w)))) (value_of is_key key ss)
 
-values-are : (ss : List (List ℕ)) → Good ss → AreValues (values ss)
+pub values-are : (ss : List (List ℕ)) → Good ss → AreValues (values ss)
 values-are ss good key v is = by_found (value_of is_key key ss) refl is
   where
     by_found :
@@ -95,7 +95,7 @@ flat-same : (f g : List ℕ → List (List ℕ)) (keys : List (List ℕ)) → Al
 flat-same f g [] same = refl
 flat-same f g (k ∷ keys) same = ap (λ t. t ++ flat_map f keys) same.0 ∙ ap (λ t. g k ++ t) (flat-same f g keys same.1)
 
-form-blocks : (ss : List (List ℕ)) → form.keywords_form is_key unicode_value ss ≡ blocks (values ss) all_keys
+pub form-blocks : (ss : List (List ℕ)) → form.keywords_form is_key unicode_value ss ≡ blocks (values ss) all_keys
 form-blocks ss =
     flat-pairs (form.keyword_form is_key unicode_value ss) letters_and_digits letters_and_digits
     ∙ flat-same (form.keyword_form is_key unicode_value ss) (block (values ss)) all_keys (each all_keys)
@@ -111,7 +111,7 @@ form-blocks ss =
     each [] = tt
     each (k ∷ keys) = (by_value k (value_of is_key k ss), each keys)
 
-alike-back : (a b : List ℕ) → are_alike a b ≡ false → are_alike b a ≡ false
+pub alike-back : (a b : List ℕ) → are_alike a b ≡ false → are_alike b a ≡ false
 alike-back a b apart = by_test (are_alike b a) refl
   where
     by_test : (t : Bool) → are_alike b a ≡ t → are_alike b a ≡ false

@@ -130,7 +130,7 @@ pub types-unicode : (key value : List ℕ) → Passes is_type value → Passes i
 unfolding subdivision_aliases unicode_type_aliases is_extension_subtag is_letter is_digit
 types-unicode = pass-unicode is_type refl refl
 
-good-transform : (key value : List ℕ) → GoodText value → GoodText (transform_value key value)
+pub good-transform : (key value : List ℕ) → GoodText value → GoodText (transform_value key value)
 unfolding transform_value transform_type_aliases is_extension_subtag is_letter is_digit
 good-transform key value good = pass-type is_extension_subtag transform_type_aliases key value refl good
 
@@ -199,7 +199,7 @@ module _ (opens : List ℕ → Bool) (canonical : List ℕ → List ℕ → List
       by_value (Some v) is =
           (good-key a b one two, good-lower (subtags (canonical (a ∷ b ∷ []) (join v))) (keeps (a ∷ b ∷ []) (join v) (good-joined v (good-value opens (a ∷ b ∷ []) ss v good is))))
 
-  good-keywords :
+  pub good-keywords :
       ((key value : List ℕ) → GoodText value → GoodText (canonical key value)) → (ss : List (List ℕ)) → Good ss → Good (form.keywords_form opens canonical ss)
   good-keywords keeps ss good =
       good-flat (form.keywords_from opens canonical ss)
@@ -245,12 +245,12 @@ two_parts n a b both some = omega (arith, both, some)
 one_part : (n a b c : ℕ) → n ≡ a + b → a ≡ c → 1 ≤ c → 1 ≤ n
 one_part n a b c both first some = omega (arith, both, first, some)
 
-good-unicode_form : (ss : List (List ℕ)) → Good ss → Good (unicode_form ss)
+pub good-unicode_form : (ss : List (List ℕ)) → Good ss → Good (unicode_form ss)
 good-unicode_form ss good =
     each-append _ (in_alphabet (before_key is_key ss)) (form.keywords_form is_key unicode_value ss) (good-alphabet _ (good-before is_key ss good))
     (good-keywords is_key unicode_value good-unicode ss good)
 
-some-unicode_form : (ss : List (List ℕ)) → Good ss → 1 ≤ length ss → 1 ≤ length (unicode_form ss)
+pub some-unicode_form : (ss : List (List ℕ)) → Good ss → 1 ≤ length ss → 1 ≤ length (unicode_form ss)
 some-unicode_form [] good some = absurd (omega (arith, some))
 some-unicode_form (s ∷ ss) good some = by_test (is_key s) refl
   where
@@ -297,20 +297,23 @@ good-transform_form ss good =
     each-append _ (form.language_form (before_key is_field_key ss)) (form.keywords_form is_field_key transform_value ss) (good-language _ (good-before is_field_key ss good))
     (good-keywords is_field_key transform_value good-transform ss good)
 
-some-transform_form : (ss : List (List ℕ)) → Good ss → 1 ≤ length ss → 1 ≤ length (transform_form ss)
-some-transform_form [] good some = absurd (omega (arith, some))
-some-transform_form (s ∷ ss) good some = by_test (is_field_key s) refl
-  where
-    by_test : (t : Bool) → is_field_key s ≡ t → 1 ≤ length (transform_form (s ∷ ss))
-    by_test true is =
-        let keys = some-key is_field_key transform_value field-two s ss is good.0 in
-        let both = length-append (form.language_form (before_key is_field_key (s ∷ ss))) (form.keywords_form is_field_key transform_value (s ∷ ss)) in
-        two_parts _ _ _ both keys
-    by_test false is =
-        let first = ap (λ b. length (form.language_form (cond b [] (s ∷ before_key is_field_key ss)))) is in
-        let here : 1 ≤ length (form.language_form (s ∷ before_key is_field_key ss)) = omega arith in
-        let both = length-append (form.language_form (before_key is_field_key (s ∷ ss))) (form.keywords_form is_field_key transform_value (s ∷ ss)) in
-        one_part _ _ _ _ both first here
+-- the form of `t` with some form of its language has a subtag
+module _ (language : List (List ℕ) → List (List ℕ)) (has : (s : List ℕ) (ss : List (List ℕ)) → 1 ≤ length (language (s ∷ ss))) where
+  pub some-transform :
+      (ss : List (List ℕ)) → Good ss → 1 ≤ length ss → 1 ≤ length (language (before_key is_field_key ss) ++ form.keywords_form is_field_key transform_value ss)
+  some-transform [] good some = absurd (omega (arith, some))
+  some-transform (s ∷ ss) good some = by_test (is_field_key s) refl
+    where
+      by_test : (t : Bool) → is_field_key s ≡ t → 1 ≤ length (language (before_key is_field_key (s ∷ ss)) ++ form.keywords_form is_field_key transform_value (s ∷ ss))
+      by_test true is =
+          let keys = some-key is_field_key transform_value field-two s ss is good.0 in
+          let both = length-append (language (before_key is_field_key (s ∷ ss))) (form.keywords_form is_field_key transform_value (s ∷ ss)) in
+          two_parts _ _ _ both keys
+      by_test false is =
+          let first = ap (λ b. length (language (cond b [] (s ∷ before_key is_field_key ss)))) is in
+          let here = has s (before_key is_field_key ss) in
+          let both = length-append (language (before_key is_field_key (s ∷ ss))) (form.keywords_form is_field_key transform_value (s ∷ ss)) in
+          one_part _ _ _ _ both first here
 
 -- ---- extensions
 
@@ -320,7 +323,7 @@ good-extension u t e fits = subst IsWellFormedExtension (sym (form_tested u t _ 
   where
     by_tests : (a b : Bool) → IsWellFormedExtension (form_by a b e)
     by_tests true b = record { singleton = refl; some = some-unicode_form e.subtags fits.subtags fits.some; subtags = good-unicode_form e.subtags fits.subtags }
-    by_tests false true = record { singleton = refl; some = some-transform_form e.subtags fits.subtags fits.some; subtags = good-transform_form e.subtags fits.subtags }
+    by_tests false true = record { singleton = refl; some = some-transform form.language_form (λ s ss. omega arith) e.subtags fits.subtags fits.some; subtags = good-transform_form e.subtags fits.subtags }
     by_tests false false = fits
 
 good-forms : (u t : Bool) (es : List Extension) → AllByRecursion IsWellFormedExtension es → AllByRecursion IsWellFormedExtension (forms_after u t es)

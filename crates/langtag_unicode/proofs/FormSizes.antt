@@ -1,4 +1,4 @@
--- How long the form of a tag may be: at most twice as long as the tag.
+-- How long the form of a tag may be: at most half as long again as the tag.
 use Rattle.std.proofs.Common.{◌≡◌, ℕ, ◌+◌, ◌*◌, ◌≤◌, ◌&&◌, ◌||◌, ◌==◌, not, leb, Bool, true, false, cond, List, [], ◌∷◌, ◌++◌, length, map, find, Option, None, Some, unwrap_or, inl, inr, refl, sym, ap, subst, ◌∙◌, arith, eqb-true}
 use Rattle.std.proofs.lemmas.Bool.{and_parts, eq-eqb, false≢true, leb-true, not-true}
 use Rattle.std.specs.Prelude.{codes}
@@ -51,7 +51,7 @@ put-size x (s ∷ ss) = by_tests (is_before x s) (is_before s x) (put-size x ss)
     by_tests false true later = omega (arith, later)
     by_tests false false later = omega arith
 
-alphabet-size : (ss : List (List ℕ)) → size (in_alphabet ss) ≤ size ss
+pub alphabet-size : (ss : List (List ℕ)) → size (in_alphabet ss) ≤ size ss
 alphabet-size [] = omega arith
 alphabet-size (s ∷ ss) =
     let one = put-size (fold_text s) (in_alphabet ss) in
@@ -78,7 +78,7 @@ join-size (s ∷ ss) some = let joined = length-join s ss in let rest = length-w
 
 -- ---- sums over letters
 
-abbrev total : (ℕ → ℕ) → List ℕ → ℕ
+abbrev pub total : (ℕ → ℕ) → List ℕ → ℕ
 total f [] = 0
 total f (a ∷ xs) = f a + total f xs
 
@@ -86,11 +86,11 @@ total-le : (f g : ℕ → ℕ) → ((a : ℕ) → f a ≤ g a) → (xs : List �
 total-le f g le [] = omega arith
 total-le f g le (a ∷ xs) = let one = le a in let later = total-le f g le xs in omega (arith, one, later)
 
-total-none : (f : ℕ → ℕ) → ((a : ℕ) → f a ≡ 0) → (xs : List ℕ) → total f xs ≡ 0
+pub total-none : (f : ℕ → ℕ) → ((a : ℕ) → f a ≡ 0) → (xs : List ℕ) → total f xs ≡ 0
 total-none f none [] = refl
 total-none f none (a ∷ xs) = let one = none a in let later = total-none f none xs in omega (arith, one, later)
 
-flat-size : (f : ℕ → List (List ℕ)) (g : ℕ → ℕ) → ((a : ℕ) → size (f a) ≤ 2 * g a) → (xs : List ℕ) → size (flat_map f xs) ≤ 2 * total g xs
+pub flat-size : (f : ℕ → List (List ℕ)) (g : ℕ → ℕ) → ((a : ℕ) → 2 * size (f a) ≤ 3 * g a) → (xs : List ℕ) → 2 * size (flat_map f xs) ≤ 3 * total g xs
 flat-size f g le [] = omega arith
 flat-size f g le (a ∷ xs) =
     let one = le a in
@@ -99,7 +99,7 @@ flat-size f g le (a ∷ xs) =
     omega (arith, one, later, both)
 
 -- no two letters are equal, in any case
-abbrev are_apart : List ℕ → Bool
+abbrev pub are_apart : List ℕ → Bool
 are_apart [] = true
 are_apart (a ∷ xs) = list_all (λ b. not (fold_byte b == fold_byte a)) xs && are_apart xs
 
@@ -117,7 +117,7 @@ module _ (n extra : ℕ) (f g : ℕ → ℕ) (apart : (a : ℕ) → (fold_byte a
       let later = never xs parts.1 in
       omega (arith, one, later)
 
-  once : (xs : List ℕ) → are_apart xs ≡ true → total f xs ≤ extra + total g xs
+  pub once : (xs : List ℕ) → are_apart xs ≡ true → total f xs ≤ extra + total g xs
   once [] all = omega arith
   once (a ∷ xs) all =
       let parts = and_parts (list_all (λ b. not (fold_byte b == fold_byte a)) xs) (are_apart xs) all in
@@ -215,33 +215,51 @@ module _ (opens : List ℕ → Bool) (two : (s : List ℕ) → opens s ≡ true 
           (λ a. total-le _ _ (λ b. let one = weight-other s ss (a ∷ b ∷ []) is in omega (arith, one)) letters) letters in
           omega (arith, same, later)
 
--- a keyword is at most twice as long as it was
-module _ (opens : List ℕ → Bool) (canonical : List ℕ → List ℕ → List ℕ) (grows : (key value : List ℕ) → length (canonical key value) ≤ 2 * length value) where
-  keyword-size : (ss : List (List ℕ)) (a b : ℕ) → size (form.keyword_form opens canonical ss (a ∷ b ∷ [])) ≤ 2 * weight opens ss (a ∷ b ∷ [])
+-- whether a text may replace an old one: it is at most twice as long and, each with 4 bytes more, half as long again
+abbrev may_replace : ℕ → ℕ → Bool
+may_replace old new = leb new (2 * old) && leb (2 * (4 + new)) (3 * (4 + old))
+
+pub record MayReplace (old new : ℕ) : Type 0 where
+  pub double : new ≤ 2 * old
+  pub with_key : 2 * (4 + new) ≤ 3 * (4 + old)
+
+replaces : (old new : ℕ) → may_replace old new ≡ true → MayReplace old new
+replaces old new may =
+    let parts = and_parts (leb new (2 * old)) (leb (2 * (4 + new)) (3 * (4 + old))) may in
+    record { double = leb-true _ _ parts.0; with_key = leb-true _ _ parts.1 }
+
+no_longer : (old new : ℕ) → new ≤ old → MayReplace old new
+no_longer old new short = record { double = omega (arith, short); with_key = omega (arith, short) }
+
+-- a keyword is at most half as long again
+module _ (opens : List ℕ → Bool) (canonical : List ℕ → List ℕ → List ℕ) (grows : (key value : List ℕ) → MayReplace (length value) (length (canonical key value))) where
+  keyword-size : (ss : List (List ℕ)) (a b : ℕ) → 2 * size (form.keyword_form opens canonical ss (a ∷ b ∷ [])) ≤ 3 * weight opens ss (a ∷ b ∷ [])
   keyword-size ss a b = by_value (value_of opens (a ∷ b ∷ []) ss)
     where
-      by_text : (v : List (List ℕ)) (t : List ℕ) → length t ≤ 2 * length (join v) → size ((a ∷ b ∷ []) ∷ map fold_text (subtags t)) ≤ 2 * (3 + size v)
+      by_text : (v : List (List ℕ)) (t : List ℕ) → MayReplace (length (join v)) (length t) → 2 * size ((a ∷ b ∷ []) ∷ map fold_text (subtags t)) ≤ 3 * (3 + size v)
       by_text v [] short = omega arith
       by_text v (x ∷ t) short =
+          let double = short.double in
+          let with_key = short.with_key in
           let same = map-size (subtags (x ∷ t)) in
           let new = subtags-size (x ∷ t) (omega arith) in
-          let old = join-size v (omega (arith, short)) in
-          omega (arith, same, new, old, short)
+          let old = join-size v (omega (arith, double)) in
+          omega (arith, same, new, old, with_key)
 
       by_value :
           (o : Option (List (List ℕ))) →
-          size (option_map_or (λ v. (a ∷ b ∷ []) ∷ map fold_text (subtags (canonical (a ∷ b ∷ []) (join v)))) o []) ≤ 2 * option_map_or (λ v. 3 + size v) o 0
+          2 * size (option_map_or (λ v. (a ∷ b ∷ []) ∷ map fold_text (subtags (canonical (a ∷ b ∷ []) (join v)))) o []) ≤ 3 * option_map_or (λ v. 3 + size v) o 0
       by_value None = omega arith
       by_value (Some v) = by_text v (canonical (a ∷ b ∷ []) (join v)) (grows (a ∷ b ∷ []) (join v))
 
-twice : (n m k : ℕ) → n ≤ 2 * m → m ≤ k → n ≤ 2 * k
-twice n m k one two = omega (arith, one, two)
+half_again : (n m k : ℕ) → 2 * n ≤ 3 * m → m ≤ k → 2 * n ≤ 3 * k
+half_again n m k one two = omega (arith, one, two)
 
-keywords-size :
+pub keywords-size :
     (opens : List ℕ → Bool) → ((s : List ℕ) → opens s ≡ true → length s ≡ 2) → (canonical : List ℕ → List ℕ → List ℕ) →
-    ((key value : List ℕ) → length (canonical key value) ≤ 2 * length value) → (ss : List (List ℕ)) → size (form.keywords_form opens canonical ss) ≤ 2 * size (from_key opens ss)
+    ((key value : List ℕ) → MayReplace (length value) (length (canonical key value))) → (ss : List (List ℕ)) → 2 * size (form.keywords_form opens canonical ss) ≤ 3 * size (from_key opens ss)
 keywords-size opens two canonical grows ss =
-    twice _ (total (weights opens letters_and_digits ss) letters_and_digits) _
+    half_again _ (total (weights opens letters_and_digits ss) letters_and_digits) _
     (flat-size (form.keywords_from opens canonical ss) (weights opens letters_and_digits ss)
     (λ a. flat-size (λ b. form.keyword_form opens canonical ss (a ∷ b ∷ [])) (λ b. weight opens ss (a ∷ b ∷ [])) (keyword-size opens canonical grows ss a) letters_and_digits) letters_and_digits)
     (all-weights opens two letters_and_digits letters_apart ss)
@@ -249,57 +267,58 @@ keywords-size opens two canonical grows ss =
 -- ---- canonical values
 
 alias-grows :
-    (rows : List Alias) (text : List ℕ) → list_all (λ row. leb (length row.new) (2 * length row.old)) rows ≡ true →
-    length (unwrap_or (alias_for rows text) text) ≤ 2 * length text
-alias-grows [] text all = omega arith
+    (rows : List Alias) (text : List ℕ) → list_all (λ row. may_replace (length row.old) (length row.new)) rows ≡ true →
+    MayReplace (length text) (length (unwrap_or (alias_for rows text) text))
+alias-grows [] text all = no_longer _ _ (omega arith)
 alias-grows (row ∷ rows) text all =
-    let parts = and_parts (leb (length row.new) (2 * length row.old)) (list_all (λ r. leb (length r.new) (2 * length r.old)) rows) all in
-    by_test (are_alike row.old text) refl (leb-true _ _ parts.0) (alias-grows rows text parts.1)
+    let parts = and_parts (may_replace (length row.old) (length row.new)) (list_all (λ r. may_replace (length r.old) (length r.new)) rows) all in
+    by_test (are_alike row.old text) refl (replaces _ _ parts.0) (alias-grows rows text parts.1)
   where
     by_test :
-        (t : Bool) → are_alike row.old text ≡ t → length row.new ≤ 2 * length row.old → length (unwrap_or (alias_for rows text) text) ≤ 2 * length text →
-        length (unwrap_or (option_map (λ alias. alias.new) (cond t (Some row) (find (λ alias. are_alike alias.old text) rows))) text) ≤ 2 * length text
-    by_test true is here later = let same = alike_length row.old text is in omega (arith, here, same)
+        (t : Bool) → are_alike row.old text ≡ t → MayReplace (length row.old) (length row.new) → MayReplace (length text) (length (unwrap_or (alias_for rows text) text)) →
+        MayReplace (length text) (length (unwrap_or (option_map (λ alias. alias.new) (cond t (Some row) (find (λ alias. are_alike alias.old text) rows))) text))
+    by_test true is here later = subst (λ n. MayReplace n (length row.new)) (alike_length row.old text is) here
     by_test false is here later = later
 
 type-grows :
-    (rows : List TypeAlias) (key text : List ℕ) → list_all (λ row. leb (length row.new) (2 * length row.old)) rows ≡ true →
-    length (unwrap_or (type_alias_for rows key text) text) ≤ 2 * length text
-type-grows [] key text all = omega arith
+    (rows : List TypeAlias) (key text : List ℕ) → list_all (λ row. may_replace (length row.old) (length row.new)) rows ≡ true →
+    MayReplace (length text) (length (unwrap_or (type_alias_for rows key text) text))
+type-grows [] key text all = no_longer _ _ (omega arith)
 type-grows (row ∷ rows) key text all =
-    let parts = and_parts (leb (length row.new) (2 * length row.old)) (list_all (λ r. leb (length r.new) (2 * length r.old)) rows) all in
-    by_tests (are_alike row.key key) (are_alike row.old text) refl (leb-true _ _ parts.0) (type-grows rows key text parts.1)
+    let parts = and_parts (may_replace (length row.old) (length row.new)) (list_all (λ r. may_replace (length r.old) (length r.new)) rows) all in
+    by_tests (are_alike row.key key) (are_alike row.old text) refl (replaces _ _ parts.0) (type-grows rows key text parts.1)
   where
     by_tests :
-        (k t : Bool) → are_alike row.old text ≡ t → length row.new ≤ 2 * length row.old → length (unwrap_or (type_alias_for rows key text) text) ≤ 2 * length text →
-        length (unwrap_or (option_map (λ alias. alias.new) (cond (k && t) (Some row) (find (λ alias. are_alike alias.key key && are_alike alias.old text) rows))) text) ≤ 2 * length text
-    by_tests true true is here later = let same = alike_length row.old text is in omega (arith, here, same)
+        (k t : Bool) → are_alike row.old text ≡ t → MayReplace (length row.old) (length row.new) → MayReplace (length text) (length (unwrap_or (type_alias_for rows key text) text)) →
+        MayReplace (length text)
+        (length (unwrap_or (option_map (λ alias. alias.new) (cond (k && t) (Some row) (find (λ alias. are_alike alias.key key && are_alike alias.old text) rows))) text))
+    by_tests true true is here later = subst (λ n. MayReplace n (length row.new)) (alike_length row.old text is) here
     by_tests true false is here later = later
     by_tests false t is here later = later
 
-subdivision-grows : (value : List ℕ) → length (form.subdivision value) ≤ 2 * length value
+subdivision-grows : (value : List ℕ) → MayReplace (length value) (length (form.subdivision value))
 unfolding form.subdivision subdivision_aliases
 subdivision-grows value = alias-grows subdivision_aliases value refl
 
-unicode_type-grows : (key value : List ℕ) → length (form.unicode_type key value) ≤ 2 * length value
+unicode_type-grows : (key value : List ℕ) → MayReplace (length value) (length (form.unicode_type key value))
 unfolding form.unicode_type unicode_type_aliases
 unicode_type-grows key value = type-grows unicode_type_aliases key value refl
 
-transform-grows : (key value : List ℕ) → length (transform_value key value) ≤ 2 * length value
+pub transform-grows : (key value : List ℕ) → MayReplace (length value) (length (transform_value key value))
 unfolding transform_value transform_type_aliases
 transform-grows key value = type-grows transform_type_aliases key value refl
 
-without-shorter : (t : List ℕ) → length (form.without_true t) ≤ length t
-without-shorter t = by_true (are_alike t (codes "true"))
+without-grows : (old : ℕ) (t : List ℕ) → MayReplace old (length t) → MayReplace old (length (form.without_true t))
+without-grows old t may = by_true (are_alike t (codes "true"))
   where
-    by_true : (b : Bool) → length (cond b [] t) ≤ length t
-    by_true true = omega arith
-    by_true false = omega arith
+    by_true : (b : Bool) → MayReplace old (length (cond b [] t))
+    by_true true = record { double = omega arith; with_key = omega arith }
+    by_true false = may
 
-unicode-grows : (key value : List ℕ) → length (unicode_value key value) ≤ 2 * length value
-unicode-grows key value = let short = without-shorter (cond (form.has_subdivision key) (form.subdivision value) (form.unicode_type key value)) in let grown = by_test (form.has_subdivision key) in omega (arith, short, grown)
+unicode-grows : (key value : List ℕ) → MayReplace (length value) (length (unicode_value key value))
+unicode-grows key value = without-grows (length value) _ (by_test (form.has_subdivision key))
   where
-    by_test : (b : Bool) → length (cond b (form.subdivision value) (form.unicode_type key value)) ≤ 2 * length value
+    by_test : (b : Bool) → MayReplace (length value) (length (cond b (form.subdivision value) (form.unicode_type key value)))
     by_test true = subdivision-grows value
     by_test false = unicode_type-grows key value
 
@@ -314,7 +333,7 @@ field-two (x ∷ []) is = absurd (false≢true is)
 field-two (x ∷ y ∷ []) is = refl
 field-two (x ∷ y ∷ z ∷ s) is = absurd (false≢true is)
 
-unicode-size : (ss : List (List ℕ)) → size (unicode_form ss) ≤ 2 * size ss
+pub unicode-size : (ss : List (List ℕ)) → 2 * size (unicode_form ss) ≤ 3 * size ss
 unicode-size ss =
     let both = size-append (in_alphabet (before_key is_key ss)) (form.keywords_form is_key unicode_value ss) in
     let attributes = alphabet-size (before_key is_key ss) in
@@ -323,7 +342,7 @@ unicode-size ss =
     let whole = ap size (before-from is_key ss) in
     omega (arith, both, attributes, keywords, parts, whole)
 
-one-size : (test : List ℕ → Bool) (ss : List (List ℕ)) → size (form.one_of test ss) + size (form.after_one test ss) ≡ size ss
+pub one-size : (test : List ℕ → Bool) (ss : List (List ℕ)) → size (form.one_of test ss) + size (form.after_one test ss) ≡ size ss
 one-size test [] = refl
 one-size test (s ∷ ss) = by_test (test s)
   where
@@ -346,7 +365,7 @@ language-size (s ∷ ss) =
     let h = length-fold s in
     omega (arith, a, b, c, d, e, f, g, h)
 
-transform-size : (ss : List (List ℕ)) → size (transform_form ss) ≤ 2 * size ss
+transform-size : (ss : List (List ℕ)) → 2 * size (transform_form ss) ≤ 3 * size ss
 transform-size ss =
     let both = size-append (form.language_form (before_key is_field_key ss)) (form.keywords_form is_field_key transform_value ss) in
     let language = language-size (before_key is_field_key ss) in
@@ -355,18 +374,18 @@ transform-size ss =
     let whole = ap size (before-from is_field_key ss) in
     omega (arith, both, language, fields, parts, whole)
 
-extension-size : (u t : Bool) (e : Extension) → size (extension_flat (extension_form u t e)) ≤ 2 * size (extension_flat e)
+extension-size : (u t : Bool) (e : Extension) → 2 * size (extension_flat (extension_form u t e)) ≤ 3 * size (extension_flat e)
 extension-size u t e =
     let same = ap (λ x. size (extension_flat x)) (form_tested u t _ _ e refl refl) in
     let most = by_tests (is_of 117 e && not u) (is_of 116 e && not t && is_transform e.subtags) in
     omega (arith, same, most)
   where
-    by_tests : (a b : Bool) → size (extension_flat (form_by a b e)) ≤ 2 * size (extension_flat e)
+    by_tests : (a b : Bool) → 2 * size (extension_flat (form_by a b e)) ≤ 3 * size (extension_flat e)
     by_tests true b = let short = unicode-size e.subtags in omega (arith, short)
     by_tests false true = let short = transform-size e.subtags in omega (arith, short)
     by_tests false false = omega arith
 
-forms-size : (u t : Bool) (es : List Extension) → size (flat_map extension_flat (forms_after u t es)) ≤ 2 * size (flat_map extension_flat es)
+forms-size : (u t : Bool) (es : List Extension) → 2 * size (flat_map extension_flat (forms_after u t es)) ≤ 3 * size (flat_map extension_flat es)
 forms-size u t [] = omega arith
 forms-size u t (e ∷ es) =
     let later = forms-size (u || is_of 117 e) (t || is_of 116 e) es in
@@ -393,7 +412,7 @@ extensions-short r =
     let extensions = length-with_hyphens (flat_map extension_flat r.extensions) in
     omega (arith, all, extensions)
 
-pub form_length : (r : Record) → length (spell (extensions_record r)) ≤ 2 * length (spell r)
+pub form_length : (r : Record) → 2 * length (spell (extensions_record r)) ≤ 3 * length (spell r)
 unfolding extensions_record
 form_length r =
     let whole = extensions-length r (forms_after false false r.extensions) in

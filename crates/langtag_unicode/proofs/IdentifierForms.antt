@@ -1,13 +1,19 @@
--- The form of a language identifier begins with a language.
-use Rattle.std.proofs.Common.{◌≡◌, ℕ, Bool, true, false, cond, List, [], ◌∷◌, ◌++◌, ◌&&◌, length, fold, Option, Some, None, refl, sym, ap, ◌∙◌, append_assoc}
+-- The form of a language identifier has a language, and maybe a script and a region.
+use Rattle.std.proofs.Common.{◌≡◌, ℕ, Bool, true, false, cond, List, [], ◌∷◌, ◌++◌, ◌&&◌, ◌==◌, not, length, map, fold, Option, Some, None, option_map, unwrap_or, refl, sym, ap, ◌∙◌, append_assoc}
 use Rattle.std.proofs.lemmas.List.{length-map}
 use Rattle.std.specs.List.{flat_map, list_all}
-use Rattle.std.specs.Option.{option_map_or}
+use Rattle.std.specs.Option.{is_none, option_map_or}
+use Rattle.std.specs.Prelude.{IfSome, IsTrue, find}
+use Rattle.langtag.specs.Repeat.{are_alike_bytes, repeat}
 use Rattle.langtag_case.proofs.RecommendedLaws.{recommended_alike}
 use Rattle.langtag_case.specs.RecommendedCase.{recommended_text}
-use Rattle.langtag_likely.specs.Aliases.{language_aliases}
-use Rattle.langtag_likely.specs.Likely.{Fields, Likely, are_alike_fields, language_alone, likely_for}
-use Rattle.langtag_likely.specs.Matching.{language_replaced, with_language_from}
+use Rattle.langtag_likely.proofs.FieldClasses.{from_region, from_script}
+use Rattle.langtag_likely.specs.Aliases.{language_aliases, region_replacements}
+use Rattle.langtag_likely.specs.Good.{is_region_field, is_script_field}
+use Rattle.langtag_likely.specs.Likely as likely
+use Rattle.langtag_likely.specs.Likely.{Fields, Likely, are_alike_fields, filled, language_alone, likely_for, looked_up, or_else, or_other}
+use Rattle.langtag_likely.specs.LikelySubtags.{language_rows, likely_subtags, other_rows}
+use Rattle.langtag_likely.specs.Matching.{language_replaced, region_alone, with_language_from}
 use Rattle.langtag_likely.specs.Maximal.{subtag_of}
 use Rattle.langtag_output.specs.Output.{with_subtag}
 use Rattle.langtag_registry.proofs.Pushed.{with_joined}
@@ -15,99 +21,233 @@ use Rattle.langtag_scan.proofs.NormalTexts.{spelled_once}
 use Rattle.langtag_scan.proofs.SubtagFacts.{of_primary}
 use Rattle.langtag_scan.specs.Case.{are_alike, fold_byte}
 use Rattle.langtag_scan.specs.Class as class
-use Rattle.langtag_scan.specs.Class.{is_primary}
+use Rattle.langtag_scan.specs.Class.{is_primary, is_region, is_script}
 use Rattle.langtag_scan.specs.Record.{IsWellFormed, Record, Spells, extension_flat, one_flat, private_part_flat, spell}
+use Rattle.langtag_scan.specs.Subtags.{segments}
 use Rattle.langtag_scan.specs.Tag.{IsNormal}
 use Rattle.langtag_unicode.specs.Alias.{Alias, TypeAlias, alias_for}
-use Rattle.langtag_unicode.specs.Locale.{is_locale_record}
+use Rattle.langtag_unicode.specs.Form.{is_unicode_language}
+use Rattle.langtag_unicode.specs.Locale.{is_locale_extension, is_locale_record}
 use Rattle.langtag_unicode.specs.LocaleAliases as list
 use Rattle.langtag_unicode.specs.LocaleForm as form
 use Rattle.langtag_unicode.specs.LocaleForm.{IsLocaleForm, extensions_in_order, has_variant, identifier_flat, identifier_form, language_after, locale_record, locale_text, new_variants, record_fields, sign_for}
-use Rattle.langtag_unicode.proofs.LocaleTables.{both, found_good}
+use Rattle.langtag_unicode.proofs.LocaleTables.{both, found_good, found_has, heir_good, region_heirs_good, scripts_good, variant_regions_good}
+
+-- a language, and a script and a region, either of which may be absent
+pub record AreSubtags (f : Fields) : Type 0 where
+  pub language : is_unicode_language f.language ≡ true
+  pub script : is_script_field f.script ≡ true
+  pub region : is_region_field f.region ≡ true
+
+pub language_primary : (f : Fields) → AreSubtags f → is_primary f.language ≡ true
+language_primary f are = (both (is_primary f.language) (not (length f.language == 4)) are.language).0
+
+abbrev are_subtags : Fields → Bool
+are_subtags f = is_unicode_language f.language && (is_script_field f.script && is_region_field f.region)
 
 -- ---- by computation
 
-languages_primary : list_all (λ row. is_primary row.to.language) language_aliases ≡ true
-unfolding language_aliases class.is_primary class.is_letter fold_byte
-languages_primary = refl
+languages_good : list_all (λ row. are_subtags row.to) language_aliases ≡ true
+unfolding language_aliases class.is_primary class.is_script class.is_region class.is_letter class.is_digit fold_byte
+languages_good = refl
 
-variant_languages_primary : list_all {X = TypeAlias} (λ alias. is_primary alias.new) list.variant_languages ≡ true
+variant_languages_good : list_all {X = TypeAlias} (λ alias. is_unicode_language alias.new) list.variant_languages ≡ true
 unfolding list.variant_languages class.is_primary class.is_letter fold_byte
-variant_languages_primary = refl
+variant_languages_good = refl
 
-sign_languages_primary : list_all {X = Alias} (λ alias. is_primary alias.new) list.sign_languages ≡ true
+sign_languages_good : list_all {X = Alias} (λ alias. is_unicode_language alias.new) list.sign_languages ≡ true
 unfolding list.sign_languages class.is_primary class.is_letter fold_byte
-sign_languages_primary = refl
+sign_languages_good = refl
+
+regions_good : list_all (λ row. is_region_field row.to.region) region_replacements ≡ true
+unfolding region_replacements class.is_region class.is_letter class.is_digit fold_byte
+regions_good = refl
+
+likely_regions_good : list_all (λ row. is_region_field row.to.region) likely_subtags ≡ true
+unfolding likely_subtags language_rows other_rows class.is_region class.is_letter class.is_digit fold_byte
+likely_regions_good = refl
+
+-- ---- what is found has what all have
+
+row_good : (good : Fields → Bool) (rows : List Likely) (key to : Fields) → list_all (λ row. good row.to) rows ≡ true → likely_for rows key ≡ Some to → good to ≡ true
+row_good good [] key to all found = absurd cc
+row_good good (row ∷ rows) key to all found =
+    let parts = both (good row.to) (list_all (λ row. good row.to) rows) all in
+    by_test (are_alike_fields row.from key) parts.0 (row_good good rows key to parts.1) found
+  where
+    by_test :
+        (b : Bool) → good row.to ≡ true → (likely_for rows key ≡ Some to → good to ≡ true) → cond b (Some row.to) (likely_for rows key) ≡ Some to → good to ≡ true
+    by_test true first later is = let same : row.to ≡ to = cc in ap good (sym same) ∙ first
+    by_test false first later is = later is
+
+-- the first of two values, if both have a region or none
+first_good :
+    (a b : Option Fields) → ((to : Fields) → a ≡ Some to → is_region_field to.region ≡ true) → ((to : Fields) → b ≡ Some to → is_region_field to.region ≡ true) →
+    (to : Fields) → or_else a b ≡ Some to → is_region_field to.region ≡ true
+first_good None b one two = two
+first_good (Some f) b one two = one
+
+either_good : (good : List ℕ → Bool) (text other : List ℕ) → good text ≡ true → good other ≡ true → good (or_other text other) ≡ true
+either_good good [] other one two = two
+either_good good (b ∷ text) other one two = one
 
 -- ---- the steps
 
-likely_primary : (rows : List Likely) (key to : Fields) → list_all (λ row. is_primary row.to.language) rows ≡ true → likely_for rows key ≡ Some to → is_primary to.language ≡ true
-likely_primary [] key to all found = absurd cc
-likely_primary (row ∷ rows) key to all found =
-    by_test (are_alike_fields row.from key) (both (is_primary row.to.language) (list_all (λ row. is_primary row.to.language) rows) all).0
-    (likely_primary rows key to (both (is_primary row.to.language) (list_all (λ row. is_primary row.to.language) rows) all).1) found
-  where
-    by_test :
-        (b : Bool) → is_primary row.to.language ≡ true → (likely_for rows key ≡ Some to → is_primary to.language ≡ true) → cond b (Some row.to) (likely_for rows key) ≡ Some to →
-        is_primary to.language ≡ true
-    by_test true first later is = let same : row.to ≡ to = cc in ap (λ f. is_primary f.language) (sym same) ∙ first
-    by_test false first later is = later is
-
-replaced_primary : (f : Fields) → is_primary f.language ≡ true → is_primary (language_replaced f).language ≡ true
+replaced_subtags : (f : Fields) → AreSubtags f → AreSubtags (language_replaced f)
 unfolding language_replaced
-replaced_primary f is = by_found (likely_for language_aliases (language_alone f)) refl
+replaced_subtags f are = by_found (likely_for language_aliases (language_alone f)) refl
   where
-    by_found : (o : Option Fields) → likely_for language_aliases (language_alone f) ≡ o → is_primary (option_map_or (with_language_from f) o f).language ≡ true
-    by_found None none = is
-    by_found (Some to) found = likely_primary language_aliases (language_alone f) to languages_primary found
+    by_found : (o : Option Fields) → likely_for language_aliases (language_alone f) ≡ o → AreSubtags (option_map_or (with_language_from f) o f)
+    by_found None none = are
+    by_found (Some to) found =
+        let good = row_good are_subtags language_aliases (language_alone f) to languages_good found in
+        let parts = both (is_unicode_language to.language) (is_script_field to.script && is_region_field to.region) good in
+        let others = both (is_script_field to.script) (is_region_field to.region) parts.1 in
+        record {
+          language = parts.0;
+          script = either_good is_script_field f.script to.script are.script others.0;
+          region = either_good is_region_field f.region to.region are.region others.1;
+        }
 
-fold_primary :
-    (variants : List (List ℕ)) (aliases : List TypeAlias) (language : List ℕ) → list_all {X = TypeAlias} (λ alias. is_primary alias.new) aliases ≡ true → is_primary language ≡ true →
-    is_primary (fold (language_after variants) language aliases) ≡ true
-fold_primary variants [] language all is = is
-fold_primary variants (a ∷ aliases) language all is =
-    fold_primary variants aliases (language_after variants language a) (both (is_primary a.new) (list_all {X = TypeAlias} (λ alias. is_primary alias.new) aliases) all).1
-    (by_test (are_alike a.key language && has_variant variants a.old) (both (is_primary a.new) (list_all {X = TypeAlias} (λ alias. is_primary alias.new) aliases) all).0)
+fold_language :
+    (variants : List (List ℕ)) (aliases : List TypeAlias) (language : List ℕ) → list_all {X = TypeAlias} (λ alias. is_unicode_language alias.new) aliases ≡ true → is_unicode_language language ≡ true →
+    is_unicode_language (fold (language_after variants) language aliases) ≡ true
+fold_language variants [] language all is = is
+fold_language variants (a ∷ aliases) language all is =
+    fold_language variants aliases (language_after variants language a) (both (is_unicode_language a.new) (list_all {X = TypeAlias} (λ alias. is_unicode_language alias.new) aliases) all).1
+    (by_test (are_alike a.key language && has_variant variants a.old) (both (is_unicode_language a.new) (list_all {X = TypeAlias} (λ alias. is_unicode_language alias.new) aliases) all).0)
   where
-    by_test : (b : Bool) → is_primary a.new ≡ true → is_primary (cond b a.new language) ≡ true
+    by_test : (b : Bool) → is_unicode_language a.new ≡ true → is_unicode_language (cond b a.new language) ≡ true
     by_test true new = new
     by_test false new = is
 
-sign_primary : (f : Fields) → is_primary f.language ≡ true → is_primary (form.sign_language f).language ≡ true
+variant_subtags : (variants : List (List ℕ)) (f : Fields) → AreSubtags f → AreSubtags (form.variant_language variants f)
+unfolding form.variant_language
+variant_subtags variants f are = record {
+  language = fold_language variants list.variant_languages f.language variant_languages_good are.language;
+  script = are.script;
+  region = are.region;
+}
+
+sign_subtags : (f : Fields) → AreSubtags f → AreSubtags (form.sign_language f)
 unfolding form.sign_language
-sign_primary f is = by_sign (sign_for f) refl
+sign_subtags f are = by_sign (sign_for f) refl
   where
-    found : (b : Bool) (new : List ℕ) → cond b (alias_for list.sign_languages f.region) None ≡ Some new → is_primary new ≡ true
-    found true new is = found_good is_primary (λ alias. are_alike alias.old f.region) list.sign_languages new sign_languages_primary is
+    found : (b : Bool) (new : List ℕ) → cond b (alias_for list.sign_languages f.region) None ≡ Some new → is_unicode_language new ≡ true
+    found true new is = found_good is_unicode_language (λ alias. are_alike alias.old f.region) list.sign_languages new sign_languages_good is
     found false new is = absurd cc
 
-    by_sign : (o : Option (List ℕ)) → sign_for f ≡ o → is_primary (option_map_or (form.without_sgn f) o f).language ≡ true
-    by_sign None none = is
-    by_sign (Some new) some = found _ new some
+    by_sign : (o : Option (List ℕ)) → sign_for f ≡ o → AreSubtags (option_map_or (form.without_sgn f) o f)
+    by_sign None none = are
+    by_sign (Some new) some = record { language = found _ new some; script = are.script; region = refl }
 
-pub form_primary : (variants : List (List ℕ)) (f : Fields) → is_primary f.language ≡ true → is_primary (identifier_form variants f).language ≡ true
-unfolding identifier_form form.script_replaced form.region_replaced form.variant_region form.variant_language
-form_primary variants f is =
-    sign_primary _ (sign_primary _ (fold_primary variants list.variant_languages (language_replaced f).language variant_languages_primary (replaced_primary f is)))
+with_region-subtags : (f : Fields) (region : List ℕ) → AreSubtags f → is_region_field region ≡ true → AreSubtags (form.with_region f region)
+with_region-subtags f region are good = record { language = are.language; script = are.script; region = good }
+
+brought_good : (variants : List (List ℕ)) → is_region_field (form.region_of variants list.variant_regions) ≡ true
+brought_good variants = by_found (find (λ (alias : Alias). has_variant variants alias.old) list.variant_regions) refl
+  where
+    by_found : (o : Option Alias) → find (λ (alias : Alias). has_variant variants alias.old) list.variant_regions ≡ o → is_region_field (option_map_or (λ alias. alias.new) o []) ≡ true
+    by_found None none = refl
+    by_found (Some a) found = found_has (λ (alias : Alias). is_region_field alias.new) (λ (alias : Alias). has_variant variants alias.old) list.variant_regions a variant_regions_good found
+
+variant_region-subtags : (variants : List (List ℕ)) (f : Fields) → AreSubtags f → AreSubtags (form.variant_region variants f)
+unfolding form.variant_region
+variant_region-subtags variants f are =
+    with_region-subtags f _ are (either_good is_region_field f.region (form.region_of variants list.variant_regions) are.region (brought_good variants))
+
+looked_up_good : (f to : Fields) → looked_up likely_subtags f ≡ Some to → is_region_field to.region ≡ true
+looked_up_good f =
+    first_good _ _ (found f) (first_good _ _ (found (likely.without_region f)) (first_good _ _ (found (likely.without_script f)) (found (language_alone f))))
+  where
+    found : (key to : Fields) → likely_for likely_subtags key ≡ Some to → is_region_field to.region ≡ true
+    found key to is = row_good (λ to. is_region_field to.region) likely_subtags key to likely_regions_good is
+
+likely_region_good : (f : Fields) → is_region_field (form.likely_region f) ≡ true
+unfolding form.likely_region
+likely_region_good f = by_row (looked_up likely_subtags (form.without_region f)) refl
+  where
+    by_row :
+        (o : Option Fields) → looked_up likely_subtags (form.without_region f) ≡ o →
+        is_region_field (option_map_or (λ most. most.region) (option_map (filled (form.without_region f)) o) []) ≡ true
+    by_row None none = refl
+    by_row (Some to) found = looked_up_good (form.without_region f) to found
+
+new_region_good : (f : Fields) → AreSubtags f → is_region_field (form.new_region f) ≡ true
+unfolding form.new_region
+new_region_good f are = by_row (likely_for region_replacements (region_alone f)) refl
+  where
+    by_heirs :
+        (o : Option (List ℕ)) → alias_for list.region_heirs f.region ≡ o →
+        is_region_field (unwrap_or (option_map (λ regions. form.heir (form.likely_region f) (segments regions)) o) f.region) ≡ true
+    by_heirs None none = are.region
+    by_heirs (Some regions) found =
+        heir_good is_region_field (form.likely_region f) (segments regions) (likely_region_good f) refl
+        (found_good (λ text. list_all is_region_field (segments text)) (λ alias. are_alike alias.old f.region) list.region_heirs regions region_heirs_good found)
+
+    by_row :
+        (o : Option Fields) → likely_for region_replacements (region_alone f) ≡ o →
+        is_region_field
+        (unwrap_or (or_else (option_map (λ to. to.region) o) (option_map (λ regions. form.heir (form.likely_region f) (segments regions)) (alias_for list.region_heirs f.region)))
+        f.region)
+        ≡ true
+    by_row None none = by_heirs (alias_for list.region_heirs f.region) refl
+    by_row (Some to) found = row_good (λ to. is_region_field to.region) region_replacements (region_alone f) to regions_good found
+
+region_subtags : (f : Fields) → AreSubtags f → AreSubtags (form.region_replaced f)
+unfolding form.region_replaced
+region_subtags f are = with_region-subtags f _ are (new_region_good f are)
+
+script_subtags : (f : Fields) → AreSubtags f → AreSubtags (form.script_replaced f)
+unfolding form.script_replaced
+script_subtags f are = record { language = are.language; script = by_found (alias_for list.script_aliases f.script) refl; region = are.region }
+  where
+    by_found : (o : Option (List ℕ)) → alias_for list.script_aliases f.script ≡ o → is_script_field (unwrap_or o f.script) ≡ true
+    by_found None none = are.script
+    by_found (Some new) found = found_good is_script_field (λ alias. are_alike alias.old f.script) list.script_aliases new scripts_good found
+
+pub form_subtags : (variants : List (List ℕ)) (f : Fields) → AreSubtags f → AreSubtags (identifier_form variants f)
+unfolding identifier_form
+form_subtags variants f are =
+    script_subtags _ (sign_subtags _ (region_subtags _ (variant_region-subtags variants _ (sign_subtags _ (variant_subtags variants _ (replaced_subtags f are))))))
 
 -- ---- the record
 
 flat-parts : (p : List ℕ) (a b c d e : List (List ℕ)) → (p ∷ (a ++ (b ++ c))) ++ (d ++ e) ≡ p ∷ (a ++ (b ++ (c ++ (d ++ e))))
 flat-parts p a b c d e = simp append_assoc
 
+optional_good : (test good : List ℕ → Bool) → good [] ≡ true → ((s : List ℕ) → test s ≡ true → good s ≡ true) → (o : Option (List ℕ)) → IfSome o (λ s. IsTrue (test s)) → good (unwrap_or o []) ≡ true
+optional_good test good none some None is = none
+optional_good test good none some (Some s) is = some s is
+
+pub locale_language : (r : Record) → is_locale_record r ≡ true → is_unicode_language r.primary ≡ true
+locale_language r locale =
+    let language = is_unicode_language r.primary in
+    let alone = length r.extended == 0 in
+    let variants = is_none (repeat are_alike r.variants) in
+    let singletons = is_none (repeat are_alike_bytes (map (λ e. e.singleton) r.extensions)) in
+    (both language alone (both (language && alone) variants (both (language && alone && variants) singletons (both (language && alone && variants && singletons) (list_all is_locale_extension r.extensions) locale).0).0).0).0
+
+pub record_subtags : (r : Record) → IsWellFormed r → is_locale_record r ≡ true → AreSubtags (record_fields r)
+record_subtags r fits locale = record {
+  language = locale_language r locale;
+  script = optional_good is_script is_script_field refl from_script r.script fits.script;
+  region = optional_good is_region is_region_field refl from_region r.region fits.region;
+}
+
 -- the form, put subtag by subtag
 pub locale_joined :
-    (r : Record) → IsWellFormed r →
+    (r : Record) → IsWellFormed r → is_locale_record r ≡ true →
     fold with_subtag []
     (identifier_flat (identifier_form r.variants (record_fields r)) (new_variants r.variants (record_fields r))
     ++ (flat_map extension_flat (extensions_in_order r.extensions) ++ private_part_flat r.private_use))
     ≡ spell (locale_record r)
 unfolding locale_record with_subtag
-locale_joined r fits =
+locale_joined r fits locale =
     let f : Fields = identifier_form r.variants (record_fields r) in
     ap (fold with_subtag [])
     (flat-parts f.language (one_flat (subtag_of f.script)) (one_flat (subtag_of f.region)) (new_variants r.variants (record_fields r)) (flat_map extension_flat (extensions_in_order r.extensions)) (private_part_flat r.private_use))
-    ∙ sym (with_joined [] f.language _ (of_primary f.language (form_primary r.variants (record_fields r) fits.primary)).some)
+    ∙ sym (with_joined [] f.language _ (of_primary f.language (language_primary f (form_subtags r.variants (record_fields r) (record_subtags r fits locale)))).some)
 
 -- ---- the text
 

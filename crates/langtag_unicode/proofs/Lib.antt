@@ -14,6 +14,11 @@ pub mod KeywordLaws
 pub mod LocaleExtensions
 pub mod LocaleTables
 pub mod IdentifierForms
+pub mod LocaleRecords
+pub mod LocaleSizes
+pub mod LocaleAgain
+pub mod LocaleTransforms
+pub mod LocaleSettled
 pub mod VariantForms
 pub mod KeywordRecords
 pub mod KeywordTwice

@@ -3,7 +3,6 @@ use Rattle.std.proofs.Common.{◌≡◌, ◌<◌, List, ℕ, Bool, [], ◌∷◌
 use Rattle.std.proofs.lemmas.Bool.{false≢true}
 use Rattle.std.proofs.lemmas.Grind.{flat_map-append}
 use Rattle.std.proofs.lemmas.List.Folds.{list_all_at}
-use Rattle.std.specs.Prelude.{find}
 use Rattle.std.specs.List.{AllByRecursion, flat_map, list_all}
 use Rattle.std.specs.Option.{option_map_or}
 use Rattle.langtag_extension.proofs.ExtensionLookUp.{extension_found}
@@ -14,7 +13,6 @@ use Rattle.langtag_scan.specs.Record.{Extension, IsWellFormedExtension, extensio
 use Rattle.langtag_unicode.specs.Form.{is_of, is_transform, unicode_form}
 use Rattle.langtag_unicode.specs.Locale.{is_locale_extension, is_unicode_subtag}
 use Rattle.langtag_unicode.specs.LocaleForm.{extension_at, locale_extension_form, locale_transform_form, singletons}
-use Rattle.langtag_unicode.proofs.LocaleTables.{both}
 
 -- these texts are left, and whether all extensions are allowed depends on them alone
 pub record AreAsked (all : List Extension) (texts : List (List ℕ)) : Type 0 where
@@ -68,15 +66,6 @@ module _ (all : List Extension) where
       by_left (e ∷ es) spelled same = absurd (omega (arith, ap length (sym none ∙ spelled)))
 
 -- ---- the extension with a singleton
-
--- an extension that is found has what all extensions have
-pub found_allowed : (test : Extension → Bool) (es : List Extension) (e : Extension) → find test es ≡ Some e → list_all is_locale_extension es ≡ true → is_locale_extension e ≡ true
-found_allowed test [] e found all = absurd cc
-found_allowed test (x ∷ es) e found all = by_test (test x) (both (is_locale_extension x) (list_all is_locale_extension es) all).0 (λ later. found_allowed test es e later (both (is_locale_extension x) (list_all is_locale_extension es) all).1) found
-  where
-    by_test : (b : Bool) → is_locale_extension x ≡ true → (find test es ≡ Some e → is_locale_extension e ≡ true) → cond b (Some x) (find test es) ≡ Some e → is_locale_extension e ≡ true
-    by_test true first later is = let same : x ≡ e = cc in ap is_locale_extension (sym same) ∙ first
-    by_test false first later is = later is
 
 -- the extension of a text that is found
 pub record FoundExtension (singleton : ℕ) (es : List Extension) (text : List ℕ) : Type 0 where

@@ -1,5 +1,5 @@
 -- The tables of language identifiers have what the lists say, and what replaces a field has its class: by computation.
-use Rattle.std.proofs.Common.{◌≡◌, ℕ, Bool, true, false, cond, List, [], ◌∷◌, ◌&&◌, map, option_map, Some, refl, sym, ap, ◌∙◌}
+use Rattle.std.proofs.Common.{◌≡◌, ℕ, Bool, true, false, cond, List, [], ◌∷◌, ◌&&◌, map, option_map, Option, None, Some, refl, sym, ap, ◌∙◌}
 use Rattle.std.proofs.lemmas.Bool.{false≢true}
 use Rattle.std.specs.Prelude.{find}
 use Rattle.std.specs.List.{list_all, list_any}
@@ -70,19 +70,35 @@ pub both : (x y : Bool) → (x && y) ≡ true → (x ≡ true) × (y ≡ true)
 both true y is = (refl, is)
 both false y is = absurd (false≢true is)
 
+-- what is found has what all have
+pub found_has : {X : Type 0} (good test : X → Bool) (xs : List X) (x : X) → list_all good xs ≡ true → find test xs ≡ Some x → good x ≡ true
+found_has good test [] x all is = absurd cc
+found_has good test (y ∷ xs) x all is =
+    let parts = both (good y) (list_all good xs) all in
+    by_test (test y) parts.0 (found_has good test xs x parts.1) is
+  where
+    by_test : (b : Bool) → good y ≡ true → (find test xs ≡ Some x → good x ≡ true) → cond b (Some y) (find test xs) ≡ Some x → good x ≡ true
+    by_test true first later found = let same : y ≡ x = cc in ap good (sym same) ∙ first
+    by_test false first later found = later found
+
+-- what is found passes the test
+pub found_is : {X : Type 0} (test : X → Bool) (xs : List X) (x : X) → find test xs ≡ Some x → test x ≡ true
+found_is test [] x is = absurd cc
+found_is test (y ∷ xs) x is = by_test (test y) refl (found_is test xs x) is
+  where
+    by_test : (b : Bool) → test y ≡ b → (find test xs ≡ Some x → test x ≡ true) → cond b (Some y) (find test xs) ≡ Some x → test x ≡ true
+    by_test true passes later found = let same : y ≡ x = cc in ap test (sym same) ∙ passes
+    by_test false passes later found = later found
+
 -- the replacement that is found has what all replacements have
 pub found_good :
     (good : List ℕ → Bool) (test : Alias → Bool) (aliases : List Alias) (new : List ℕ) → list_all (λ alias. good alias.new) aliases ≡ true →
     option_map (λ alias. alias.new) (find test aliases) ≡ Some new → good new ≡ true
-found_good good test [] new all is = absurd cc
-found_good good test (a ∷ aliases) new all is =
-    by_test (test a) (both (good a.new) (list_all (λ alias. good alias.new) aliases) all).0 (found_good good test aliases new (both (good a.new) (list_all (λ alias. good alias.new) aliases) all).1) is
+found_good good test aliases new all is = by_found (find test aliases) refl is
   where
-    by_test :
-        (b : Bool) → good a.new ≡ true → (option_map (λ alias. alias.new) (find test aliases) ≡ Some new → good new ≡ true) →
-        option_map (λ alias. alias.new) (cond b (Some a) (find test aliases)) ≡ Some new → good new ≡ true
-    by_test true first later found = let same : a.new ≡ new = cc in ap good (sym same) ∙ first
-    by_test false first later found = later found
+    by_found : (o : Option Alias) → find test aliases ≡ o → option_map (λ alias. alias.new) o ≡ Some new → good new ≡ true
+    by_found None found is = absurd cc
+    by_found (Some a) found is = let same : a.new ≡ new = cc in ap good (sym same) ∙ found_has (λ (alias : Alias). good alias.new) test aliases a all found
 
 pub heir_good : (good : List ℕ → Bool) (likely : List ℕ) (regions : List (List ℕ)) → good likely ≡ true → good [] ≡ true → list_all good regions ≡ true → good (heir likely regions) ≡ true
 heir_good good likely [] one none all = none

@@ -2,15 +2,11 @@
 use Rattle.std.specs.Prelude.{◌≡◌, ℕ, true, List}
 use Rattle.std.specs.List.{list_all}
 use Rattle.langtag_extension.specs.Spelling.{SpellsExtension, SpellsExtensions}
-use Rattle.langtag_scan.specs.Record.{Extension, Record, Spells}
-use Rattle.langtag_unicode.specs.Locale.{is_locale_extension, is_locale_record}
+use Rattle.langtag_scan.specs.Record.{Extension}
+use Rattle.langtag_unicode.specs.Locale.{is_locale_extension}
 
 abbrev pub IsAllowed : List ℕ → Type 0
 IsAllowed text = (e : Extension) × SpellsExtension e text × (is_locale_extension e ≡ true)
 
 abbrev pub AreAllowed : List ℕ → Type 0
 AreAllowed text = (es : List Extension) × SpellsExtensions es text × (list_all is_locale_extension es ≡ true)
-
--- whether a text is a Unicode locale identifier
-abbrev pub IsLocale : List ℕ → Type 0
-IsLocale text = (r : Record) × Spells r text × (is_locale_record r ≡ true)

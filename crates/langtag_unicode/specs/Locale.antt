@@ -1,10 +1,10 @@
 -- Unicode locale identifiers that are tags (UTS #35, part 1, section 'Unicode Locale Identifier').
-use Rattle.std.specs.Prelude.{ℕ, Bool, true, not, ◌&&◌, ◌||◌, ◌==◌, List, length, map, if◌then◌else◌}
+use Rattle.std.specs.Prelude.{◌≡◌, ℕ, Bool, true, not, ◌&&◌, ◌||◌, ◌==◌, List, length, map, if◌then◌else◌}
 use Rattle.std.specs.List.{list_all}
 use Rattle.std.specs.Option.{is_none}
 use Rattle.langtag.specs.Repeat.{are_alike_bytes, repeat}
 use Rattle.langtag_scan.specs.Case.{are_alike}
-use Rattle.langtag_scan.specs.Record.{Extension, Record}
+use Rattle.langtag_scan.specs.Record.{Extension, Record, Spells}
 use Rattle.langtag_unicode.specs.Edit.{is_unicode_key}
 use Rattle.langtag_unicode.specs.Form.{is_of, is_transform, is_unicode_language}
 use Rattle.langtag_unicode.specs.Keywords.{is_key}
@@ -24,3 +24,7 @@ abbrev pub is_locale_record : Record → Bool
 is_locale_record r =
     is_unicode_language r.primary && length r.extended == 0 && is_none (repeat are_alike r.variants)
     && is_none (repeat are_alike_bytes (map (λ e. e.singleton) r.extensions)) && list_all is_locale_extension r.extensions
+
+-- whether a text is a Unicode locale identifier
+abbrev pub IsLocale : List ℕ → Type 0
+IsLocale text = (r : Record) × Spells r text × (is_locale_record r ≡ true)

@@ -11,6 +11,7 @@ use Rattle.langtag_likely.specs.Likely.{Fields, add_likely, known, likely_for, o
 use Rattle.langtag_likely.specs.LikelySubtags.{likely_subtags}
 use Rattle.langtag_likely.specs.Matching.{language_replaced, region_alone}
 use Rattle.langtag_likely.specs.Maximal.{subtag_of}
+use Rattle.langtag_registry.specs.Canonical.{IsCanonicalForm}
 use Rattle.langtag_scan.specs.Case.{are_alike}
 use Rattle.langtag_scan.specs.Class.{is_region, is_script}
 use Rattle.langtag_scan.specs.Record.{Extension, Record, one_flat, spell}
@@ -18,7 +19,7 @@ use Rattle.langtag_scan.specs.Subtags.{segments}
 use Rattle.langtag_unicode.specs.Alias.{Alias, TypeAlias, alias_for, type_alias_for}
 use Rattle.langtag_unicode.specs.Form.{after_one, in_alphabet, is_of, keywords_form, one_of, transform_value, unicode_form}
 use Rattle.langtag_unicode.specs.Keywords.{before_key}
-use Rattle.langtag_unicode.specs.Locale.{is_locale_record}
+use Rattle.langtag_unicode.specs.Locale.{IsLocale, is_locale_record}
 use Rattle.langtag_unicode.specs.LocaleAliases.{dropped_variants, region_heirs, script_aliases, sign_languages, variant_aliases, variant_languages, variant_pairs, variant_regions}
 use Rattle.langtag_unicode.specs.Transform.{is_field_key}
 
@@ -199,3 +200,9 @@ locale_text r = recommended_text (spell (locale_record r))
 -- the form of a Unicode locale identifier; `None` for a tag that is not a Unicode locale identifier
 abbrev pub IsLocaleForm : List ℕ → Option (List ℕ) → Type 0
 IsLocaleForm tag form = PartOf tag (λ r. if is_locale_record r then Some (locale_text r) else None) None form
+
+-- the form of any tag: of a Unicode locale identifier its form, and of any other tag the form of its canonical form (RFC
+-- 5646 section 4.5); `None` if that is not a Unicode locale identifier, either
+pub record IsWholeForm (tag : List ℕ) (form : Option (List ℕ)) : Type 0 where
+  pub locale : IsLocale tag → IsLocaleForm tag form
+  pub other : (IsLocale tag → ⊥) → (canonical : List ℕ) × IsCanonicalForm tag canonical × IsLocaleForm canonical form

@@ -1,7 +1,7 @@
 //! The canonical form of a Unicode locale identifier (UTS #35, part 1, Annex C).
-ghost use Rattle.std.specs.Prelude.{◌≡◌, ◌<◌, ◌^◌, IfSome, IsTrue, List, None, Some, [], length, unwrap_or, ℕ};
+ghost use Rattle.std.specs.Prelude.{◌≡◌, ◌≤◌, ◌+◌, ◌*◌, IfOk, IfSome, IsTrue, None, Some, [], length, unwrap_or};
 ghost use Rattle.std.specs.Option.{option_map};
-ghost use Rattle.langtag.specs.Text.{lang_tag_text, normal_lang_tag_text};
+ghost use Rattle.langtag.specs.Text.{lang_tag_buf_text, lang_tag_text, normal_lang_tag_text};
 ghost use Rattle.langtag_language.specs.Language.{EachLanguageSpelling};
 ghost use Rattle.langtag_language.specs.Text.{language_text};
 ghost use Rattle.langtag_likely.specs.Good.{is_language_field, is_region_field, is_script_field};
@@ -10,17 +10,74 @@ ghost use Rattle.langtag_output.specs.Output.{IsCounted};
 ghost use Rattle.langtag_output.specs.Writes.{Writes};
 ghost use Rattle.langtag_place.specs.Text.{region_text, script_text};
 ghost use Rattle.langtag_scan.specs.Record as model;
-ghost use Rattle.langtag_unicode.specs.Allowed.{IsLocale};
+ghost use Rattle.langtag_unicode.specs.Locale as identifier;
 ghost use Rattle.langtag_unicode.specs.LocaleForm as spec;
 
-use crate::form::push_private_use;
-use crate::locale::is_locale_record;
+use crate::form::{push_private_use, tag_of};
+use crate::locale::{is_locale, is_locale_record};
 use crate::locale_extensions::{push_identifier, push_locale_extensions};
 use crate::subtags::nonempty;
-use langtag::{LangTag, Language, NormalLangTag, Region, Script};
+use langtag::{LangTag, LangTagBuf, Language, NormalLangTag, Region, Script};
 use langtag_case::make_recommended_case;
 use langtag_likely::TagFields;
 use langtag_output::Output;
+use langtag_registry::canonical;
+use std::alloc::{AllocError, Global};
+
+/// Returns the canonical form of a tag as a Unicode locale identifier (UTS #35, part 1, Annex C): `ger-UK` becomes
+/// `de-GB`, `sh` becomes `sr-Latn`, and `hy-SU` becomes `hy-AM`.
+///
+/// [`write_locale_form`] says what changes. A tag that is not a Unicode locale identifier gets its canonical form first
+/// (RFC 5646 section 4.5), as `langtag_registry::canonical` returns it: `zh-yue` becomes `yue`, and `i-klingon` becomes
+/// `tlh`. Returns `None` if that form is not a Unicode locale identifier, either, as in `x-a` and `und-t-m0`.
+///
+/// The time is quadratic in the number of variants, and of attributes.
+///
+/// # Errors
+///
+/// Returns an error if allocation fails.
+///
+/// ```
+/// use langtag::LangTag;
+/// use langtag_unicode::locale_form;
+///
+/// let form = locale_form(alloc, LangTag::new("ger-UK-u-ca-islamicc")?)?;
+/// form.as_ref().map(|form| form.as_str()); // Some("de-GB-u-ca-islamic-civil")
+/// locale_form(alloc, LangTag::new("x-a")?)?.is_none(); // true
+/// ```
+pub fn locale_form(alloc: Global, tag: LangTag<'_>) -> Result<Option<LangTagBuf>, AllocError>
+    ensures form { IfOk result (λ form. spec.IsWholeForm (lang_tag_text tag.entry) (option_map lang_tag_buf_text form)) }
+{
+    if is_locale(tag) {
+        return owned_form(alloc, tag);
+    }
+    let canonical_tag = canonical(alloc, tag)?;
+    owned_form(alloc, canonical_tag.as_lang_tag())
+}
+
+/// Returns the form of a tag, or `None` if the tag is not a Unicode locale identifier.
+fn owned_form(alloc: Global, tag: LangTag<'_>) -> Result<Option<LangTagBuf>, AllocError>
+    ensures { IfOk result (λ form. spec.IsLocaleForm (lang_tag_text tag.entry) (option_map lang_tag_buf_text form)) }
+{
+    let Some(tag) = tag.as_normal() else {
+        return Ok(None);
+    };
+    if !is_locale_record(tag) {
+        return Ok(None);
+    }
+    Ok(Some(tag_of(form_bytes(alloc, tag)?)))
+}
+
+/// Returns the bytes of the form of a Unicode locale identifier. It allocates once, exactly their number.
+fn form_bytes(alloc: Global, tag: NormalLangTag<'_>) -> Result<Vec<u8>, AllocError>
+    requires { identifier.IsLocale (normal_lang_tag_text tag) }
+    ensures { IfOk result (λ bytes. model.EachRecord (normal_lang_tag_text tag.entry) (λ r. bytes.items ≡ spec.locale_text r)) }
+{
+    let mut bytes = vec![in alloc; 0; put_parts(tag, &mut [])]?;
+    put_parts(tag, &mut bytes);
+    make_recommended_case(&mut bytes);
+    Ok(bytes)
+}
 
 /// Writes the canonical form of a Unicode locale identifier (UTS #35, part 1, Annex C) to a buffer, and returns its
 /// length in bytes: `ger-UK` becomes `de-GB`, `sh` becomes `sr-Latn`, and `hy-SU` becomes `hy-AM`.
@@ -36,8 +93,9 @@ use langtag_output::Output;
 /// Returns `None` if the tag is not a Unicode locale identifier, as [`is_locale`](crate::is_locale) finds. Many of these
 /// tags have a form after `langtag_registry::canonical`: `zh-yue` becomes `yue`, and `i-klingon` becomes `tlh`.
 ///
-/// If the buffer is too short, it stays unchanged, and the length says how long a buffer must be. It does not allocate.
-/// The time is quadratic in the number of variants, and of attributes. It needs as much stack as `is_locale`.
+/// If the buffer is too short, it stays unchanged, and the length says how long a buffer must be. A buffer of twice the
+/// length of the tag and 27 more bytes is always long enough. It does not allocate. The time is quadratic in the number
+/// of variants, and of attributes. It needs as much stack as `is_locale`.
 ///
 /// ```
 /// use langtag::LangTag;
@@ -48,10 +106,13 @@ use langtag_output::Output;
 /// buffer.get(..5); // Some(&b"de-GB"[..])
 /// write_locale_form(LangTag::new("zh-yue")?, &mut buffer); // None
 /// ```
+#[tactic(auto, using(crate::proofs::LocaleSettled::locale_settled))]
 pub fn write_locale_form(tag: LangTag<'_>, buffer: &mut [u8]) -> Option<usize>
-    ensures form { ((form : List ℕ) → spec.IsLocaleForm (lang_tag_text tag.entry) (Some form) → length form < 2 ^ 64) →
-        IfSome result (λ len. Writes (λ form. spec.IsLocaleForm (lang_tag_text tag.entry) (Some form)) buffer.old buffer.new len) }
+    ensures form { IfSome result (λ len. Writes (λ form. spec.IsLocaleForm (lang_tag_text tag.entry) (Some form)) buffer.old buffer.new len) }
+    ensures bounded { IfSome result (λ len. len ≤ 2 * length (lang_tag_text tag.entry) + 27) }
     ensures none { result ≡ None → spec.IsLocaleForm (lang_tag_text tag.entry) None }
+    ensures locale { (r : model.Record) → model.IsWellFormed r → IsTrue (identifier.is_locale_record r)
+        → IsTrue (identifier.is_locale_record (spec.locale_record r)) }
     ensures unchanged { result ≡ None → buffer.new ≡ buffer.old }
 {
     let normal = tag.as_normal()?;
@@ -63,9 +124,8 @@ pub fn write_locale_form(tag: LangTag<'_>, buffer: &mut [u8]) -> Option<usize>
 
 /// Writes the form of a Unicode locale identifier.
 fn write_parts(tag: NormalLangTag<'_>, buffer: &mut [u8]) -> usize
-    requires { IsLocale (normal_lang_tag_text tag) }
-    ensures { model.EachRecord (normal_lang_tag_text tag.entry) (λ r. length (spec.locale_text r) < 2 ^ 64
-        → Writes (λ form. form ≡ spec.locale_text r) buffer.old buffer.new result) }
+    requires { identifier.IsLocale (normal_lang_tag_text tag) }
+    ensures { model.EachRecord (normal_lang_tag_text tag.entry) (λ r. Writes (λ form. form ≡ spec.locale_text r) buffer.old buffer.new result) }
 {
     let len = put_parts(tag, &mut []);
     if len <= buffer.len() {
@@ -77,7 +137,7 @@ fn write_parts(tag: NormalLangTag<'_>, buffer: &mut [u8]) -> usize
 
 /// Writes as much of the form, before its case is changed, as fits into a buffer, and returns its full length.
 fn put_parts(tag: NormalLangTag<'_>, buffer: &mut [u8]) -> usize
-    requires { IsLocale (normal_lang_tag_text tag) }
+    requires { identifier.IsLocale (normal_lang_tag_text tag) }
     ensures { model.EachRecord (normal_lang_tag_text tag.entry) (λ r. IsCounted (model.spell (spec.locale_record r)) buffer.old buffer.new result) }
 {
     let mut out = Output::new(buffer);

@@ -37,7 +37,7 @@ mod transformation;
 mod unicode_extension;
 
 pub use attributes_iter::AttributesIter;
-pub use canonical_locale::write_locale_form;
+pub use canonical_locale::{locale_form, write_locale_form};
 pub use form::{extensions_form, write_extensions_form};
 pub use keys::Keys;
 pub use keyword_error::KeywordError;

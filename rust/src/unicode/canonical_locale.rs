@@ -5,11 +5,78 @@
 use crate::case::make_recommended_case;
 use crate::likely::TagFields;
 use crate::output::Output;
+#[cfg(feature = "alloc")]
+use crate::registry::canonical;
+#[cfg(feature = "alloc")]
+use crate::shim::{try_vec, AllocError};
+#[cfg(feature = "alloc")]
+use crate::tag::LangTagBuf;
 use crate::tag::{LangTag, Language, NormalLangTag, Region, Script};
 use crate::unicode::form::push_private_use;
-use crate::unicode::locale::is_locale_record;
+#[cfg(feature = "alloc")]
+use crate::unicode::form::tag_of;
+use crate::unicode::locale::{is_locale, is_locale_record};
 use crate::unicode::locale_extensions::{push_identifier, push_locale_extensions};
 use crate::unicode::subtags::nonempty;
+#[cfg(feature = "alloc")]
+use alloc::vec::Vec;
+
+/// Returns the canonical form of a tag as a Unicode locale identifier (UTS #35, part 1, Annex C): `ger-UK` becomes
+/// `de-GB`, `sh` becomes `sr-Latn`, and `hy-SU` becomes `hy-AM`.
+///
+/// [`write_locale_form`] says what changes. A tag that is not a Unicode locale identifier gets its canonical form first
+/// ([RFC 5646 section 4.5]), as `langtag::registry::canonical` returns it: `zh-yue` becomes `yue`, and `i-klingon` becomes
+/// `tlh`. Returns `None` if that form is not a Unicode locale identifier, either, as in `x-a` and `und-t-m0`.
+///
+/// The time is quadratic in the number of variants, and of attributes.
+///
+/// # Errors
+///
+/// Returns an error if allocation fails.
+///
+/// ```
+/// # fn main() -> Result<(), Box<dyn std::error::Error>> {
+/// use langtag::LangTag;
+/// use langtag::unicode::locale_form;
+///
+/// let form = locale_form(LangTag::new("ger-UK-u-ca-islamicc")?)?;
+/// assert_eq!(form.as_ref().map(|form| form.as_str()), Some("de-GB-u-ca-islamic-civil"));
+/// assert!(locale_form(LangTag::new("x-a")?)?.is_none());
+/// # Ok(())
+/// # }
+/// ```
+///
+/// [RFC 5646 section 4.5]: https://www.rfc-editor.org/rfc/rfc5646#section-4.5
+#[cfg(feature = "alloc")]
+#[inline]
+pub fn locale_form(tag: LangTag<'_>) -> Result<Option<LangTagBuf>, AllocError> {
+    if is_locale(tag) {
+        return owned_form(tag);
+    }
+    let canonical_tag = canonical(tag)?;
+    owned_form(canonical_tag.as_lang_tag())
+}
+
+/// Returns the form of a tag, or `None` if the tag is not a Unicode locale identifier.
+#[cfg(feature = "alloc")]
+fn owned_form(tag: LangTag<'_>) -> Result<Option<LangTagBuf>, AllocError> {
+    let Some(tag) = tag.as_normal() else {
+        return Ok(None);
+    };
+    if !is_locale_record(tag) {
+        return Ok(None);
+    }
+    Ok(Some(tag_of(form_bytes(tag)?)))
+}
+
+/// Returns the bytes of the form of a Unicode locale identifier. It allocates once, exactly their number.
+#[cfg(feature = "alloc")]
+fn form_bytes(tag: NormalLangTag<'_>) -> Result<Vec<u8>, AllocError> {
+    let mut bytes = try_vec(0, put_parts(tag, &mut []))?;
+    put_parts(tag, &mut bytes);
+    make_recommended_case(&mut bytes);
+    Ok(bytes)
+}
 
 /// Writes the canonical form of a Unicode locale identifier (UTS #35, part 1, Annex C) to a buffer, and returns its
 /// length in bytes: `ger-UK` becomes `de-GB`, `sh` becomes `sr-Latn`, and `hy-SU` becomes `hy-AM`.
@@ -25,8 +92,9 @@ use crate::unicode::subtags::nonempty;
 /// Returns `None` if the tag is not a Unicode locale identifier, as [`is_locale`](crate::unicode::is_locale) finds. Many of these
 /// tags have a form after `langtag::registry::canonical`: `zh-yue` becomes `yue`, and `i-klingon` becomes `tlh`.
 ///
-/// If the buffer is too short, it stays unchanged, and the length says how long a buffer must be. It does not allocate.
-/// The time is quadratic in the number of variants, and of attributes. It needs as much stack as `is_locale`.
+/// If the buffer is too short, it stays unchanged, and the length says how long a buffer must be. A buffer of twice the
+/// length of the tag and 27 more bytes is always long enough. It does not allocate. The time is quadratic in the number
+/// of variants, and of attributes. It needs as much stack as `is_locale`.
 ///
 /// ```
 /// # fn main() -> Result<(), Box<dyn std::error::Error>> {

@@ -41,6 +41,8 @@ mod transformation;
 mod unicode_extension;
 
 pub use attributes_iter::AttributesIter;
+#[cfg(feature = "alloc")]
+pub use canonical_locale::locale_form;
 pub use canonical_locale::write_locale_form;
 #[cfg(feature = "alloc")]
 pub use form::extensions_form;

@@ -1,6 +1,6 @@
 //! Calls of the extensions `u` and `t`.
 use langtag::unicode::*;
-use langtag::LangTag;
+use langtag::{LangTag, LangTagBuf};
 
 use crate::reader::{list, words};
 
@@ -76,6 +76,13 @@ pub fn whole_form(text: &str) -> String {
         "{text}"
     );
     assert_eq!(form.as_bytes(), again, "{text}");
+    assert!(len <= 2 * text.len() + 27, "{text}");
+    let owned = locale_form(tag(text)).expect("there is memory");
+    assert_eq!(
+        owned.as_ref().map(LangTagBuf::as_str),
+        Some(&*form),
+        "{text}"
+    );
     form
 }
 

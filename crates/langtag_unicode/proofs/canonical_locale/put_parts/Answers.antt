@@ -1,5 +1,6 @@
 use Rattle.std.proofs.Common.{◌++◌, [], sym, ap, subst, ◌∙◌, rules}
 use Rattle.std.specs.List.{flat_map}
+use Rattle.langtag.specs.Text.{normal_lang_tag_text}
 use Rattle.langtag_likely.specs.Texts.{field_texts}
 use Rattle.langtag_output.specs.Output.{HasText}
 use Rattle.langtag_registry.proofs.FaultLaws.{variants_listed}
@@ -7,6 +8,7 @@ use Rattle.langtag_registry.proofs.Pushed.{pushes_both, pushes_same}
 use Rattle.langtag_scan.specs.Record.{extension_flat, private_part_flat, spell}
 use Rattle.langtag_unicode.specs.LocaleForm.{extensions_in_order, identifier_flat, identifier_form, locale_record, new_variants, record_fields}
 use Rattle.langtag_unicode.proofs.IdentifierForms.{locale_joined}
+use Rattle.langtag_unicode.proofs.LocaleSizes.{spelled_locale}
 use Rattle.langtag_unicode.proofs.canonical_locale.put_parts.Goals as goal
 
 pub returns : goal.returns
@@ -25,5 +27,5 @@ returns c = λ r spells.
     (c.push_locale_extensions.ensures.pushed r.extensions (record { members = spells.0.extensions; joined = sym (c.extensions.ensures r spells) }))
     (c.push_private_use.ensures.pushed r.private_use (c.private_use.ensures r spells))) in
     let has : HasText c.args.buffer.now c.push_private_use.new.out (spell (locale_record r)) =
-    subst (HasText c.args.buffer.now c.push_private_use.new.out) (locale_joined r spells.0) (pushed c.args.buffer.now [] c.new-out.ensures.empty) in
+    subst (HasText c.args.buffer.now c.push_private_use.new.out) (locale_joined r spells.0 (spelled_locale (normal_lang_tag_text c.args.tag) r c.requires spells)) (pushed c.args.buffer.now [] c.new-out.ensures.empty) in
     record { counted = c.len.ensures ∙ has.counted; written = λ fits. search (rules, has.written fits) }

@@ -2,8 +2,8 @@ use Rattle.std.proofs.Common.{refl, sym, ◌∙◌}
 use Rattle.langtag.specs.Text.{lang_tag_text}
 use Rattle.langtag_likely.proofs.FormLaws.{rewritten}
 use Rattle.langtag_scan.specs.Tag.{IsNormal}
-use Rattle.langtag_unicode.specs.LocaleForm.{locale_text}
 use Rattle.langtag_unicode.proofs.IdentifierForms.{form_is}
+use Rattle.langtag_unicode.proofs.LocaleSizes.{written_bounded}
 use Rattle.langtag_unicode.proofs.canonical_locale.write_locale_form.Goals as goal
 
 pub returns-in_err-normal-clause-none : goal.returns-in_err-normal-clause-none
@@ -19,9 +19,16 @@ write_parts-requires c =
 
 pub returns-clause-form : goal.returns-clause-form
 unfolding IsNormal
-returns-clause-form c = λ short.
+returns-clause-form c =
     let (r, spells) = c.in_ok-normal.ensures.kind.0 refl in
     let here = spells.1 ∙ sym c.in_ok-normal.ensures.same_text in
     let locale = sym (c.is_locale_record.ensures r (spells.0, here)) ∙ c.if-not-is_locale_record.false in
-    rewritten _ _ _ (λ new is. form_is (lang_tag_text c.args.tag) new r spells locale is)
-    (c.write_parts.ensures r (spells.0, here) (short (locale_text r) (form_is (lang_tag_text c.args.tag) (locale_text r) r spells locale refl)))
+    rewritten _ _ _ (λ new is. form_is (lang_tag_text c.args.tag) new r spells locale is) (c.write_parts.ensures r (spells.0, here))
+
+pub returns-clause-bounded : goal.returns-clause-bounded
+unfolding IsNormal
+returns-clause-bounded c =
+    let (r, spells) = c.in_ok-normal.ensures.kind.0 refl in
+    let here = spells.1 ∙ sym c.in_ok-normal.ensures.same_text in
+    let locale = sym (c.is_locale_record.ensures r (spells.0, here)) ∙ c.if-not-is_locale_record.false in
+    written_bounded (lang_tag_text c.args.tag) _ _ _ r spells locale (c.write_parts.ensures r (spells.0, here))

@@ -2,14 +2,18 @@ use Rattle.std.proofs.Common.{◌≡◌, ◌≤◌, ◌++◌, drop, length, take
 use Rattle.std.proofs.Math.Seq.{take-append_seam}
 use Rattle.std.proofs.lemmas.Slice.{drop-append-drop}
 use Rattle.langtag_case.specs.RecommendedCase.{recommended_text}
+use Rattle.langtag.specs.Text.{normal_lang_tag_text}
 use Rattle.langtag_scan.specs.Record.{spell}
 use Rattle.langtag_unicode.specs.LocaleForm.{locale_record, locale_text}
 use Rattle.langtag_unicode.proofs.IdentifierForms.{same_length}
+use Rattle.langtag_unicode.proofs.LocaleSizes.{form_short}
 use Rattle.langtag_unicode.proofs.canonical_locale.write_parts.Goals as goal
 
 pub returns-then-len-buffer : goal.returns-then-len-buffer
 unfolding locale_text
-returns-then-len-buffer c = λ r spells short.
+returns-then-len-buffer c = λ r spells.
+    let tag = normal_lang_tag_text c.args.tag in
+    let short = form_short tag r c.requires spells (omega arith) in
     let before = c.args.buffer.now in
     let text = spell (locale_record r) in
     let n = c.put_parts-len.result in
@@ -29,7 +33,9 @@ returns-then-len-buffer c = λ r spells short.
     }
 
 pub returns-else-len-buffer : goal.returns-else-len-buffer
-returns-else-len-buffer c = λ r spells short.
+returns-else-len-buffer c = λ r spells.
+    let tag = normal_lang_tag_text c.args.tag in
+    let short = form_short tag r c.requires spells (omega arith) in
     let first = c.put_parts-len.ensures r spells in
     record {
       text = locale_text r;

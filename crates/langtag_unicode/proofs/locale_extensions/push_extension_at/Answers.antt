@@ -2,14 +2,16 @@ use Rattle.std.proofs.Common.{◌≡◌, option_map, sym, ap, ◌∙◌}
 use Rattle.langtag_extension.specs.Spelling.{find_extension}
 use Rattle.langtag_extension.specs.Text.{extension_text, singleton_byte}
 use Rattle.langtag_registry.proofs.Pushed.{pushes_ended, pushes_same}
-use Rattle.langtag_unicode.proofs.LocaleExtensions.{at_found, at_nothing, found_allowed, found_one, none_found}
+use Rattle.langtag_unicode.proofs.LocaleExtensions.{at_found, at_nothing, found_one, none_found}
+use Rattle.langtag_unicode.specs.Locale.{is_locale_extension}
+use Rattle.langtag_unicode.proofs.LocaleTables.{found_has}
 use Rattle.langtag_unicode.proofs.locale_extensions.push_extension_at.Goals as goal
 
 pub push_extension-requires : goal.push_extension-requires
 push_extension-requires c =
     let (es, spells, all) = c.requires.allowed in
     let found = found_one (singleton_byte c.in-Ok.singleton) es spells.members (extension_text c.in-Some.extension) (sym (ap (option_map extension_text) c.in-Some.is) ∙ c.get.ensures.first_match es spells) in
-    (found.one, found.spells, found_allowed _ es found.one found.found all)
+    (found.one, found.spells, found_has is_locale_extension _ es found.one all found.found)
 
 pub returns-in-Some-clause-pushed : goal.returns-in-Some-clause-pushed
 returns-in-Some-clause-pushed c = λ es spells.
