@@ -93,14 +93,15 @@ rise-apart : (ss : List (List ℕ)) → AllByRecursion (λ s. fold_text s ≡ s)
 rise-apart [] lowers rise = tt
 rise-apart (s ∷ ss) lowers rise = (after-apart s ss lowers.0 lowers.1 (all_after s ss rise.0 rise.1), rise-apart ss lowers.1 rise.1)
 
+pub alphabet-apart : (ss : List (List ℕ)) → Apart are_alike (in_alphabet ss)
+alphabet-apart ss = rise-apart (in_alphabet ss) (lower-alphabet ss) (rise-in_alphabet ss)
+
 pub new_variants-apart : (variants : List (List ℕ)) (f : Fields) → Apart are_alike (new_variants variants f)
-new_variants-apart variants f =
-    let all = forms (language_replaced f).language variants variants in
-    rise-apart (in_alphabet all) (lower-alphabet all) (rise-in_alphabet all)
+new_variants-apart variants f = alphabet-apart (forms (language_replaced f).language variants variants)
 
 -- ---- the singletons
 
-form_singleton : (e : Extension) → fold_byte (locale_extension_form e).singleton ≡ fold_byte e.singleton
+pub form_singleton : (e : Extension) → fold_byte (locale_extension_form e).singleton ≡ fold_byte e.singleton
 unfolding fold_byte
 form_singleton e = ap (λ x. fold_byte x.singleton) (locale_form_tested _ _ e refl refl) ∙ by_tests (is_of 117 e) (is_of 116 e) refl refl
   where
