@@ -20,6 +20,11 @@ pub mod LocaleAgain
 pub mod LocaleTransforms
 pub mod LocaleSettled
 pub mod VariantForms
+pub mod AlphabetTwice
+pub mod IdentifierTables
+pub mod IdentifierCase
+pub mod IdentifierLast
+pub mod IdentifierTwice
 pub mod KeywordRecords
 pub mod KeywordTwice
 pub mod KeywordBlocks
