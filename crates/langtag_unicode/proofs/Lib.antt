@@ -37,3 +37,4 @@ pub mod FormTwice
 pub mod ExtensionsTwice
 pub mod ExtensionCase
 pub mod LocaleCase
+pub mod LocaleTwice
