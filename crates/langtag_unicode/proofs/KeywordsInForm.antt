@@ -46,11 +46,11 @@ module _ (opens : List ℕ → Bool) where
       by_test true is later = tt
       by_test false is later = (is, later)
 
-  before-plain : (xs ys : List (List ℕ)) → Plain xs → before_key opens (xs ++ ys) ≡ xs ++ before_key opens ys
+  pub before-plain : (xs ys : List (List ℕ)) → Plain xs → before_key opens (xs ++ ys) ≡ xs ++ before_key opens ys
   before-plain [] ys plain = refl
   before-plain (x ∷ xs) ys plain = ap (λ b. cond b [] (x ∷ before_key opens (xs ++ ys))) plain.0 ∙ ap (λ t. x ∷ t) (before-plain xs ys plain.1)
 
-  value-plain : (key : List ℕ) (xs ys : List (List ℕ)) → Plain xs → value_of opens key (xs ++ ys) ≡ value_of opens key ys
+  pub value-plain : (key : List ℕ) (xs ys : List (List ℕ)) → Plain xs → value_of opens key (xs ++ ys) ≡ value_of opens key ys
   value-plain key [] ys plain = refl
   value-plain key (x ∷ xs) ys plain =
       ap (λ b. cond (b && are_alike x key) (Some (before_key opens (xs ++ ys))) (value_of opens key (xs ++ ys))) plain.0 ∙ value-plain key xs ys plain.1

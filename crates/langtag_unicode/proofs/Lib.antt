@@ -38,3 +38,4 @@ pub mod ExtensionsTwice
 pub mod ExtensionCase
 pub mod LocaleCase
 pub mod LocaleTwice
+pub mod KeywordOrder

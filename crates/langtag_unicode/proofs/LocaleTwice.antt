@@ -1,5 +1,5 @@
 -- The form of a Unicode locale identifier is its own form, and alike identifiers have the same form.
-use Rattle.std.proofs.Common.{◌≡◌, ℕ, Bool, true, false, cond, ◌&&◌, ◌||◌, ◌==◌, List, [], ◌∷◌, ◌++◌, Option, None, Some, option_map, unwrap_or, inl, inr, refl, sym, ap, subst, ◌∙◌, eqb-true}
+use Rattle.std.proofs.Common.{◌≡◌, ℕ, Bool, true, false, cond, ◌&&◌, ◌||◌, ◌==◌, List, [], ◌∷◌, ◌++◌, Option, None, Some, option_map, unwrap_or, refl, sym, ap, subst, ◌∙◌, eqb-true}
 use Rattle.std.specs.List.{AllByRecursion, flat_map, list_all, list_any}
 use Rattle.std.specs.Option.{option_map_or}
 use Rattle.std.specs.Prelude.{find}
@@ -10,11 +10,9 @@ use Rattle.langtag_extension.specs.Spelling.{find_extension}
 use Rattle.langtag_likely.specs.Likely.{Fields}
 use Rattle.langtag_likely.specs.Maximal.{subtag_of}
 use Rattle.langtag_scan.proofs.CaseLaw.{alike_parts}
-use Rattle.langtag_scan.proofs.NormalTexts.{normal_or_not}
 use Rattle.langtag_scan.specs.AlikeRecords.{AlikeRecords, IsSpelledAlike}
 use Rattle.langtag_scan.specs.Case.{fold_byte, fold_text}
 use Rattle.langtag_scan.specs.Record.{Extension, IsWellFormed, IsWellFormedExtension, PrivateUse, Record, Spells, spell}
-use Rattle.langtag_scan.specs.Tag.{IsNormal}
 use Rattle.langtag_unicode.specs.Form.{are_different_variants, are_fields, is_language_or_none, is_of, is_transform, is_unicode_language, unicode_form}
 use Rattle.langtag_unicode.specs.Keywords.{before_key}
 use Rattle.langtag_unicode.specs.Locale.{IsLocale, is_locale_extension, is_locale_record}
@@ -153,34 +151,12 @@ record-own r fits locale =
 
 -- ---- the text
 
--- what has a form is a Unicode locale identifier
-formed_record : (tag form : List ℕ) (r : Record) → Spells r tag → (b : Bool) → is_locale_record r ≡ b → Some form ≡ cond b (Some (locale_text r)) None → IsLocale tag
-formed_record tag form r spells true locale same = (r, spells, locale)
-formed_record tag form r spells false other same = absurd cc
-
-formed_locale : (tag form : List ℕ) → IsLocaleForm tag (Some form) → IsLocale tag
-unfolding IsNormal
-formed_locale tag form is = elim (normal_or_not tag) [
-  | inl normal ↦ formed_record tag form normal.0 normal.1 (is_locale_record normal.0) refl (is.part normal.0 normal.1)
-  | inr other ↦ let no : Some form ≡ None = is.absent other in absurd cc
-]
-
-pub locale_form-own : (tag form : List ℕ) → IsLocaleForm tag (Some form) → IsLocale form × IsLocaleForm form (Some form)
+-- the form of a record is that of a Unicode locale identifier, and its own form
+pub text-own : (r : Record) (form : List ℕ) → IsWellFormed r → is_locale_record r ≡ true → form ≡ locale_text r → IsLocale form × IsLocaleForm form (Some form)
 unfolding locale_text
-locale_form-own tag form is =
-    let (r, spells, locale) = formed_locale tag form is in
-    let given : Some form ≡ Some (locale_text r) = is.part r spells ∙ ap (λ b. cond b (Some (locale_text r)) None) locale in
-    let text : form ≡ locale_text r = cc in
+text-own r form fits locale text =
     let new : Record = locale_record r in
-    let (q, spells_form, alike, ends) = alike_parts (spell new) form (sym (ap fold_text text ∙ recommended_alike (spell new))) new (locale_well_formed r spells.0 locale, refl) in
-    let locale_q = sym (locale-alike new q alike) ∙ locale_settled r spells.0 locale in
-    let same : form ≡ locale_text q = text ∙ ap (λ x. recommended_text (spell x)) (sym (record-own r spells.0 locale)) ∙ text-alike new q alike in
-    ((q, spells_form, locale_q), form_is form form q spells_form locale_q same)
-
--- texts that are alike have the same form
-pub locale_form-alike : (tag form other : List ℕ) (other_form : Option (List ℕ)) → fold_text tag ≡ fold_text other → IsLocaleForm tag (Some form) → IsLocaleForm other other_form → Some form ≡ other_form
-locale_form-alike tag form other other_form alike is is_other =
-    let (r, spells, locale) = formed_locale tag form is in
-    let (q, spells_other, same, ends) = alike_parts tag other alike r spells in
-    is.part r spells ∙ ap (λ b. cond b (Some (locale_text r)) None) (locale-alike r q same)
-    ∙ ap (λ t. cond (is_locale_record q) (Some t) None) (text-alike r q same) ∙ sym (is_other.part q spells_other)
+    let (q, spells, alike, ends) = alike_parts (spell new) form (sym (ap fold_text text ∙ recommended_alike (spell new))) new (locale_well_formed r fits locale, refl) in
+    let locale_q = sym (locale-alike new q alike) ∙ locale_settled r fits locale in
+    let same : form ≡ locale_text q = text ∙ ap (λ x. recommended_text (spell x)) (sym (record-own r fits locale)) ∙ text-alike new q alike in
+    ((q, spells, locale_q), form_is form form q spells locale_q same)

@@ -15,6 +15,9 @@ ghost use Rattle.langtag_scan.specs.Record as model;
 ghost use Rattle.langtag_scan.specs.Subtags.{join, subtags};
 ghost use Rattle.langtag_scan.specs.Tag.{IsTag};
 ghost use Rattle.langtag_unicode.specs.Form as spec;
+ghost use Rattle.langtag_unicode.specs.FormLaws.{OrderChangesNothing};
+ghost use Rattle.langtag_unicode.specs.Keywords.{is_key};
+ghost use Rattle.langtag_unicode.specs.Transform.{is_field_key};
 ghost use Rattle.langtag_scan.specs.Ends.{to_variants};
 
 use crate::alphabet::push_in_alphabet;
@@ -57,6 +60,8 @@ pub fn extensions_form(alloc: Global, tag: LangTag<'_>) -> Result<LangTagBuf, Al
     ensures form { IfOk result (λ form. spec.IsExtensionsForm (lang_tag_text tag.entry) (lang_tag_buf_text form)) }
     ensures one { IfOk result (λ form. IsOnlyForm spec.extensions_record (lang_tag_text tag.entry) (lang_tag_buf_text form)) }
     ensures settled { IfOk result (λ form. spec.IsExtensionsForm (lang_tag_buf_text form) (lang_tag_buf_text form)) }
+    ensures keywords_move { OrderChangesNothing is_key spec.unicode_form }
+    ensures fields_move { OrderChangesNothing is_field_key spec.transform_form }
     ensures alike { IfOk result (λ form. IsAlikeForm spec.IsExtensionsForm (lang_tag_text tag.entry) (lang_tag_buf_text form)) }
 {
     Ok(tag_of(form_bytes(alloc, tag)?))
