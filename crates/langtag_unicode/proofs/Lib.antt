@@ -14,6 +14,7 @@ pub mod KeywordLaws
 pub mod LocaleExtensions
 pub mod LocaleTables
 pub mod IdentifierForms
+pub mod IdentifierSizes
 pub mod LocaleRecords
 pub mod LocaleSizes
 pub mod LocaleAgain
