@@ -68,8 +68,8 @@ module _ (opens : List ℕ → Bool) where
   keywords-same canonical ss ts same =
       ap
       (λ (values : List ℕ → Option (List (List ℕ))).
-          flat_map (λ a. flat_map (λ b. option_map_or (λ w. (a ∷ b ∷ []) ∷ map fold_text (subtags (canonical (a ∷ b ∷ []) (join w)))) (values (a ∷ b ∷ [])) []) letters_and_digits)
-          letters_and_digits)
+      flat_map (λ a. flat_map (λ b. option_map_or (λ w. (a ∷ b ∷ []) ∷ map fold_text (subtags (canonical (a ∷ b ∷ []) (join w)))) (values (a ∷ b ∷ [])) []) letters_and_digits)
+      letters_and_digits)
       (λ i key. same key i)
 
   moved : (start : List (List ℕ) → List (List ℕ)) (canonical : List ℕ → List ℕ → List ℕ) → OrderChangesNothing opens (λ ss. start (before_key opens ss) ++ form.keywords_form opens canonical ss)
