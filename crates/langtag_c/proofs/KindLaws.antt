@@ -21,4 +21,4 @@ kind_irregular t is_so = grind (arith, tag_of_irregular, one_kind)
 -- a tag of neither of the other kinds is irregular
 pub irregular_left : (t : List ℕ) → IsTag t → (IsNormal t → ⊥) → (IsPrivate t → ⊥) → IsIrregular t
 unfolding IsTag
-irregular_left t h1 no_normal no_private = grind (arith, nat_tests)
+irregular_left t tag no_normal no_private = grind (arith, nat_tests)

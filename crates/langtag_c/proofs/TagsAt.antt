@@ -25,7 +25,7 @@ tag_from_test text test = grind (arith, common_steps, or_cases, tag_normal, norm
 
 pub test_from_tag : (text : List ℕ) → IsTag text → is_tag text ≡ true
 unfolding IsTag
-test_from_tag text h1 = grind (arith, common_steps, or_left, runs_from_normal, or_right, is_private_use-from_rule, alike_some)
+test_from_tag text tag = grind (arith, common_steps, or_left, runs_from_normal, or_right, is_private_use-from_rule, alike_some)
 
 -- ---- a span
 
