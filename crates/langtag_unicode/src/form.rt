@@ -1,11 +1,12 @@
 //! The canonical form of a tag's extensions `u` and `t` (UTS #35, part 1, Annex C).
-ghost use Rattle.std.specs.Prelude.{◌≡◌, ◌≤◌, ◌*◌, ◌∷◌, ◌&&◌, ◌||◌, length, not, [], IfOk, List, Option, false};
+ghost use Rattle.std.specs.Prelude.{◌≡◌, ◌≤◌, ◌+◌, ◌∷◌, ◌&&◌, ◌||◌, length, not, [], IfOk, List, Option, false};
 ghost use Rattle.std.specs.List.{AllByRecursion, flat_map};
 ghost use Rattle.std.specs.Option.{option_map};
 ghost use Rattle.langtag.specs.Text.{lang_tag_buf_text, lang_tag_text, normal_lang_tag_text};
 ghost use Rattle.langtag_extension.specs.Spelling.{SpellsExtension, SpellsExtensions};
 ghost use Rattle.langtag_extension.specs.Text.{extension_text, extensions_text};
 ghost use Rattle.langtag_likely.specs.Maximal.{IsOnlyForm};
+ghost use Rattle.langtag_likely.specs.MaximalLaws.{IsAlikeForm};
 ghost use Rattle.langtag_output.specs.Output.{IsCounted, Pushes};
 ghost use Rattle.langtag_output.specs.Writes.{Writes};
 ghost use Rattle.langtag_private.specs.Text.{private_use_text};
@@ -14,6 +15,9 @@ ghost use Rattle.langtag_scan.specs.Record as model;
 ghost use Rattle.langtag_scan.specs.Subtags.{join, subtags};
 ghost use Rattle.langtag_scan.specs.Tag.{IsTag};
 ghost use Rattle.langtag_unicode.specs.Form as spec;
+ghost use Rattle.langtag_unicode.specs.FormLaws.{OrderChangesNothing};
+ghost use Rattle.langtag_unicode.specs.Keywords.{is_key};
+ghost use Rattle.langtag_unicode.specs.Transform.{is_field_key};
 ghost use Rattle.langtag_scan.specs.Ends.{to_variants};
 
 use crate::alphabet::push_in_alphabet;
@@ -55,6 +59,10 @@ use std::alloc::{AllocError, Global};
 pub fn extensions_form(alloc: Global, tag: LangTag<'_>) -> Result<LangTagBuf, AllocError>
     ensures form { IfOk result (λ form. spec.IsExtensionsForm (lang_tag_text tag.entry) (lang_tag_buf_text form)) }
     ensures one { IfOk result (λ form. IsOnlyForm spec.extensions_record (lang_tag_text tag.entry) (lang_tag_buf_text form)) }
+    ensures settled { IfOk result (λ form. spec.IsExtensionsForm (lang_tag_buf_text form) (lang_tag_buf_text form)) }
+    ensures keywords_move { OrderChangesNothing is_key spec.unicode_form }
+    ensures fields_move { OrderChangesNothing is_field_key spec.transform_form }
+    ensures alike { IfOk result (λ form. IsAlikeForm spec.IsExtensionsForm (lang_tag_text tag.entry) (lang_tag_buf_text form)) }
 {
     Ok(tag_of(form_bytes(alloc, tag)?))
 }
@@ -84,7 +92,7 @@ fn form_bytes(alloc: Global, tag: LangTag<'_>) -> Result<Vec<u8>, AllocError>
 
 /// Writes a tag with its extensions `u` and `t` in canonical form to a buffer, as [`extensions_form`] returns it, and
 /// returns its length in bytes. If the buffer is too short, it stays unchanged, and the length says how long a buffer
-/// must be. A buffer of twice the length of the tag is always long enough. It does not allocate.
+/// must be. A buffer of the tag's length and 20 bytes is always long enough. It does not allocate.
 ///
 /// ```
 /// use langtag::LangTag;
@@ -97,7 +105,7 @@ fn form_bytes(alloc: Global, tag: LangTag<'_>) -> Result<Vec<u8>, AllocError>
 #[tactic(auto, using(crate::proofs::FormSizes::form_bounded))]
 pub fn write_extensions_form(tag: LangTag<'_>, buffer: &mut [u8]) -> usize
     ensures form { Writes (spec.IsExtensionsForm (lang_tag_text tag.entry)) buffer.old buffer.new result }
-    ensures bounded { result ≤ 2 * length (lang_tag_text tag.entry) }
+    ensures bounded { result ≤ length (lang_tag_text tag.entry) + 20 }
 {
     match tag.as_normal() {
         Some(normal) => write_parts(normal, buffer),
