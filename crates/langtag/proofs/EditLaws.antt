@@ -122,12 +122,6 @@ after_variants r = flat_map extension_flat r.extensions ++ private_part_flat r.p
 abbrev after_region : Record → List (List ℕ)
 after_region r = r.variants ++ after_variants r
 
-abbrev after_script : Record → List (List ℕ)
-after_script r = one_flat r.region ++ after_region r
-
-abbrev after_language : Record → List (List ℕ)
-after_language r = one_flat r.script ++ after_script r
-
 -- ---- the language
 
 pub language-replaces :

@@ -108,11 +108,6 @@ filter_twice : (ss : List (List ℕ)) → filter is_plain (filter is_plain ss) �
 filter_twice [] = refl
 filter_twice (s ∷ ss) = grind (arith, common_steps, filter_twice ss)
 
--- the first of some subtags, and the others that are not "*"
-abbrev pub plain_others : List (List ℕ) → List (List ℕ)
-plain_others [] = []
-plain_others (first ∷ others) = first ∷ filter is_plain others
-
 -- the basic form of a range is one with these subtags, and its own basic form
 pub record IsBasicOf (text basic : List ℕ) : Type 0 where
   pub range : is_language_range basic ≡ true

@@ -19,8 +19,6 @@ use Rattle.langtag_registry.proofs.ExtensionOrder.{those_of}
 
 -- ---- what is folded once is folded
 
-module _ {X : Type 0} (f : X → X) (twice : (x : X) → f (f x) ≡ f x) where
-
 fold_private_use-twice : (p : PrivateUse) → fold_private_use (fold_private_use p) ≡ fold_private_use p
 fold_private_use-twice p = grind (arith, common_steps, fold_byte-twice, map-twice, fold_text-twice)
 

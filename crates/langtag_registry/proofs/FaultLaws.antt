@@ -204,5 +204,3 @@ pub record AreGoodUntil (n : ℕ) (all : List (List ℕ)) : Type 0 where
 
 pub good_at_start : (all : List (List ℕ)) → AreGoodUntil 0 all
 good_at_start all = record { registered = position_from-zero is_unregistered all; apart = refl }
-
-module _ (all : List (List ℕ)) (n : ℕ) (v : List ℕ) (rest : List (List ℕ)) (good : AreGoodUntil n all) (left : drop n all ≡ v ∷ rest) where

@@ -5,7 +5,7 @@ use Rattle.std.specs.Option.{option_map_or}
 use Rattle.std.proofs.lemmas.Bool.{and_parts}
 use Rattle.std.proofs.lemmas.Grind.{common_steps}
 use Rattle.langtag_scan.specs.Case.{fold_byte, are_alike}
-use Rattle.langtag_scan.specs.Record.{Extension, Record, Spells, spell}
+use Rattle.langtag_scan.specs.Record.{Record, Spells, spell}
 use Rattle.langtag_scan.specs.Tag.{IsNormal}
 use Rattle.langtag_scan.proofs.NormalTexts.{spelled_once, normal_or_not}
 use Rattle.langtag.specs.Registered.{IsGrandfathered, text_of}
@@ -33,11 +33,6 @@ variants_twice : (vs : List (List ℕ)) → canonical_variants (canonical_varian
 variants_twice [] = refl
 variants_twice (v ∷ vs) =
     grind (arith, common_steps, replaced-twice preferred_variant variant_settled v, variant_settled v, replaced preferred_variant v, variants_twice vs)
-
--- a record with other members than its script and private use
-abbrev with_members : Record → List ℕ → List (List ℕ) → Option (List ℕ) → List (List ℕ) → List Extension → Record
-with_members r primary extended region variants extensions =
-    record r { primary = primary; extended = extended; region = region; variants = variants; extensions = extensions }
 
 pub canonical_record-twice : (r : Record) → canonical_record (canonical_record r) ≡ canonical_record r
 unfolding canonical_record
