@@ -1,21 +1,24 @@
 // Made by rust/erase from crates/langtag_unicode/src/locale_for.rt. Change that file, not this one.
 
-//! The Unicode locale identifier that takes the place of a tag before its form is written (UTS #35, part 1, Annex C).
+//! The Unicode locale identifier whose form is the form of a tag (UTS #35, part 1, Annex C).
 
 use crate::registry::{is_registered_extlang, preferred_tag};
-use crate::tag::{LangTag, NormalLangTag};
+use crate::tag::{ExtendedLangTag, LangTag, NormalLangTag};
 use crate::unicode::locale::is_locale_record;
 
-/// Returns the Unicode locale identifier whose form is the form of a tag: the tag itself, its Preferred-Value, or the
-/// tag from its extended language on. Returns `None` if none of them is a Unicode locale identifier.
+/// Returns the Unicode locale identifier whose form is the form of a tag: the tag itself, its Preferred-Value, or the tag
+/// from its extended language on. Returns `None` if the tag has no form.
 pub(crate) fn locale_for<'a>(tag: LangTag<'a>) -> Option<NormalLangTag<'a>> {
     if let Some(locale) = as_locale(tag) {
         return Some(locale);
     }
-    match preferred_tag(tag) {
-        Some(value) => as_locale(value),
-        None => as_locale(from_extlang(tag)?),
+    if let Some(value) = preferred_tag(tag) {
+        return as_locale(value);
     }
+    if tag.is_grandfathered() {
+        return None;
+    }
+    as_locale(from_extlang(tag.as_normal()?)?)
 }
 
 /// Returns a tag as a normal tag if it is a Unicode locale identifier.
@@ -28,13 +31,12 @@ fn as_locale<'a>(tag: LangTag<'a>) -> Option<NormalLangTag<'a>> {
     Some(normal)
 }
 
-/// Returns a tag without its primary language if its extended language is registered: `yue-HK` for `zh-yue-HK`. Returns
-/// `None` if there are two extended languages.
-fn from_extlang<'a>(tag: LangTag<'a>) -> Option<LangTag<'a>> {
-    let language = tag.as_normal()?.language();
-    let mut extlangs = language.extension_subtags();
-    let extlang = extlangs.next()?;
-    if extlangs.next().is_some() || !is_registered_extlang(extlang) {
+/// Returns a tag from its extended language on: `yue-HK` for `zh-yue-HK`. Returns `None` if the extended language is not
+/// registered, or not the only one.
+fn from_extlang<'a>(tag: NormalLangTag<'a>) -> Option<LangTag<'a>> {
+    let language = tag.language();
+    let extlang = ExtendedLangTag::new(language.extension()?.as_str()).ok()?;
+    if !is_registered_extlang(extlang) {
         return None;
     }
     let start = language.primary().as_str().len() + 1;
