@@ -19,6 +19,7 @@ pub mod LocaleSizes
 pub mod LocaleAgain
 pub mod LocaleTransforms
 pub mod LocaleSettled
+pub mod WholeForms
 pub mod VariantForms
 pub mod KeywordRecords
 pub mod KeywordTwice

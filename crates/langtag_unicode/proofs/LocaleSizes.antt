@@ -247,13 +247,16 @@ module _ (es : List Extension) (allowed : list_all is_locale_extension es ≡ tr
 
 -- ---- the whole tag
 
-pub locale_length : (r : Record) → IsWellFormed r → is_locale_record r ≡ true → 2 * length (locale_text r) ≤ 3 * length (spell r) + 55
+-- `more_bytes` is what the extensions grow by, besides half of their size
+parts_length :
+    (r : Record) (more_bytes : ℕ) → IsWellFormed r → is_locale_record r ≡ true →
+    2 * size (flat_map extension_flat (extensions_in_order r.extensions)) ≤ more_bytes + 3 * size (flat_map extension_flat r.extensions) →
+    2 * length (locale_text r) ≤ 3 * length (spell r) + 28 + more_bytes
 unfolding locale_record
-locale_length r fits locale =
+parts_length r more_bytes fits locale extensions =
     let form : Fields = identifier_form r.variants (record_fields r) in
     let fields = fields-size form (form_subtags r.variants (record_fields r) (record_subtags r fits locale)) in
     let variants = new_variants-size r.variants (record_fields r) in
-    let extensions = extensions-size r.extensions (all_allowed r locale) in
     let old = primary_length r.primary fits.primary in
     let same = same_length r in
     let new_all = length-spell (locale_record r) in
@@ -265,6 +268,19 @@ locale_length r fits locale =
     let e = length-with_hyphens r.variants in
     let g = length-with_hyphens (flat_map extension_flat r.extensions) in
     omega (arith, fields, variants, extensions, old, same, new_all, old_all, a, b, c, d, e, g)
+
+pub locale_length : (r : Record) → IsWellFormed r → is_locale_record r ≡ true → 2 * length (locale_text r) ≤ 3 * length (spell r) + 55
+locale_length r fits locale = let most = parts_length r 27 fits locale (extensions-size r.extensions (all_allowed r locale)) in omega (arith, most)
+
+-- a record without extensions
+pub plain_length : (r : Record) → IsWellFormed r → is_locale_record r ≡ true → r.extensions ≡ [] → 2 * length (locale_text r) ≤ 3 * length (spell r) + 28
+plain_length r fits locale none =
+    let most = parts_length r 0 fits locale (ap_none r.extensions none) in
+    omega (arith, most)
+  where
+    ap_none : (es : List Extension) → es ≡ [] → 2 * size (flat_map extension_flat (extensions_in_order es)) ≤ 0 + 3 * size (flat_map extension_flat es)
+    ap_none [] is = omega arith
+    ap_none (e ∷ es) is = absurd cc
 
 -- the record of a Unicode locale identifier is allowed
 pub spelled_locale : (tag : List ℕ) (r : Record) → IsLocale tag → Spells r tag → is_locale_record r ≡ true

@@ -1,0 +1,196 @@
+-- The form of any tag is the form of the Unicode locale identifier that takes the place of the tag.
+use Rattle.std.proofs.Common.{◌≡◌, ℕ, ◌+◌, ◌*◌, ◌≤◌, Bool, true, false, cond, leb, List, [], ◌∷◌, ◌++◌, drop, length, Option, Some, None, refl, sym, ap, subst, ◌∙◌, arith, append_assoc}
+use Rattle.std.proofs.lemmas.Bool.{and_parts, false≢true, leb-true}
+use Rattle.std.proofs.lemmas.List.{drop_at, length_push}
+use Rattle.std.specs.List.{flat_map, list_all}
+use Rattle.langtag.specs.Part.{PartOf}
+use Rattle.langtag.specs.Registered.{IsGrandfathered}
+use Rattle.langtag_language.proofs.Rules.{subtags-extension}
+use Rattle.langtag_language.specs.Language.{SpellsLanguageExtension}
+use Rattle.langtag_likely.proofs.RowsFound.{alike_length}
+use Rattle.langtag_registry.proofs.WholeTags.{preferred_spelled, record_of, simple_record}
+use Rattle.langtag_registry.specs.Entry.{Entry, value_for}
+use Rattle.langtag_registry.specs.Fields.{preferred_tag}
+use Rattle.langtag_registry.specs.Registered.{is_registered_extlang}
+use Rattle.langtag_registry.specs.Subtags.{tag_preferred}
+use Rattle.langtag_scan.proofs.NormalTexts.{spelled_once}
+use Rattle.langtag_scan.specs.Case.{are_alike}
+use Rattle.langtag_scan.specs.Class.{is_extended}
+use Rattle.langtag_scan.specs.Record.{EachRecord, IsWellFormed, Record, Spells, extension_flat, one_flat, private_part_flat, spell}
+use Rattle.langtag_scan.specs.Subtags.{join}
+use Rattle.langtag_scan.specs.Tag.{IsNormal}
+use Rattle.langtag_tables.proofs.Letters.{extended_primary}
+use Rattle.langtag_unicode.specs.Locale.{IsLocale, is_locale_record}
+use Rattle.langtag_unicode.specs.LocaleForm.{IsLocaleForm, IsWholeForm, extlang_replaced, locale_text, record_form, replace_language}
+use Rattle.langtag_unicode.proofs.LocaleSizes.{locale_length, plain_length}
+
+-- ---- the extended language takes the place of the language
+
+-- a text of three letters is the only extended subtag
+pub only_one : (extended : List (List ℕ)) (text : List ℕ) → SpellsLanguageExtension extended text → is_extended text ≡ true → extended ≡ text ∷ []
+only_one extended text spells is =
+    sym (subtags-extension extended text spells) ∙ subtags-extension (text ∷ []) text (record { members = (is, tt); some = omega arith; few = omega arith; joined = refl })
+
+-- two extended subtags, or three, stay
+pub several_stay : (extended : List (List ℕ)) (text : List ℕ) (r : Record) → SpellsLanguageExtension extended text → is_extended text ≡ false → replace_language extended r ≡ r
+several_stay [] text r spells other = refl
+several_stay (e ∷ []) text r spells other = absurd (false≢true (sym other ∙ sym (ap is_extended spells.joined) ∙ spells.members.0))
+several_stay (e ∷ f ∷ extended) text r spells other = refl
+
+pub none_stay : (extended : List (List ℕ)) (r : Record) → extended ≡ [] → replace_language extended r ≡ r
+none_stay extended r none = rw none refl
+
+pub other_stays : (extended : List (List ℕ)) (extlang : List ℕ) (r : Record) → extended ≡ extlang ∷ [] → is_registered_extlang extlang ≡ false → replace_language extended r ≡ r
+other_stays extended extlang r one other = rw (one, other) refl
+
+-- the record from the extended language on
+abbrev from : List ℕ → Record → Record
+from extlang r = record r { primary = extlang; extended = [] }
+
+replaced_from : (extended : List (List ℕ)) (extlang : List ℕ) (r : Record) → extended ≡ extlang ∷ [] → is_registered_extlang extlang ≡ true → replace_language extended r ≡ from extlang r
+replaced_from extended extlang r one known = rw (one, known) refl
+
+after_first : (x y : List ℕ) (ys : List (List ℕ)) → drop (length x + 1) (join (x ∷ y ∷ ys)) ≡ join (y ∷ ys)
+after_first x y ys =
+    ap (drop (length x + 1)) (sym (append_assoc x (45 ∷ []) (join (y ∷ ys)))) ∙ drop_at (x ++ 45 ∷ []) (join (y ∷ ys)) (length x + 1) (sym (length_push x 45))
+
+from_well_formed : (r : Record) (extlang : List ℕ) → IsWellFormed r → is_extended extlang ≡ true → IsWellFormed (from extlang r)
+from_well_formed r extlang fits is = record {
+  primary = extended_primary extlang is;
+  extended = tt;
+  few = omega arith;
+  short = inr refl;
+  script = fits.script;
+  region = fits.region;
+  variants = fits.variants;
+  extensions = fits.extensions;
+  private_use = fits.private_use;
+}
+
+-- its text is the rest of the tag
+pub extlang_spelled :
+    (r : Record) (extlang text rest : List ℕ) → Spells r text → r.extended ≡ extlang ∷ [] → is_extended extlang ≡ true → is_registered_extlang extlang ≡ true →
+    rest ≡ drop (length r.primary + 1) text → Spells (extlang_replaced r) rest
+extlang_spelled r extlang text rest spells one is known same =
+    subst (λ p. Spells p rest) (sym (replaced_from r.extended extlang r one known)) (from_well_formed r extlang spells.0 is, sym cut)
+  where
+    others : List (List ℕ)
+    others = one_flat r.script ++ (one_flat r.region ++ (r.variants ++ (flat_map extension_flat r.extensions ++ private_part_flat r.private_use)))
+
+    cut : rest ≡ spell (from extlang r)
+    cut =
+        same ∙ ap (drop (length r.primary + 1)) (sym spells.1) ∙ ap (λ es. drop (length r.primary + 1) (join (r.primary ∷ (es ++ others)))) one
+        ∙ after_first r.primary extlang others
+
+-- ---- the form of a Unicode locale identifier
+
+record_form-none : (r : Record) → (is_locale_record r ≡ true → ⊥) → None ≡ record_form r
+record_form-none r no = by_test (is_locale_record r) no
+  where
+    by_test : (b : Bool) → (b ≡ true → ⊥) → None ≡ cond b (Some (locale_text r)) None
+    by_test true no = absurd (no refl)
+    by_test false no = refl
+
+none_form : (tag : List ℕ) → (IsLocale tag → ⊥) → IsLocaleForm tag None
+none_form tag no = record { part = λ r spells. record_form-none r (λ locale. no (r, spells, locale)); absent = λ other. refl }
+
+form_from : (tag form : List ℕ) (is : IsLocale tag) → IsLocaleForm tag (Some form) → form ≡ locale_text is.0
+form_from tag form (r, spells, locale) of =
+    let same : Some form ≡ Some (locale_text r) = of.part r spells ∙ ap (λ b. cond b (Some (locale_text r)) None) locale in
+    cc
+
+-- ---- the form of any tag
+
+pub own_form : (tag : List ℕ) (form : Option (List ℕ)) → IsLocale tag → IsLocaleForm tag form → IsWholeForm tag form
+own_form tag form is of = record { locale = λ _. of; whole = λ no. absurd (no is); kept = λ no. absurd (no is); parts = λ no. absurd (no is) }
+
+pub value_form : (tag value : List ℕ) (form : Option (List ℕ)) → (IsLocale tag → ⊥) → preferred_tag tag ≡ Some value → IsLocaleForm value form → IsWholeForm tag form
+value_form tag value form no found of = record {
+  locale = λ is. absurd (no is);
+  whole = λ _ other same. let one : value ≡ other = some_one (sym found ∙ same) in subst (λ t. IsLocaleForm t form) one of;
+  kept = λ _ none. absurd (is_not (sym none ∙ found));
+  parts = λ _ none. absurd (is_not (sym none ∙ found));
+}
+  where
+    some_one : {a b : List ℕ} → Some a ≡ Some b → a ≡ b
+    some_one same = cc
+
+    is_not : None ≡ Some value → ⊥
+    is_not same = cc
+
+pub kept_form : (tag : List ℕ) → (IsLocale tag → ⊥) → preferred_tag tag ≡ None → IsGrandfathered tag → IsWholeForm tag None
+kept_form tag no none old = record {
+  locale = λ is. absurd (no is);
+  whole = λ _ value same. absurd (is_not value (sym none ∙ same));
+  kept = λ _ _ _. refl;
+  parts = λ _ _ new. absurd (new old);
+}
+  where
+    is_not : (value : List ℕ) → None ≡ Some value → ⊥
+    is_not value same = cc
+
+abbrev IsPartsForm : List ℕ → Option (List ℕ) → Type 0
+IsPartsForm tag form = PartOf tag (λ r. record_form (extlang_replaced r)) None form
+
+parts_form : (tag : List ℕ) (form : Option (List ℕ)) → (IsLocale tag → ⊥) → preferred_tag tag ≡ None → (IsGrandfathered tag → ⊥) → IsPartsForm tag form → IsWholeForm tag form
+parts_form tag form no none new of = record {
+  locale = λ is. absurd (no is);
+  whole = λ _ value same. absurd (is_not value (sym none ∙ same));
+  kept = λ _ _ old. absurd (new old);
+  parts = λ _ _ _. of;
+}
+  where
+    is_not : (value : List ℕ) → None ≡ Some value → ⊥
+    is_not value same = cc
+
+pub rest_form :
+    (tag rest : List ℕ) (form : Option (List ℕ)) → (IsLocale tag → ⊥) → preferred_tag tag ≡ None → (IsGrandfathered tag → ⊥) → IsNormal tag →
+    EachRecord tag (λ r. Spells (extlang_replaced r) rest) → IsLocaleForm rest form → IsWholeForm tag form
+unfolding IsNormal
+rest_form tag rest form no none new normal spelled of =
+    parts_form tag form no none new (record { part = λ r spells. of.part (extlang_replaced r) (spelled r spells); absent = λ other. absurd (other normal) })
+
+-- a tag that stays as it is has no form
+pub stays_none : (tag : List ℕ) → (IsLocale tag → ⊥) → preferred_tag tag ≡ None → (IsGrandfathered tag → ⊥) → EachRecord tag (λ r. extlang_replaced r ≡ r) → IsWholeForm tag None
+stays_none tag no none new stays =
+    parts_form tag None no none new (record {
+      part = λ r spells. record_form-none r (λ locale. no (r, spells, locale)) ∙ ap record_form (sym (stays r spells));
+      absent = λ other. refl;
+    })
+
+-- ---- how long it may be
+
+pub own_bounded : (tag old form : List ℕ) → IsLocale tag → length tag ≤ length old → IsLocaleForm tag (Some form) → length form ≤ 2 * length old + 27
+own_bounded tag old form (r, spells, locale) short of =
+    let is = ap length (form_from tag form (r, spells, locale) of) in omega (arith, is, locale_length r spells.0 locale, ap length spells.1, short)
+
+-- a Preferred-Value is at most 8 bytes longer than its tag
+values_follow : list_all (λ (e : Entry). leb (3 * length e.value) (2 * length e.subtag + 36)) tag_preferred ≡ true
+unfolding tag_preferred
+values_follow = refl
+
+value_long :
+    (list : List Entry) (text value : List ℕ) → list_all (λ (e : Entry). leb (3 * length e.value) (2 * length e.subtag + 36)) list ≡ true → value_for list text ≡ Some value →
+    3 * length value ≤ 2 * length text + 36
+value_long [] text value all found = absurd cc
+value_long (e ∷ list) text value all found =
+    let parts = and_parts (leb (3 * length e.value) (2 * length e.subtag + 36)) (list_all (λ (e : Entry). leb (3 * length e.value) (2 * length e.subtag + 36)) list) all in
+    by_test (are_alike e.subtag text) refl found (leb-true _ _ parts.0) (value_long list text value parts.1)
+  where
+    by_test :
+        (b : Bool) → are_alike e.subtag text ≡ b → cond b (Some e.value) (value_for list text) ≡ Some value → 3 * length e.value ≤ 2 * length e.subtag + 36 →
+        (value_for list text ≡ Some value → 3 * length value ≤ 2 * length text + 36) → 3 * length value ≤ 2 * length text + 36
+    by_test true alike is short later =
+        let same : e.value ≡ value = cc in
+        let as_long = alike_length e.subtag text alike in
+        omega (arith, short, ap length same, as_long)
+    by_test false alike is short later = later is
+
+pub value_bounded : (tag value form : List ℕ) → preferred_tag tag ≡ Some value → IsLocale value → IsLocaleForm value (Some form) → length form ≤ 2 * length tag + 27
+unfolding preferred_tag
+value_bounded tag value form found (r, spells, locale) of =
+    let plain = preferred_spelled tag value found in
+    let one : r ≡ record_of value = spelled_once r (record_of value) spells.0 plain.0 (spells.1 ∙ sym plain.1) in
+    let none = ap (λ (p : Record). p.extensions) one ∙ (simple_record value).extensions in
+    let is = ap length (form_from value form (r, spells, locale) of) in
+    omega (arith, is, plain_length r spells.0 locale none, ap length spells.1, value_long tag_preferred tag value values_follow found)
