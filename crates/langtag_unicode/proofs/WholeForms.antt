@@ -1,8 +1,11 @@
 -- The form of any tag is the form of the Unicode locale identifier that takes the place of the tag.
-use Rattle.std.proofs.Common.{◌≡◌, ℕ, ◌+◌, ◌*◌, ◌≤◌, Bool, true, false, cond, leb, List, [], ◌∷◌, ◌++◌, drop, length, Option, Some, None, refl, sym, ap, subst, ◌∙◌, arith, append_assoc}
+use Rattle.std.proofs.Common.{◌≡◌, ℕ, ◌+◌, ◌*◌, ◌≤◌, Bool, true, false, cond, leb, List, [], ◌∷◌, ◌++◌, drop, length, Option, Some, None, inl, inr, ◌⊎◌, refl, sym, ap, subst, ◌∙◌, arith, append_assoc}
 use Rattle.std.proofs.lemmas.Bool.{and_parts, false≢true, leb-true}
 use Rattle.std.proofs.lemmas.List.{drop_at, length_push}
-use Rattle.std.specs.List.{flat_map, list_all}
+use Rattle.std.proofs.lemmas.Option.{none-some}
+use Rattle.std.specs.List.{AllByRecursion, flat_map, list_all}
+use Rattle.std.specs.Prelude.{IsTrue}
+use Rattle.langtag.proofs.PartOfLaws.{part_found}
 use Rattle.langtag.specs.Part.{PartOf}
 use Rattle.langtag.specs.Registered.{IsGrandfathered}
 use Rattle.langtag_language.proofs.Rules.{subtags-extension}
@@ -13,7 +16,7 @@ use Rattle.langtag_registry.specs.Entry.{Entry, value_for}
 use Rattle.langtag_registry.specs.Fields.{preferred_tag}
 use Rattle.langtag_registry.specs.Registered.{is_registered_extlang}
 use Rattle.langtag_registry.specs.Subtags.{tag_preferred}
-use Rattle.langtag_scan.proofs.NormalTexts.{spelled_once}
+use Rattle.langtag_scan.proofs.NormalTexts.{normal_or_not, spelled_once}
 use Rattle.langtag_scan.specs.Case.{are_alike}
 use Rattle.langtag_scan.specs.Class.{is_extended}
 use Rattle.langtag_scan.specs.Record.{EachRecord, IsWellFormed, Record, Spells, extension_flat, one_flat, private_part_flat, spell}
@@ -108,47 +111,34 @@ pub value_form : (tag value : List ℕ) (form : Option (List ℕ)) → (IsLocale
 value_form tag value form no found of = record {
   locale = λ is. absurd (no is);
   whole = λ _ other same. let one : value ≡ other = some_one (sym found ∙ same) in subst (λ t. IsLocaleForm t form) one of;
-  kept = λ _ none. absurd (is_not (sym none ∙ found));
-  parts = λ _ none. absurd (is_not (sym none ∙ found));
+  kept = λ _ none. absurd (none-some value (sym none ∙ found));
+  parts = λ _ none. absurd (none-some value (sym none ∙ found));
 }
   where
     some_one : {a b : List ℕ} → Some a ≡ Some b → a ≡ b
     some_one same = cc
 
-    is_not : None ≡ Some value → ⊥
-    is_not same = cc
-
 pub kept_form : (tag : List ℕ) → (IsLocale tag → ⊥) → preferred_tag tag ≡ None → IsGrandfathered tag → IsWholeForm tag None
 kept_form tag no none old = record {
   locale = λ is. absurd (no is);
-  whole = λ _ value same. absurd (is_not value (sym none ∙ same));
+  whole = λ _ value same. absurd (none-some value (sym none ∙ same));
   kept = λ _ _ _. refl;
   parts = λ _ _ new. absurd (new old);
 }
-  where
-    is_not : (value : List ℕ) → None ≡ Some value → ⊥
-    is_not value same = cc
-
 abbrev IsPartsForm : List ℕ → Option (List ℕ) → Type 0
 IsPartsForm tag form = PartOf tag (λ r. record_form (extlang_replaced r)) None form
 
 parts_form : (tag : List ℕ) (form : Option (List ℕ)) → (IsLocale tag → ⊥) → preferred_tag tag ≡ None → (IsGrandfathered tag → ⊥) → IsPartsForm tag form → IsWholeForm tag form
 parts_form tag form no none new of = record {
   locale = λ is. absurd (no is);
-  whole = λ _ value same. absurd (is_not value (sym none ∙ same));
+  whole = λ _ value same. absurd (none-some value (sym none ∙ same));
   kept = λ _ _ old. absurd (new old);
   parts = λ _ _ _. of;
 }
-  where
-    is_not : (value : List ℕ) → None ≡ Some value → ⊥
-    is_not value same = cc
-
 pub rest_form :
     (tag rest : List ℕ) (form : Option (List ℕ)) → (IsLocale tag → ⊥) → preferred_tag tag ≡ None → (IsGrandfathered tag → ⊥) → IsNormal tag →
     EachRecord tag (λ r. Spells (extlang_replaced r) rest) → IsLocaleForm rest form → IsWholeForm tag form
-unfolding IsNormal
-rest_form tag rest form no none new normal spelled of =
-    parts_form tag form no none new (record { part = λ r spells. of.part (extlang_replaced r) (spelled r spells); absent = λ other. absurd (other normal) })
+rest_form tag rest form no none new normal spelled of = parts_form tag form no none new (part_found normal (λ r spells. of.part (extlang_replaced r) (spelled r spells)))
 
 -- a tag that stays as it is has no form
 pub stays_none : (tag : List ℕ) → (IsLocale tag → ⊥) → preferred_tag tag ≡ None → (IsGrandfathered tag → ⊥) → EachRecord tag (λ r. extlang_replaced r ≡ r) → IsWholeForm tag None
@@ -194,3 +184,77 @@ value_bounded tag value form found (r, spells, locale) of =
     let none = ap (λ (p : Record). p.extensions) one ∙ (simple_record value).extensions in
     let is = ap length (form_from value form (r, spells, locale) of) in
     omega (arith, is, plain_length r spells.0 locale none, ap length spells.1, value_long tag_preferred tag value values_follow found)
+
+-- ---- a form is that of a Unicode locale identifier
+
+record_form-some : (r : Record) (form : List ℕ) → Some form ≡ record_form r → (is_locale_record r ≡ true) × (form ≡ locale_text r)
+record_form-some r form is = by_test (is_locale_record r) refl is
+  where
+    by_test : (b : Bool) → is_locale_record r ≡ b → Some form ≡ cond b (Some (locale_text r)) None → (is_locale_record r ≡ true) × (form ≡ locale_text r)
+    by_test true locale is = (locale, cc)
+    by_test false other is = absurd cc
+
+-- the record of which a text is the form
+abbrev pub IsOfRecord : List ℕ → Type 0
+IsOfRecord form = (r : Record) × IsWellFormed r × (is_locale_record r ≡ true) × (form ≡ locale_text r)
+
+part_of_record :
+    (text form : List ℕ) (new : Record → Record) → ((r : Record) → IsWellFormed r → IsWellFormed (new r)) →
+    PartOf text (λ r. record_form (new r)) None (Some form) → IsOfRecord form
+unfolding IsNormal
+part_of_record text form new fits of = elim (normal_or_not text) [
+  | inl (r, spells) ↦ (let is = record_form-some (new r) form (of.part r spells) in (new r, fits r spells.0, is.0, is.1))
+  | inr other ↦ absurd (none-some form (sym (of.absent other)))
+]
+
+replaced_well_formed : (r : Record) → IsWellFormed r → IsWellFormed (extlang_replaced r)
+replaced_well_formed r fits = by_list r.extended refl fits.extended
+  where
+    by_list : (es : List (List ℕ)) → r.extended ≡ es → AllByRecursion (λ s. IsTrue (is_extended s)) es → IsWellFormed (replace_language es r)
+    by_list [] same each = fits
+    by_list (e ∷ []) same each = by_test (is_registered_extlang e)
+      where
+        by_test : (b : Bool) → IsWellFormed (cond b (from e r) r)
+        by_test true = from_well_formed r e fits each.0
+        by_test false = fits
+    by_list (e ∷ f ∷ es) same each = fits
+
+locale_or_not : (tag : List ℕ) → IsLocale tag ⊎ (IsLocale tag → ⊥)
+unfolding IsNormal
+locale_or_not tag = elim (normal_or_not tag) [
+  | inl (r, spells) ↦ by_test r spells (is_locale_record r) refl
+  | inr other ↦ inr (λ is. other (is.0, is.1.0))
+]
+  where
+    by_test : (r : Record) → Spells r tag → (b : Bool) → is_locale_record r ≡ b → IsLocale tag ⊎ (IsLocale tag → ⊥)
+    by_test r spells true locale = inl (r, spells, locale)
+    by_test r spells false other = inr (λ is. false≢true (sym other ∙ ap is_locale_record (spelled_once r is.0 spells.0 is.1.0.0 (spells.1 ∙ sym is.1.0.1)) ∙ is.1.1))
+
+pub whole_of_record : (tag form : List ℕ) → IsWholeForm tag (Some form) → IsOfRecord form
+whole_of_record tag form of = elim (locale_or_not tag) [
+  | inl is ↦ part_of_record tag form (λ r. r) (λ r fits. fits) (of.locale is)
+  | inr no ↦ by_value no (preferred_tag tag) refl
+]
+  where
+    by_value : (IsLocale tag → ⊥) → (o : Option (List ℕ)) → preferred_tag tag ≡ o → IsOfRecord form
+    by_value no (Some value) found = part_of_record value form (λ r. r) (λ r fits. fits) (of.whole no value found)
+    by_value no None none = part_of_record tag form extlang_replaced replaced_well_formed (of.parts no none (λ old. none-some form (sym (of.kept no none old))))
+
+-- no tag has a form and none
+part_once : (text form : List ℕ) (f : Record → Option (List ℕ)) → PartOf text f None (Some form) → PartOf text f None None → ⊥
+part_once text form f p q = elim (normal_or_not text) [
+  | inl normal ↦ none-some form (q.part normal.0 normal.1 ∙ sym (p.part normal.0 normal.1))
+  | inr other ↦ none-some form (sym (p.absent other))
+]
+
+pub not_both : (tag form : List ℕ) → IsWholeForm tag (Some form) → IsWholeForm tag None → ⊥
+not_both tag form p q = elim (locale_or_not tag) [
+  | inl is ↦ part_once tag form record_form (p.locale is) (q.locale is)
+  | inr no ↦ by_value no (preferred_tag tag) refl
+]
+  where
+    by_value : (IsLocale tag → ⊥) → (o : Option (List ℕ)) → preferred_tag tag ≡ o → ⊥
+    by_value no (Some value) found = part_once value form record_form (p.whole no value found) (q.whole no value found)
+    by_value no None none =
+        let new : IsGrandfathered tag → ⊥ = λ old. none-some form (sym (p.kept no none old)) in
+        part_once tag form (λ r. record_form (extlang_replaced r)) (p.parts no none new) (q.parts no none new)
