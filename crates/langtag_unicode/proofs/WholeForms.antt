@@ -1,11 +1,13 @@
 -- The form of any tag is the form of the Unicode locale identifier that takes the place of the tag.
 use Rattle.std.proofs.Common.{◌≡◌, ℕ, ◌+◌, ◌*◌, ◌≤◌, Bool, true, false, cond, leb, List, [], ◌∷◌, ◌++◌, drop, length, Option, Some, None, inl, inr, ◌⊎◌, refl, sym, ap, subst, ◌∙◌, arith, append_assoc}
 use Rattle.std.proofs.lemmas.Bool.{and_parts, false≢true, leb-true}
-use Rattle.std.proofs.lemmas.List.{drop_at, length_push}
-use Rattle.std.proofs.lemmas.Option.{none-some}
+use Rattle.std.proofs.Math.Seq.{get_or-append_seam}
+use Rattle.std.proofs.lemmas.List.{drop_at, length-append, length_push}
+use Rattle.std.proofs.lemmas.Option.{none-some, same_Some}
+use Rattle.std.proofs.lemmas.Str.{IsCharBoundary-after_ascii}
+use Rattle.std.specs.Str.{IsCharBoundary, IsUtf8}
 use Rattle.std.specs.List.{AllByRecursion, flat_map, list_all}
 use Rattle.std.specs.Prelude.{IsTrue}
-use Rattle.langtag.proofs.PartOfLaws.{part_found}
 use Rattle.langtag.specs.Part.{PartOf}
 use Rattle.langtag.specs.Registered.{IsGrandfathered}
 use Rattle.langtag_language.proofs.Rules.{subtags-extension}
@@ -55,7 +57,7 @@ replaced_from extended extlang r one known = rw (one, known) refl
 
 after_first : (x y : List ℕ) (ys : List (List ℕ)) → drop (length x + 1) (join (x ∷ y ∷ ys)) ≡ join (y ∷ ys)
 after_first x y ys =
-    ap (drop (length x + 1)) (sym (append_assoc x (45 ∷ []) (join (y ∷ ys)))) ∙ drop_at (x ++ 45 ∷ []) (join (y ∷ ys)) (length x + 1) (sym (length_push x 45))
+    ap (drop (length x + 1)) (sym (append_assoc x (45 ∷ []) (join (y ∷ ys)))) ∙ drop_at (x ++ 45 ∷ []) (join (y ∷ ys)) (length x + 1) (length_push x 45)
 
 from_well_formed : (r : Record) (extlang : List ℕ) → IsWellFormed r → is_extended extlang ≡ true → IsWellFormed (from extlang r)
 from_well_formed r extlang fits is = record {
@@ -70,32 +72,42 @@ from_well_formed r extlang fits is = record {
   private_use = fits.private_use;
 }
 
--- its text is the rest of the tag
-pub extlang_spelled :
-    (r : Record) (extlang text rest : List ℕ) → Spells r text → r.extended ≡ extlang ∷ [] → is_extended extlang ≡ true → is_registered_extlang extlang ≡ true →
-    rest ≡ drop (length r.primary + 1) text → Spells (extlang_replaced r) rest
-extlang_spelled r extlang text rest spells one is known same =
-    subst (λ p. Spells p rest) (sym (replaced_from r.extended extlang r one known)) (from_well_formed r extlang spells.0 is, sym cut)
-  where
-    others : List (List ℕ)
-    others = one_flat r.script ++ (one_flat r.region ++ (r.variants ++ (flat_map extension_flat r.extensions ++ private_part_flat r.private_use)))
+-- the subtags after it
+abbrev others : Record → List (List ℕ)
+others r = one_flat r.script ++ (one_flat r.region ++ (r.variants ++ (flat_map extension_flat r.extensions ++ private_part_flat r.private_use)))
 
-    cut : rest ≡ spell (from extlang r)
-    cut =
-        same ∙ ap (drop (length r.primary + 1)) (sym spells.1) ∙ ap (λ es. drop (length r.primary + 1) (join (r.primary ∷ (es ++ others)))) one
-        ∙ after_first r.primary extlang others
+cut_text : (r : Record) (extlang text : List ℕ) → Spells r text → r.extended ≡ extlang ∷ [] → text ≡ join (r.primary ∷ extlang ∷ others r)
+cut_text r extlang text spells one = sym spells.1 ∙ ap (λ es. join (r.primary ∷ (es ++ others r))) one
+
+-- the text of that record is the rest of the tag
+pub rest_spelled :
+    (r : Record) (text extension extlang primary rest : List ℕ) → Spells r text → SpellsLanguageExtension r.extended extension → extlang ≡ extension → is_extended extlang ≡ true →
+    is_registered_extlang extlang ≡ true → primary ≡ r.primary → rest ≡ drop (length primary + 1) text → Spells (extlang_replaced r) rest
+rest_spelled r text extension extlang primary rest spells members whole_extension is known same cut =
+    let one = only_one r.extended extlang (subst (SpellsLanguageExtension r.extended) (sym whole_extension) members) is in
+    let whole = cut ∙ ap (λ p. drop (length p + 1) text) same ∙ ap (drop (length r.primary + 1)) (cut_text r extlang text spells one) ∙ after_first r.primary extlang (others r) in
+    subst (λ p. Spells p rest) (sym (replaced_from r.extended extlang r one known)) (from_well_formed r extlang spells.0 is, sym whole)
+
+-- the tag may be cut there
+pub rest_boundary :
+    (r : Record) (text extlang primary : List ℕ) → Spells r text → SpellsLanguageExtension r.extended extlang → is_extended extlang ≡ true → primary ≡ r.primary → IsUtf8 text →
+    IsCharBoundary text (length primary + 1)
+rest_boundary r text extlang primary spells members is same utf8 =
+    let cut = cut_text r extlang text spells (only_one r.extended extlang members is) in
+    let after = join (extlang ∷ others r) in
+    IsCharBoundary-after_ascii text (length primary) utf8 (rw (cut, same) (omega (arith, length-append r.primary (45 ∷ after)))) (rw (cut, same) (rw (get_or-append_seam r.primary 45 after 0) (omega arith)))
 
 -- ---- the form of a Unicode locale identifier
 
 record_form-none : (r : Record) → (is_locale_record r ≡ true → ⊥) → None ≡ record_form r
-record_form-none r no = by_test (is_locale_record r) no
+record_form-none r outside = by_test (is_locale_record r) outside
   where
     by_test : (b : Bool) → (b ≡ true → ⊥) → None ≡ cond b (Some (locale_text r)) None
-    by_test true no = absurd (no refl)
-    by_test false no = refl
+    by_test true outside = absurd (outside refl)
+    by_test false outside = refl
 
-none_form : (tag : List ℕ) → (IsLocale tag → ⊥) → IsLocaleForm tag None
-none_form tag no = record { part = λ r spells. record_form-none r (λ locale. no (r, spells, locale)); absent = λ other. refl }
+pub none_form : (tag : List ℕ) → (IsLocale tag → ⊥) → IsLocaleForm tag None
+none_form tag outside = record { part = λ r spells. record_form-none r (λ locale. outside (r, spells, locale)); absent = λ other. refl }
 
 form_from : (tag form : List ℕ) (is : IsLocale tag) → IsLocaleForm tag (Some form) → form ≡ locale_text is.0
 form_from tag form (r, spells, locale) of =
@@ -105,22 +117,19 @@ form_from tag form (r, spells, locale) of =
 -- ---- the form of any tag
 
 pub own_form : (tag : List ℕ) (form : Option (List ℕ)) → IsLocale tag → IsLocaleForm tag form → IsWholeForm tag form
-own_form tag form is of = record { locale = λ _. of; whole = λ no. absurd (no is); kept = λ no. absurd (no is); parts = λ no. absurd (no is) }
+own_form tag form is of = record { locale = λ _. of; whole = λ outside. absurd (outside is); kept = λ outside. absurd (outside is); parts = λ outside. absurd (outside is) }
 
 pub value_form : (tag value : List ℕ) (form : Option (List ℕ)) → (IsLocale tag → ⊥) → preferred_tag tag ≡ Some value → IsLocaleForm value form → IsWholeForm tag form
-value_form tag value form no found of = record {
-  locale = λ is. absurd (no is);
-  whole = λ _ other same. let one : value ≡ other = some_one (sym found ∙ same) in subst (λ t. IsLocaleForm t form) one of;
+value_form tag value form outside found of = record {
+  locale = λ is. absurd (outside is);
+  whole = λ _ other same. subst (λ t. IsLocaleForm t form) (same_Some value other (sym found ∙ same)) of;
   kept = λ _ none. absurd (none-some value (sym none ∙ found));
   parts = λ _ none. absurd (none-some value (sym none ∙ found));
 }
-  where
-    some_one : {a b : List ℕ} → Some a ≡ Some b → a ≡ b
-    some_one same = cc
 
 pub kept_form : (tag : List ℕ) → (IsLocale tag → ⊥) → preferred_tag tag ≡ None → IsGrandfathered tag → IsWholeForm tag None
-kept_form tag no none old = record {
-  locale = λ is. absurd (no is);
+kept_form tag outside none old = record {
+  locale = λ is. absurd (outside is);
   whole = λ _ value same. absurd (none-some value (sym none ∙ same));
   kept = λ _ _ _. refl;
   parts = λ _ _ new. absurd (new old);
@@ -129,8 +138,8 @@ abbrev IsPartsForm : List ℕ → Option (List ℕ) → Type 0
 IsPartsForm tag form = PartOf tag (λ r. record_form (extlang_replaced r)) None form
 
 parts_form : (tag : List ℕ) (form : Option (List ℕ)) → (IsLocale tag → ⊥) → preferred_tag tag ≡ None → (IsGrandfathered tag → ⊥) → IsPartsForm tag form → IsWholeForm tag form
-parts_form tag form no none new of = record {
-  locale = λ is. absurd (no is);
+parts_form tag form outside none new of = record {
+  locale = λ is. absurd (outside is);
   whole = λ _ value same. absurd (none-some value (sym none ∙ same));
   kept = λ _ _ old. absurd (new old);
   parts = λ _ _ _. of;
@@ -138,13 +147,14 @@ parts_form tag form no none new of = record {
 pub rest_form :
     (tag rest : List ℕ) (form : Option (List ℕ)) → (IsLocale tag → ⊥) → preferred_tag tag ≡ None → (IsGrandfathered tag → ⊥) → IsNormal tag →
     EachRecord tag (λ r. Spells (extlang_replaced r) rest) → IsLocaleForm rest form → IsWholeForm tag form
-rest_form tag rest form no none new normal spelled of = parts_form tag form no none new (part_found normal (λ r spells. of.part (extlang_replaced r) (spelled r spells)))
+rest_form tag rest form outside none new normal spelled of = 
+    parts_form tag form outside none new (record { part = λ r spells. of.part (extlang_replaced r) (spelled r spells); absent = λ other. absurd (other normal) })
 
 -- a tag that stays as it is has no form
 pub stays_none : (tag : List ℕ) → (IsLocale tag → ⊥) → preferred_tag tag ≡ None → (IsGrandfathered tag → ⊥) → EachRecord tag (λ r. extlang_replaced r ≡ r) → IsWholeForm tag None
-stays_none tag no none new stays =
-    parts_form tag None no none new (record {
-      part = λ r spells. record_form-none r (λ locale. no (r, spells, locale)) ∙ ap record_form (sym (stays r spells));
+stays_none tag outside none new stays =
+    parts_form tag None outside none new (record {
+      part = λ r spells. record_form-none r (λ locale. outside (r, spells, locale)) ∙ ap record_form (sym (stays r spells));
       absent = λ other. refl;
     })
 
@@ -154,22 +164,22 @@ pub own_bounded : (tag old form : List ℕ) → IsLocale tag → length tag ≤ 
 own_bounded tag old form (r, spells, locale) short of =
     let is = ap length (form_from tag form (r, spells, locale) of) in omega (arith, is, locale_length r spells.0 locale, ap length spells.1, short)
 
--- a Preferred-Value is at most 8 bytes longer than its tag
-values_follow : list_all (λ (e : Entry). leb (3 * length e.value) (2 * length e.subtag + 36)) tag_preferred ≡ true
+-- no Preferred-Value is much longer than its tag
+values_follow : list_all (λ (e : Entry). leb (3 * length e.value) (4 * length e.subtag + 26)) tag_preferred ≡ true
 unfolding tag_preferred
 values_follow = refl
 
 value_long :
-    (list : List Entry) (text value : List ℕ) → list_all (λ (e : Entry). leb (3 * length e.value) (2 * length e.subtag + 36)) list ≡ true → value_for list text ≡ Some value →
-    3 * length value ≤ 2 * length text + 36
+    (list : List Entry) (text value : List ℕ) → list_all (λ (e : Entry). leb (3 * length e.value) (4 * length e.subtag + 26)) list ≡ true → value_for list text ≡ Some value →
+    3 * length value ≤ 4 * length text + 26
 value_long [] text value all found = absurd cc
 value_long (e ∷ list) text value all found =
-    let parts = and_parts (leb (3 * length e.value) (2 * length e.subtag + 36)) (list_all (λ (e : Entry). leb (3 * length e.value) (2 * length e.subtag + 36)) list) all in
+    let parts = and_parts (leb (3 * length e.value) (4 * length e.subtag + 26)) (list_all (λ (e : Entry). leb (3 * length e.value) (4 * length e.subtag + 26)) list) all in
     by_test (are_alike e.subtag text) refl found (leb-true _ _ parts.0) (value_long list text value parts.1)
   where
     by_test :
-        (b : Bool) → are_alike e.subtag text ≡ b → cond b (Some e.value) (value_for list text) ≡ Some value → 3 * length e.value ≤ 2 * length e.subtag + 36 →
-        (value_for list text ≡ Some value → 3 * length value ≤ 2 * length text + 36) → 3 * length value ≤ 2 * length text + 36
+        (b : Bool) → are_alike e.subtag text ≡ b → cond b (Some e.value) (value_for list text) ≡ Some value → 3 * length e.value ≤ 4 * length e.subtag + 26 →
+        (value_for list text ≡ Some value → 3 * length value ≤ 4 * length text + 26) → 3 * length value ≤ 4 * length text + 26
     by_test true alike is short later =
         let same : e.value ≡ value = cc in
         let as_long = alike_length e.subtag text alike in
@@ -221,40 +231,48 @@ replaced_well_formed r fits = by_list r.extended refl fits.extended
 
 locale_or_not : (tag : List ℕ) → IsLocale tag ⊎ (IsLocale tag → ⊥)
 unfolding IsNormal
-locale_or_not tag = elim (normal_or_not tag) [
-  | inl (r, spells) ↦ by_test r spells (is_locale_record r) refl
-  | inr other ↦ inr (λ is. other (is.0, is.1.0))
-]
+locale_or_not tag = by_normal (normal_or_not tag)
   where
     by_test : (r : Record) → Spells r tag → (b : Bool) → is_locale_record r ≡ b → IsLocale tag ⊎ (IsLocale tag → ⊥)
     by_test r spells true locale = inl (r, spells, locale)
-    by_test r spells false other = inr (λ is. false≢true (sym other ∙ ap is_locale_record (spelled_once r is.0 spells.0 is.1.0.0 (spells.1 ∙ sym is.1.0.1)) ∙ is.1.1))
+    by_test r spells false other = inr unlike
+      where
+        unlike : IsLocale tag → ⊥
+        unlike (q, also, locale) = false≢true (sym other ∙ ap is_locale_record (spelled_once r q spells.0 also.0 (spells.1 ∙ sym also.1)) ∙ locale)
+
+    by_normal : IsNormal tag ⊎ (IsNormal tag → ⊥) → IsLocale tag ⊎ (IsLocale tag → ⊥)
+    by_normal (inl (r, spells)) = by_test r spells (is_locale_record r) refl
+    by_normal (inr other) = inr unlike
+      where
+        unlike : IsLocale tag → ⊥
+        unlike (q, also, locale) = other (q, also)
 
 pub whole_of_record : (tag form : List ℕ) → IsWholeForm tag (Some form) → IsOfRecord form
 whole_of_record tag form of = elim (locale_or_not tag) [
   | inl is ↦ part_of_record tag form (λ r. r) (λ r fits. fits) (of.locale is)
-  | inr no ↦ by_value no (preferred_tag tag) refl
+  | inr outside ↦ by_value outside (preferred_tag tag) refl
 ]
   where
     by_value : (IsLocale tag → ⊥) → (o : Option (List ℕ)) → preferred_tag tag ≡ o → IsOfRecord form
-    by_value no (Some value) found = part_of_record value form (λ r. r) (λ r fits. fits) (of.whole no value found)
-    by_value no None none = part_of_record tag form extlang_replaced replaced_well_formed (of.parts no none (λ old. none-some form (sym (of.kept no none old))))
+    by_value outside (Some value) found = part_of_record value form (λ r. r) (λ r fits. fits) (of.whole outside value found)
+    by_value outside None none = part_of_record tag form extlang_replaced replaced_well_formed (of.parts outside none (λ old. none-some form (sym (of.kept outside none old))))
 
 -- no tag has a form and none
 part_once : (text form : List ℕ) (f : Record → Option (List ℕ)) → PartOf text f None (Some form) → PartOf text f None None → ⊥
+unfolding IsNormal
 part_once text form f p q = elim (normal_or_not text) [
-  | inl normal ↦ none-some form (q.part normal.0 normal.1 ∙ sym (p.part normal.0 normal.1))
+  | inl (r, spells) ↦ none-some form (q.part r spells ∙ sym (p.part r spells))
   | inr other ↦ none-some form (sym (p.absent other))
 ]
 
 pub not_both : (tag form : List ℕ) → IsWholeForm tag (Some form) → IsWholeForm tag None → ⊥
 not_both tag form p q = elim (locale_or_not tag) [
   | inl is ↦ part_once tag form record_form (p.locale is) (q.locale is)
-  | inr no ↦ by_value no (preferred_tag tag) refl
+  | inr outside ↦ by_value outside (preferred_tag tag) refl
 ]
   where
     by_value : (IsLocale tag → ⊥) → (o : Option (List ℕ)) → preferred_tag tag ≡ o → ⊥
-    by_value no (Some value) found = part_once value form record_form (p.whole no value found) (q.whole no value found)
-    by_value no None none =
-        let new : IsGrandfathered tag → ⊥ = λ old. none-some form (sym (p.kept no none old)) in
-        part_once tag form (λ r. record_form (extlang_replaced r)) (p.parts no none new) (q.parts no none new)
+    by_value outside (Some value) found = part_once value form record_form (p.whole outside value found) (q.whole outside value found)
+    by_value outside None none =
+        let new : IsGrandfathered tag → ⊥ = λ old. none-some form (sym (p.kept outside none old)) in
+        part_once tag form (λ r. record_form (extlang_replaced r)) (p.parts outside none new) (q.parts outside none new)

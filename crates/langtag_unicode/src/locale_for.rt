@@ -47,6 +47,7 @@ fn as_locale<'a>(tag: LangTag<'a>) -> Option<NormalLangTag<'a>>
 /// registered, or not the only one.
 fn from_extlang<'a>(tag: NormalLangTag<'a>) -> Option<LangTag<'a>>
     ensures some { IfSome result (λ rest. EachRecord (normal_lang_tag_text tag.entry) (λ r. Spells (spec.extlang_replaced r) (lang_tag_text rest))) }
+    ensures shorter { IfSome result (λ rest. length (lang_tag_text rest) ≤ length (normal_lang_tag_text tag.entry)) }
     ensures none { result ≡ None → EachRecord (normal_lang_tag_text tag.entry) (λ r. spec.extlang_replaced r ≡ r) }
 {
     let language = tag.language();
