@@ -1,6 +1,7 @@
 #!/usr/bin/env python3
 """Writes the tables and the lists of the crate langtag_unicode from Unicode's CLDR. The aliases of types, of subdivisions and of language
-identifiers are in data/. The aliases of regions are those of langtag_likely, in ../likely/data.
+identifiers are in data/. The aliases of regions are those of langtag_likely, in ../likely/data. Also writes CLDR's own cases, which are in
+data/ too, as the rows of ../rows/cldr.txt.
 
 usage: generate.py            writes them from the data whose checksums are in data.sha256
        generate.py --accept   writes them from newer data, and their checksums
@@ -16,17 +17,21 @@ import pathlib
 import re
 import sys
 
+import cases
 from identifiers import Identifiers
 
 HERE = pathlib.Path(__file__).resolve().parent
 DATA = HERE / "data"
 CHECKSUMS = HERE / "data.sha256"
 CRATES = HERE.parent / "crates"
+ROWS = HERE.parent / "rows"
 LIKELY = HERE.parent / "likely/data"
 REGISTRY = HERE.parent / "registry/language-subtag-registry"
 
 SUBTAG = re.compile(r"[a-z0-9]{3,8}")
 KEYS = {"u": re.compile(r"[a-z0-9][a-z]"), "t": re.compile(r"[a-z][0-9]")}
+# by how many bytes a type may grow, by its key, which the proof of the longest form counts
+GROWTH = {"ca": 5, "tz": 4, "d0": 4, "m0": 3}
 SUBDIVISION = re.compile(r"[a-z]{2}[a-z0-9]{1,4}|[0-9]{3}[a-z0-9]{1,4}")
 
 
@@ -40,8 +45,8 @@ def read(name: str) -> list[list[str]]:
 
 
 def version() -> str:
-    """Returns the version of CLDR, which the head of each data file names."""
-    paths = [*DATA.glob("*.txt"), LIKELY / "language-alias.txt", LIKELY / "region-alias.txt"]
+    """Returns the version of CLDR, which the head of each data file names. The file of cases is Unicode's own, without a version."""
+    paths = [*(path for path in DATA.glob("*.txt") if path.name != cases.NAME), LIKELY / "language-alias.txt", LIKELY / "region-alias.txt"]
     found = {str(path): re.search(r"^# .*Unicode CLDR ([0-9.]+) ", path.read_text(encoding="utf-8"), re.M) for path in paths}
     versions = {name: said[1] if said else "none" for name, said in found.items()}
     if len(set(versions.values())) != 1 or "none" in versions.values():
@@ -88,12 +93,12 @@ class Aliases:
         each_type("no right side is a left side", lambda row: [*row[:2], row[3]] not in left)
         each_type("rg and sd have subdivisions alone", lambda row: row[1] not in ("rg", "sd"))
         each_type("nothing replaces true", lambda row: row[2] != "true")
-        each_type("a right side is at most twice as long", lambda row: len(row[3]) <= 2 * len(row[2]))
+        each_type("a right side is longer by what its key allows", lambda row: row[3] == "true" or len(row[3]) <= len(row[2]) + GROWTH.get(row[1], 0))
         codes = [old for old, _ in self.subdivisions]
         each_subdivision("codes in lowercase", lambda row: all(SUBDIVISION.fullmatch(code) for code in row))
         each_subdivision("a left side once", lambda row: codes.count(row[0]) == 1)
         each_subdivision("no right side is a left side", lambda row: row[1] not in codes)
-        each_subdivision("a right side is at most twice as long", lambda row: len(row[1]) <= 2 * len(row[0]))
+        each_subdivision("a right side is longer by 2 at most", lambda row: len(row[1]) <= len(row[0]) + 2)
 
 
 def preferred() -> list[tuple[str, str]]:
@@ -197,7 +202,8 @@ def written(crates: pathlib.Path, aliases: Aliases, identifiers: Identifiers) ->
     """Returns the files that are made from the data: the path and the text of each."""
     crate = crates / "langtag_unicode"
     return {crate / "src/alias_tables.rt": tables(aliases), crate / "specs/Aliases.antt": lists(aliases),
-            crate / "src/locale_tables.rt": rule_tables(identifiers), crate / "specs/LocaleAliases.antt": rule_lists(identifiers)}
+            crate / "src/locale_tables.rt": rule_tables(identifiers), crate / "specs/LocaleAliases.antt": rule_lists(identifiers),
+            ROWS / "cldr.txt": cases.rows(DATA / cases.NAME, version())}
 
 
 def main(words: list[str], crates: pathlib.Path) -> bool:

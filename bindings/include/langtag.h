@@ -334,7 +334,7 @@ size_t langtag_without_keyword(const char *tag, size_t tag_len, const char *key,
  * langtag_canonical sorts them.
  *
  * Time is quadratic in the number of attributes, and of variants in the language of t. The form may be longer than
- * the tag, but a size of 2 * len is always enough.
+ * the tag, but a size of len + 20 is always enough.
  *
  * Returns 0 and writes nothing if the text is not a tag.
  */
@@ -370,7 +370,7 @@ LANGTAG_PURE bool langtag_is_locale(const char *bytes, size_t len);
  * becomes that value: i-klingon becomes tlh. In any other tag, a registered extended language replaces the language
  * before it: zh-yue-HK becomes yue-HK. If the result is not a Unicode locale identifier, either, the tag has no form.
  *
- * Time is quadratic in the number of variants, and of attributes. A size of 2 * len + 27 is always enough.
+ * Time is quadratic in the number of variants, and of attributes. A size of len + 32 is always enough.
  *
  * Returns 0 and writes nothing if the tag has no form, as x-a, i-default and und-t-m0, or if the text is not a tag.
  */

@@ -14,6 +14,7 @@ pub mod KeywordLaws
 pub mod LocaleExtensions
 pub mod LocaleTables
 pub mod IdentifierForms
+pub mod IdentifierSizes
 pub mod LocaleRecords
 pub mod LocaleSizes
 pub mod LocaleAgain
@@ -21,6 +22,11 @@ pub mod LocaleTransforms
 pub mod LocaleSettled
 pub mod WholeForms
 pub mod VariantForms
+pub mod AlphabetTwice
+pub mod IdentifierTables
+pub mod IdentifierCase
+pub mod IdentifierLast
+pub mod IdentifierTwice
 pub mod KeywordRecords
 pub mod KeywordTwice
 pub mod KeywordBlocks

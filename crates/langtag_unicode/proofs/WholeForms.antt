@@ -1,5 +1,5 @@
 -- The form of any tag is the form of the Unicode locale identifier that takes the place of the tag.
-use Rattle.std.proofs.Common.{◌≡◌, ℕ, ◌+◌, ◌*◌, ◌≤◌, Bool, true, false, cond, leb, List, [], ◌∷◌, ◌++◌, drop, length, Option, Some, None, inl, inr, ◌⊎◌, refl, sym, ap, subst, ◌∙◌, arith, append_assoc}
+use Rattle.std.proofs.Common.{◌≡◌, ℕ, ◌+◌, ◌≤◌, Bool, true, false, cond, leb, List, [], ◌∷◌, ◌++◌, drop, length, Option, Some, None, inl, inr, ◌⊎◌, refl, sym, ap, subst, ◌∙◌, arith, append_assoc}
 use Rattle.std.proofs.lemmas.Bool.{and_parts, false≢true, leb-true}
 use Rattle.std.proofs.Math.Seq.{get_or-append_seam}
 use Rattle.std.proofs.lemmas.List.{drop_at, length-append, length_push}
@@ -134,6 +134,7 @@ kept_form tag outside none old = record {
   kept = λ _ _ _. refl;
   parts = λ _ _ new. absurd (new old);
 }
+
 abbrev IsPartsForm : List ℕ → Option (List ℕ) → Type 0
 IsPartsForm tag form = PartOf tag (λ r. record_form (extlang_replaced r)) None form
 
@@ -144,10 +145,11 @@ parts_form tag form outside none new of = record {
   kept = λ _ _ old. absurd (new old);
   parts = λ _ _ _. of;
 }
+
 pub rest_form :
     (tag rest : List ℕ) (form : Option (List ℕ)) → (IsLocale tag → ⊥) → preferred_tag tag ≡ None → (IsGrandfathered tag → ⊥) → IsNormal tag →
     EachRecord tag (λ r. Spells (extlang_replaced r) rest) → IsLocaleForm rest form → IsWholeForm tag form
-rest_form tag rest form outside none new normal spelled of = 
+rest_form tag rest form outside none new normal spelled of =
     parts_form tag form outside none new (record { part = λ r spells. of.part (extlang_replaced r) (spelled r spells); absent = λ other. absurd (other normal) })
 
 -- a tag that stays as it is has no form
@@ -160,33 +162,33 @@ stays_none tag outside none new stays =
 
 -- ---- how long it may be
 
-pub own_bounded : (tag old form : List ℕ) → IsLocale tag → length tag ≤ length old → IsLocaleForm tag (Some form) → length form ≤ 2 * length old + 27
+pub own_bounded : (tag old form : List ℕ) → IsLocale tag → length tag ≤ length old → IsLocaleForm tag (Some form) → length form ≤ length old + 32
 own_bounded tag old form (r, spells, locale) short of =
     let is = ap length (form_from tag form (r, spells, locale) of) in omega (arith, is, locale_length r spells.0 locale, ap length spells.1, short)
 
--- no Preferred-Value is much longer than its tag
-values_follow : list_all (λ (e : Entry). leb (3 * length e.value) (4 * length e.subtag + 26)) tag_preferred ≡ true
+-- no Preferred-Value is much longer than its tag, and it has no extensions, which would grow
+values_follow : list_all (λ (e : Entry). leb (length e.value) (length e.subtag + 26)) tag_preferred ≡ true
 unfolding tag_preferred
 values_follow = refl
 
 value_long :
-    (list : List Entry) (text value : List ℕ) → list_all (λ (e : Entry). leb (3 * length e.value) (4 * length e.subtag + 26)) list ≡ true → value_for list text ≡ Some value →
-    3 * length value ≤ 4 * length text + 26
+    (list : List Entry) (text value : List ℕ) → list_all (λ (e : Entry). leb (length e.value) (length e.subtag + 26)) list ≡ true → value_for list text ≡ Some value →
+    length value ≤ length text + 26
 value_long [] text value all found = absurd cc
 value_long (e ∷ list) text value all found =
-    let parts = and_parts (leb (3 * length e.value) (4 * length e.subtag + 26)) (list_all (λ (e : Entry). leb (3 * length e.value) (4 * length e.subtag + 26)) list) all in
+    let parts = and_parts (leb (length e.value) (length e.subtag + 26)) (list_all (λ (e : Entry). leb (length e.value) (length e.subtag + 26)) list) all in
     by_test (are_alike e.subtag text) refl found (leb-true _ _ parts.0) (value_long list text value parts.1)
   where
     by_test :
-        (b : Bool) → are_alike e.subtag text ≡ b → cond b (Some e.value) (value_for list text) ≡ Some value → 3 * length e.value ≤ 4 * length e.subtag + 26 →
-        (value_for list text ≡ Some value → 3 * length value ≤ 4 * length text + 26) → 3 * length value ≤ 4 * length text + 26
+        (b : Bool) → are_alike e.subtag text ≡ b → cond b (Some e.value) (value_for list text) ≡ Some value → length e.value ≤ length e.subtag + 26 →
+        (value_for list text ≡ Some value → length value ≤ length text + 26) → length value ≤ length text + 26
     by_test true alike is short later =
         let same : e.value ≡ value = cc in
         let as_long = alike_length e.subtag text alike in
         omega (arith, short, ap length same, as_long)
     by_test false alike is short later = later is
 
-pub value_bounded : (tag value form : List ℕ) → preferred_tag tag ≡ Some value → IsLocale value → IsLocaleForm value (Some form) → length form ≤ 2 * length tag + 27
+pub value_bounded : (tag value form : List ℕ) → preferred_tag tag ≡ Some value → IsLocale value → IsLocaleForm value (Some form) → length form ≤ length tag + 32
 unfolding preferred_tag
 value_bounded tag value form found (r, spells, locale) of =
     let plain = preferred_spelled tag value found in

@@ -1,5 +1,5 @@
 //! The Unicode locale identifier whose form is the form of a tag (UTS #35, part 1, Annex C).
-ghost use Rattle.std.specs.Prelude.{◌≡◌, ◌≤◌, ◌+◌, ◌*◌, IfSome, List, None, Some, ℕ, length};
+ghost use Rattle.std.specs.Prelude.{◌≡◌, ◌≤◌, ◌+◌, IfSome, List, None, Some, ℕ, length};
 ghost use Rattle.langtag.specs.Text.{lang_tag_text, normal_lang_tag_text};
 ghost use Rattle.langtag_scan.specs.Record.{EachRecord, Spells};
 ghost use Rattle.langtag_unicode.specs.Locale.{IsLocale};
@@ -16,7 +16,7 @@ pub(crate) fn locale_for<'a>(tag: LangTag<'a>) -> Option<NormalLangTag<'a>>
     ensures form { IfSome result (λ locale. (form : List ℕ) → spec.IsLocaleForm (normal_lang_tag_text locale) (Some form)
         → spec.IsWholeForm (lang_tag_text tag.entry) (Some form)) }
     ensures bounded { IfSome result (λ locale. (form : List ℕ) → spec.IsLocaleForm (normal_lang_tag_text locale) (Some form)
-        → length form ≤ 2 * length (lang_tag_text tag.entry) + 27) }
+        → length form ≤ length (lang_tag_text tag.entry) + 32) }
     ensures none { result ≡ None → spec.IsWholeForm (lang_tag_text tag.entry) None }
 {
     if let Some(locale) = as_locale(tag) {

@@ -75,9 +75,9 @@ fn form_bytes(tag: NormalLangTag<'_>) -> Result<Vec<u8>, AllocError> {
 /// registered extended language replaces the language before it: `zh-yue-HK` becomes `yue-HK`. Returns `None` if the
 /// result is not a Unicode locale identifier, either, as in `x-a`, `i-default` and `und-t-m0`.
 ///
-/// If the buffer is too short, it stays unchanged, and the length says how long a buffer must be. A buffer of twice the
-/// length of the tag and 27 more bytes is always long enough. It does not allocate. The time is quadratic in the number
-/// of variants, and of attributes. It needs as much stack as `is_locale`.
+/// If the buffer is too short, it stays unchanged, and the length says how long a buffer must be. A buffer of the
+/// tag's length and 32 bytes is always long enough. It does not allocate. The time is quadratic in the number of
+/// variants, and of attributes. It needs as much stack as `is_locale`.
 ///
 /// ```
 /// # fn main() -> Result<(), Box<dyn std::error::Error>> {

@@ -17,7 +17,7 @@ pub fn langtag_is_locale(bytes: &[u8]) -> bool {
 
 /// Writes the canonical form of a tag as a Unicode locale identifier (UTS #35, part 1, Annex C), and returns its length in
 /// bytes: `ger-UK` becomes `de-GB`. If the buffer is too short, it stays unchanged, and the length says how long a
-/// buffer must be. The length is at most twice that of the tag and 27.
+/// buffer must be. The length is at most that of the tag and 32.
 ///
 /// Returns 0 and writes nothing if the bytes are not a tag, or if the tag has no form.
 #[inline]
