@@ -1,6 +1,6 @@
 -- How long the form of a tag may be: at most 20 bytes longer than the tag, 13 in `u` and 7 in `t`.
 use Rattle.std.proofs.Common.{◌≡◌, ℕ, ◌+◌, ◌≤◌, ◌&&◌, ◌||◌, ◌==◌, not, leb, Bool, true, false, cond, List, [], ◌∷◌, ◌++◌, length, map, find, Option, None, Some, unwrap_or, inl, inr, refl, sym, ap, subst, ◌∙◌, arith, eqb-true}
-use Rattle.std.proofs.lemmas.Bool.{and_parts, eq-eqb, false≢true, leb-true, not-true}
+use Rattle.std.proofs.lemmas.Bool.{and_parts, eq-eqb, false_from_ne_true, false≢true, leb-true, not-true}
 use Rattle.std.specs.Prelude.{codes}
 use Rattle.std.specs.Str.{bytes_eq}
 use Rattle.std.specs.List.{flat_map, list_all}
@@ -10,7 +10,7 @@ use Rattle.langtag_likely.proofs.RowsFound.{alike_length}
 use Rattle.langtag_scan.proofs.CaseLaw.{length-fold}
 use Rattle.langtag_scan.proofs.Joins.{length-join}
 use Rattle.langtag_scan.proofs.SubtagLists.{join-subtags}
-use Rattle.langtag_scan.specs.Case.{are_alike, fold_byte, fold_text}
+use Rattle.langtag_scan.specs.Case.{Alike, are_alike, fold_byte, fold_text}
 use Rattle.langtag_scan.specs.CaseLaws.{are_alike-decides}
 use Rattle.langtag_scan.specs.Class.{is_region, is_script}
 use Rattle.langtag_scan.specs.Record.{Extension, Record, extension_flat, spell}
@@ -164,45 +164,25 @@ abbrev weights : (List ℕ → Bool) → List ℕ → List (List ℕ) → ℕ �
 weights opens letters ss a = total (λ b. weight opens ss (a ∷ b ∷ [])) letters
 
 module _ (opens : List ℕ → Bool) (two : (s : List ℕ) → opens s ≡ true → length s ≡ 2) (letters : List ℕ) (are : are_apart letters ≡ true) where
-  weight-other : (s : List ℕ) (ss : List (List ℕ)) (key : List ℕ) → opens s ≡ false → weight opens (s ∷ ss) key ≡ weight opens ss key
-  weight-other s ss key other = ap (λ t. option_map_or (λ v. 3 + size v) (cond (t && are_alike s key) (Some (before_key opens ss)) (value_of opens key ss)) 0) other
+  -- one more subtag, which is a key or not
+  weight-first :
+      (s : List ℕ) (ss : List (List ℕ)) (key : List ℕ) (b : Bool) → opens s ≡ b →
+      weight opens (s ∷ ss) key ≡ option_map_or (λ v. 3 + size v) (cond (b && are_alike s key) (Some (before_key opens ss)) (value_of opens key ss)) 0
+  weight-first s ss key b is = ap (λ t. option_map_or (λ v. 3 + size v) (cond (t && are_alike s key) (Some (before_key opens ss)) (value_of opens key ss)) 0) is
 
-  weight-key :
-      (s : List ℕ) (ss : List (List ℕ)) (key : List ℕ) → opens s ≡ true →
-      weight opens (s ∷ ss) key ≡ option_map_or (λ v. 3 + size v) (cond (are_alike s key) (Some (before_key opens ss)) (value_of opens key ss)) 0
-  weight-key s ss key is = ap (λ t. option_map_or (λ v. 3 + size v) (cond (t && are_alike s key) (Some (before_key opens ss)) (value_of opens key ss)) 0) is
-
-  weight-apart : (s : List ℕ) (ss : List (List ℕ)) (key : List ℕ) → opens s ≡ true → are_alike s key ≡ false → weight opens (s ∷ ss) key ≤ weight opens ss key
-  weight-apart s ss key is apart =
-      let same = weight-key s ss key is ∙ ap (λ t. option_map_or (λ v. 3 + size v) (cond t (Some (before_key opens ss)) (value_of opens key ss)) 0) apart in omega (arith, same)
+  weight-apart : (s : List ℕ) (ss : List (List ℕ)) (key : List ℕ) → opens s ≡ true → (Alike s key → ⊥) → weight opens (s ∷ ss) key ≤ weight opens ss key
+  weight-apart s ss key is other =
+      let apart = false_from_ne_true (are_alike s key) (λ alike. other ((are_alike-decides s key).0 alike)) in
+      let same = weight-first s ss key true is ∙ ap (λ t. option_map_or (λ v. 3 + size v) (cond t (Some (before_key opens ss)) (value_of opens key ss)) 0) apart in
+      omega (arith, same)
 
   weight-any : (s : List ℕ) (ss : List (List ℕ)) (key : List ℕ) → opens s ≡ true → weight opens (s ∷ ss) key ≤ 3 + size (before_key opens ss) + weight opens ss key
-  weight-any s ss key is = let more = by_test (are_alike s key) in omega (arith, more, weight-key s ss key is)
+  weight-any s ss key is = let more = by_test (are_alike s key) in omega (arith, more, weight-first s ss key true is)
     where
       by_test :
           (t : Bool) → option_map_or (λ v. 3 + size v) (cond t (Some (before_key opens ss)) (value_of opens key ss)) 0 ≤ 3 + size (before_key opens ss) + weight opens ss key
       by_test true = omega arith
       by_test false = omega arith
-
-  apart-first : (x y a b : ℕ) → (fold_byte a == fold_byte x) ≡ false → are_alike (x ∷ y ∷ []) (a ∷ b ∷ []) ≡ false
-  apart-first x y a b other = by_test (are_alike (x ∷ y ∷ []) (a ∷ b ∷ [])) refl
-    where
-      by_test : (t : Bool) → are_alike (x ∷ y ∷ []) (a ∷ b ∷ []) ≡ t → are_alike (x ∷ y ∷ []) (a ∷ b ∷ []) ≡ false
-      by_test true is =
-          let same = (are_alike-decides (x ∷ y ∷ []) (a ∷ b ∷ [])).0 is in
-          let one : fold_byte x ≡ fold_byte a = cc in
-          absurd (false≢true (sym other ∙ eq-eqb _ _ (sym one)))
-      by_test false is = is
-
-  apart-second : (x y a b : ℕ) → (fold_byte b == fold_byte y) ≡ false → are_alike (x ∷ y ∷ []) (a ∷ b ∷ []) ≡ false
-  apart-second x y a b other = by_test (are_alike (x ∷ y ∷ []) (a ∷ b ∷ [])) refl
-    where
-      by_test : (t : Bool) → are_alike (x ∷ y ∷ []) (a ∷ b ∷ []) ≡ t → are_alike (x ∷ y ∷ []) (a ∷ b ∷ []) ≡ false
-      by_test true is =
-          let same = (are_alike-decides (x ∷ y ∷ []) (a ∷ b ∷ [])).0 is in
-          let one : fold_byte y ≡ fold_byte b = cc in
-          absurd (false≢true (sym other ∙ eq-eqb _ _ (sym one)))
-      by_test false is = is
 
   -- one more key weighs at most what it and its value have
   key-weights :
@@ -212,10 +192,10 @@ module _ (opens : List ℕ → Bool) (two : (s : List ℕ) → opens s ≡ true 
   key-weights (x ∷ y ∷ z ∷ s) ss is = absurd (omega (arith, two (x ∷ y ∷ z ∷ s) is))
   key-weights (x ∷ y ∷ []) ss is =
       once (fold_byte x) (3 + size (before_key opens ss)) (weights opens letters ((x ∷ y ∷ []) ∷ ss)) (weights opens letters ss)
-      (λ a other. total-le _ _ (λ b. weight-apart (x ∷ y ∷ []) ss (a ∷ b ∷ []) is (apart-first x y a b other)) letters)
+      (λ a other. total-le _ _ (λ b. weight-apart (x ∷ y ∷ []) ss (a ∷ b ∷ []) is (λ same. let one : fold_byte x ≡ fold_byte a = cc in false≢true (sym other ∙ eq-eqb _ _ (sym one)))) letters)
       (λ a.
       once (fold_byte y) (3 + size (before_key opens ss)) (λ b. weight opens ((x ∷ y ∷ []) ∷ ss) (a ∷ b ∷ [])) (λ b. weight opens ss (a ∷ b ∷ []))
-      (λ b other. weight-apart (x ∷ y ∷ []) ss (a ∷ b ∷ []) is (apart-second x y a b other)) (λ b. weight-any (x ∷ y ∷ []) ss (a ∷ b ∷ []) is) letters are)
+      (λ b other. weight-apart (x ∷ y ∷ []) ss (a ∷ b ∷ []) is (λ same. let one : fold_byte y ≡ fold_byte b = cc in false≢true (sym other ∙ eq-eqb _ _ (sym one)))) (λ b. weight-any (x ∷ y ∷ []) ss (a ∷ b ∷ []) is) letters are)
       letters are
 
   -- all keys weigh at most what stands from the first one on
@@ -234,7 +214,7 @@ module _ (opens : List ℕ → Bool) (two : (s : List ℕ) → opens s ≡ true 
           omega (arith, more, parts, whole, len, later)
       by_test false is later =
           let same = total-le (weights opens letters (s ∷ ss)) (weights opens letters ss)
-          (λ a. total-le _ _ (λ b. let one = weight-other s ss (a ∷ b ∷ []) is in omega (arith, one)) letters) letters in
+          (λ a. total-le _ _ (λ b. let one = weight-first s ss (a ∷ b ∷ []) false is in omega (arith, one)) letters) letters in
           omega (arith, same, later)
 
 grown : (n old most sum more : ℕ) → n ≤ old + sum → old ≤ most → sum ≡ more → n ≤ most + more

@@ -3,7 +3,7 @@
 use Rattle.std.proofs.Common.{◌≡◌, ℕ, suc, ◌+◌, ◌-◌, ◌≤◌, leb, Bool, true, false, not, cond, ◌&&◌, ◌||◌, List, [], ◌∷◌, ◌++◌, fold, length, Option, Some, None, option_map, unwrap_or, refl, sym, ap, ◌∙◌, arith}
 use Rattle.std.proofs.lemmas.Bool.{false≢true, leb-true, not-true, or_right}
 use Rattle.std.proofs.lemmas.List.Folds.{Any-from_list_any}
-use Rattle.std.specs.Prelude.{codes, find}
+use Rattle.std.specs.Prelude.{IsTrue, codes, find}
 use Rattle.std.specs.List.{AllPairs, list_all, list_any}
 use Rattle.std.specs.Option.{is_some, option_map_or}
 use Rattle.std.specs.Str.{bytes_eq}
@@ -11,6 +11,7 @@ use Rattle.langtag_likely.specs.Aliases.{language_aliases, region_replacements}
 use Rattle.langtag_likely.specs.Likely.{Fields, Likely, are_alike_fields, language_alone, likely_for, or_else, or_other}
 use Rattle.langtag_likely.specs.Matching.{language_replaced, region_alone, with_language_from}
 use Rattle.langtag_likely.specs.Maximal.{subtag_of}
+use Rattle.langtag_scan.proofs.SubtagLists.{each_from_test}
 use Rattle.langtag_scan.specs.Case.{are_alike, fold_byte, fold_text}
 use Rattle.langtag_scan.specs.CaseLaws.{are_alike-decides}
 use Rattle.langtag_scan.specs.Class.{is_variant}
@@ -21,9 +22,11 @@ use Rattle.langtag_unicode.specs.Alias.{Alias, TypeAlias, alias_for, type_alias_
 use Rattle.langtag_unicode.specs.Form.{are_different_variants}
 use Rattle.langtag_unicode.specs.LocaleAliases as list
 use Rattle.langtag_unicode.specs.LocaleForm as form
-use Rattle.langtag_unicode.specs.LocaleForm.{has_variant, identifier_flat, identifier_form, is_pair_of, language_after, new_variants, sign_for, variant_form}
+use Rattle.langtag_unicode.specs.LocaleForm.{has_variant, identifier_flat, identifier_form, is_pair_of, language_after, new_variants, variant_form}
 use Rattle.langtag_unicode.proofs.FormSizes.{alias-grows, alphabet-size, bytes, bytes-alike, bytes-most, size, size-append}
-use Rattle.langtag_unicode.proofs.IdentifierForms.{AreSubtags, form_subtags, language_primary}
+use Rattle.langtag_unicode.proofs.IdentifierCase.{region_by}
+use Rattle.langtag_unicode.proofs.IdentifierForms.{AreSubtags, form_subtags, language_primary, sign_cases}
+use Rattle.langtag_unicode.proofs.IdentifierLast.{among}
 use Rattle.langtag_unicode.proofs.LocaleTables.{both, found_good, found_has, found_is}
 use Rattle.langtag_unicode.proofs.VariantForms.{forms}
 
@@ -145,8 +148,8 @@ variant_language-size variants f =
     least false = omega arith
 
 sign-size : (f : Fields) → fields_bytes (form.sign_language f) ≤ fields_bytes f
-unfolding form.sign_language fold_byte
-sign-size f = by_sign (sign_for f) refl
+unfolding fold_byte
+sign-size f = sign_cases (λ x. fields_bytes x ≤ fields_bytes f) f (λ none. omega arith) (λ new found. let most = short (are_alike f.language (codes "sgn")) new refl found in omega (arith, most))
   where
     short : (b : Bool) (new : List ℕ) → are_alike f.language (codes "sgn") ≡ b → cond b (alias_for list.sign_languages f.region) None ≡ Some new → bytes new ≤ bytes f.language
     short true new is found =
@@ -154,10 +157,6 @@ sign-size f = by_sign (sign_for f) refl
         let same = bytes-alike f.language (codes "sgn") is in
         omega (arith, four, same)
     short false new is found = absurd cc
-
-    by_sign : (o : Option (List ℕ)) → sign_for f ≡ o → fields_bytes (option_map_or (form.without_sgn f) o f) ≤ fields_bytes f
-    by_sign None none = omega arith
-    by_sign (Some new) found = let most = short (are_alike f.language (codes "sgn")) new refl found in omega (arith, most)
 
 -- `aaland` brings a region, and is left out itself
 variant_region-size : (variants : List (List ℕ)) (f : Fields) → fields_bytes (form.variant_region variants f) ≤ fields_bytes f + cond (has_variant variants (codes "aaland")) 7 0
@@ -171,45 +170,29 @@ variant_region-size variants f =
     by_test true = omega arith
     by_test false = omega arith
 
--- a text that is alike one of these is no longer than they are
-among-size : (text : List ℕ) (regions : List (List ℕ)) (n : ℕ) → list_all (λ region. leb (bytes region) n) regions ≡ true → list_any (are_alike text) regions ≡ true → bytes text ≤ n
-among-size text [] n all any = absurd (false≢true any)
-among-size text (r ∷ regions) n all any =
-    let parts = both (leb (bytes r) n) (list_all (λ region. leb (bytes region) n) regions) all in
-    by_test (are_alike text r) refl (leb-true (bytes r) n parts.0) (among-size text regions n parts.1) any
-  where
-    by_test : (b : Bool) → are_alike text r ≡ b → bytes r ≤ n → (list_any (are_alike text) regions ≡ true → bytes text ≤ n) → (b || list_any (are_alike text) regions) ≡ true → bytes text ≤ n
-    by_test true is short later any = let same = bytes-alike text r is in omega (arith, short, same)
-    by_test false is short later any = later any
-
 heir-size : (likely : List ℕ) (regions : List (List ℕ)) (n : ℕ) → list_all (λ region. leb (bytes region) n) regions ≡ true → bytes (form.heir likely regions) ≤ n
 heir-size likely [] n all = omega arith
-heir-size likely (r ∷ regions) n all = by_test (list_any (are_alike likely) (r ∷ regions)) refl
+heir-size likely (r ∷ regions) n all = by_test (has_variant (r ∷ regions) likely) refl
   where
-    by_test : (b : Bool) → list_any (are_alike likely) (r ∷ regions) ≡ b → bytes (cond b likely r) ≤ n
-    by_test true any = among-size likely (r ∷ regions) n all any
+    by_test : (b : Bool) → has_variant (r ∷ regions) likely ≡ b → bytes (cond b likely r) ≤ n
+    by_test true has =
+        leb-true _ _
+        (among (λ text. IsTrue (leb (bytes text) n)) (λ a b alike short. ap (λ k. leb k n) (bytes-alike b a ((are_alike-decides b a).1 alike)) ∙ short) (r ∷ regions)
+        (each_from_test (λ region. leb (bytes region) n) (r ∷ regions) all) likely has)
     by_test false none = leb-true (bytes r) n (both (leb (bytes r) n) (list_all (λ region. leb (bytes region) n) regions) all).0
 
 region-size : (f : Fields) → bytes (form.new_region f) ≤ bytes f.region
 unfolding form.new_region
 region-size f = by_row (likely_for region_replacements (region_alone f)) refl
   where
-    by_heirs :
-        (o : Option Alias) → find (λ (alias : Alias). are_alike alias.old f.region) list.region_heirs ≡ o →
-        bytes (unwrap_or (option_map (λ regions. form.heir (form.likely_region f) (segments regions)) (option_map (λ alias. alias.new) o)) f.region) ≤ bytes f.region
+    by_heirs : (o : Option Alias) → find (λ (alias : Alias). are_alike alias.old f.region) list.region_heirs ≡ o → bytes (region_by f None (option_map (λ alias. alias.new) o)) ≤ bytes f.region
     by_heirs None none = omega arith
     by_heirs (Some a) found =
         let short = heir-size (form.likely_region f) (segments a.new) (bytes a.old) (found_has heirs_are_short (λ (alias : Alias). are_alike alias.old f.region) list.region_heirs a heirs_short found) in
         let same = bytes-alike a.old f.region (found_is (λ (alias : Alias). are_alike alias.old f.region) list.region_heirs a found) in
         omega (arith, short, same)
 
-    by_row :
-        (o : Option Fields) → likely_for region_replacements (region_alone f) ≡ o →
-        bytes
-        (unwrap_or
-        (or_else (option_map (λ to. to.region) o) (option_map (λ regions. form.heir (form.likely_region f) (segments regions)) (option_map (λ alias. alias.new) (find (λ (alias : Alias). are_alike alias.old f.region) list.region_heirs))))
-        f.region)
-        ≤ bytes f.region
+    by_row : (o : Option Fields) → likely_for region_replacements (region_alone f) ≡ o → bytes (region_by f o (alias_for list.region_heirs f.region)) ≤ bytes f.region
     by_row None none = by_heirs (find (λ (alias : Alias). are_alike alias.old f.region) list.region_heirs) refl
     by_row (Some to) found =
         let (row, good, alike, same) = row_found region_is_short region_replacements (region_alone f) to regions_short found in

@@ -1,7 +1,7 @@
 -- How long the form of a Unicode locale identifier may be: at most 32 bytes longer than the tag. Its language identifier
 -- may grow by 6 bytes, `u` by 13, and `t` by 13.
 use Rattle.std.proofs.Common.{◌≡◌, ℕ, ◌+◌, ◌<◌, ◌≤◌, ◌^◌, Bool, true, false, cond, ◌&&◌, ◌==◌, List, [], ◌∷◌, ◌++◌, length, Option, Some, None, map, unwrap_or, refl, sym, ap, ◌∙◌, arith, eqb-true}
-use Rattle.std.proofs.lemmas.Bool.{eq-eqb, false≢true}
+use Rattle.std.proofs.lemmas.Bool.{eq-eqb, false_from_ne_true, false≢true}
 use Rattle.std.specs.List.{flat_map, list_all}
 use Rattle.std.specs.Option.{is_none, option_map_or}
 use Rattle.langtag.proofs.RepeatLaws.{repeat-first}
@@ -80,11 +80,7 @@ unfolding fold_byte
 singletons_apart = refl
 
 apart_turned : (m n : ℕ) → (m == n) ≡ false → (n == m) ≡ false
-apart_turned m n other = by_test (n == m) refl
-  where
-    by_test : (t : Bool) → (n == m) ≡ t → (n == m) ≡ false
-    by_test true is = absurd (false≢true (sym other ∙ eq-eqb m n (sym (eqb-true n m is))))
-    by_test false is = is
+apart_turned m n other = false_from_ne_true (n == m) (λ is. false≢true (sym other ∙ eq-eqb m n (sym (eqb-true n m is))))
 
 -- each extension is found at one singleton at most
 all-weights : (es : List Extension) → total (weight es) singletons ≤ size (flat_map extension_flat es)
