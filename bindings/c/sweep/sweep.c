@@ -125,6 +125,11 @@ static const struct {
     {"extensions_form", langtag_extensions_form, {"de-u-ca", "-ABC", "-kn-true"}, {"de-u-ca", "-abc", "-kn"}},
     {"extensions_form", langtag_extensions_form, {"de-u", "-tz-CATHU", ""}, {"de-u-tz-cator", "", ""}},
     {"extensions_form", langtag_extensions_form, {"x", "-A", ""}, {"x", "-A", ""}},
+    {"locale_form", langtag_locale_form, {"GER-uk-x", "-A", ""}, {"de-GB-x", "-a", ""}},
+    {"locale_form", langtag_locale_form, {"zh-YUE-b-CCC-a", "-AAA", ""}, {"yue-a", "-aaa", "-b-ccc"}},
+    {"locale_form", langtag_locale_form, {"en-t-ger-m0-din-u-ca", "-ABC", "-nu-true"}, {"en-t-de-m0-din-u-ca", "-abc", "-nu"}},
+    {"locale_form", langtag_locale_form, {"x", "-A", ""}, {"", "", ""}},
+    {"locale_form", langtag_locale_form, {"de-x", "-ab", "-"}, {"", "", ""}},
 };
 
 static void sweep_form(const char *name, write_call *call, const struct shape *given, const struct shape *other) {
