@@ -1,6 +1,7 @@
 #!/usr/bin/env python3
 """Writes the tables and the lists of the crate langtag_unicode from Unicode's CLDR. The aliases of types, of subdivisions and of language
-identifiers are in data/. The aliases of regions are those of langtag_likely, in ../likely/data.
+identifiers are in data/. The aliases of regions are those of langtag_likely, in ../likely/data. Also writes CLDR's own cases, which are in
+data/ too, as the rows of ../rows/cldr.txt.
 
 usage: generate.py            writes them from the data whose checksums are in data.sha256
        generate.py --accept   writes them from newer data, and their checksums
@@ -16,12 +17,14 @@ import pathlib
 import re
 import sys
 
+import cases
 from identifiers import Identifiers
 
 HERE = pathlib.Path(__file__).resolve().parent
 DATA = HERE / "data"
 CHECKSUMS = HERE / "data.sha256"
 CRATES = HERE.parent / "crates"
+ROWS = HERE.parent / "rows"
 LIKELY = HERE.parent / "likely/data"
 REGISTRY = HERE.parent / "registry/language-subtag-registry"
 
@@ -40,8 +43,8 @@ def read(name: str) -> list[list[str]]:
 
 
 def version() -> str:
-    """Returns the version of CLDR, which the head of each data file names."""
-    paths = [*DATA.glob("*.txt"), LIKELY / "language-alias.txt", LIKELY / "region-alias.txt"]
+    """Returns the version of CLDR, which the head of each data file names. The file of cases is Unicode's own, without a version."""
+    paths = [*(path for path in DATA.glob("*.txt") if path.name != cases.NAME), LIKELY / "language-alias.txt", LIKELY / "region-alias.txt"]
     found = {str(path): re.search(r"^# .*Unicode CLDR ([0-9.]+) ", path.read_text(encoding="utf-8"), re.M) for path in paths}
     versions = {name: said[1] if said else "none" for name, said in found.items()}
     if len(set(versions.values())) != 1 or "none" in versions.values():
@@ -197,7 +200,8 @@ def written(crates: pathlib.Path, aliases: Aliases, identifiers: Identifiers) ->
     """Returns the files that are made from the data: the path and the text of each."""
     crate = crates / "langtag_unicode"
     return {crate / "src/alias_tables.rt": tables(aliases), crate / "specs/Aliases.antt": lists(aliases),
-            crate / "src/locale_tables.rt": rule_tables(identifiers), crate / "specs/LocaleAliases.antt": rule_lists(identifiers)}
+            crate / "src/locale_tables.rt": rule_tables(identifiers), crate / "specs/LocaleAliases.antt": rule_lists(identifiers),
+            ROWS / "cldr.txt": cases.rows(DATA / cases.NAME, version())}
 
 
 def main(words: list[str], crates: pathlib.Path) -> bool:

@@ -9,6 +9,7 @@ import tempfile
 import unittest
 from unittest import mock
 
+import cases
 import from_cldr
 import generate
 
@@ -28,7 +29,9 @@ class Generating(unittest.TestCase):
         for name in WRITTEN:
             (self.crates / name).parent.mkdir(parents=True, exist_ok=True)
             shutil.copy(generate.CRATES / name, self.crates / name)
-        for name, path in (("DATA", "data"), ("CHECKSUMS", "data.sha256"), ("LIKELY", "likely")):
+        (self.folder / "rows").mkdir()
+        shutil.copy(generate.ROWS / "cldr.txt", self.folder / "rows")
+        for name, path in (("DATA", "data"), ("CHECKSUMS", "data.sha256"), ("LIKELY", "likely"), ("ROWS", "rows")):
             patch = mock.patch.object(generate, name, self.folder / path)
             self.addCleanup(patch.stop)
             patch.start()
@@ -69,6 +72,21 @@ class Generating(unittest.TestCase):
                 path.write_text(text.replace("aqams", "aqamt").replace("hepburn", "hepborn"), encoding="utf-8")
                 self.assertEqual(self.run_with("--check"), (True, [f"{path.name} would be written otherwise"]))
                 path.write_text(text, encoding="utf-8")
+
+    def test_cases(self):
+        path = generate.ROWS / "cldr.txt"
+        rows = path.read_text(encoding="utf-8")
+        self.assertEqual(rows.count("\nlocale-form | "), 1773)
+        self.assertEqual([line for line in rows.splitlines() if "nsl" in line and line[0] != "#"],
+                         [f"locale-form | {row}" for row in ("sgn-NO | nsl", "sgn-578 | nsl", "sgn-Adlm-578-fonipa | nsl-Adlm-fonipa", "sgn-Adlm-NO-fonipa | nsl-Adlm-fonipa")])
+        self.assertNotIn("| nsi", rows)
+        path.write_text(rows.replace("| jbo\n", "| en\n"), encoding="utf-8")
+        self.assertEqual(self.run_with("--check"), (True, ["cldr.txt would be written otherwise"]))
+        self.edit(cases.NAME, "art_lojban\t;\tjbo", "art_lojban\t;\ten")
+        self.assertEqual(self.run_with("--check"), (True, ["the data are not those of data.sha256"]))
+        self.edit(cases.NAME, "art_lojban\t;\ten", "art_lojban_x_a\t;\ten")
+        with self.assertRaisesRegex(SystemExit, "two language identifiers: art_lojban_x_a"):
+            self.run_with("--accept")
 
     def test_two_versions(self):
         self.edit("type-alias.txt", f"Unicode CLDR {generate.version()} ", "Unicode CLDR 99.1 ")
@@ -120,12 +138,14 @@ class Generating(unittest.TestCase):
             ("supplemental/supplementalMetadata.xml", '<s><subdivisionAlias type="fi01" replacement="AX" reason="overlong"/>'
              '<languageAlias type="sgn_BR" replacement="bzs"/><languageAlias type="zh_min_nan" replacement="nan"/><languageAlias type="iw" replacement="he"/>'
              '<scriptAlias type="Qaai" replacement="Zinh"/><variantAlias type="heploc" replacement="alalc97"/></s>'),
+            ("testData/localeIdentifiers/localeCanonicalization.txt", "# About the cases.\n######\n\n# explicit\n\nsgn_NO\t;\tnsi\n"),
         ):
             (common / name).parent.mkdir(parents=True, exist_ok=True)
             (common / name).write_text(text, encoding="utf-8")
         with mock.patch.object(from_cldr, "DATA", generate.DATA):
             from_cldr.main(common, "99.1", "a test")
         self.assertEqual(generate.version(), "99.1")
+        self.assertEqual(list(cases.read(generate.DATA / cases.NAME)), [("explicit", None), ("sgn-NO", "nsi")])
         self.assertEqual(generate.read("type-alias.txt"), [["t", "m0", "names", "prprname"], ["u", "ca", "islamicc", "islamic-civil"]])
         self.assertEqual(generate.Aliases().subdivisions, [("fi01", "axzzzz")])
         self.assertEqual(generate.read("language-alias.txt"), [["sgn-BR", "bzs"], ["und-Qaai", "und-Zinh"], ["und-heploc", "und-alalc97"]])

@@ -114,6 +114,7 @@ files! {
     extensions: "extensions.txt", 630, ["extensions-form"];
     setters: "keywords.txt", 380, ["with-keyword"];
     locales: "locale.txt", 750, ["is-locale", "locale-form"];
+    cases: "cldr.txt", 1773, ["locale-form"];
     keywords: "unicode.txt", 500, ["keyword", "keywords", "attributes", "transform"];
 }
 

@@ -1,0 +1,52 @@
+"""CLDR's own cases of the canonical form of locale identifiers, as rows that the tests of every language run."""
+from __future__ import annotations
+
+import pathlib
+import sys
+from collections.abc import Iterator
+
+from identifiers import BETTER, fields
+
+NAME = "localeCanonicalization.txt"
+
+HEAD = """# Unicode's cases of the canonical form of a locale identifier (UTS #35, part 1, Annex C), in CLDR's order and with its headings:
+# testData/localeIdentifiers/{name} of CLDR {version}, Copyright (c) 1991-2025 Unicode, Inc.
+# SPDX-License-Identifier: Unicode-3.0 (the notice: unicode/LICENSE-UNICODE). Written by unicode/generate.py. Do not edit.
+#
+# CLDR writes `_` for the hyphen. {count} rows have another language than CLDR: it makes Norwegian Sign Language, `sgn-NO`, the Nigerian
+# `nsi`, and IANA's registry makes it `nsl`.
+#
+#     locale-form TAG    the canonical form of a Unicode locale identifier
+"""
+
+
+def read(path: pathlib.Path) -> Iterator[tuple[str, str | None]]:
+    """Returns each heading, with None, and each case, with its form. The lines before the first row of hashes are about the file."""
+    _, _, body = path.read_text(encoding="utf-8").partition("\n######\n")
+    for line in filter(None, body.splitlines()):
+        if line.startswith("#"):
+            yield line.lstrip("# "), None
+            continue
+        case, _, form = (text.strip().replace("_", "-") for text in line.partition(";"))
+        if not fields(case.lower()) or not fields(form.lower()):
+            sys.exit(f"{path.name}: two language identifiers: {line}")
+        yield case, form
+
+
+def better(case: str, form: str) -> str:
+    """Returns the form, with the language of IANA's registry where CLDR has another sign language."""
+    for tag, language, registered in BETTER:
+        if case.split("-")[0] == tag.split("-")[0] and form.split("-")[0] == language:
+            return registered + form.removeprefix(language)
+    return form
+
+
+def rows(path: pathlib.Path, version: str) -> str:
+    lines, count = [], 0
+    for case, form in read(path):
+        if form is None:
+            lines.append(f"\n# {case}")
+        else:
+            lines.append(f"locale-form | {case} | {better(case, form)}")
+            count += better(case, form) != form
+    return HEAD.format(name=path.name, version=version, count=count) + "\n".join(lines) + "\n"
