@@ -247,6 +247,9 @@ class Rows(unittest.TestCase):
     def test_locales(self):
         self.ask("locale.txt", 750)
 
+    def test_cases_of_cldr(self):
+        self.ask("cldr.txt", 1770)
+
 
 class Registry(unittest.TestCase):
     """Compares answers about tags of the registry's subtags with registry/oracle.py."""
