@@ -118,7 +118,7 @@ def adapted(row):
 
 
 FLOORS = {"table.txt": 255, "likely.txt": 250, "distance.txt": 140, "direction.txt": 325, "posix.txt": 150, "choices.txt": 285,
-          "unicode.txt": 25, "keywords.txt": 380, "extensions.txt": 630, "locale.txt": 750, "cldr.txt": 1770}
+          "unicode.txt": 25, "keywords.txt": 380, "extensions.txt": 630, "locale.txt": 780, "cldr.txt": 1770}
 
 TABLE = "CREATE TABLE texts (tag TEXT PRIMARY KEY COLLATE langtag); INSERT INTO texts VALUES ('zh-Hant'), ('de'), ('zh'), ('');"
 # Statements, and SQLite's output for them.

@@ -362,7 +362,7 @@ ANSWERS = {
 }
 FLOORS = {"table.txt": 360, "texts.txt": 710, "negotiation.txt": 102, "edits.txt": 125, "likely.txt": 250,
           "refused.txt": 60, "distance.txt": 140, "direction.txt": 325, "posix.txt": 150, "choices.txt": 285, "lists.txt": 15,
-          "unicode.txt": 400, "keywords.txt": 380, "extensions.txt": 630, "locale.txt": 750, "cldr.txt": 1770}
+          "unicode.txt": 400, "keywords.txt": 380, "extensions.txt": 630, "locale.txt": 780, "cldr.txt": 1770}
 
 
 class Rows(unittest.TestCase):

@@ -287,7 +287,7 @@ static std::string locale_form_of(const strings &asked) {
     const auto one = tag::parse(asked[0]);
     const auto form = one ? one->locale_form() : std::nullopt;
     if (one && langtag::owned_tag(*one).locale_form() != form) return "an owned tag has another";
-    return form.value_or("-");
+    return !form ? "-" : form->empty() ? "''" : *form;
 }
 
 static std::string refused_of(const strings &asked) {

@@ -245,7 +245,7 @@ class Rows(unittest.TestCase):
         self.ask("extensions.txt", 630)
 
     def test_locales(self):
-        self.ask("locale.txt", 750)
+        self.ask("locale.txt", 780)
 
     def test_cases_of_cldr(self):
         self.ask("cldr.txt", 1770)
