@@ -220,7 +220,7 @@ public:
     /* Returns the tag with its extensions u and t in canonical form (UTS #35, part 1, Annex C). */
     std::string extensions_form() const { return written(langtag_extensions_form); }
 
-    /* Returns whether the tag is a Unicode locale identifier (UTS #35, part 1): de-AT is one, but zh-yue and x-a are not. */
+    /* Returns whether the tag is a Unicode locale identifier (UTS #35, part 1): true for de-AT, false for zh-yue and x-a. */
     bool is_locale() const noexcept { return langtag_is_locale(text_.data(), text_.size()); }
 
     /* Returns the canonical form of the tag as a Unicode locale identifier (UTS #35, part 1, Annex C): ger-UK becomes de-GB, and zh-yue
