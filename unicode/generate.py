@@ -30,6 +30,8 @@ REGISTRY = HERE.parent / "registry/language-subtag-registry"
 
 SUBTAG = re.compile(r"[a-z0-9]{3,8}")
 KEYS = {"u": re.compile(r"[a-z0-9][a-z]"), "t": re.compile(r"[a-z][0-9]")}
+# by how many bytes a type may grow, by its key, which the proof of the longest form counts
+GROWTH = {"ca": 5, "tz": 4, "d0": 4, "m0": 3}
 SUBDIVISION = re.compile(r"[a-z]{2}[a-z0-9]{1,4}|[0-9]{3}[a-z0-9]{1,4}")
 
 
@@ -91,12 +93,12 @@ class Aliases:
         each_type("no right side is a left side", lambda row: [*row[:2], row[3]] not in left)
         each_type("rg and sd have subdivisions alone", lambda row: row[1] not in ("rg", "sd"))
         each_type("nothing replaces true", lambda row: row[2] != "true")
-        each_type("a right side is at most twice as long", lambda row: len(row[3]) <= 2 * len(row[2]))
+        each_type("a right side is longer by what its key allows", lambda row: row[3] == "true" or len(row[3]) <= len(row[2]) + GROWTH.get(row[1], 0))
         codes = [old for old, _ in self.subdivisions]
         each_subdivision("codes in lowercase", lambda row: all(SUBDIVISION.fullmatch(code) for code in row))
         each_subdivision("a left side once", lambda row: codes.count(row[0]) == 1)
         each_subdivision("no right side is a left side", lambda row: row[1] not in codes)
-        each_subdivision("a right side is at most twice as long", lambda row: len(row[1]) <= 2 * len(row[0]))
+        each_subdivision("a right side is longer by 2 at most", lambda row: len(row[1]) <= len(row[0]) + 2)
 
 
 def preferred() -> list[tuple[str, str]]:

@@ -103,7 +103,7 @@ class Generating(unittest.TestCase):
             (types, "\nu tz aqams aqmcm\n", "\nu tz aqams eire\n", "no right side is a left side"),
             (types, "\nu tz aqams aqmcm\n", "\nu sd aqams aqmcm\n", "rg and sd have subdivisions alone"),
             (types, "\nu tz aqams aqmcm\n", "\nu tz true aqmcm\n", "nothing replaces true"),
-            (types, "\nu tz aqams aqmcm\n", "\nu tz aqams aqmcm-aqmcm\n", "at most twice as long"),
+            (types, "\nu tz aqams aqmcm\n", "\nu tz aqams aqmcm-aqmcm\n", "longer by what its key allows"),
             (places, "\ncn11 deprecated cnbj\n", "\nc11 deprecated cnbj\n", "codes in lowercase"),
             (places, "\ncn11 deprecated cnbj\n", "\ncn11 deprecated cnbj\ncn11 deprecated cntj\n", "a left side once"),
             (places, "\ncn11 deprecated cnbj\n", "\ncn11 deprecated cn12\n", "no right side is a left side"),

@@ -332,7 +332,7 @@ size_t langtag_without_keyword(const char *tag, size_t tag_len, const char *key,
  * langtag_canonical sorts them.
  *
  * Time is quadratic in the number of attributes, and of variants in the language of t. The form may be longer than
- * the tag, but a size of 2 * len is always enough.
+ * the tag, but a size of len + 20 is always enough.
  *
  * Returns 0 and writes nothing if the text is not a tag.
  */

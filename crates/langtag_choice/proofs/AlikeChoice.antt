@@ -1,8 +1,10 @@
 -- What is chosen does not change with the case of letters.
-use Rattle.std.proofs.Common.{◌≡◌, ℕ, ◌==◌, Bool, cond, not, ◌&&◌, ◌||◌, nat_lt, max, List, [], ◌∷◌, map, length, take, drop, Option, None, Some, option_map, refl, sym, ap, subst, ◌∙◌, true, false}
+use Rattle.std.proofs.Common.{◌≡◌, ℕ, Bool, cond, not, ◌&&◌, nat_lt, List, [], ◌∷◌, map, length, take, drop, Option, None, Some, option_map, refl, sym, ap, subst, ◌∙◌, true, false, arith}
 use Rattle.std.proofs.lemmas.List.{take-map, drop-map}
 use Rattle.std.specs.List.{slice_get}
 use Rattle.std.proofs.lemmas.Option.{slice_get-map}
+use Rattle.std.proofs.lemmas.Bool.Decides.{nat_tests}
+use Rattle.std.proofs.lemmas.Grind.{common_steps}
 use Rattle.langtag_scan.specs.Case.{are_alike, fold_byte, fold_text}
 use Rattle.langtag_scan.proofs.CaseLaw.{fold_text-twice, hyphen-fold, length-fold}
 use Rattle.langtag_match.specs.AcceptLanguage.{Element}
@@ -32,17 +34,7 @@ test_basic-fold range tag =
     rw (is_star-fold range, length-fold range, take-map fold_byte (length range) tag, drop-map fold_byte (length range) tag, same-fold range (take (length range) tag), ends_subtag-fold (drop (length range) tag)) refl
 
 is_fallback-fold : (range tag : List ℕ) → is_fallback (fold_text range) (fold_text tag) ≡ is_fallback range tag
-is_fallback-fold range tag =
-    ap (λ b. are_alike (take (length (fold_text tag)) (fold_text range)) (fold_text tag) && (ends_subtag (drop (length (fold_text tag)) (fold_text range)) && ((length (fold_text tag) == length (fold_text range)) || not b)))
-    (ends_in_single-fold tag)
-    ∙ rw (
-      length-fold range,
-      length-fold tag,
-      take-map fold_byte (length tag) range,
-      drop-map fold_byte (length tag) range,
-      same-fold (take (length tag) range) tag,
-      ends_subtag-fold (drop (length tag) range),
-    ) refl
+is_fallback-fold range tag = grind (arith, common_steps, ends_in_single-fold, length-fold, take-map, drop-map, same-fold, ends_subtag-fold)
 
 kept-fold : (range tag : List ℕ) → kept (fold_text range) (fold_text tag) ≡ kept range tag
 unfolding kept
@@ -71,16 +63,11 @@ longest-fold : (of_kind : Element → Bool) → ((element : Element) → of_kind
     longest of_kind (map folded elements) (fold_text tag) ≡ longest of_kind elements tag
 longest-fold of_kind same [] tag = refl
 longest-fold of_kind same (element ∷ elements) tag =
-    ap (λ b. cond (b && matches (folded element) (fold_text tag)) (max (length (fold_text element.range)) (longest of_kind (map folded elements) (fold_text tag))) (longest of_kind (map folded elements) (fold_text tag))) (same element)
-    ∙ ap (λ b. cond (of_kind element && b) (max (length (fold_text element.range)) (longest of_kind (map folded elements) (fold_text tag))) (longest of_kind (map folded elements) (fold_text tag))) (matches-fold element tag)
-    ∙ ap (λ n. cond (of_kind element && matches element tag) (max n (longest of_kind (map folded elements) (fold_text tag))) (longest of_kind (map folded elements) (fold_text tag))) (length-fold element.range)
-    ∙ ap (λ n. cond (of_kind element && matches element tag) (max (length element.range) n) n) (longest-fold of_kind same elements tag)
+    grind (arith, nat_tests, matches-fold element tag, length-fold element.range, longest-fold of_kind same elements tag)
 
 is_refused-fold : (elements : List Element) (tag : List ℕ) → is_refused (map folded elements) (fold_text tag) ≡ is_refused elements tag
 unfolding is_refused
-is_refused-fold elements tag =
-    ap (λ n. nat_lt n (longest is_excluded (map folded elements) (fold_text tag))) (longest-fold is_wish (λ element. refl) elements tag)
-    ∙ ap (nat_lt (longest is_wish elements tag)) (longest-fold is_excluded (λ element. refl) elements tag)
+is_refused-fold elements tag = grind (arith, nat_tests, longest-fold is_wish, longest-fold is_excluded)
 
 -- ---- what is chosen
 

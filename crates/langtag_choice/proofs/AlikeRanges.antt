@@ -1,7 +1,8 @@
 -- The matching form of a text, and how far another is, do not change with the case of letters.
-use Rattle.std.proofs.Common.{◌≡◌, ℕ, ◌+◌, true, false, Bool, cond, List, [], ◌∷◌, map, Option, None, Some, option_map, refl, sym, ap, ◌∙◌}
+use Rattle.std.proofs.Common.{◌≡◌, ℕ, ◌+◌, true, false, Bool, cond, List, [], ◌∷◌, map, Option, None, Some, option_map, refl, sym, ap, ◌∙◌, arith}
 use Rattle.std.specs.Prelude.{codes}
 use Rattle.std.specs.Option.{option_map_or}
+use Rattle.std.proofs.lemmas.Bool.Decides.{nat_tests}
 use Rattle.langtag_scan.specs.Case.{Alike, are_alike, fold_text}
 use Rattle.langtag_scan.specs.CaseLaws.{are_alike-decides}
 use Rattle.langtag_scan.specs.Class.{is_primary, is_extended, is_script, is_region}
@@ -75,9 +76,7 @@ counts-fold s = rw (is_star-fold s, length-fold s) refl
 counted-fold : (subtags : List (List ℕ)) → counted (map fold_text subtags) ≡ map fold_text (counted subtags)
 counted-fold [] = refl
 counted-fold (s ∷ others) =
-    ap (λ t. cond t (fold_text s ∷ counted (map fold_text others)) (counted (map fold_text others))) (counts-fold s)
-    ∙ ap (λ rest. cond (counts s) (fold_text s ∷ rest) rest) (counted-fold others)
-    ∙ cond-map (map fold_text) (counts s) (s ∷ counted others) (counted others)
+    grind (arith, nat_tests, counts-fold s, counted-fold others, cond-map (map fold_text) (counts s) (s ∷ counted others) (counted others))
 
 fields_of_subtags-fold : (subtags : List (List ℕ)) → fields_of_subtags (map fold_text subtags) ≡ option_map fold_fields (fields_of_subtags subtags)
 fields_of_subtags-fold [] = refl
@@ -109,12 +108,7 @@ text_fields-fold text = ap fields_of_subtags (subtags-fold text) ∙ fields_of_s
 -- ---- forms
 
 same_fields : (f g : Option Fields) → option_map fold_fields f ≡ option_map fold_fields g → AlikeOptions (option_map matching_fields f) (option_map matching_fields g)
-same_fields None None same = tt
-same_fields None (Some b) same = absurd cc
-same_fields (Some a) None same = absurd cc
-same_fields (Some a) (Some b) same =
-    let folded : fold_fields a ≡ fold_fields b = cc in
-    matching-alike a b (record { language = ap (λ f. f.language) folded; script = ap (λ f. f.script) folded; region = ap (λ f. f.region) folded })
+same_fields f g same = grind (arith, nat_tests, matching-alike)
 
 pub matching_form-alike : (a b : List ℕ) → Alike a b → AlikeOptions (matching_form a) (matching_form b)
 unfolding matching_form

@@ -1,13 +1,14 @@
 -- The distance does not change with the case of letters.
-use Rattle.std.proofs.Common.{◌≡◌, ℕ, ◌+◌, cond, List, [], ◌∷◌, Option, None, Some, refl, ap, ◌∙◌}
-use Rattle.std.specs.Prelude.{◌&&◌, ◌||◌, codes}
+use Rattle.std.proofs.Common.{◌≡◌, ℕ, cond, List, [], ◌∷◌, Option, refl, ap, ◌∙◌, arith, rules}
+use Rattle.std.specs.Prelude.{◌&&◌, codes}
 use Rattle.std.specs.Option.{option_map_or}
+use Rattle.std.proofs.lemmas.Bool.Decides.{nat_tests}
+use Rattle.std.proofs.lemmas.Grind.{common_steps}
 use Rattle.langtag_scan.specs.Case.{Alike, are_alike}
 use Rattle.langtag_choice.specs.Distance as Distance
-use Rattle.langtag_likely.specs.Likely.{Fields, are_alike_fields, language_alone, without_region}
-use Rattle.langtag_likely.specs.Matching.{language_replaced, region_replaced, region_alone, with_language_from, with_region_from, without_language, keeping_language, most_unknown, most_likely, matching_fields}
-use Rattle.langtag_choice.specs.MatchingData.{language_rules, script_rules}
-use Rattle.langtag_likely.specs.Aliases.{language_aliases, region_aliases}
+use Rattle.langtag_likely.specs.Likely.{Fields, are_alike_fields, language_alone}
+use Rattle.langtag_likely.specs.Matching.{language_replaced, region_replaced, without_language, keeping_language, most_unknown, most_likely, matching_fields}
+use Rattle.langtag_choice.specs.MatchingData.{language_rules}
 use Rattle.langtag_choice.specs.Rules.{Rule, fits, distance_by}
 use Rattle.langtag_likely.proofs.AlikeFields.{AlikeFields, AlikeOptions, are_alike-left, are_alike-right, fields-right, likely_for-alike, alone_alike, or_other-alike, added-alike, by_options, by_same}
 
@@ -15,19 +16,11 @@ use Rattle.langtag_likely.proofs.AlikeFields.{AlikeFields, AlikeOptions, are_ali
 
 language-alike : (a b : Fields) → AlikeFields a b → AlikeFields (language_replaced a) (language_replaced b)
 unfolding language_replaced
-language-alike a b h = by_same (λ o p. AlikeFields (option_map_or (with_language_from a) o a) (option_map_or (with_language_from b) p b)) by_row _ _ (likely_for-alike language_aliases (language_alone a) (language_alone b) (alone_alike a b h.language))
-  where
-    by_row : (o : Option Fields) → AlikeFields (option_map_or (with_language_from a) o a) (option_map_or (with_language_from b) o b)
-    by_row None = h
-    by_row (Some v) = record { language = refl; script = or_other-alike a.script b.script v.script h.script; region = or_other-alike a.region b.region v.region h.region }
+language-alike a b h = grind (arith, common_steps, by_same, likely_for-alike, alone_alike, or_other-alike)
 
 region-alike : (a b : Fields) → AlikeFields a b → AlikeFields (region_replaced a) (region_replaced b)
 unfolding region_replaced
-region-alike a b h = by_same (λ o p. AlikeFields (option_map_or (with_region_from a) o a) (option_map_or (with_region_from b) p b)) by_row _ _ (likely_for-alike region_aliases (region_alone a) (region_alone b) (record { language = refl; script = refl; region = h.region }))
-  where
-    by_row : (o : Option Fields) → AlikeFields (option_map_or (with_region_from a) o a) (option_map_or (with_region_from b) o b)
-    by_row None = h
-    by_row (Some v) = record { language = h.language; script = h.script; region = refl }
+region-alike a b h = grind (arith, common_steps, by_same, likely_for-alike)
 
 unknown-alike : (a b : Fields) → AlikeFields a b → AlikeFields (most_unknown a) (most_unknown b)
 unknown-alike a b h =
@@ -72,26 +65,10 @@ british-alike : (a b c d : List ℕ) → Alike a b → Alike c d → Distance.is
 british-alike a b c d h k = rw (are_alike-right (codes "GB") a b h, outside-alike Distance.en_us c d k) refl
 
 english-alike : (a b c d : List ℕ) → Alike a b → Alike c d → Distance.english a c ≡ Distance.english b d
-english-alike a b c d h k =
-    ap (λ t. cond (t || Distance.is_british c a) 3 (Distance.by_side Distance.en_us a c)) (british-alike a b c d h k)
-    ∙ ap (λ t. cond (Distance.is_british b d || t) 3 (Distance.by_side Distance.en_us a c)) (british-alike c d a b k h)
-    ∙ ap (cond (Distance.is_british b d || Distance.is_british d b) 3) (side-alike Distance.en_us a b c d h k)
+english-alike a b c d h k = grind (arith, nat_tests, british-alike a b c d h k, british-alike c d a b k h, side-alike Distance.en_us a b c d h k)
 
 by_language-alike : (a b c d : Fields) → AlikeFields a b → AlikeFields c d → Distance.by_language a c ≡ Distance.by_language b d
-by_language-alike a b c d h k =
-    rw (
-      are_alike-right (codes "ar") _ _ h.language,
-      are_alike-right (codes "en") _ _ h.language,
-      are_alike-right (codes "es") _ _ h.language,
-      are_alike-right (codes "pt") _ _ h.language,
-      are_alike-right (codes "zh") _ _ h.language,
-      are_alike-right (codes "Hant") _ _ h.script,
-      are_alike-right (codes "Hant") _ _ k.script,
-      side-alike Distance.maghreb _ _ _ _ h.region k.region,
-      side-alike Distance.americas _ _ _ _ h.region k.region,
-      side-alike Distance.cnsar _ _ _ _ h.region k.region,
-      english-alike _ _ _ _ h.region k.region,
-    ) refl
+by_language-alike a b c d h k = grind (arith, common_steps, are_alike-right, side-alike, english-alike)
 
 languages-alike : (a b c d : Fields) → AlikeFields a b → AlikeFields c d → Distance.language_distance a c ≡ Distance.language_distance b d
 unfolding Distance.language_distance
@@ -100,12 +77,7 @@ languages-alike a b c d h k =
 
 scripts-alike : (a b c d : Fields) → AlikeFields a b → AlikeFields c d → Distance.script_distance a c ≡ Distance.script_distance b d
 unfolding Distance.script_distance
-scripts-alike a b c d h k =
-    rw (
-      both-alike _ _ _ _ h.script k.script,
-      distance_by-alike script_rules 50 (without_region a) (without_region b) (without_region c) (without_region d)
-          (record { language = h.language; script = h.script; region = refl }) (record { language = k.language; script = k.script; region = refl }),
-    ) refl
+scripts-alike a b c d h k = grind (arith, common_steps, both-alike, distance_by-alike)
 
 regions-alike : (a b c d : Fields) → AlikeFields a b → AlikeFields c d → Distance.region_distance a c ≡ Distance.region_distance b d
 unfolding Distance.region_distance
@@ -116,13 +88,4 @@ regions-alike a b c d h k =
 
 pub forms-alike :
     (a b c d : List ℕ) → Alike a b → Alike c d → (f g v w : Option Fields) → AlikeOptions f g → AlikeOptions v w → Distance.distance_of_forms a c f v ≡ Distance.distance_of_forms b d g w
-forms-alike a b c d h k None None v w same also = rw (both-alike a b c d h k) refl
-forms-alike a b c d h k None (Some y) v w same also = absurd same
-forms-alike a b c d h k (Some x) None v w same also = absurd same
-forms-alike a b c d h k (Some x) (Some y) None None same also = rw (both-alike a b c d h k) refl
-forms-alike a b c d h k (Some x) (Some y) None (Some z) same also = absurd also
-forms-alike a b c d h k (Some x) (Some y) (Some z) None same also = absurd also
-forms-alike a b c d h k (Some x) (Some y) (Some z) (Some u) same also =
-    ap (λ n. n + (Distance.script_distance x z + Distance.region_distance x z)) (languages-alike x y z u same also)
-    ∙ ap (λ n. Distance.language_distance y u + (n + Distance.region_distance x z)) (scripts-alike x y z u same also)
-    ∙ ap (λ n. Distance.language_distance y u + (Distance.script_distance y u + n)) (regions-alike x y z u same also)
+forms-alike a b c d h k f g v w same also = grind (arith, nat_tests, both-alike a b c d h k, languages-alike, scripts-alike, regions-alike)

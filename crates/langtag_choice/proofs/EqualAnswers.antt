@@ -2,6 +2,8 @@
 use Rattle.std.proofs.Common.{◌≡◌, ℕ, ◌-◌, ◌<◌, ◌≤◌, ◌==◌, Bool, true, false, cond, not, ◌&&◌, ◌||◌, nat_lt, IsTrue, List, [], ◌∷◌, length, length-take, take, drop, Option, Some, None, ap, refl, sym, subst, ◌∙◌, arith}
 use Rattle.std.specs.List.{slice_get}
 use Rattle.std.proofs.lemmas.Bool.{and_parts, ltb-true, ltb-false}
+use Rattle.std.proofs.lemmas.Bool.Decides.{nat_tests}
+use Rattle.std.proofs.lemmas.Grind.{common_steps}
 use Rattle.langtag_scan.specs.Case.{Alike, are_alike}
 use Rattle.langtag_scan.specs.CaseLaws.{are_alike-decides}
 use Rattle.langtag_match.specs.AcceptLanguage.{Element}
@@ -22,9 +24,7 @@ use Rattle.langtag_match.proofs.Prefixes.{length-alike}
 
 kept_alike : (range tag : List ℕ) → Alike range tag → kept range tag ≡ length range
 unfolding kept
-kept_alike range tag alike =
-    let is = whole_fallback range tag alike in
-    rw is (sym (length-alike range tag alike))
+kept_alike range tag alike = grind (arith, nat_tests, whole_fallback range tag alike, length-alike range tag alike)
 
 alike_kept : (range tag : List ℕ) → 0 < length range → length range - kept range tag ≡ 0 → Alike range tag
 unfolding kept
@@ -53,10 +53,7 @@ module _ (elements : List Element) (all : List (Option (List ℕ))) (place : ℕ
   -- it may serve the range
   own_pair : Pair elements all
   unfolding serves
-  own_pair =
-      let near = reach_none in
-      let served : serves element first.tag ≡ true = rw (wish, star, near) refl in
-      record { place = place; element = element; wanted = heaviest.there; index = index; tag = first.tag; there = first.there; served = served; unrefused = first.unrefused }
+  own_pair = grind (arith, nat_tests, reach_none)
 
   abbrev own_rank : List ℕ
   own_rank = 0 ∷ (1000 - element.weight) ∷ place ∷ 0 ∷ (length element.range - kept element.range first.tag) ∷ unlikely first.tag ∷ index ∷ []
@@ -68,16 +65,7 @@ module _ (elements : List Element) (all : List (Option (List ℕ))) (place : ℕ
   -- for the range itself
   own_range : (tag : List ℕ) (k : ℕ) → slice_get all k ≡ Some (Some tag) → is_refused elements tag ≡ false → IsAtMost own_rank (rank place element k tag)
   unfolding rank
-  own_range tag k there free =
-      le_then 0 (service (reach element.range tag)) _ (omega arith) (λ r.
-      le_then (1000 - element.weight) (1000 - element.weight) _ (omega arith) (λ s.
-      le_then place place _ (omega arith) (λ t.
-      le_then 0 (reach element.range tag) _ (omega arith) (λ u.
-      le_then (length element.range - kept element.range first.tag) (length element.range - kept element.range tag) _ (omega (arith, lost_none)) (λ v.
-      let alike = alike_kept element.range tag long (sym v ∙ lost_none) in
-      let same = unlikely-alike first.tag tag (sym first.alike ∙ alike) in
-      le_then (unlikely first.tag) (unlikely tag) _ (omega (arith, same)) (λ w.
-      le_then index k _ (first.first k tag there free alike) (λ x. refl)))))))
+  own_range tag k there free = grind (arith, common_steps, le_then, lost_none, alike_kept, unlikely-alike)
 
   -- for any range
   none_before :

@@ -4,6 +4,7 @@ use Rattle.std.specs.List.{slice_get}
 use Rattle.std.specs.Option.{ForSome, MatchOption}
 use Rattle.std.proofs.lemmas.Bool.{ltb-true, ltb-false}
 use Rattle.std.proofs.lemmas.Option.{get_or_from_slice_get, slice_get-get_or, slice_get_within}
+use Rattle.std.proofs.lemmas.Bool.Decides.{nat_tests}
 use Rattle.langtag_match.specs.AcceptLanguage.{Element}
 use Rattle.langtag_choice.specs.Best.{Pair, is_refused, rank, rank_of_pair, serves}
 use Rattle.langtag_choice.specs.Found.{AreOpen, Covers, CoversOpen, CoversRanges, CoversTags, IsAt, IsBestFound, IsBestOf, IsFor, IsOldOrAt, IsOf, IsUnrefusedAt, IsReal, IsNotAfter, Keeps, Takes, wish_element}
@@ -55,46 +56,22 @@ one_more_open elements tags index old new so_far keeps here =
 -- the candidate of a text for a range is one for a list that has the range at its place
 pub of_is_at :
     (elements : List Element) (wish : Wish) (tag : List ℕ) (index : ℕ) (c : Candidate) → slice_get elements wish.place ≡ Some (wish_element wish) → IsOf wish tag index c → IsAt elements tag index c
-of_is_at elements wish tag index c wanted of = record {
-  element = wish_element wish;
-  wanted = ap (slice_get elements) of.place ∙ wanted;
-  range = of.range;
-  index = of.index;
-  tag = of.tag;
-  served = of.served;
-  same_rank = of.same_rank ∙ ap (λ place. rank place (wish_element wish) index tag) (sym of.place);
-}
+of_is_at elements wish tag index c wanted of = grind (arith, nat_tests)
 
 at_is_for :
     (elements : List Element) (tags : List (Option (List ℕ))) (tag : List ℕ) (index : ℕ) (c : Candidate) → index < length tags → ((other : List ℕ) → slice_get tags index ≡ Some (Some other) → tag ≡ other) →
     IsAt elements tag index c → IsFor elements tags c
-at_is_for elements tags tag index c inside there at = record {
-  at = record {
-    element = at.element;
-    wanted = at.wanted;
-    range = at.range;
-    index = refl;
-    tag = refl;
-    served = subst (λ t. serves at.element t ≡ true) (sym at.tag) at.served;
-    same_rank = at.same_rank ∙ ap (λ k. rank c.rank.place at.element k tag) (sym at.index) ∙ ap (rank c.rank.place at.element c.index) (sym at.tag);
-  };
-  inside = subst (λ k. k < length tags) (sym at.index) inside;
-  there = λ other is. at.tag ∙ there other (ap (slice_get tags) (sym at.index) ∙ is);
-}
+at_is_for elements tags tag index c inside there at = grind (arith, nat_tests)
 
 pub real_from :
     (elements : List Element) (tags : List (Option (List ℕ))) (tag : List ℕ) (index : ℕ) (old new : Option Candidate) → index < length tags → ((other : List ℕ) → slice_get tags index ≡ Some (Some other) → tag ≡ other) →
     IsReal elements tags old → IsOldOrAt elements tag index old new → IsReal elements tags new
-real_from elements tags tag index old new inside there real (inl same) = subst (IsReal elements tags) (sym same) real
-real_from elements tags tag index old None inside there real (inr at) = tt
-real_from elements tags tag index old (Some c) inside there real (inr at) = at_is_for elements tags tag index c inside there at
+real_from elements tags tag index old new inside there real h9 = grind (arith, nat_tests, at_is_for elements tags tag index)
 
 pub from_of :
     (elements : List Element) (wish : Wish) (tag : List ℕ) (index : ℕ) (old new : Option Candidate) → slice_get elements wish.place ≡ Some (wish_element wish) →
     (new ≡ old) ⊎ MatchOption new ⊥ (IsOf wish tag index) → IsOldOrAt elements tag index old new
-from_of elements wish tag index old new wanted (inl same) = inl same
-from_of elements wish tag index old None wanted (inr of) = inr of
-from_of elements wish tag index old (Some c) wanted (inr of) = inr (of_is_at elements wish tag index c wanted of)
+from_of elements wish tag index old new wanted h7 = grind (arith, nat_tests, of_is_at elements wish tag index)
 
 -- from one step to the next
 pub from_later :
@@ -113,11 +90,7 @@ pub takes_covers :
     ForSome (get_or tags index None) (λ found. text ≡ found) → Takes wish text index old new → (tag : List ℕ) → slice_get tags index ≡ Some (Some tag) → serves element tag ≡ true →
     IsNotAfter new (rank place element index tag)
 takes_covers tags element place wish text index old new same_element same_place at takes tag there served =
-    let same : text ≡ tag = text_at tags index text at tag there in
-    subst (λ p. IsNotAfter new (rank p element index tag)) same_place
-    (subst (λ e. IsNotAfter new (rank wish.place e index tag)) same_element
-    (subst (λ t. IsNotAfter new (rank wish.place (wish_element wish) index t)) same
-    (takes.covers (subst (λ t. serves (wish_element wish) t ≡ true) (sym same) (subst (λ e. serves e tag ≡ true) (sym same_element) served)))))
+    grind (arith, nat_tests, text_at tags index text at tag there)
 
 -- ---- what is first of all
 

@@ -1,20 +1,20 @@
 -- A text that begins otherwise than a lone language, and not as `und` does, is far from it, and is not what it falls back to.
-use Rattle.std.proofs.Common.{◌≡◌, ℕ, ◌<◌, ◌≤◌, Bool, true, false, cond, ltb, not, ◌==◌, List, [], ◌∷◌, get_or, length, length-take, map, take, drop, zero, suc, Option, Some, None, option_map, refl, sym, ap, ◌∙◌, arith}
-use Rattle.std.specs.Prelude.{◌&&◌, ◌||◌, codes}
+use Rattle.std.proofs.Common.{◌≡◌, ℕ, ◌<◌, ◌≤◌, Bool, true, false, cond, ltb, not, ◌==◌, List, [], ◌∷◌, get_or, length, length-take, map, take, drop, Option, Some, None, option_map, refl, sym, ap, ◌∙◌, arith, rules}
+use Rattle.std.specs.Prelude.{◌&&◌, codes}
 use Rattle.std.specs.List.{after_first, before_first, list_all, position_or_len}
 use Rattle.std.specs.Option.{option_map_or}
 use Rattle.std.proofs.lemmas.Bool.{and_from, and_parts, both_ways, eq-eqb, false_from_ne_true, ltb-true, or_parts, eqb-false, not-true}
 use Rattle.std.proofs.lemmas.List.Sums.{take_while-cons}
-use Rattle.langtag_scan.specs.Case.{Alike, are_alike, fold_byte, fold_text}
+use Rattle.std.proofs.lemmas.Bool.Decides.{nat_tests}
+use Rattle.std.proofs.lemmas.Grind.{common_steps}
+use Rattle.langtag_scan.specs.Case.{Alike, are_alike, fold_text}
 use Rattle.langtag_scan.specs.CaseLaws.{are_alike-decides}
-use Rattle.langtag_scan.specs.Class.{are_letters, is_extended, is_letter, is_primary}
+use Rattle.langtag_scan.specs.Class.{is_extended, is_letter, is_primary}
 use Rattle.langtag_tables.proofs.Letters.{primary_length}
-use Rattle.langtag_match.specs.Basic.{ends_subtag}
-use Rattle.langtag_match.specs.Fallback.{ends_in_single}
 use Rattle.langtag_match.specs.Listed.{basic_text}
 use Rattle.langtag_match.specs.Wanted.{hyphened, is_separator}
-use Rattle.langtag_choice.specs.Lone.{HasNoExtended, begins_counted, IsShort, first_two, is_lone, is_related, lone_head, replacing}
-use Rattle.langtag_choice.specs.Distance.{distance_of_forms, distance_of_texts, is_among, language_distance}
+use Rattle.langtag_choice.specs.Lone.{HasNoExtended, begins_counted, IsShort, first_two, is_lone, lone_head, replacing}
+use Rattle.langtag_choice.specs.Distance.{distance_of_texts, is_among, language_distance}
 use Rattle.langtag_likely.specs.Likely.{Fields, Likely, are_alike_fields, known, language_alone, likely_for}
 use Rattle.langtag_likely.specs.Matching.{language_replaced, matching_fields, matching_form, with_language_from}
 use Rattle.langtag_choice.specs.MatchingData.{language_rules}
@@ -35,29 +35,13 @@ use Rattle.langtag_scan.proofs.Disjoint.{extended_three}
 -- ---- heads
 
 head-alike : (a b : List ℕ) → Alike a b → first_two a ≡ first_two b
-head-alike [] [] alike = refl
-head-alike [] (y ∷ b) alike = absurd cc
-head-alike (x ∷ a) [] alike = absurd cc
-head-alike (x ∷ []) (y ∷ []) alike = refl
-head-alike (x ∷ []) (y ∷ z ∷ b) alike = absurd cc
-head-alike (x ∷ w ∷ a) (y ∷ []) alike = absurd cc
-head-alike (x ∷ w ∷ a) (y ∷ z ∷ b) alike =
-    let one : fold_byte x ≡ fold_byte y = cc in
-    let two : fold_byte w ≡ fold_byte z = cc in
-    rw (one, two) refl
+head-alike a b alike = grind (arith, nat_tests)
 
 head-take : (n : ℕ) (text : List ℕ) → 2 ≤ length (take n text) → first_two (take n text) ≡ first_two text
-head-take zero text long = absurd (omega (arith, long))
-head-take (suc zero) [] long = refl
-head-take (suc zero) (a ∷ text) long = absurd (omega (arith, long))
-head-take (suc (suc n)) [] long = refl
-head-take (suc (suc n)) (a ∷ []) long = refl
-head-take (suc (suc n)) (a ∷ b ∷ text) long = refl
+head-take n text long = grind (arith, common_steps)
 
 pub apart_letters : (a b : ℕ × ℕ) → not ((a.0 == b.0) && (a.1 == b.1)) ≡ true → Some a ≡ Some b → ⊥
-apart_letters a b apart same =
-    let one : a ≡ b = cc in
-    both_ways _ (not-true _ apart) (and_from (a.0 == b.0) (a.1 == b.1) (eq-eqb a.0 b.0 (ap (λ p. p.0) one)) (eq-eqb a.1 b.1 (ap (λ p. p.1) one)))
+apart_letters a b apart same = grind (arith, nat_tests, both_ways, not-true, and_from (a.0 == b.0) (a.1 == b.1), eq-eqb a.0 b.0, eq-eqb a.1 b.1)
 
 head_first : (text : List ℕ) → is_primary (before_first is_separator text) ≡ true → first_two (before_first is_separator text) ≡ first_two text
 head_first text primary = head-take (position_or_len is_separator text) text (primary_length (before_first is_separator text) primary)
@@ -69,36 +53,16 @@ unmarked x text is = take_while-cons (λ b. not (is_separator b)) x text ∙ ap 
 
 first_letter : (x : ℕ) (text : List ℕ) → is_letter x ≡ false → is_extended (before_first is_separator (x ∷ text)) ≡ false
 unfolding is_extended
-first_letter x text other = by_mark (is_separator x) refl
-  where
-    by_mark : (b : Bool) → is_separator x ≡ b → is_extended (before_first is_separator (x ∷ text)) ≡ false
-    by_mark true is = rw is refl
-    by_mark false is = rw (unmarked x text is) (false_from_ne_true _ (λ yes.
-        let letters = and_parts (length (x ∷ before_first is_separator text) == 3) (are_letters (x ∷ before_first is_separator text)) yes in
-        both_ways (is_letter x) other (and_parts (is_letter x) (are_letters (before_first is_separator text)) letters.1).0))
+first_letter x text other = grind (arith, common_steps, unmarked, false_from_ne_true, and_parts, both_ways)
 
 pub few_extended : (text : List ℕ) → length text ≤ 2 → is_extended (before_first is_separator text) ≡ false
-few_extended text few = false_from_ne_true _ (λ yes.
-    let three = (extended_three (before_first is_separator text) yes).0 in
-    let most = length-take (position_or_len is_separator text) text in
-    omega (arith, three, most, few))
+few_extended text few =
+    grind (arith, nat_tests, false_from_ne_true, extended_three (before_first is_separator text), length-take (position_or_len is_separator text) text)
 
 -- no mark stands at the third place from 0 on
 longer : (x y z n : ℕ) (text : List ℕ) → is_separator n ≡ false → is_extended (before_first is_separator (x ∷ y ∷ z ∷ n ∷ text)) ≡ false
 unfolding is_extended
-longer x y z n text other = by_marks (is_separator x) (is_separator y) (is_separator z) refl refl refl
-  where
-    by_marks :
-        (a b c : Bool) → is_separator x ≡ a → is_separator y ≡ b → is_separator z ≡ c → is_extended (before_first is_separator (x ∷ y ∷ z ∷ n ∷ text)) ≡ false
-    by_marks true b c first second third = rw first refl
-    by_marks false true c first second third = rw (first, second) refl
-    by_marks false false true first second third = rw (first, second, third) refl
-    by_marks false false false first second third = false_from_ne_true _ (λ yes.
-        let three = (extended_three (before_first is_separator (x ∷ y ∷ z ∷ n ∷ text)) yes).0 in
-        let whole : before_first is_separator (x ∷ y ∷ z ∷ n ∷ text) ≡ x ∷ y ∷ z ∷ n ∷ before_first is_separator text =
-        unmarked x (y ∷ z ∷ n ∷ text) first ∙ ap (λ t. x ∷ t) (unmarked y (z ∷ n ∷ text) second ∙ ap (λ t. y ∷ t) (unmarked z (n ∷ text) third ∙ ap (λ t. z ∷ t) (unmarked n text other))) in
-        let four = ap length whole in
-        omega (arith, three, four))
+longer x y z n text other = grind (arith, common_steps, false_from_ne_true, extended_three, unmarked)
 
 not_primary : (text : List ℕ) → length text ≤ 1 → is_primary text ≡ true → ⊥
 not_primary text few primary = let long = primary_length text primary in omega (arith, few, long)
@@ -106,24 +70,10 @@ not_primary text few primary = let long = primary_length text primary in omega (
 -- a text of two bytes, and one with a mark after two
 two_short : (a b : ℕ) → IsShort (a ∷ b ∷ [])
 unfolding is_extended
-two_short a b = λ primary. by_marks (is_separator a) (is_separator b) refl refl primary
-  where
-    by_marks :
-        (x y : Bool) → is_separator a ≡ x → is_separator b ≡ y → is_primary (before_first is_separator (a ∷ b ∷ [])) ≡ true →
-        (length (before_first is_separator (a ∷ b ∷ [])) ≡ 2) × HasNoExtended (after_first is_separator (a ∷ b ∷ []))
-    by_marks true y first second primary = absurd (not_primary (before_first is_separator (a ∷ b ∷ [])) (rw first (omega arith)) primary)
-    by_marks false true first second primary = absurd (not_primary (before_first is_separator (a ∷ b ∷ [])) (rw (first, second) (omega arith)) primary)
-    by_marks false false first second primary = rw (first, second) (refl, (refl, refl))
+two_short a b = grind (arith, nat_tests, not_primary (before_first is_separator (a ∷ b ∷ [])))
 
 marked_short : (a b m : ℕ) (rest : List ℕ) → is_separator m ≡ true → HasNoExtended rest → IsShort (a ∷ b ∷ m ∷ rest)
-marked_short a b m rest mark alone = λ primary. by_marks (is_separator a) (is_separator b) refl refl primary
-  where
-    by_marks :
-        (x y : Bool) → is_separator a ≡ x → is_separator b ≡ y → is_primary (before_first is_separator (a ∷ b ∷ m ∷ rest)) ≡ true →
-        (length (before_first is_separator (a ∷ b ∷ m ∷ rest)) ≡ 2) × HasNoExtended (after_first is_separator (a ∷ b ∷ m ∷ rest))
-    by_marks true y first second primary = absurd (not_primary (before_first is_separator (a ∷ b ∷ m ∷ rest)) (rw first (omega arith)) primary)
-    by_marks false true first second primary = absurd (not_primary (before_first is_separator (a ∷ b ∷ m ∷ rest)) (rw (first, second) (omega arith)) primary)
-    by_marks false false first second primary = rw (first, second, mark) (refl, alone)
+marked_short a b m rest mark alone = grind (arith, nat_tests, not_primary (before_first is_separator (a ∷ b ∷ m ∷ rest)))
 
 pub short_of_two : (text : List ℕ) → 2 ≤ length text → length text < 3 → IsShort text
 short_of_two [] least most = absurd (omega (arith, least))
@@ -142,24 +92,15 @@ extended_letter [] some other = absurd (omega (arith, some))
 extended_letter (x ∷ text) some other = first_letter x text other
 
 pub extended_mark : (text : List ℕ) → 4 ≤ length text → is_separator (get_or text 3 0) ≡ false → is_extended (before_first is_separator text) ≡ false
-extended_mark [] long other = absurd (omega (arith, long))
-extended_mark (x ∷ []) long other = absurd (omega (arith, long))
-extended_mark (x ∷ y ∷ []) long other = absurd (omega (arith, long))
-extended_mark (x ∷ y ∷ z ∷ []) long other = absurd (omega (arith, long))
-extended_mark (x ∷ y ∷ z ∷ n ∷ text) long other = longer x y z n text other
+extended_mark text long other = grind (arith, common_steps, longer)
 
 -- ---- the language of a text
 
 first_counts : (b : ℕ) (text : List ℕ) → begins_counted (b ∷ text) ≡ true → counts (before_first is_separator (b ∷ text)) ≡ true
-first_counts b text is =
-    let apart = or_parts (is_separator b) (b == 42) (not-true _ is) in
-    rw (unmarked b text apart.0, apart.1, some_length b (before_first is_separator text)) refl
+first_counts b text is = grind (arith, common_steps, or_parts, not-true, unmarked, some_length)
 
 no_extended : (text : List ℕ) → HasNoExtended text → (language : List ℕ) → last_language language (counted_parts text) ≡ language
-no_extended [] none language = refl
-no_extended (b ∷ text) none language =
-    ap (last_language language) (next_part (b ∷ text))
-    ∙ rw (first_counts b text none.0, none.1) refl
+no_extended text none language = grind (arith, nat_tests, next_part, first_counts)
 
 -- a language that is there and is not that one
 record IsOther (one language : List ℕ) : Type 0 where
@@ -257,10 +198,7 @@ language_far :
     (desired supported : Fields) → is_among (map (λ rule. rule.desired.language) language_rules) desired.language ≡ false → (Alike desired.language supported.language → ⊥) →
     language_distance desired supported ≡ 80
 unfolding language_distance
-language_far desired supported apart other =
-    ap (λ b. cond b 0 (distance_by language_rules 80 (language_alone desired) (language_alone supported)))
-    (false_from_ne_true (are_alike desired.language supported.language) (λ yes. other ((are_alike-decides desired.language supported.language).0 yes)))
-    ∙ no_rule (language_alone desired) (language_alone supported) 80 language_rules apart
+language_far desired supported apart other = search (rules, false_from_ne_true, no_rule)
 
 -- what is alike has a form or has none
 form_alone : (range tag : List ℕ) (f : Fields) → matching_form range ≡ Some f → matching_form tag ≡ None → are_alike range tag ≡ false
@@ -269,58 +207,30 @@ form_alone range tag f some none = false_from_ne_true (are_alike range tag) (λ 
     (matching_form-alike range tag ((are_alike-decides range tag).0 yes)) some none)
 
 lone_language : (f : Fields) (letters : ℕ × ℕ) → lone_head (Some f) ≡ Some letters → (is_lone f.language ≡ true) × (first_two f.language ≡ Some letters)
-lone_language f letters is = by_test (is_lone f.language) is
-  where
-    by_test : (b : Bool) → cond b (first_two f.language) None ≡ Some letters → (b ≡ true) × (first_two f.language ≡ Some letters)
-    by_test true is = (refl, is)
-    by_test false is = absurd cc
+lone_language f letters is = grind (arith, nat_tests)
 
 pub far_from_lone :
     (letters : ℕ × ℕ) (range tag : List ℕ) → lone_head (matching_form range) ≡ Some letters → IsShort tag → (first_two tag ≡ Some letters → ⊥) →
     50 ≤ distance_of_texts range tag
 unfolding distance_of_texts is_lone
-far_from_lone letters range tag lone short other = by_form (matching_form range) lone refl
-  where
-    by_tag :
-        (d : Fields) → matching_form range ≡ Some d → is_among (map (λ rule. rule.desired.language) language_rules) d.language ≡ false →
-        is_among (replacing language_aliases) d.language ≡ false → first_two d.language ≡ Some letters →
-        (o : Option Fields) → matching_form tag ≡ o → 50 ≤ distance_of_forms range tag (Some d) o
-    by_tag d is desired replacing begins None none = rw (form_alone range tag d is none) (omega arith)
-    by_tag d is desired replacing begins (Some form) some = let eighty = language_far d form desired (form_other d.language letters begins tag short other replacing form some) in omega (arith, eighty)
-
-    by_form : (o : Option Fields) → lone_head o ≡ Some letters → matching_form range ≡ o → 50 ≤ distance_of_forms range tag (matching_form range) (matching_form tag)
-    by_form None lone is = absurd cc
-    by_form (Some d) lone is =
-        let form = is in
-        let yes = lone_language d letters lone in
-        let parts = and_parts (length d.language == 2) (not (is_related d.language)) yes.0 in
-        let aparts = or_parts (is_among (map (λ rule. rule.desired.language) language_rules) d.language) (is_among (replacing language_aliases) d.language) (not-true (is_related d.language) parts.1) in
-        rw form (by_tag d form aparts.0 aparts.1 yes.1 (matching_form tag) refl)
+far_from_lone letters range tag lone short other =
+    grind (arith, nat_tests, form_alone range tag, language_far, form_other, lone_language, and_parts, or_parts, not-true)
 
 -- ---- what look-up keeps
 
 head_length : (text : List ℕ) (letters : ℕ × ℕ) → first_two text ≡ Some letters → 2 ≤ length text
-head_length [] letters is = absurd cc
-head_length (a ∷ []) letters is = absurd cc
-head_length (a ∷ b ∷ text) letters is = omega arith
+head_length text letters is = grind (arith, nat_tests)
 
 pub starts_alike : (range tag : List ℕ) → 2 ≤ length tag → are_alike (take (length tag) range) tag ≡ true → first_two range ≡ first_two tag
 starts_alike range tag long is =
-    let alike = (are_alike-decides (take (length tag) range) tag).0 is in
-    let whole : 2 ≤ length (take (length tag) range) = omega (arith, length-alike (take (length tag) range) tag alike, long) in
-    sym (head-take (length tag) range whole) ∙ head-alike (take (length tag) range) tag alike
+    grind (arith, nat_tests, length-alike (take (length tag) range) tag, head-take (length tag) range, head-alike (take (length tag) range) tag)
 
 -- what a range falls back to begins as the range does
 fallback_begins : (range tag : List ℕ) → 2 ≤ length tag → is_fallback range tag ≡ true → first_two range ≡ first_two tag
-fallback_begins range tag long fallback =
-    let parts = and_parts (are_alike (take (length tag) range) tag) (ends_subtag (drop (length tag) range) && ((length tag == length range) || not (ends_in_single tag))) fallback in
-    starts_alike range tag long parts.0
+fallback_begins range tag long fallback = grind (arith, common_steps, and_parts, starts_alike)
 
 pub nothing_kept :
     (letters begin : ℕ × ℕ) (range tag : List ℕ) → first_two range ≡ Some letters → first_two tag ≡ Some begin → (first_two tag ≡ Some letters → ⊥) → kept range tag ≡ 0
 unfolding kept
-nothing_kept letters begin range tag starts is other = by_test (is_fallback range tag) refl
-  where
-    by_test : (b : Bool) → is_fallback range tag ≡ b → cond (is_fallback range tag) (length tag) 0 ≡ 0
-    by_test true fallback = absurd (other (sym (fallback_begins range tag (head_length tag begin is) fallback) ∙ starts))
-    by_test false not = rw not refl
+nothing_kept letters begin range tag starts is other =
+    grind (arith, nat_tests, fallback_begins range tag (head_length tag begin is), head_length tag begin is)

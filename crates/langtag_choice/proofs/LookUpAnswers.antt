@@ -1,11 +1,12 @@
 -- Where look-up finds a tag, one is chosen.
-use Rattle.std.proofs.Common.{◌≡◌, inl, inr, ℕ, zero, suc, ◌-◌, ◌<◌, ◌==◌, Bool, true, false, cond, not, nat_lt, List, [], ◌∷◌, ◌++◌, length, map, get_or, filter, Option, Some, None, ap, refl, sym, subst, ◌∙◌}
+use Rattle.std.proofs.Common.{◌≡◌, inl, inr, ℕ, zero, suc, ◌-◌, ◌<◌, ◌==◌, Bool, true, false, cond, not, nat_lt, List, [], ◌∷◌, ◌++◌, length, map, get_or, filter, Option, ap, refl, sym, ◌∙◌, arith}
 use Rattle.std.specs.List.{All}
 use Rattle.std.proofs.lemmas.Bool.{lt-ltb, eq-eqb}
-use Rattle.std.proofs.lemmas.Bool.Decides.{eqb_tells}
+use Rattle.std.proofs.lemmas.Bool.Decides.{eqb_tells, nat_tests}
 use Rattle.std.proofs.Math.Bool.{or-true}
 use Rattle.std.proofs.lemmas.List.{length-map}
 use Rattle.std.proofs.lemmas.List.Elements.{All-append, All-cons, All-filter, All-map, All-nil, filter_passes}
+use Rattle.std.proofs.lemmas.Grind.{common_steps}
 use Rattle.langtag_scan.specs.Case.{Alike, are_alike, fold_byte, fold_text}
 use Rattle.langtag_scan.specs.CaseLaws.{are_alike-decides}
 use Rattle.langtag_scan.proofs.CaseLaw.{hyphen-fold}
@@ -81,9 +82,7 @@ all_fall range =
     (filter_passes (λ text. not (ends_in_single text)) (before_hyphens range) k d inside) alike)
 
 looked_up : (range tag : List ℕ) → FallsBackTo range tag → is_fallback range tag ≡ true
-looked_up range tag found =
-    let at = found.1 in
-    subst (Falls range) (at.2) (all_fall range (at.0) (found.0) (at.1)) tag (found.2)
+looked_up range tag found = grind (arith, nat_tests, all_fall range)
 
 -- ---- that tag may serve the range
 
@@ -97,15 +96,5 @@ unfolding serves
 served_by_look_up element tag wish star some = rw (wish, star, some, or-true (nat_lt (reach element.range tag) 50)) refl
 
 pub look_up_answered : (elements : List Element) (tags : List (Option (List ℕ))) (answer : Option ℕ) → IsChoice elements tags answer → AnswersLookUp elements tags answer
-look_up_answered elements tags None none place element index tag range_there wish star there free long found =
-    absurd (none (record {
-      place = place;
-      element = element;
-      wanted = range_there;
-      index = index;
-      tag = tag;
-      there = there;
-      served = served_by_look_up element tag wish star (some_kept element.range tag long (looked_up element.range tag found));
-      unrefused = free;
-    }))
-look_up_answered elements tags (Some i) some place element index tag range_there wish star there free long found = refl
+look_up_answered elements tags answer some place element index tag range_there wish star there free long found =
+    grind (arith, common_steps, served_by_look_up, some_kept, looked_up)

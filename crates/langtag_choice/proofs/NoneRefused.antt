@@ -1,5 +1,5 @@
 -- Where no range has the weight 0, no tag is refused.
-use Rattle.std.proofs.Common.{◌≡◌, ℕ, Bool, true, false, ◌||◌, List, [], ◌∷◌, refl, arith}
+use Rattle.std.proofs.Common.{◌≡◌, ℕ, Bool, false, List, [], ◌∷◌, refl, arith}
 use Rattle.std.specs.List.{list_any}
 use Rattle.std.proofs.lemmas.Bool.Decides.{nat_tests}
 use Rattle.langtag_match.specs.AcceptLanguage.{Element}
@@ -7,13 +7,7 @@ use Rattle.langtag_choice.specs.Best.{is_excluded, is_refused, longest}
 
 longest_none : (of_kind : Element → Bool) (elements : List Element) (tag : List ℕ) → list_any of_kind elements ≡ false → longest of_kind elements tag ≡ 0
 longest_none of_kind [] tag none = refl
-longest_none of_kind (element ∷ elements) tag none = by_first (of_kind element) refl none (longest_none of_kind elements tag)
-  where
-    by_first :
-        (is : Bool) → of_kind element ≡ is → (is || list_any of_kind elements) ≡ false → (list_any of_kind elements ≡ false → longest of_kind elements tag ≡ 0) →
-        longest of_kind (element ∷ elements) tag ≡ 0
-    by_first true is some others = absurd cc
-    by_first false is some others = rw is (others some)
+longest_none of_kind (element ∷ elements) tag none = grind (arith, nat_tests, longest_none of_kind elements tag)
 
 pub none_refused : (elements : List Element) (tag : List ℕ) → list_any is_excluded elements ≡ false → is_refused elements tag ≡ false
 unfolding is_refused

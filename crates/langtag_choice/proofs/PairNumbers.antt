@@ -1,8 +1,8 @@
 -- The numbers of two languages, and of two with their scripts, tell them apart but for case.
-use Rattle.std.proofs.Common.{◌≡◌, ℕ, ◌+◌, ◌*◌, ◌<◌, true, ◌==◌, Bool, ltb, inl, inr, sym, ap, ◌∙◌, arith}
+use Rattle.std.proofs.Common.{◌≡◌, ℕ, ◌+◌, ◌*◌, ◌<◌, true, ◌==◌, Bool, ltb, ap, ◌∙◌, arith}
 use Rattle.std.specs.Prelude.{◌&&◌}
 use Rattle.std.proofs.lemmas.Bool.{and_parts, ltb-true, eq-eqb, ne_eqb}
-use Rattle.std.proofs.lemmas.Bool.Decides.{eqb_tells}
+use Rattle.std.proofs.lemmas.Bool.Decides.{eqb_tells, nat_tests}
 use Rattle.langtag_scan.specs.Class.{are_letters}
 use Rattle.langtag_tables.specs.Numbers.{letter_number}
 use Rattle.langtag_likely.specs.Likely.{Fields, Likely, are_alike_fields, language_alone}
@@ -16,14 +16,7 @@ use Rattle.langtag_likely.proofs.RowLaws.{is_language, language-tells}
 
 module _ (base : ℕ) where
   pub two-tell-abstract : (a b c d : ℕ) → (a * base + b ≡ c * base + d → a ≡ c) → (a * base + b == c * base + d) ≡ ((a == c) && (b == d))
-  two-tell-abstract a b c d first =
-      elim (eqb_tells a c) [
-        | inl one ↦ elim (eqb_tells b d) [
-          | inl two ↦ rw (one.0, two.0) (eq-eqb _ _ (ap (λ n. n * base + b) one.1 ∙ ap (λ n. c * base + n) two.1))
-          | inr two ↦ rw (one.0, two.0) (ne_eqb _ _ (λ same. let k = ap (λ n. n * base + d) (sym one.1) in two.1 (omega (arith, same, k, one.1))))
-        ]
-        | inr one ↦ rw (one.0) (ne_eqb _ _ (λ same. one.1 (first same)))
-      ]
+  two-tell-abstract a b c d first = grind (arith, nat_tests, eqb_tells a c, eqb_tells b d, eq-eqb, ne_eqb)
 
 languages-tell : (a b c d : ℕ) → b < 32768 → d < 32768 → (a * 32768 + b == c * 32768 + d) ≡ ((a == c) && (b == d))
 languages-tell a b c d small little = two-tell-abstract 32768 a b c d (λ same. omega (arith, same, small, little))

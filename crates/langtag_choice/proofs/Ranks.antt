@@ -1,5 +1,5 @@
 -- How ranks compare.
-use Rattle.std.proofs.Common.{◌≡◌, inl, inr, ℕ, ◌-◌, ◌==◌, ◌≤◌, Bool, true, false, ◌&&◌, ◌||◌, nat_lt, List, ap, refl, sym, ◌∙◌, arith}
+use Rattle.std.proofs.Common.{◌≡◌, ℕ, ◌-◌, ◌==◌, ◌≤◌, true, false, ◌&&◌, ◌||◌, nat_lt, List, ap, refl, sym, ◌∙◌, arith}
 use Rattle.std.specs.Cmp.Lexicographic.{bytes_decides, slice_cmp, texts_ties}
 use Rattle.std.specs.Ordering.{is_eq, is_gt, nat_cmp, ordering_reverse, ordering_then}
 use Rattle.std.specs.declared.cmp.Ordering.{Ordering}
@@ -7,6 +7,7 @@ use Rattle.std.specs.declared.cmp.Ordering.TheVariants.{Less, Equal, Greater}
 use Rattle.std.proofs.lemmas.Bool.{and_parts, eqb-true, ltb-false, ltb-true, or_cases}
 use Rattle.std.proofs.lemmas.Bool.Decides.{eqb_tells, nat_tests}
 use Rattle.std.proofs.lemmas.Cmp.{nat_list_cmp_total}
+use Rattle.std.proofs.lemmas.Grind.{common_steps}
 use Rattle.langtag_match.specs.AcceptLanguage.{Element}
 use Rattle.langtag_choice.specs.Best.{IsAtMost, rank, reach, serves, service}
 use Rattle.langtag_choice.specs.Distance.{distance_of_texts}
@@ -28,19 +29,7 @@ both_at_most a b one other =
 
 -- where the first numbers are not the other way round, and the rest is not either where they are equal
 pub le_then : (x y : ℕ) (rest : Ordering) → x ≤ y → (x ≡ y → is_gt rest ≡ false) → is_gt (ordering_then (nat_cmp x y) rest) ≡ false
-le_then x y rest le later = by_test (nat_lt x y) refl
-  where
-    by_equal : nat_lt x y ≡ false → is_gt (ordering_then (nat_cmp x y) rest) ≡ false
-    by_equal above =
-        let equal : x ≡ y = omega (arith, le, ltb-false x y above) in
-        elim (eqb_tells x y) [
-          | inl same ↦ rw (above, same.0) (later equal)
-          | inr other ↦ absurd (other.1 equal)
-        ]
-
-    by_test : (b : Bool) → nat_lt x y ≡ b → is_gt (ordering_then (nat_cmp x y) rest) ≡ false
-    by_test true below = rw below refl
-    by_test false above = by_equal above
+le_then x y rest le later = grind (arith, nat_tests, ltb-false, eqb_tells)
 
 -- ---- what was found
 
@@ -53,19 +42,7 @@ pub settled :
     (c : Candidate) (place : ℕ) (element : Element) (index : ℕ) (tag : List ℕ) → service_number c.rank.service ≤ service (reach element.range tag) →
     (nat_lt c.rank.lack (1000 - element.weight) || ((c.rank.lack == (1000 - element.weight)) && nat_lt c.rank.place place)) ≡ true → IsAtMost (rank_of c) (rank place element index tag)
 unfolding rank
-settled c place element index tag serves before = elim (or_cases (nat_lt c.rank.lack (1000 - element.weight)) ((c.rank.lack == (1000 - element.weight)) && nat_lt c.rank.place place) before) [
-  | inl heavier ↦
-      let less = ltb-true c.rank.lack (1000 - element.weight) heavier in
-      le_then (service_number c.rank.service) (service (reach element.range tag)) _ serves (λ r.
-      le_then c.rank.lack (1000 - element.weight) _ (omega (arith, less)) (λ same. absurd (omega (arith, less, same))))
-  | inr earlier ↦
-      let parts = and_parts (c.rank.lack == (1000 - element.weight)) (nat_lt c.rank.place place) earlier in
-      let equal = eqb-true c.rank.lack (1000 - element.weight) parts.0 in
-      let less = ltb-true c.rank.place place parts.1 in
-      le_then (service_number c.rank.service) (service (reach element.range tag)) _ serves (λ r.
-      le_then c.rank.lack (1000 - element.weight) _ (omega (arith, equal)) (λ s.
-      le_then c.rank.place place _ (omega (arith, less)) (λ same. absurd (omega (arith, less, same)))))
-]
+settled c place element index tag serves before = grind (arith, common_steps, or_cases, ltb-true, le_then, and_parts, eqb-true)
 
 -- a tag that is far, and that look-up does not find, does not serve
 pub cannot_serve : (element : Element) (tag : List ℕ) → 50 ≤ distance_of_texts element.range tag → kept element.range tag ≡ 0 → serves element tag ≡ false

@@ -2,6 +2,7 @@
 use Rattle.std.proofs.Common.{◌≡◌, ℕ, ◌-◌, ◌≤◌, Bool, true, false, cond, not, ◌==◌, List, [], ◌∷◌, length, length-drop, length-take, take, drop, filter, refl, sym, ap, ◌∙◌, arith}
 use Rattle.std.specs.Prelude.{◌&&◌, ◌||◌, codes}
 use Rattle.std.proofs.lemmas.Bool.Decides.{nat_tests}
+use Rattle.std.proofs.lemmas.Grind.{common_steps}
 use Rattle.langtag_scan.specs.Case.{are_alike, fold_byte}
 use Rattle.langtag_scan.specs.CaseLaws.{are_alike-decides}
 use Rattle.langtag_scan.specs.Subtags.{subtags}
@@ -19,7 +20,7 @@ use Rattle.langtag_match.specs.Wanted.{hyphened}
 use Rattle.langtag_likely.proofs.CommonTexts.{nothing_read, read_byte, read_nothing, some_length}
 use Rattle.langtag_likely.specs.Matching.{matching_form}
 use Rattle.langtag_likely.specs.Ranges.{after_common, BeginsPlain}
-use Rattle.langtag_likely.specs.TextFields.{counted, counts, fields_of_subtags, text_fields}
+use Rattle.langtag_likely.specs.TextFields.{counted, fields_of_subtags, text_fields}
 use Rattle.langtag_choice.specs.Nearness.{is_fallback}
 
 -- ---- a range of a header, and "*"
@@ -39,11 +40,7 @@ star_read range = is_star-fold range
 
 counted_plain : (ss : List (List ℕ)) → counted (filter is_plain ss) ≡ counted ss
 counted_plain [] = refl
-counted_plain (s ∷ ss) = by_test (is_star s) refl (counted_plain ss)
-  where
-    by_test : (star : Bool) → is_star s ≡ star → counted (filter is_plain ss) ≡ counted ss → counted (cond (not star) (s ∷ filter is_plain ss) (filter is_plain ss)) ≡ counted (s ∷ ss)
-    by_test true is rest = rw is rest
-    by_test false is rest = ap (λ t. cond (counts s) (s ∷ t) t) rest
+counted_plain (s ∷ ss) = grind (arith, common_steps, counted_plain ss, is_plain)
 
 fields_read : (text : List ℕ) → is_language_range text ≡ true → text_fields (basic_form text) ≡ text_fields text
 unfolding text_fields
@@ -55,10 +52,7 @@ fields_read text is = by_subtags (subtags text) refl is (basic_of text is)
 
 pub form_read : (range : List ℕ) → is_language_range (hyphened range) ≡ true → matching_form (basic_text range) ≡ matching_form range
 unfolding matching_form basic_text
-form_read range is =
-    let basic = basic_of (hyphened range) is in
-    let plain = hyphened_range (basic_form (hyphened range)) basic.range in
-    rw (plain, basic.settled, fields_read (hyphened range) is) refl
+form_read range is = grind (arith, nat_tests, basic_of (hyphened range) is, hyphened_range (basic_form (hyphened range)), fields_read (hyphened range) is)
 
 -- ---- what is left of it and of a tag
 
@@ -134,14 +128,4 @@ module _ (range tag left rest : List ℕ) (plain : BeginsPlain left) (is : (basi
 
   -- a tag begins with a range, and ends or goes on with a hyphen
   pub range_begins : (are_alike (basic_text range) (take (length (basic_text range)) tag) && ends_subtag (drop (length (basic_text range)) tag)) ≡ ((length left == 0) && ends_subtag rest)
-  range_begins =
-      by_test (length left == 0) (range_left (basic_text range) tag ∙ ap (λ p. length p.0 == 0) (sym is) ∙ nothing_read left plain) refl
-    where
-      by_test :
-          (test : Bool) → are_alike (basic_text range) (take (length (basic_text range)) tag) ≡ (length left == 0) → (length left == 0) ≡ test →
-          (are_alike (basic_text range) (take (length (basic_text range)) tag) && ends_subtag (drop (length (basic_text range)) tag)) ≡ (test && ends_subtag rest)
-      by_test false alike some = rw (alike, some) refl
-      by_test true alike none =
-          let dropped : drop (length (basic_text range)) tag ≡ rest =
-          range_dropped (basic_text range) tag (ap (λ p. length p.0 == 0) (sym is) ∙ nothing_read left plain ∙ none) ∙ ap (λ p. p.1) (sym is) in
-          rw (alike, none, dropped) refl
+  range_begins = grind (arith, nat_tests, range_left, nothing_read, range_dropped)

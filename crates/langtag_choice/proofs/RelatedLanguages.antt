@@ -1,9 +1,9 @@
 -- A language of two letters whose number is not among those of the related ones is lone.
-use Rattle.std.proofs.Common.{◌≡◌, ℕ, Bool, true, false, ◌||◌, not, ◌==◌, List, [], ◌∷◌, length, inl, inr, refl, sym, ap, ◌∙◌}
+use Rattle.std.proofs.Common.{◌≡◌, ℕ, Bool, true, false, ◌||◌, not, ◌==◌, List, [], ◌∷◌, length, inl, inr, refl, sym, ap, ◌∙◌, arith}
 use Rattle.std.specs.Prelude.{◌&&◌}
 use Rattle.std.specs.List.{list_all, list_any}
 use Rattle.std.proofs.lemmas.Bool.{and_parts, both_ways, eq-eqb, false_from_ne_true, not_from_true, or_cases}
-use Rattle.std.proofs.lemmas.Bool.Decides.{eqb_tells}
+use Rattle.std.proofs.lemmas.Bool.Decides.{eqb_tells, nat_tests}
 use Rattle.langtag_scan.specs.Case.{are_alike}
 use Rattle.langtag_scan.specs.Class.{are_letters}
 use Rattle.langtag_tables.specs.Numbers.{letter_number}
@@ -20,10 +20,7 @@ abbrev pub is_listed : List ℕ → Bool
 is_listed language = are_letters language && (not (length language == 2) || has_number language)
 
 same_number : (a b : List ℕ) → are_letters a ≡ true → are_letters b ≡ true → are_alike a b ≡ true → letter_number b ≡ letter_number a
-same_number a b al bl alike = elim (eqb_tells (letter_number b) (letter_number a)) [
-  | inl same ↦ same.1
-  | inr other ↦ absurd (both_ways _ other.0 (letter_number-tells a b al bl ∙ alike))
-]
+same_number a b al bl alike = grind (arith, nat_tests, eqb_tells (letter_number b) (letter_number a), both_ways, letter_number-tells a b al bl)
 
 module _ (language : List ℕ) (two : length language ≡ 2) (letters : are_letters language ≡ true) (absent : has_number language ≡ false) where
   apart : (word : List ℕ) → is_listed word ≡ true → are_alike word language ≡ false
@@ -37,6 +34,4 @@ module _ (language : List ℕ) (two : length language ≡ 2) (letters : are_lett
 
   pub not_among : (words : List (List ℕ)) → list_all is_listed words ≡ true → is_among words language ≡ false
   not_among [] all = refl
-  not_among (word ∷ words) all =
-      let parts = and_parts (is_listed word) (list_all is_listed words) all in
-      ap (λ b. b || is_among words language) (apart word parts.0) ∙ not_among words parts.1
+  not_among (word ∷ words) all = grind (arith, nat_tests, and_parts (is_listed word) (list_all is_listed words) all, apart word, not_among words)

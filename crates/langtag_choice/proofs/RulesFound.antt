@@ -1,10 +1,11 @@
 -- A rule is found by the number of what it is for, and a text among others by its own.
-use Rattle.std.proofs.Common.{◌≡◌, ℕ, suc, ◌<◌, true, false, ◌==◌, Bool, cond, ltb, List, [], ◌∷◌, length, get_or, map, Option, None, Some, option_map, refl, ap, ◌∙◌, arith}
+use Rattle.std.proofs.Common.{◌≡◌, ℕ, suc, ◌<◌, true, false, ◌==◌, Bool, cond, ltb, List, [], ◌∷◌, length, get_or, map, Option, None, Some, option_map, refl, ap, ◌∙◌, arith, rules}
 use Rattle.std.specs.Option.{option_map_or}
-use Rattle.std.specs.Prelude.{◌&&◌, ◌||◌, is_some}
+use Rattle.std.specs.Prelude.{◌&&◌, is_some}
 use Rattle.std.specs.List.{list_all}
 use Rattle.std.proofs.lemmas.Bool.{and_parts, ltb-true, false_from_ne_true}
-use Rattle.langtag_scan.specs.Case.{are_alike}
+use Rattle.std.proofs.lemmas.Grind.{common_steps}
+use Rattle.langtag_scan.specs.Case.{folded_number}
 use Rattle.langtag_scan.specs.Class.{are_alphanumeric}
 use Rattle.langtag_scan.specs.Case.{folded_number}
 use Rattle.langtag_scan.proofs.FoldedNumbers.{folded_number-tells}
@@ -49,10 +50,7 @@ abbrev pub is_short : Rule → Bool
 is_short rule = ltb (length rule.desired.language) 4 && ltb (length rule.supported.language) 4
 
 long_apart : (a b : Fields) → 3 < length b.language → ltb (length a.language) 4 ≡ true → are_alike_fields a b ≡ false
-long_apart a b long short = false_from_ne_true (are_alike_fields a b) (λ alike.
-    let same = alike_length a.language b.language (and_parts (are_alike a.language b.language) (are_alike a.script b.script && are_alike a.region b.region) alike).0 in
-    let few = ltb-true (length a.language) 4 short in
-    omega (arith, same, long, few))
+long_apart a b long short = grind (arith, common_steps, false_from_ne_true, alike_length, and_parts, ltb-true)
 
 pub long_desired : (otherwise : ℕ) (rules : List Rule) (desired supported : Fields) → 3 < length desired.language → list_all is_short rules ≡ true → distance_by rules otherwise desired supported ≡ otherwise
 long_desired otherwise [] desired supported long all = refl
@@ -76,13 +74,4 @@ pub among_by_number :
     (words : List (List ℕ)) (text : List ℕ) → list_all are_alphanumeric words ≡ true → are_alphanumeric text ≡ true →
     is_some (first_index (map folded_number words) (folded_number text)) ≡ is_among words text
 among_by_number [] text all plain = refl
-among_by_number (word ∷ words) text all plain =
-    let k = and_parts (are_alphanumeric word) (list_all are_alphanumeric words) all in
-    by_first (folded_number text == folded_number word) (first_index (map folded_number words) (folded_number text))
-    ∙ ap (λ b. b || is_some (first_index (map folded_number words) (folded_number text))) (folded_number-tells word text k.0 plain)
-    ∙ ap (λ b. are_alike word text || b) (among_by_number words text k.1 plain)
-  where
-    by_first : (b : Bool) (o : Option ℕ) → is_some (cond b (Some 0) (option_map suc o)) ≡ (b || is_some o)
-    by_first true o = refl
-    by_first false None = refl
-    by_first false (Some i) = refl
+among_by_number (word ∷ words) text all plain = grind (arith, common_steps, among_by_number words text, and_parts, folded_number-tells)

@@ -1,11 +1,13 @@
 -- Likely subtags that are added again change nothing.
-use Rattle.std.proofs.Common.{◌≡◌, ℕ, true, false, Bool, cond, not, List, [], ◌∷◌, Option, None, Some, option_map, is_some, inl, inr, ◌⊎◌, refl, sym, ap, ◌∙◌}
+use Rattle.std.proofs.Common.{◌≡◌, ℕ, true, false, Bool, cond, not, List, [], ◌∷◌, Option, None, Some, option_map, is_some, inl, inr, ◌⊎◌, refl, sym, ap, ◌∙◌, arith, rules}
 use Rattle.std.specs.Prelude.{◌&&◌, ◌||◌, codes}
 use Rattle.std.specs.List.{list_all}
 use Rattle.std.specs.Option.{option_map_or}
 use Rattle.std.proofs.lemmas.Bool.{and_parts, not-true}
+use Rattle.std.proofs.lemmas.Bool.Decides.{nat_tests}
+use Rattle.std.proofs.lemmas.Grind.{common_steps}
 use Rattle.langtag_scan.specs.Case.{Alike, are_alike, fold_text}
-use Rattle.langtag_likely.specs.Likely.{Fields, Likely, are_alike_fields, likely_for, looked_up, or_else, or_other, filled, known, known_fields, add_likely, language_alone, without_script, without_region}
+use Rattle.langtag_likely.specs.Likely.{Fields, Likely, are_alike_fields, likely_for, looked_up, or_else, or_other, filled, known, known_fields, add_likely, language_alone}
 use Rattle.langtag_likely.specs.LikelySubtags.{other_rows, likely_subtags}
 use Rattle.langtag_likely.proofs.AlikeFields.{AlikeFields, alike_is, alike_fields, likely_for-alike, looked_up-alike, alone_alike}
 use Rattle.langtag_likely.proofs.SettledRows.{is_there, is_language_row, is_kept, is_whole, has_bit, stays_unknown, is_other_row, is_settled, rows_settled, row_by_bit, looked_up_other}
@@ -30,10 +32,7 @@ absent [] h = refl
 absent (x ∷ a) h = absurd cc
 
 there_alike : (a b : List ℕ) → Alike a b → is_there a ≡ is_there b
-there_alike [] [] h = refl
-there_alike [] (y ∷ b) h = absurd cc
-there_alike (x ∷ a) [] h = absurd cc
-there_alike (x ∷ a) (y ∷ b) h = refl
+there_alike a b h = grind (arith, nat_tests)
 
 pub or_other_there : (a b : List ℕ) → is_there a ≡ true → or_other a b ≡ a
 or_other_there [] b h = absurd cc
@@ -91,18 +90,10 @@ record Found (f to : Fields) : Type 0 where
 first_found :
     {P : Type 0} (a b c d : Option Fields) (to : Fields) → or_else a (or_else b (or_else c d)) ≡ Some to →
     (a ≡ Some to → P) → (b ≡ Some to → P) → (c ≡ Some to → P) → (d ≡ Some to → P) → P
-first_found (Some v) b c d to is p q r s = p is
-first_found None (Some v) c d to is p q r s = q is
-first_found None None (Some v) d to is p q r s = r is
-first_found None None None d to is p q r s = s is
+first_found a b c d to is p q r s = grind (arith, nat_tests)
 
 found_of : (f to : Fields) → looked_up likely_subtags f ≡ Some to → Found f to
-found_of f to is =
-    first_found (likely_for likely_subtags f) (likely_for likely_subtags (without_region f)) (likely_for likely_subtags (without_script f)) (likely_for likely_subtags (language_alone f)) to is
-    (λ h. record { key = f; is_key = record { language = refl; script = inl refl; region = inl refl }; found = h })
-    (λ h. record { key = without_region f; is_key = record { language = refl; script = inl refl; region = inr refl }; found = h })
-    (λ h. record { key = without_script f; is_key = record { language = refl; script = inr refl; region = inl refl }; found = h })
-    (λ h. record { key = language_alone f; is_key = record { language = refl; script = inr refl; region = inr refl }; found = h })
+found_of f to is = grind (arith, common_steps, first_found)
 
 last_found : (a b c d : Option Fields) → is_some d ≡ true → (v : Fields) × (or_else a (or_else b (or_else c d)) ≡ Some v)
 last_found (Some v) b c d h = (v, refl)
@@ -119,9 +110,7 @@ filled_whole m v l s r = rw (or_other_there m.language v.language l, or_other_th
 whole_again :
     (m : Fields) → is_there m.language ≡ true → is_there m.script ≡ true → is_there m.region ≡ true → is_some (likely_for likely_subtags (language_alone m)) ≡ true →
     add_likely likely_subtags m ≡ Some m
-whole_again m l s r alone =
-    let (v, found) = last_found (likely_for likely_subtags m) (likely_for likely_subtags (without_region m)) (likely_for likely_subtags (without_script m)) (likely_for likely_subtags (language_alone m)) alone in
-    ap (option_map (filled m)) found ∙ ap Some (filled_whole m v l s r)
+whole_again m l s r alone = grind (arith, common_steps, last_found, filled_whole)
 
 -- ---- what a row says
 
@@ -134,25 +123,13 @@ record IsWhole (row : Likely) : Type 0 where
   kept : is_kept row.from.language row.to.language ≡ true
 
 whole_of : (row : Likely) → is_whole row ≡ true → IsWhole row
-whole_of row h =
-    let a = and_parts _ _ h in
-    let b = and_parts _ _ a.0 in
-    let c = and_parts _ _ a.1 in
-    let r = and_parts _ _ c.0 in
-    let d = and_parts _ _ c.1 in
-    record { script = b.0; script_known = not-true _ b.1; region = r.0; region_known = not-true _ r.1; language_known = not-true _ d.0; kept = d.1 }
+whole_of row h = grind (arith, nat_tests, and_parts, not-true)
 
 -- of another row: its language, if it has one, has a row of its own
 other_of :
     (row : Likely) → is_other_row row ≡ true →
     cond (is_there row.to.language) (is_some (likely_for likely_subtags (language_alone row.to))) (stays_unknown row) ≡ true
-other_of row h = either_way (is_there row.to.language)
-    (λ there.
-    let known = sym (ap (λ b. cond b (has_bit row.to.language) (stays_unknown row)) there) ∙ h in
-    ap (λ b. cond b (is_some (likely_for likely_subtags (language_alone row.to))) (stays_unknown row)) there ∙ row_by_bit row.to.language known)
-    (λ none.
-    let known = sym (ap (λ b. cond b (has_bit row.to.language) (stays_unknown row)) none) ∙ h in
-    ap (λ b. cond b (is_some (likely_for likely_subtags (language_alone row.to))) (stays_unknown row)) none ∙ known)
+other_of row h = grind (arith, common_steps, either_way, is_there, has_bit, stays_unknown, row_by_bit)
 
 record IsOfLanguage (row : Likely) : Type 0 where
   language : is_there row.from.language ≡ true
@@ -160,10 +137,7 @@ record IsOfLanguage (row : Likely) : Type 0 where
   region : row.from.region ≡ []
 
 language_of : (row : Likely) → is_language_row row ≡ true → IsOfLanguage row
-language_of row h =
-    let a = and_parts _ _ h in
-    let b = and_parts _ _ a.1 in
-    record { language = a.0; script = absent _ (not-true _ b.0); region = absent _ (not-true _ b.1) }
+language_of row h = grind (arith, nat_tests, and_parts, absent, not-true)
 
 record StaysUnknown (row : Likely) : Type 0 where
   from_language : is_there row.from.language ≡ false
@@ -173,21 +147,13 @@ record StaysUnknown (row : Likely) : Type 0 where
   settles : option_map_or (λ v. not (is_there v.language)) (looked_up other_rows row.to) false ≡ true
 
 unknown_of : (row : Likely) → stays_unknown row ≡ true → StaysUnknown row
-unknown_of row h =
-    let a = and_parts _ _ h in
-    let b = and_parts _ _ a.0 in
-    let c = and_parts _ _ a.1 in
-    let d = and_parts _ _ c.0 in
-    record { from_language = not-true _ b.0; some = b.1; script = d.0; region = d.1; settles = c.1 }
+unknown_of row h = grind (arith, nat_tests, and_parts, not-true)
 
 -- a field is alike that of the right side, which keeps the left side, if it is on the left side where it is written
 field_alike :
     (field to from key : List ℕ) → (key ≡ field) ⊎ (key ≡ []) → Alike from key → is_kept from to ≡ true → (is_there field ≡ true → is_there from ≡ true) →
     Alike (or_other field to) to
-field_alike [] to from key is same kept there = refl
-field_alike (x ∷ a) to from key (inl is) same kept there =
-    sym (same ∙ ap fold_text is) ∙ alike_is from to (sym (ap (λ b. not b || are_alike from to) (there refl)) ∙ kept)
-field_alike (x ∷ a) to from key (inr none) same kept there = clash _ (there refl) (there_alike from key same ∙ ap is_there none)
+field_alike field to from key is same kept there = grind (arith, nat_tests, alike_is from to, clash, there_alike from key same, is_there)
 
 not_first : (a b : List ℕ) → is_there (or_other a b) ≡ false → is_there a ≡ false
 not_first [] b h = refl
@@ -219,10 +185,7 @@ module _ (f : Fields) (row : Likely) (key : Fields) (is_key : IsKey f key) (from
 
   -- the row of the language alone is found for each language that is alike
   alone_by : (language : List ℕ) → Alike row.from.language language → IsOfLanguage row → likely_for likely_subtags (record { language = language; script = []; region = [] }) ≡ Some row.to
-  alone_by language same is =
-      sym (likely_for-alike likely_subtags key (record { language = language; script = []; region = [] })
-      (record { language = sym from_is.language ∙ same; script = sym from_is.script ∙ ap fold_text is.script; region = sym from_is.region ∙ ap fold_text is.region }))
-      ∙ found
+  alone_by language same is = grind (arith, common_steps, likely_for-alike)
 
   alone_other : is_other_row row ≡ true → is_there row.to.language ≡ true → Alike row.to.language most.language → is_some (likely_for likely_subtags (language_alone most)) ≡ true
   alone_other other there same =
@@ -247,11 +210,7 @@ module _ (f : Fields) (row : Likely) (key : Fields) (is_key : IsKey f key) (from
 
       unwritten : is_there f.language ≡ false → is_some (likely_for likely_subtags (language_alone most)) ≡ true
       unwritten it =
-          let same : most.language ≡ row.to.language = or_other_absent f.language row.to.language it in
-          by_or (is_language_row row) (is_other_row row)
-          (λ is. clash _ (language_of row is).language (there_alike _ _ language_same ∙ it))
-          (λ is. alone_other is (sym (ap is_there same) ∙ there) (ap fold_text (sym same)))
-          kind
+          search (rules, or_other_absent, by_or, is_language_row, is_other_row, clash, language_of, there_alike, language_same, alone_other, is_there)
 
   script_there : is_there most.script ≡ true
   script_there = there_other f.script row.to.script whole.script
@@ -274,21 +233,13 @@ module _ (f : Fields) (row : Likely) (key : Fields) (is_key : IsKey f key) (from
       to_none = sym (ap is_there (or_other_absent f.language row.to.language f_none)) ∙ none
 
       unknown : StaysUnknown row
-      unknown =
-          by_or (is_language_row row) (is_other_row row)
-          (λ is. clash _ (language_of row is).language (there_alike _ _ language_same ∙ f_none))
-          (λ is. unknown_of row (sym (ap (λ b. cond b (is_some (likely_for likely_subtags (language_alone row.to))) (stays_unknown row)) to_none) ∙ other_of row is))
-          kind
+      unknown = search (rules, by_or, is_language_row, is_other_row, clash, language_of, there_alike, language_same, unknown_of, stays_unknown, other_of)
 
       no_language : most.language ≡ []
       no_language = or_other_absent f.language row.to.language f_none ∙ absent row.to.language to_none
 
       written : (is_there f.script && is_there f.region) ≡ true → add_likely likely_subtags most ≡ Some most
-      written both =
-          let k = and_parts (is_there f.script) (is_there f.region) both in
-          let same : most ≡ f =
-          rw (or_other_absent f.language row.to.language f_none ∙ absent row.to.language to_none ∙ sym (absent f.language f_none), or_other_there f.script row.to.script k.0, or_other_there f.region row.to.region k.1) refl in
-          ap (add_likely likely_subtags) same ∙ ap (option_map (filled f)) looked
+      written both = grind (arith, common_steps, and_parts, is_there, or_other_absent, absent, or_other_there)
 
       unwritten : (is_there f.script && is_there f.region) ≡ false → add_likely likely_subtags most ≡ Some most
       unwritten one =
@@ -308,12 +259,7 @@ module _ (f : Fields) (row : Likely) (key : Fields) (is_key : IsKey f key) (from
           ap (option_map (filled most)) (looked_up-alike most row.to same) ∙ by_row (looked_up likely_subtags row.to) settles
         where
           by_row : (o : Option Fields) → option_map_or (λ v. not (is_there v.language)) o false ≡ true → option_map (filled most) o ≡ Some most
-          by_row None h = absurd cc
-          by_row (Some v) h =
-              let no_other : or_other most.language v.language ≡ most.language =
-              or_other_absent most.language v.language none ∙ absent v.language (not-true (is_there v.language) h) ∙ sym no_language in
-              let same : filled most v ≡ most = rw (no_other, or_other_there most.script v.script script_there, or_other_there most.region v.region region_there) refl in
-              ap Some same
+          by_row o h = grind (arith, common_steps, or_other_absent, absent, not-true, is_there, or_other_there, script_there, region_there)
 
   region_not : are_alike (codes "ZZ") most.region ≡ false
   region_not = other_test (codes "ZZ") f.region row.to.region region_known whole.region_known

@@ -2,7 +2,7 @@
 use Rattle.std.proofs.Common.{◌≡◌, true, ltb, length, map, refl}
 use Rattle.std.specs.Prelude.{[]}
 use Rattle.std.specs.List.{list_all}
-use Rattle.langtag_scan.specs.Case.{fold_byte}
+use Rattle.langtag_scan.specs.Case.{fold_byte, folded_number}
 use Rattle.langtag_scan.specs.Class.{is_letter, is_digit, is_primary, is_script, is_region}
 use Rattle.langtag_scan.specs.Case.{folded_number}
 use Rattle.langtag_tables.specs.Numbers.{letter_number}

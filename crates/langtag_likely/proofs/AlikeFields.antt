@@ -1,9 +1,11 @@
 -- Fields that are equal but for case have likely subtags that are.
-use Rattle.std.proofs.Common.{◌≡◌, ℕ, true, false, Bool, cond, List, [], ◌∷◌, Option, None, Some, option_map, refl, ap, ◌∙◌, subst}
-use Rattle.std.specs.Prelude.{◌&&◌, codes}
+use Rattle.std.proofs.Common.{◌≡◌, ℕ, true, false, Bool, cond, List, [], ◌∷◌, Option, None, Some, option_map, refl, ap, ◌∙◌, subst, arith}
+use Rattle.std.specs.Prelude.{codes}
 use Rattle.std.specs.Option.{option_map_or}
 use Rattle.std.specs.Str.{bytes_eq}
 use Rattle.std.proofs.lemmas.Bool.{and_parts}
+use Rattle.std.proofs.lemmas.Bool.Decides.{nat_tests}
+use Rattle.std.proofs.lemmas.Grind.{common_steps}
 use Rattle.langtag_scan.specs.Case.{Alike, are_alike, fold_text}
 use Rattle.langtag_scan.specs.CaseLaws.{are_alike-decides}
 use Rattle.langtag_likely.specs.Likely.{Fields, Likely, are_alike_fields, likely_for, looked_up, or_other, filled, known, known_fields, add_likely, remove_likely, least, suffices, language_alone, without_script, without_region}
@@ -21,10 +23,7 @@ pub alike_is : (a b : List ℕ) → are_alike a b ≡ true → Alike a b
 alike_is a b is = (are_alike-decides a b).0 is
 
 pub alike_fields : (a b : Fields) → are_alike_fields a b ≡ true → AlikeFields a b
-alike_fields a b is =
-    let k = and_parts (are_alike a.language b.language) (are_alike a.script b.script && are_alike a.region b.region) is in
-    let l = and_parts (are_alike a.script b.script) (are_alike a.region b.region) k.1 in
-    record { language = alike_is _ _ k.0; script = alike_is _ _ l.0; region = alike_is _ _ l.1 }
+alike_fields a b is = grind (arith, common_steps, and_parts, alike_is)
 
 -- ---- a test answers alike of texts that are alike
 
@@ -53,25 +52,13 @@ pub alone_alike : (a b : Fields) → Alike a.language b.language → AlikeFields
 alone_alike a b h = record { language = h; script = refl; region = refl }
 
 pub looked_up-alike : (a b : Fields) → AlikeFields a b → looked_up likely_subtags a ≡ looked_up likely_subtags b
-looked_up-alike a b h =
-    let one = likely_for-alike likely_subtags a b h in
-    let two = likely_for-alike likely_subtags (without_region a) (without_region b) (record { language = h.language; script = h.script; region = refl }) in
-    let three = likely_for-alike likely_subtags (without_script a) (without_script b) (record { language = h.language; script = refl; region = h.region }) in
-    let four = likely_for-alike likely_subtags (language_alone a) (language_alone b) (alone_alike a b h.language) in
-    rw (one, two, three, four) refl
+looked_up-alike a b h = grind (arith, common_steps, likely_for-alike, alone_alike)
 
 pub or_other-alike : (a b v : List ℕ) → Alike a b → Alike (or_other a v) (or_other b v)
-or_other-alike [] [] v h = refl
-or_other-alike [] (y ∷ b) v h = absurd cc
-or_other-alike (x ∷ a) [] v h = absurd cc
-or_other-alike (x ∷ a) (y ∷ b) v h = h
+or_other-alike a b v h = grind (arith, nat_tests)
 
 filled-alike : (a b v : Fields) → AlikeFields a b → AlikeFields (filled a v) (filled b v)
-filled-alike a b v h = record {
-  language = or_other-alike a.language b.language v.language h.language;
-  script = or_other-alike a.script b.script v.script h.script;
-  region = or_other-alike a.region b.region v.region h.region;
-}
+filled-alike a b v h = grind (arith, common_steps, or_other-alike)
 
 -- none and none, or some that are alike
 abbrev pub AlikeOptions : Option Fields → Option Fields → Type 0
@@ -83,37 +70,23 @@ AlikeOptions (Some a) (Some b) = AlikeFields a b
 -- what holds of none, and of fields that are alike, holds of these
 pub by_options :
     (P : Option Fields → Option Fields → Type 0) → P None None → ((a b : Fields) → AlikeFields a b → P (Some a) (Some b)) → (o p : Option Fields) → AlikeOptions o p → P o p
-by_options P none some None None same = none
-by_options P none some None (Some b) same = absurd same
-by_options P none some (Some a) None same = absurd same
-by_options P none some (Some a) (Some b) same = some a b same
+by_options P none some o p same = grind (arith, nat_tests)
 
 -- what holds of a value twice holds of two that are the same
 pub by_same : {A : Type 0} (P : A → A → Type 0) → ((x : A) → P x x) → (x y : A) → x ≡ y → P x y
 by_same P each x y same = subst (P x) same (each x)
 
 pub added-alike : (a b : Fields) → AlikeFields a b → AlikeOptions (add_likely likely_subtags a) (add_likely likely_subtags b)
-added-alike a b h = by_same (λ o p. AlikeOptions (option_map (filled a) o) (option_map (filled b) p)) by_row _ _ (looked_up-alike a b h)
-  where
-    by_row : (o : Option Fields) → AlikeOptions (option_map (filled a) o) (option_map (filled b) o)
-    by_row None = tt
-    by_row (Some v) = filled-alike a b v h
+added-alike a b h = grind (arith, nat_tests, by_same, looked_up-alike a b h, filled-alike a b)
 
 -- ---- and removed
 
 pub known-alike : (unknown a b : List ℕ) → Alike a b → Alike (known unknown a) (known unknown b)
-known-alike unknown a b h = by_same (λ s t. Alike (cond s [] a) (cond t [] b)) by_test _ _ (are_alike-right unknown a b h)
-  where
-    by_test : (t : Bool) → Alike (cond t [] a) (cond t [] b)
-    by_test true = refl
-    by_test false = h
+known-alike unknown a b h = grind (arith, nat_tests, by_same, are_alike-right unknown a b h)
 
 pub known_fields-alike : (a b : Fields) → AlikeFields a b → AlikeFields (known_fields a) (known_fields b)
-known_fields-alike a b h = record {
-  language = h.language;
-  script = known-alike (codes "Zzzz") a.script b.script h.script;
-  region = known-alike (codes "ZZ") a.region b.region h.region;
-}
+known_fields-alike a b h =
+    grind (arith, nat_tests, known-alike (codes "Zzzz") a.script b.script h.script, known-alike (codes "ZZ") a.region b.region h.region)
 
 pub suffices-alike : (m n a b : Fields) → AlikeFields m n → AlikeFields a b → suffices likely_subtags m a ≡ suffices likely_subtags n b
 suffices-alike m n a b most few =

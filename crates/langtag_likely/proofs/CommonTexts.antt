@@ -1,13 +1,14 @@
 -- A range and a text without what both begin with: whether they are equal, and whether the one begins with the other.
-use Rattle.std.proofs.Common.{◌≡◌, ℕ, ◌+◌, ◌-◌, ◌<◌, ◌≤◌, Bool, true, false, cond, ◌==◌, List, [], ◌∷◌, length, length-drop, get_or, take, drop, refl, sym, ap, ◌∙◌, arith}
+use Rattle.std.proofs.Common.{◌≡◌, ℕ, ◌+◌, ◌-◌, ◌<◌, ◌≤◌, Bool, true, false, ◌==◌, List, [], ◌∷◌, length, length-drop, get_or, take, drop, refl, sym, ap, ◌∙◌, arith}
 use Rattle.std.specs.Prelude.{◌&&◌}
 use Rattle.std.proofs.lemmas.Bool.{eq-eqb, ne_eqb}
 use Rattle.std.proofs.lemmas.Bool.Decides.{nat_tests}
 use Rattle.std.proofs.lemmas.List.{length-map, take_all}
+use Rattle.std.proofs.lemmas.Grind.{common_steps}
 use Rattle.langtag_scan.specs.Case.{are_alike, fold_byte}
 use Rattle.langtag_match.specs.Listed.{basic_text}
 use Rattle.langtag_match.specs.Wanted.{hyphened, hyphened_byte}
-use Rattle.langtag_match.specs.LookUp.{basic_form, begins_with_wildcard}
+use Rattle.langtag_match.specs.LookUp.{begins_with_wildcard}
 use Rattle.langtag_match.proofs.BasicForms.{length-basic}
 use Rattle.langtag_match.proofs.Wildcards.{basic_form-byte}
 use Rattle.langtag_likely.specs.Ranges.{after_common, BeginsPlain}
@@ -35,19 +36,10 @@ rest_of n text = take_all (length text - n) (drop n text) (omega (arith, length-
 
 pub star_off : (range : List ℕ) → begins_with_wildcard (hyphened range) ≡ true → basic_text (take (length range - 2) (drop 2 range)) ≡ basic_text range
 unfolding basic_text
-star_off range star = ap (λ t. basic_form (hyphened t)) (rest_of 2 range) ∙ by_bytes range star
-  where
-    by_bytes : (t : List ℕ) → begins_with_wildcard (hyphened t) ≡ true → basic_form (hyphened (drop 2 t)) ≡ basic_form (hyphened t)
-    by_bytes [] star = absurd cc
-    by_bytes (a ∷ []) star = absurd cc
-    by_bytes (a ∷ b ∷ t) star = rw star refl
+star_off range star = grind (arith, nat_tests, rest_of 2 range)
 
 pub byte_off : (range : List ℕ) → 1 ≤ length range → BeginsPlain range → length (basic_text range) ≡ 1 + length (basic_text (take (length range - 1) (drop 1 range)))
-byte_off [] some plain = absurd (omega (arith, some))
-byte_off (a ∷ range) some plain =
-    let all = ap length (read_byte a range plain) in
-    let rest : length (basic_text (take (length (a ∷ range) - 1) (drop 1 (a ∷ range)))) ≡ length (basic_text range) = ap (λ t. length (basic_text t)) (rest_of 1 (a ∷ range)) in
-    omega (arith, all, rest)
+byte_off range some plain = grind (arith, nat_tests, read_byte, rest_of 1)
 
 pub length_read : (range : List ℕ) → length (basic_text range) ≤ length range
 unfolding basic_text
@@ -58,22 +50,12 @@ length_read range = omega (arith, length-basic (hyphened range), length-map rang
 pub common_next :
     (range text : List ℕ) → 1 ≤ length range → 1 ≤ length text → BeginsPlain range → fold_byte (hyphened_byte (get_or range 0 0)) ≡ fold_byte (get_or text 0 0) →
     after_common (basic_text (take (length range - 1) (drop 1 range))) (take (length text - 1) (drop 1 text)) ≡ after_common (basic_text range) text
-common_next [] text some any plain same = absurd (omega (arith, some))
-common_next (a ∷ range) [] some any plain same = absurd (omega (arith, any))
-common_next (a ∷ range) (b ∷ text) some any plain same =
-    ap (λ t. after_common (basic_text t) (take (length (b ∷ text) - 1) (drop 1 (b ∷ text)))) (rest_of 1 (a ∷ range))
-    ∙ ap (after_common (basic_text range)) (rest_of 1 (b ∷ text))
-    ∙ sym (ap (λ t. after_common t (b ∷ text)) (read_byte a range plain) ∙ ap (λ c. cond c (after_common (basic_text range) text) (hyphened_byte a ∷ basic_text range, b ∷ text)) (eq-eqb (fold_byte (hyphened_byte a)) (fold_byte b) same))
+common_next range text some any plain same = grind (arith, nat_tests, rest_of 1, read_byte, eq-eqb)
 
 pub common_apart :
     (range text : List ℕ) → 1 ≤ length range → 1 ≤ length text → BeginsPlain range → (fold_byte (hyphened_byte (get_or range 0 0)) ≡ fold_byte (get_or text 0 0) → ⊥) →
     after_common (basic_text range) text ≡ (basic_text range, text)
-common_apart [] text some any plain other = absurd (omega (arith, some))
-common_apart (a ∷ range) [] some any plain other = absurd (omega (arith, any))
-common_apart (a ∷ range) (b ∷ text) some any plain other =
-    ap (λ t. after_common t (b ∷ text)) (read_byte a range plain)
-    ∙ ap (λ c. cond c (after_common (basic_text range) text) (hyphened_byte a ∷ basic_text range, b ∷ text)) (ne_eqb (fold_byte (hyphened_byte a)) (fold_byte b) other)
-    ∙ ap (λ t. (t, b ∷ text)) (sym (read_byte a range plain))
+common_apart range text some any plain other = grind (arith, common_steps, read_byte, ne_eqb)
 
 common_none : (range : List ℕ) → after_common range [] ≡ (range, [])
 common_none [] = refl
@@ -81,9 +63,7 @@ common_none (a ∷ range) = refl
 
 -- nothing is left of the one or the other
 pub common_end : (range text : List ℕ) → (1 ≤ length range → length text < 1) → after_common (basic_text range) text ≡ (basic_text range, text)
-common_end [] text none = rw read_nothing refl
-common_end (a ∷ range) [] none = common_none (basic_text (a ∷ range))
-common_end (a ∷ range) (b ∷ text) none = absurd (let no = none (omega arith) in omega (arith, no))
+common_end range text none = grind (arith, common_steps, read_nothing, common_none)
 
 -- ---- what is left of two texts
 
@@ -103,6 +83,4 @@ alike_left (a ∷ range) (b ∷ text) = by_test (fold_byte a == fold_byte b) ref
 pub nothing_left :
     (range text left rest : List ℕ) → BeginsPlain left → (basic_text left, rest) ≡ after_common (basic_text range) text →
     are_alike (basic_text range) text ≡ ((length left == 0) && (length rest == 0))
-nothing_left range text left rest plain is =
-    alike_left (basic_text range) text
-    ∙ rw (← is, nothing_read left plain) refl
+nothing_left range text left rest plain is = grind (arith, nat_tests, alike_left (basic_text range) text, nothing_read left plain)

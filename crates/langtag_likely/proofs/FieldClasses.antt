@@ -1,5 +1,6 @@
 -- What the class of a field says of its letters and its length.
-use Rattle.std.proofs.Common.{◌≡◌, ℕ, ◌<◌, ◌≤◌, true, false, Bool, List, [], ◌∷◌, length, refl, arith, cond, inl, inr}
+use Rattle.std.proofs.Common.{◌≡◌, ℕ, ◌<◌, ◌≤◌, true, Bool, List, [], ◌∷◌, length, refl, arith}
+use Rattle.std.proofs.lemmas.Bool.Decides.{nat_tests}
 use Rattle.langtag_scan.specs.Class.{are_letters, are_alphanumeric, is_primary, is_extended, is_script, is_region}
 use Rattle.langtag_tables.specs.Numbers.{letter_number}
 use Rattle.langtag_tables.proofs.Letters.{primary_letters, extended_primary}
@@ -8,7 +9,6 @@ use Rattle.langtag_likely.specs.Likely.{Fields, known}
 use Rattle.langtag_likely.proofs.KeyNumbers.{are_plain}
 use Rattle.langtag_scan.proofs.Disjoint.{script_four, region_two_three}
 use Rattle.langtag_scan.proofs.SubtagFacts.{of_primary, of_script, of_region}
-use Rattle.langtag_scan.specs.Case.{are_alike}
 
 -- a language that is there is a primary subtag
 pub language_primary : (text : List ℕ) → is_language_field text ≡ true → 0 < length text → is_primary text ≡ true
@@ -51,11 +51,7 @@ region_alphanumeric [] good = refl
 region_alphanumeric (b ∷ text) good = (of_region (b ∷ text) good).alphanumeric
 
 pub region_length : (text : List ℕ) → is_region_field text ≡ true → length text ≤ 4
-region_length [] good = omega arith
-region_length (b ∷ text) good = elim (region_two_three (b ∷ text) good) [
-  | inl two ↦ omega (arith, two.0)
-  | inr three ↦ omega (arith, three.0)
-]
+region_length text good = grind (arith, nat_tests, region_two_three)
 
 pub fields_plain :
     (f : Fields) → is_language_field f.language ≡ true → is_script_field f.script ≡ true → is_region_field f.region ≡ true → are_plain f ≡ true
@@ -73,11 +69,7 @@ number_of_none (b ∷ text) none = absurd (omega (arith, none))
 -- ---- what is known is of the class
 
 pub known_good : (is_good : List ℕ → Bool) (unknown text : List ℕ) → is_good [] ≡ true → is_good text ≡ true → is_good (known unknown text) ≡ true
-known_good is_good unknown text none good = by_test (are_alike unknown text)
-  where
-    by_test : (b : Bool) → is_good (cond b [] text) ≡ true
-    by_test true = none
-    by_test false = good
+known_good is_good unknown text none good = grind (arith, nat_tests)
 
 pub known_language : (unknown text : List ℕ) → is_language_field text ≡ true → is_language_field (known unknown text) ≡ true
 known_language unknown text good = known_good is_language_field unknown text refl good

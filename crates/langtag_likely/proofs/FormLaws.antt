@@ -1,5 +1,6 @@
 -- What a tag becomes where its record becomes another.
-use Rattle.std.proofs.Common.{◌≡◌, ℕ, List, inl, inr, sym, ap, subst, ◌∙◌, ◌++◌, [], length, drop, append-nil, arith}
+use Rattle.std.proofs.Common.{◌≡◌, ℕ, List, inl, inr, sym, subst, ◌∙◌, length, append-nil, arith}
+use Rattle.std.proofs.lemmas.Bool.Decides.{nat_tests}
 use Rattle.langtag_scan.specs.Record.{Record, Spells, IsWellFormed, spell}
 use Rattle.langtag_scan.specs.Tag.{IsNormal, IsTag}
 use Rattle.langtag_scan.proofs.NormalTexts.{spelled_once, normal_or_not}
@@ -18,18 +19,12 @@ module _ (form_of : Record → Record) where
 
   pub record_form : (old new : List ℕ) (r : Record) → Spells r old → new ≡ spell (form_of r) → IsForm form_of old new
   unfolding IsNormal
-  record_form old new r spells same = record {
-    kept = λ other. absurd (other (r, spells));
-    parts = λ q also. same ∙ ap (λ p. spell (form_of p)) (spelled_once r q spells.0 also.0 (spells.1 ∙ sym also.1));
-  }
+  record_form old new r spells same = grind (arith, nat_tests, spelled_once r)
 
   -- there is one
   pub one_form : (old new other : List ℕ) → IsForm form_of old new → IsForm form_of old other → new ≡ other
   unfolding IsNormal
-  one_form old new other a b = elim (normal_or_not old) [
-    | inl normal ↦ a.parts normal.0 normal.1 ∙ sym (b.parts normal.0 normal.1)
-    | inr not_normal ↦ a.kept not_normal ∙ sym (b.kept not_normal)
-  ]
+  one_form old new other a b = grind (arith, nat_tests, normal_or_not old)
 
   -- and it is a tag
   pub form_is_tag : ((r : Record) → IsWellFormed r → IsWellFormed (form_of r)) → (old new : List ℕ) → IsTag old → IsForm form_of old new → IsTag new
@@ -53,7 +48,4 @@ module _ (form_of : Record → Record) where
       (old first one before after : List ℕ) (n len : ℕ) → Writes (IsForm form_of old) first one n → Writes (IsForm form_of old) before after len → length before ≡ n →
       (length after ≡ n) × IsForm form_of old after
   written_whole old first one before after n len counted w room =
-      let as_long = ap length (one_form old counted.text w.text counted.is_so w.is_so) in
-      let none : drop len before ≡ [] = drop_all len before (omega (arith, as_long, counted.whole, w.whole, room)) in
-      let is : after ≡ w.text = w.written (omega (arith, as_long, counted.whole, w.whole, room)) ∙ ap (λ t. w.text ++ t) none ∙ append-nil w.text in
-      (ap length is ∙ sym as_long ∙ sym counted.whole, subst (IsForm form_of old) (sym is) w.is_so)
+      grind (arith, nat_tests, one_form old counted.text w.text counted.is_so w.is_so, drop_all len before, append-nil w.text)

@@ -1,6 +1,7 @@
 -- How long the maximal and the minimal form of a tag may be.
 use Rattle.std.specs.Option.{option_map_or}
-use Rattle.std.proofs.Common.{ℕ, ◌+◌, ◌≤◌, List, [], ◌∷◌, length, Option, None, Some, IfSome, IsTrue, inl, inr, ap, arith, length-append}
+use Rattle.std.proofs.Common.{ℕ, ◌+◌, ◌≤◌, List, length, Option, None, Some, IfSome, IsTrue, arith, length-append}
+use Rattle.std.proofs.lemmas.Bool.Decides.{nat_tests}
 use Rattle.langtag_scan.specs.Class.{is_script, is_region}
 use Rattle.langtag_scan.specs.Record.{Record, IsWellFormed, one_flat, spell}
 use Rattle.langtag_scan.specs.Tag.{IsNormal}
@@ -16,18 +17,10 @@ use Rattle.langtag_scan.proofs.PartOffsets.{length-spell}
 
 -- a script and a region with the hyphen before them
 script_size : (o : Option (List ℕ)) → IfSome o (λ s. IsTrue (is_script s)) → length (hyphenated (one_flat o)) ≤ 5
-script_size None is = omega arith
-script_size (Some s) is =
-    let four = (script_four s is).0 in
-    let all = length-append (45 ∷ s) [] in
-    omega (arith, four, all)
+script_size o is = grind (arith, nat_tests, script_four, length-append)
 
 region_size : (o : Option (List ℕ)) → IfSome o (λ s. IsTrue (is_region s)) → length (hyphenated (one_flat o)) ≤ 4
-region_size None is = omega arith
-region_size (Some s) is =
-    let three = region_short s is in
-    let all = length-append (45 ∷ s) [] in
-    omega (arith, three, all)
+region_size o is = grind (arith, nat_tests, region_short, length-append)
 
 -- the fields of another tag
 put_length : (r : Record) (f : Fields) → IsWellFormed (put_fields r f) → length (spell (put_fields r f)) ≤ length (spell r) + 17
@@ -56,7 +49,4 @@ pub form_bounded :
     (form_of : Record → Record) → ((r : Record) → IsWellFormed r → length (spell (form_of r)) ≤ length (spell r) + 17) → (old new : List ℕ) → IsForm form_of old new →
     length new ≤ length old + 17
 unfolding IsNormal
-form_bounded form_of longer old new is = elim (normal_or_not old) [
-  | inl (r, spells) ↦ let more = longer r spells.0 in omega (arith, more, ap length spells.1, ap length (is.parts r spells))
-  | inr not_normal ↦ omega (arith, ap length (is.kept not_normal))
-]
+form_bounded form_of longer old new is = grind (arith, nat_tests, normal_or_not old)

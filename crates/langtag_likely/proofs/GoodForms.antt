@@ -1,14 +1,16 @@
 -- The maximal and the minimal record of a well-formed one are well-formed.
 use Rattle.std.specs.Option.{option_map_or}
-use Rattle.std.proofs.Common.{◌≡◌, ℕ, ◌≤◌, ◌⊎◌, true, false, Bool, cond, List, [], ◌∷◌, length, Option, None, Some, option_map, unwrap_or, IfSome, IsTrue, inr, refl, sym, ap, ◌∙◌}
+use Rattle.std.proofs.Common.{◌≡◌, ℕ, ◌≤◌, ◌⊎◌, true, false, Bool, cond, List, [], ◌∷◌, length, Option, None, Some, option_map, unwrap_or, IfSome, IsTrue, inr, refl, arith, rules}
 use Rattle.std.specs.Prelude.{◌&&◌, codes}
 use Rattle.std.specs.List.{list_all, AllByRecursion}
 use Rattle.std.proofs.lemmas.Bool.{and_parts}
-use Rattle.langtag_scan.specs.Case.{fold_byte, are_alike}
+use Rattle.std.proofs.lemmas.Bool.Decides.{nat_tests}
+use Rattle.std.proofs.lemmas.Grind.{common_steps}
+use Rattle.langtag_scan.specs.Case.{fold_byte}
 use Rattle.langtag_scan.specs.Class.{is_letter, is_digit, is_primary, is_extended, is_script, is_region}
 use Rattle.langtag_scan.specs.Record.{Record, IsWellFormed}
 use Rattle.langtag_likely.specs.Good.{is_language_field, is_script_field, is_region_field}
-use Rattle.langtag_likely.specs.Likely.{Fields, Likely, are_alike_fields, likely_for, looked_up, or_else, or_other, filled, known, known_fields, add_likely, remove_likely, least, suffices, language_alone, without_script, without_region}
+use Rattle.langtag_likely.specs.Likely.{Fields, Likely, likely_for, looked_up, or_else, or_other, filled, known, known_fields, add_likely, remove_likely, least, suffices, language_alone, without_script, without_region}
 use Rattle.langtag_likely.specs.LikelySubtags.{language_rows, other_rows, likely_subtags}
 use Rattle.langtag_likely.specs.Maximal.{fields_of, language_field, put_fields, put_language, subtag_of, maximal_record, minimal_record}
 use Rattle.langtag_likely.proofs.FieldClasses.{from_primary, from_extended, from_script, from_region, known_good}
@@ -23,11 +25,7 @@ abbrev are_good : Likely → Bool
 are_good row = is_language_field row.to.language && (is_script_field row.to.script && is_region_field row.to.region)
 
 same-good : (f g : Fields) → f ≡ g → AreGood f → AreGood g
-same-good f g same good = record {
-  language = sym (ap (λ x. is_language_field x.language) same) ∙ good.language;
-  script = sym (ap (λ x. is_script_field x.script) same) ∙ good.script;
-  region = sym (ap (λ x. is_region_field x.region) same) ∙ good.region;
-}
+same-good f g same good = grind (arith, nat_tests)
 
 rows_good : list_all are_good likely_subtags ≡ true
 unfolding likely_subtags language_rows other_rows fold_byte is_primary is_script is_region is_letter is_digit
@@ -38,19 +36,7 @@ IfGood o = (f : Fields) → o ≡ Some f → AreGood f
 
 row_good : (rows : List Likely) (key to : Fields) → list_all are_good rows ≡ true → likely_for rows key ≡ Some to → AreGood to
 row_good [] key to all is = absurd cc
-row_good (row ∷ rows) key to all is =
-    let k = and_parts (are_good row) (list_all are_good rows) all in
-    by_test (are_alike_fields row.from key) (likely_for rows key) is (λ later. row_good rows key to k.1 later) k.0
-  where
-    here : are_good row ≡ true → AreGood row.to
-    here good =
-        let a = and_parts (is_language_field row.to.language) (is_script_field row.to.script && is_region_field row.to.region) good in
-        let b = and_parts (is_script_field row.to.script) (is_region_field row.to.region) a.1 in
-        record { language = a.0; script = b.0; region = b.1 }
-
-    by_test : (b : Bool) (o : Option Fields) → cond b (Some row.to) o ≡ Some to → (o ≡ Some to → AreGood to) → are_good row ≡ true → AreGood to
-    by_test true o is later good = let same : row.to ≡ to = cc in same-good row.to to same (here good)
-    by_test false o is later good = later is
+row_good (row ∷ rows) key to all is = grind (arith, common_steps, row_good rows key to, and_parts, same-good)
 
 -- ---- likely subtags added
 
@@ -61,22 +47,14 @@ either_good (Some f) b ga gb = ga
 
 looked_up-good : (key : Fields) → IfGood (looked_up likely_subtags key)
 unfolding IfGood
-looked_up-good key =
-    either_good _ _ (λ to is. row_good likely_subtags key to rows_good is)
-    (either_good _ _ (λ to is. row_good likely_subtags (without_region key) to rows_good is)
-    (either_good _ _ (λ to is. row_good likely_subtags (without_script key) to rows_good is)
-    (λ to is. row_good likely_subtags (language_alone key) to rows_good is)))
+looked_up-good key = search (rules, either_good, row_good, rows_good)
 
 or_other-good : (is_good : List ℕ → Bool) (a b : List ℕ) → is_good a ≡ true → is_good b ≡ true → is_good (or_other a b) ≡ true
 or_other-good is_good [] b ga gb = gb
 or_other-good is_good (x ∷ a) b ga gb = ga
 
 filled-good : (f v : Fields) → AreGood f → AreGood v → AreGood (filled f v)
-filled-good f v gf gv = record {
-  language = or_other-good is_language_field f.language v.language gf.language gv.language;
-  script = or_other-good is_script_field f.script v.script gf.script gv.script;
-  region = or_other-good is_region_field f.region v.region gf.region gv.region;
-}
+filled-good f v gf gv = grind (arith, common_steps, or_other-good)
 
 mapped-good : (change : Fields → Fields) (o : Option Fields) → ((f : Fields) → AreGood f → AreGood (change f)) → IfGood o → IfGood (option_map change o)
 unfolding IfGood
@@ -89,11 +67,7 @@ added-good f good = mapped-good (filled f) (looked_up likely_subtags f) (λ v gv
 -- ---- and removed
 
 known_fields-good : (f : Fields) → AreGood f → AreGood (known_fields f)
-known_fields-good f good = record {
-  language = good.language;
-  script = known_good is_script_field (codes "Zzzz") f.script refl good.script;
-  region = known_good is_region_field (codes "ZZ") f.region refl good.region;
-}
+known_fields-good f good = grind (arith, common_steps, known_good)
 
 least-good : (most : Fields) → AreGood most → AreGood (least likely_subtags most)
 least-good most good =
@@ -124,22 +98,12 @@ optional-good is_class is_good unknown none some None is = known_good is_good un
 optional-good is_class is_good unknown none some (Some s) is = known_good is_good unknown s none (some s is)
 
 pub fields_of-good : (r : Record) → IsWellFormed r → AreGood (fields_of r)
-fields_of-good r well = record {
-  language = language_field-good r.primary r.extended well.primary well.extended;
-  script = optional-good is_script is_script_field (codes "Zzzz") refl from_script r.script well.script;
-  region = optional-good is_region is_region_field (codes "ZZ") refl from_region r.region well.region;
-}
+fields_of-good r well = grind (arith, common_steps, language_field-good, optional-good, from_script, from_region)
 
 -- ---- a tag with other fields
 
 put_language-good : (p : List ℕ) (es : List (List ℕ)) (l : List ℕ) → is_primary p ≡ true → is_language_field l ≡ true → is_primary (put_language p es l) ≡ true
-put_language-good p [] l is good = by_test (are_alike (codes "und") p) l good
-  where
-    by_test : (b : Bool) (l : List ℕ) → is_language_field l ≡ true → is_primary (cond b (or_other l p) p) ≡ true
-    by_test true [] good = is
-    by_test true (x ∷ l) good = good
-    by_test false l good = is
-put_language-good p (e ∷ es) l is good = is
+put_language-good p es l is good = grind (arith, nat_tests)
 
 put_language-short : (p : List ℕ) (es : List (List ℕ)) (l : List ℕ) → (length p ≤ 3) ⊎ (es ≡ []) → (length (put_language p es l) ≤ 3) ⊎ (es ≡ [])
 put_language-short p [] l short = inr refl
@@ -154,17 +118,7 @@ subtag_of-region [] good = tt
 subtag_of-region (b ∷ s) good = good
 
 put_fields-well_formed : (r : Record) (f : Fields) → IsWellFormed r → AreGood f → IsWellFormed (put_fields r f)
-put_fields-well_formed r f well good = record {
-  primary = put_language-good r.primary r.extended f.language well.primary good.language;
-  extended = well.extended;
-  few = well.few;
-  short = put_language-short r.primary r.extended f.language well.short;
-  script = subtag_of-script f.script good.script;
-  region = subtag_of-region f.region good.region;
-  variants = well.variants;
-  extensions = well.extensions;
-  private_use = well.private_use;
-}
+put_fields-well_formed r f well good = grind (arith, common_steps, put_language-good, put_language-short, subtag_of-script, subtag_of-region)
 
 put-well_formed : (r : Record) (o : Option Fields) → IsWellFormed r → IfGood o → IsWellFormed (option_map_or (put_fields r) o r)
 unfolding IfGood

@@ -1,5 +1,5 @@
 -- A bit of the table of languages tells whether a language has a row, and the bits from it on where the row stands.
-use Rattle.std.proofs.Common.{◌≡◌, ℕ, zero, suc, ◌+◌, ◌*◌, ◌-◌, ◌/◌, ◌%◌, ◌^◌, ◌<◌, ◌≤◌, true, false, ◌==◌, Bool, cond, ltb, List, [], ◌∷◌, ◌++◌, length, get_or, map, flat_map, take, Option, None, Some, option_map, count_ones, refl, ap, sym, ◌∙◌, arith}
+use Rattle.std.proofs.Common.{◌≡◌, ℕ, zero, suc, ◌+◌, ◌*◌, ◌-◌, ◌/◌, ◌%◌, ◌^◌, ◌<◌, ◌≤◌, true, false, ◌==◌, Bool, cond, ltb, List, [], ◌∷◌, ◌++◌, length, get_or, map, flat_map, take, Option, None, Some, count_ones, refl, ap, sym, ◌∙◌, arith}
 use Rattle.std.specs.List.{list_all}
 use Rattle.std.specs.Int.Count.{ones_step}
 use Rattle.std.proofs.Math.Nat.{div-one, pow-succ', two-pow-succ, div-div-eq-div-mul}
@@ -7,6 +7,8 @@ use Rattle.std.proofs.Math.Seq.{take-append-add}
 use Rattle.std.proofs.lemmas.Bool.{and_parts, eq-eqb, ne_eqb, eqb-true, eqb-false, ltb-true}
 use Rattle.std.proofs.lemmas.List.{get_or_append_left, get_or-append-add, take-append-le}
 use Rattle.std.proofs.lemmas.Nat.{ones_le_self}
+use Rattle.std.proofs.lemmas.Bool.Decides.{nat_tests}
+use Rattle.std.proofs.lemmas.Grind.{common_steps}
 use Rattle.langtag_scan.specs.Case.{fold_byte}
 use Rattle.langtag_tables.specs.Numbers.{letter_number, places}
 use Rattle.langtag_likely.specs.declared.tables.TheConstants.{LANGUAGE_BITS, LANGUAGE_ENDS}
@@ -37,24 +39,14 @@ count-append (true ∷ a) b = let later = count-append a b in omega (arith, late
 count-append (false ∷ a) b = count-append a b
 
 count-lowest : (word : ℕ) (list : List Bool) → count ((word % 2 == 1) ∷ list) ≡ word % 2 + count list
-count-lowest word list = by_bit (word % 2 == 1) refl
-  where
-    even : (word % 2 ≡ 1 → ⊥) → count list ≡ word % 2 + count list
-    even other = let none : word % 2 ≡ 0 = omega (arith, other) in omega (arith, none)
-
-    by_bit : (b : Bool) → (word % 2 == 1) ≡ b → count (b ∷ list) ≡ word % 2 + count list
-    by_bit true is = let one = eqb-true (word % 2) 1 is in omega (arith, one)
-    by_bit false is = even (eqb-false (word % 2) 1 is)
+count-lowest word list = grind (arith, nat_tests, eqb-true, eqb-false)
 
 half_below : (k word : ℕ) → word < 2 ^ suc k → word / 2 < 2 ^ k
 half_below k word small = let double = two-pow-succ k in omega (arith, small, double)
 
 count-bits : (k word : ℕ) → word < 2 ^ k → count_ones word ≡ count (bits k word)
 unfolding bits
-count-bits zero word small =
-    let none : word ≡ 0 = omega (arith, small) in
-    let few = ones_le_self 0 in
-    ap count_ones none ∙ omega (arith, few)
+count-bits zero word small = grind (arith, nat_tests, ones_le_self 0)
 count-bits (suc k) word small =
     ones_step word ∙ ap (λ n. word % 2 + n) (count-bits k (word / 2) (half_below k word small)) ∙ sym (count-lowest word (bits k (word / 2)))
 
@@ -71,14 +63,9 @@ bit_at (suc k) word (suc i) inside = bit_at k (word / 2) i (omega (arith, inside
 count-split : (k word i : ℕ) → word < 2 ^ k → i < k → count (take i (bits k word)) + count_ones (word / 2 ^ i) ≡ count (bits k word)
 unfolding bits
 count-split zero word i small inside = absurd (omega (arith, inside))
-count-split (suc k) word zero small inside =
-    let whole = ap count_ones (div-one word) ∙ count-bits (suc k) word small in
-    omega (arith, whole)
+count-split (suc k) word zero small inside = grind (arith, nat_tests, div-one word, count-bits (suc k) word small)
 count-split (suc k) word (suc i) small inside =
-    let few = count-lowest word (take i (bits k (word / 2))) in
-    let all = count-lowest word (bits k (word / 2)) in
-    let later = count-split k (word / 2) i (half_below k word small) (omega (arith, inside)) in
-    ap (λ n. count ((word % 2 == 1) ∷ take i (bits k (word / 2))) + count_ones n) (shifted_again word i) ∙ omega (arith, few, all, later)
+    grind (arith, common_steps, count-split k (word / 2) i (half_below k word small), count-lowest, half_below, inside, shifted_again)
 
 -- ---- the bits of words
 
@@ -137,17 +124,8 @@ unfolding places
 index_of_place n i [] = refl
 index_of_place n zero (true ∷ list) = rw (eq-eqb (n + 0) n (omega arith)) refl
 index_of_place n zero (false ∷ list) = not_before (n + 0) (n + 1) list (omega arith)
-index_of_place n (suc i) (true ∷ list) =
-    let on : n + suc i ≡ n + 1 + i = omega arith in
-    rw (ne_eqb (n + suc i) n (λ same. absurd (omega (arith, same))))
-    (ap (λ m. option_map suc (first_index (places (n + 1) list) m)) on ∙ ap (option_map suc) (index_of_place (n + 1) i list) ∙ by_bit (get_or list i false) (count (take i list)))
-  where
-    by_bit : (b : Bool) (k : ℕ) → option_map suc (cond b (Some k) None) ≡ cond b (Some (suc k)) None
-    by_bit true k = refl
-    by_bit false k = refl
-index_of_place n (suc i) (false ∷ list) =
-    let on : n + suc i ≡ n + 1 + i = omega arith in
-    ap (first_index (places (n + 1) list)) on ∙ index_of_place (n + 1) i list
+index_of_place n (suc i) (true ∷ list) = grind (arith, nat_tests, ne_eqb (n + suc i) n, index_of_place (n + 1) i list)
+index_of_place n (suc i) (false ∷ list) = grind (arith, nat_tests, index_of_place (n + 1) i list)
 
 -- ---- any two tables: the bits of some numbers, and the ends of their words
 
@@ -165,19 +143,11 @@ module _ (table last numbers : List ℕ) (all : list_all is_word table ≡ true)
 
   count_is : before + count_ones rest ≡ get_or last (place / 64) 0
   unfolding before
-  count_is =
-      let kept = ap (λ n. count (take n (words table))) divided in
-      let whole = count-words 0 table (place / 64) (place % 64) all inside (omega arith) in
-      let end = ap (λ list. get_or list (place / 64) 0) last_is in
-      omega (arith, kept, whole, end)
+  count_is = grind (arith, nat_tests, divided, count-words 0 table (place / 64) (place % 64) all inside, inside)
 
   index_is : first_index numbers (27 + place) ≡ cond (rest % 2 == 1) (Some before) None
   unfolding before
-  index_is =
-      ap (λ list. first_index list (27 + place)) (sym numbers_are)
-      ∙ index_of_place 27 place (words table)
-      ∙ ap (λ b. cond b (Some (count (take place (words table)))) None)
-      (ap (λ n. get_or (words table) n false) divided ∙ bit_of_words table (place / 64) (place % 64) inside (omega arith))
+  index_is = grind (arith, nat_tests, index_of_place 27 place (words table), divided, bit_of_words table (place / 64) (place % 64) inside, inside)
 
   unset : rest % 2 ≡ 0 → first_index numbers (27 + place) ≡ None
   unset none = index_is ∙ ap (λ b. cond b (Some before) None) (ne_eqb (rest % 2) 1 (λ one. absurd (omega (arith, none, one))))
@@ -186,9 +156,7 @@ module _ (table last numbers : List ℕ) (all : list_all is_word table ≡ true)
   enough = omega (arith, count_is)
 
   found : rest % 2 ≡ 1 → first_index numbers (27 + place) ≡ Some (get_or last (place / 64) 0 - count_ones rest)
-  found one =
-      let index : before ≡ get_or last (place / 64) 0 - count_ones rest = omega (arith, count_is) in
-      index_is ∙ ap (λ b. cond b (Some before) None) (eq-eqb (rest % 2) 1 one) ∙ ap Some index
+  found one = grind (arith, nat_tests, before, count_is, index_is, eq-eqb (rest % 2) 1 one)
 
 -- ---- the tables of languages: by computation
 

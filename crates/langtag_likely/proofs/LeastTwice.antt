@@ -1,8 +1,10 @@
 -- The fewest fields have the maximal form, and are their own fewest.
-use Rattle.std.proofs.Common.{◌≡◌, ℕ, true, false, Bool, cond, List, [], ◌∷◌, Option, None, Some, option_map, refl, sym, ap, ◌∙◌}
+use Rattle.std.proofs.Common.{◌≡◌, ℕ, true, false, Bool, cond, List, [], ◌∷◌, Option, None, Some, option_map, refl, sym, ap, ◌∙◌, arith}
 use Rattle.std.specs.Prelude.{codes}
 use Rattle.std.specs.Option.{option_map_or}
-use Rattle.langtag_scan.specs.Case.{Alike, are_alike, fold_text}
+use Rattle.std.proofs.lemmas.Bool.Decides.{nat_tests}
+use Rattle.std.proofs.lemmas.Grind.{common_steps}
+use Rattle.langtag_scan.specs.Case.{Alike, fold_text}
 use Rattle.langtag_likely.specs.Likely.{Fields, are_alike_fields, looked_up, or_other, filled, known, known_fields, add_likely, least, suffices, language_alone, without_script, without_region}
 use Rattle.langtag_likely.specs.LikelySubtags.{likely_subtags}
 use Rattle.langtag_likely.proofs.AddedTwice.{either_way, known_stays, known_goes}
@@ -11,19 +13,10 @@ use Rattle.langtag_likely.proofs.AlikeFields.{AlikeFields, alike_refl, alike_fie
 -- ---- one field
 
 known_none : (unknown : List ℕ) → known unknown [] ≡ []
-known_none unknown = by_test (are_alike unknown [])
-  where
-    none : List ℕ
-    none = []
-
-    by_test : (b : Bool) → cond b none none ≡ none
-    by_test true = refl
-    by_test false = refl
+known_none unknown = grind (arith, nat_tests)
 
 known_twice : (unknown a : List ℕ) → known unknown (known unknown a) ≡ known unknown a
-known_twice unknown a =
-    either_way (are_alike unknown a) (λ is. ap (known unknown) (known_goes unknown a is) ∙ known_none unknown ∙ sym (known_goes unknown a is))
-    (λ other. ap (known unknown) (known_stays unknown a other))
+known_twice unknown a = grind (arith, common_steps, either_way, known_goes, known_none, known_stays)
 
 alike_none : (a : List ℕ) → Alike a [] → a ≡ []
 alike_none [] h = refl
@@ -93,19 +86,7 @@ module _ (m : Fields) (again : add_likely likely_subtags (known_fields m) ≡ So
         sym (suffices-alike m form c (without_region k) same (record { language = same.language; script = (known_fields-alike m form same).script; region = refl }))
 
   by_language : suffices likely_subtags m a ≡ true → HasForm m a
-  by_language one =
-      let h = sufficed m a one in
-      let l : h.form.language ≡ m.language = language_back m.language h.form.language h.v.language h.same.language (ap (λ f. f.language) (sym h.made)) in
-      let settled : known_fields a ≡ a = rw (known_none (codes "Zzzz"), known_none (codes "ZZ")) refl in
-      let here : language_alone (known_fields h.form) ≡ a = ap (λ l. record { language = l; script = []; region = [] }) l in
-      record {
-        form = h.form;
-        language = refl;
-        form_language = l;
-        is_form = ap (add_likely likely_subtags) settled ∙ h.is;
-        same = h.same;
-        fewest = rw (alone_same h.form h.same ∙ one) here;
-      }
+  by_language one = grind (arith, nat_tests, sufficed m a one, language_back m.language, known_none (codes "Zzzz"), known_none (codes "ZZ"))
 
   by_region : suffices likely_subtags m a ≡ false → suffices likely_subtags m b ≡ true → HasForm m b
   by_region one two =
@@ -140,15 +121,7 @@ module _ (m : Fields) (again : add_likely likely_subtags (known_fields m) ≡ So
       }
 
   by_all : suffices likely_subtags m a ≡ false → suffices likely_subtags m b ≡ false → suffices likely_subtags m c ≡ false → HasForm m m
-  by_all one two three =
-      record {
-        form = m;
-        language = refl;
-        form_language = refl;
-        is_form = again;
-        same = alike_refl m;
-        fewest = rw (one, two, three) refl;
-      }
+  by_all one two three = grind (arith, nat_tests, alike_refl m)
 
   pub has_form : HasForm m (least likely_subtags m)
   has_form =

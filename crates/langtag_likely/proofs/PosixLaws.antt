@@ -1,13 +1,14 @@
 -- The tag of a POSIX locale's name: its parts, and its length.
-use Rattle.std.proofs.Common.{◌≡◌, ℕ, suc, ◌+◌, ◌≤◌, true, false, Bool, cond, List, [], ◌∷◌, length, Option, None, Some, inl, IsTrue, refl, sym, ap, subst, ◌∙◌, arith}
+use Rattle.std.proofs.Common.{◌≡◌, ℕ, ◌+◌, ◌≤◌, true, false, Bool, cond, List, [], ◌∷◌, length, Option, None, Some, IsTrue, refl, sym, subst, arith}
 use Rattle.std.specs.Prelude.{◌||◌, codes, IfSome, MatchOption}
-use Rattle.std.specs.List.{after_first, before_first}
 use Rattle.std.specs.Borrow.{Bor}
 use Rattle.std.specs.Option.{option_map, option_or}
 use Rattle.std.specs.Str.{IsUtf8}
 use Rattle.std.proofs.lemmas.Str.{IsUtf8-from_ascii}
 use Rattle.std.proofs.lemmas.Bool.{and_parts}
 use Rattle.std.proofs.lemmas.List.{length-append}
+use Rattle.std.proofs.lemmas.Bool.Decides.{nat_tests}
+use Rattle.std.proofs.lemmas.Grind.{common_steps}
 use Rattle.langtag_scan.specs.Case.{are_alike, fold_byte}
 use Rattle.langtag_scan.specs.Class.{is_letter, is_digit, is_script, is_variant}
 use Rattle.langtag_scan.specs.Record.{EachRecord, Record, IsWellFormed, Spells, spell}
@@ -26,8 +27,8 @@ use Rattle.langtag_likely.specs.Scripts.{script_codes}
 use Rattle.langtag_likely.specs.Likely.{or_else}
 use Rattle.langtag_likely.specs.Maximal.{IsForm}
 use Rattle.langtag_likely.specs.Modifiers.{is_script_code, modifier_script, modifier_variant}
-use Rattle.langtag_match.specs.Locale.{front_of, is_hash}
-use Rattle.langtag_likely.specs.Posix.{is_underscore, modifier_of, said_script, script_behind, with_said, with_said_script, with_said_variant}
+use Rattle.langtag_match.specs.Locale.{front_of}
+use Rattle.langtag_likely.specs.Posix.{modifier_of, said_script, script_behind, with_said, with_said_script, with_said_variant}
 use Rattle.langtag_scan.proofs.Disjoint.{script_four}
 use Rattle.langtag_scan.proofs.PartOffsets.{length-spell}
 
@@ -47,9 +48,7 @@ is_variants variant is = (variant ∷ [], one_variant variant is)
 
 module _ (r : Record) (fits : IsWellFormed r) where
   variant_fits : (variant : Option (List ℕ)) → IfSome variant (λ v. IsTrue (is_variant v)) → IsWellFormed (with_said_variant variant r)
-  variant_fits None is = fits
-  variant_fits (Some v) is =
-      record { primary = fits.primary; extended = fits.extended; few = fits.few; short = fits.short; script = fits.script; region = fits.region; variants = (is, tt); extensions = fits.extensions; private_use = fits.private_use }
+  variant_fits variant is = grind (arith, nat_tests)
 
   script_fits : (script : Option (List ℕ)) → IfSome script (λ s. IsTrue (is_script s)) → IsWellFormed (with_said_script script r)
   script_fits None is = fits
@@ -104,13 +103,7 @@ modifier_variant-fits modifier = by_tests (are_alike (codes "ijekavian") modifie
     by_tests false false false = tt
 
 behind-fits : (front : List ℕ) → IfSome (script_behind front) (λ s. IsTrue (is_script s))
-behind-fits front = by_test (is_script (before_first is_underscore (after_first is_hash front))) refl
-  where
-    by_test :
-        (b : Bool) → is_script (before_first is_underscore (after_first is_hash front)) ≡ b →
-        IfSome (cond b (Some (before_first is_underscore (after_first is_hash front))) None) (λ s. IsTrue (is_script s))
-    by_test true is = is
-    by_test false is = tt
+behind-fits front = grind (arith, nat_tests)
 
 pub said_script-fits : (name : List ℕ) → IfSome (said_script name) (λ s. IsTrue (is_script s))
 said_script-fits name = by_first (modifier_script (modifier_of name)) (modifier_script-fits (modifier_of name))
@@ -140,31 +133,21 @@ script_or (Some s) b = refl
 
 pub longer_by_script : (r : Record) (script : List ℕ) → length script ≡ 4 → length (spell (with_script r (Some script))) ≤ length (spell r) + 5
 longer_by_script r script four =
-    let old = length-spell r in
-    let new = length-spell (with_script r (Some script)) in
-    let one : length (hyphenated (script ∷ [])) ≡ suc (length script + 0) = ap suc (length-append script []) in
-    omega (arith, old, new, one, four)
+    grind (arith, nat_tests, length-spell r, length-spell (with_script r (Some script)), hyphenated (script ∷ []), length-append script)
 
 -- a text that is spelled with a script, and what the other text's record spells
 pub set_script :
     (old new script : List ℕ) → is_script script ≡ true → IsNormal old → EachRecord old (λ r. Spells (with_script r (Some script)) new) →
     IsTag new × (length new ≤ length old + 5) × IsForm (with_said_script (Some script)) old new
 unfolding IsTag IsNormal
-set_script old new script is (r, spells) set =
-    let spelled = set r spells in
-    let longer = longer_by_script r script (script_four script is).0 in
-    let few : length new ≤ length old + 5 = omega (arith, longer, ap length spelled.1, ap length spells.1) in
-    (inl (with_script r (Some script), spelled), few, record_form (with_said_script (Some script)) old new r spells (sym spelled.1))
+set_script old new script is h4 set = grind (arith, common_steps, longer_by_script, script_four, record_form)
 
 -- ---- the form of a form
 
 pub form_composed :
     (f g : Record → Record) → ((r : Record) → IsWellFormed r → IsWellFormed (f r)) → (old mid new : List ℕ) → IsForm f old mid → IsForm g mid new → IsForm (λ r. g (f r)) old new
 unfolding IsNormal
-form_composed f g well old mid new first second = record {
-  kept = λ other. second.kept (λ normal. other (subst IsNormal (first.kept other) normal)) ∙ first.kept other;
-  parts = λ r spells. second.parts (f r) (well r spells.0, sym (first.parts r spells));
-}
+form_composed f g well old mid new first second = grind (arith, common_steps)
 
 -- ---- a script is ASCII
 

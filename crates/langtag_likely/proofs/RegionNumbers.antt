@@ -1,9 +1,10 @@
 -- The number of a region tells it apart but for case.
-use Rattle.std.proofs.Common.{◌≡◌, ℕ, ◌+◌, true, ◌==◌, Bool, ltb, [], length, sym, ap, ◌∙◌, arith}
+use Rattle.std.proofs.Common.{◌≡◌, ℕ, ◌+◌, true, ◌==◌, Bool, ltb, length, arith}
 use Rattle.std.specs.Prelude.{◌&&◌}
 use Rattle.std.proofs.lemmas.Bool.{and_parts, ltb-true}
 use Rattle.std.proofs.lemmas.List.{nil_from_length}
-use Rattle.langtag_scan.specs.Case.{are_alike, folded_number}
+use Rattle.std.proofs.lemmas.Grind.{common_steps}
+use Rattle.langtag_scan.specs.Case.{folded_number}
 use Rattle.langtag_scan.specs.Class.{are_alphanumeric}
 use Rattle.langtag_scan.proofs.FoldedNumbers.{folded_number-tells}
 use Rattle.langtag_likely.specs.Likely.{Fields, Likely, are_alike_fields}
@@ -18,11 +19,4 @@ region_number f = folded_number f.region
 pub region-tells :
     (f : Fields) → are_alphanumeric f.region ≡ true → (row : Likely) → is_region_alone row ≡ true →
     (region_number (region_alone f) == region_number row.from) ≡ are_alike_fields row.from (region_alone f)
-region-tells f plain row good =
-    let k = and_parts (are_alphanumeric row.from.region) (ltb (length row.from.language + length row.from.script) 1) good in
-    let none = ltb-true (length row.from.language + length row.from.script) 1 k.1 in
-    let language : row.from.language ≡ [] = nil_from_length row.from.language (omega (arith, none)) in
-    let script : row.from.script ≡ [] = nil_from_length row.from.script (omega (arith, none)) in
-    folded_number-tells row.from.region f.region k.0 plain
-    ∙ ap (λ l. are_alike l [] && (are_alike [] [] && are_alike row.from.region f.region)) (sym language)
-    ∙ ap (λ s. are_alike row.from.language [] && (are_alike s [] && are_alike row.from.region f.region)) (sym script)
+region-tells f plain row good = grind (arith, common_steps, and_parts, ltb-true, nil_from_length, folded_number-tells)

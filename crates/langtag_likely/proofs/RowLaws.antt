@@ -1,10 +1,11 @@
 -- The rows of the tables are those of the lists.
-use Rattle.std.proofs.Common.{◌≡◌, ℕ, ◌+◌, ◌<◌, true, ◌==◌, Bool, ltb, List, [], ◌∷◌, length, get_or, map, Option, None, Some, option_map, refl, sym, ap, ◌∙◌, arith}
+use Rattle.std.proofs.Common.{◌≡◌, ℕ, ◌+◌, ◌<◌, true, ◌==◌, Bool, List, [], length, get_or, map, Option, None, Some, option_map, refl, sym, ap, ◌∙◌, arith}
 use Rattle.std.specs.Prelude.{◌&&◌}
 use Rattle.std.proofs.Math.Bool.{and-true}
 use Rattle.std.proofs.lemmas.Bool.{and_parts, ltb-true}
 use Rattle.std.proofs.lemmas.List.{get_or-map, nil_from_length}
-use Rattle.langtag_scan.specs.Case.{are_alike}
+use Rattle.std.proofs.lemmas.Bool.Decides.{nat_tests}
+use Rattle.std.proofs.lemmas.Grind.{common_steps}
 use Rattle.langtag_scan.specs.Class.{are_letters}
 use Rattle.langtag_tables.specs.Numbers.{letter_number}
 use Rattle.langtag_tables.proofs.Letters.{letter_number-tells}
@@ -25,16 +26,7 @@ language_number f = letter_number f.language
 pub language-tells :
     (l : List ℕ) → are_letters l ≡ true → (row : Likely) → is_language row ≡ true →
     (language_number (of_language l) == language_number row.from) ≡ are_alike_fields row.from (of_language l)
-language-tells l letters row good =
-    let k = and_parts (are_letters row.from.language) (is_alone row) good in
-    let alone = and_parts (ltb 0 (length row.from.language)) (ltb (length row.from.script + length row.from.region) 1) k.1 in
-    let none = ltb-true (length row.from.script + length row.from.region) 1 alone.1 in
-    let script : row.from.script ≡ [] = nil_from_length row.from.script (omega (arith, none)) in
-    let region : row.from.region ≡ [] = nil_from_length row.from.region (omega (arith, none)) in
-    letter_number-tells row.from.language l k.0 letters
-    ∙ sym (and-true (are_alike row.from.language l))
-    ∙ ap (λ s. are_alike row.from.language l && (are_alike s [] && are_alike [] [])) (sym script)
-    ∙ ap (λ r. are_alike row.from.language l && (are_alike row.from.script [] && are_alike r [])) (sym region)
+language-tells l letters row good = grind (arith, common_steps, and_parts, is_alone, ltb-true, nil_from_length, letter_number-tells, and-true)
 
 -- ---- what is found by a number
 
@@ -57,9 +49,7 @@ pub language_at :
     (i : ℕ) (script region : List ℕ) → i < length language_rows →
     script ≡ get_or (map (λ row. row.to.script) language_rows) i [] → region ≡ get_or (map (λ row. row.to.region) language_rows) i [] →
     record { language = []; script = script; region = region } ≡ places_of (get_or language_rows i no_row).to
-language_at i script region inside script_is region_is =
-    ap (λ s. record { language = []; script = s; region = region }) (script_is ∙ get_or-map (λ row. row.to.script) language_rows i no_row [] inside)
-    ∙ ap (λ r. record { language = []; script = (get_or language_rows i no_row).to.script; region = r }) (region_is ∙ get_or-map (λ row. row.to.region) language_rows i no_row [] inside)
+language_at i script region inside script_is region_is = grind (arith, nat_tests, get_or-map)
 
 -- any other row at an index
 pub other_at :
@@ -67,10 +57,7 @@ pub other_at :
     language ≡ get_or (map (λ row. row.to.language) other_rows) i [] → script ≡ get_or (map (λ row. row.to.script) other_rows) i [] →
     region ≡ get_or (map (λ row. row.to.region) other_rows) i [] →
     record { language = language; script = script; region = region } ≡ (get_or other_rows i no_row).to
-other_at i language script region inside language_is script_is region_is =
-    ap (λ l. record { language = l; script = script; region = region }) (language_is ∙ get_or-map (λ row. row.to.language) other_rows i no_row [] inside)
-    ∙ ap (λ s. record { language = (get_or other_rows i no_row).to.language; script = s; region = region }) (script_is ∙ get_or-map (λ row. row.to.script) other_rows i no_row [] inside)
-    ∙ ap (λ r. record { language = (get_or other_rows i no_row).to.language; script = (get_or other_rows i no_row).to.script; region = r }) (region_is ∙ get_or-map (λ row. row.to.region) other_rows i no_row [] inside)
+other_at i language script region inside language_is script_is region_is = grind (arith, nat_tests, get_or-map)
 
 -- ---- all rows
 
@@ -83,28 +70,16 @@ or_none None = refl
 or_none (Some x) = refl
 
 pub all_long : (key : Fields) → 3 < length key.language → likely_for likely_subtags key ≡ None
-all_long key long =
-    either key ∙ ap (λ o. or_else o (likely_for other_rows key)) (long_nowhere language_rows key long languages_short)
-    ∙ long_nowhere other_rows key long others_short
+all_long key long = grind (arith, common_steps, either, long_nowhere, languages_short, others_short)
 
 fill_places : (l : List ℕ) → 0 < length l → (o : Option Fields) → option_map (filled (of_language l)) (option_map places_of o) ≡ option_map (filled (of_language l)) o
-fill_places [] some o = absurd (omega (arith, some))
-fill_places (b ∷ l) some None = refl
-fill_places (b ∷ l) some (Some to) = refl
+fill_places l some o = grind (arith, nat_tests)
 
 -- a language and no more
 pub all_alone :
     (key : Fields) → 0 < length key.language → length key.script ≡ 0 → length key.region ≡ 0 →
     option_map (filled key) (places_for key.language) ≡ option_map (filled key) (likely_for likely_subtags key)
-all_alone key some no_script no_region =
-    let script : key.script ≡ [] = nil_from_length key.script no_script in
-    let region : key.region ≡ [] = nil_from_length key.region no_region in
-    let same : key ≡ of_language key.language =
-    ap (λ s. record { language = key.language; script = s; region = key.region }) script ∙ ap (λ r. record { language = key.language; script = []; region = r }) region in
-    ap (λ k. option_map (filled k) (places_for key.language)) same
-    ∙ fill_places key.language some (likely_for language_rows (of_language key.language))
-    ∙ ap (λ k. option_map (filled k) (likely_for language_rows k)) (sym same)
-    ∙ ap (option_map (filled key)) (sym (either key ∙ ap (or_else (likely_for language_rows key)) (alone_nowhere other_rows key some no_script no_region others_other) ∙ or_none (likely_for language_rows key)))
+all_alone key some no_script no_region = grind (arith, common_steps, nil_from_length, fill_places, either, alone_nowhere, others_other, or_none)
 
 -- any other left side
 pub all_other : (key : Fields) → (0 < length key.language → length key.script + length key.region ≡ 0 → ⊥) → likely_for other_rows key ≡ likely_for likely_subtags key

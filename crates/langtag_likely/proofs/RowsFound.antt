@@ -1,8 +1,10 @@
 -- A row is found by the number of its left side.
-use Rattle.std.proofs.Common.{◌≡◌, ℕ, suc, ◌+◌, ◌*◌, ◌<◌, true, false, ◌==◌, Bool, cond, ltb, List, [], ◌∷◌, ◌++◌, length, get_or, map, Option, None, Some, option_map, refl, ap, ◌∙◌, arith}
+use Rattle.std.proofs.Common.{◌≡◌, ℕ, ◌+◌, ◌*◌, ◌<◌, true, false, ◌==◌, Bool, cond, ltb, List, [], ◌∷◌, ◌++◌, length, get_or, map, Option, None, Some, option_map, refl, arith}
 use Rattle.std.specs.Prelude.{◌&&◌}
 use Rattle.std.specs.List.{list_all}
 use Rattle.std.proofs.lemmas.Bool.{and_parts, ltb-true, false_from_ne_true}
+use Rattle.std.proofs.lemmas.Bool.Decides.{nat_tests}
+use Rattle.std.proofs.lemmas.Grind.{common_steps}
 use Rattle.langtag_scan.specs.Case.{are_alike}
 use Rattle.langtag_scan.specs.CaseLaws.{are_alike-decides}
 use Rattle.langtag_likely.specs.Likely.{Fields, Likely, are_alike_fields, likely_for, or_else}
@@ -17,31 +19,14 @@ module _ (number : Fields → ℕ) (is_good : Likely → Bool) (key : Fields)
       (rows : List Likely) → list_all is_good rows ≡ true →
       option_map (λ i. (get_or rows i no_row).to) (first_index (map (λ row. number row.from) rows) (number key)) ≡ likely_for rows key
   found_by_number [] all = refl
-  found_by_number (row ∷ rows) all =
-      let k = and_parts (is_good row) (list_all is_good rows) all in
-      by_test (number key == number row.from) (first_index (map (λ row. number row.from) rows) (number key)) (found_by_number rows k.1)
-      ∙ ap (λ b. cond b (Some row.to) (likely_for rows key)) (tells row k.0)
-    where
-      by_index :
-          (o : Option ℕ) → option_map (λ i. (get_or rows i no_row).to) o ≡ likely_for rows key →
-          option_map (λ i. (get_or (row ∷ rows) i no_row).to) (option_map suc o) ≡ likely_for rows key
-      by_index None later = later
-      by_index (Some i) later = later
-
-      by_test :
-          (b : Bool) (o : Option ℕ) → option_map (λ i. (get_or rows i no_row).to) o ≡ likely_for rows key →
-          option_map (λ i. (get_or (row ∷ rows) i no_row).to) (cond b (Some 0) (option_map suc o)) ≡ cond b (Some row.to) (likely_for rows key)
-      by_test true o later = refl
-      by_test false o later = by_index o later
+  found_by_number (row ∷ rows) all = grind (arith, nat_tests, and_parts, found_by_number rows)
 
 -- ---- no row
 
 module _ (is_good : Likely → Bool) (key : Fields) (apart : (row : Likely) → is_good row ≡ true → are_alike_fields row.from key ≡ false) where
   pub found_nowhere : (rows : List Likely) → list_all is_good rows ≡ true → likely_for rows key ≡ None
   found_nowhere [] all = refl
-  found_nowhere (row ∷ rows) all =
-      let k = and_parts (is_good row) (list_all is_good rows) all in
-      ap (λ b. cond b (Some row.to) (likely_for rows key)) (apart row k.0) ∙ found_nowhere rows k.1
+  found_nowhere (row ∷ rows) all = grind (arith, nat_tests, and_parts (is_good row) (list_all is_good rows) all, found_nowhere rows)
 
 append-test :
     (b : Bool) (to : Fields) (xs ys all : Option Fields) → all ≡ or_else xs ys → cond b (Some to) all ≡ or_else (cond b (Some to) xs) ys
@@ -64,10 +49,7 @@ record HaveLengths (a b : Fields) : Type 0 where
   region : length a.region ≡ length b.region
 
 alike_lengths : (a b : Fields) → are_alike_fields a b ≡ true → HaveLengths a b
-alike_lengths a b alike =
-    let k = and_parts (are_alike a.language b.language) (are_alike a.script b.script && are_alike a.region b.region) alike in
-    let l = and_parts (are_alike a.script b.script) (are_alike a.region b.region) k.1 in
-    record { language = alike_length _ _ k.0; script = alike_length _ _ l.0; region = alike_length _ _ l.1 }
+alike_lengths a b alike = grind (arith, common_steps, and_parts, alike_length)
 
 -- a language of at most three letters
 abbrev pub is_short : Likely → Bool
@@ -82,34 +64,14 @@ abbrev pub is_other : Likely → Bool
 is_other row = ltb (length row.from.language) (1 + 8 * (length row.from.script + length row.from.region))
 
 pub long_nowhere : (rows : List Likely) (key : Fields) → 3 < length key.language → list_all is_short rows ≡ true → likely_for rows key ≡ None
-long_nowhere rows key long = found_nowhere is_short key apart rows
-  where
-    apart : (row : Likely) → is_short row ≡ true → are_alike_fields row.from key ≡ false
-    apart row good = false_from_ne_true (are_alike_fields row.from key) (λ alike.
-        let same = alike_lengths row.from key alike in
-        let short = ltb-true (length row.from.language) 4 good in
-        omega (arith, same.language, short, long))
+long_nowhere rows key long = grind (arith, nat_tests, found_nowhere is_short key, false_from_ne_true, alike_lengths, ltb-true)
 
 pub alone_nowhere :
     (rows : List Likely) (key : Fields) → 0 < length key.language → length key.script ≡ 0 → length key.region ≡ 0 → list_all is_other rows ≡ true →
     likely_for rows key ≡ None
-alone_nowhere rows key some no_script no_region = found_nowhere is_other key apart rows
-  where
-    apart : (row : Likely) → is_other row ≡ true → are_alike_fields row.from key ≡ false
-    apart row good = false_from_ne_true (are_alike_fields row.from key) (λ alike.
-        let same = alike_lengths row.from key alike in
-        let other = ltb-true (length row.from.language) (1 + 8 * (length row.from.script + length row.from.region)) good in
-        omega (arith, same.language, same.script, same.region, other, some, no_script, no_region))
+alone_nowhere rows key some no_script no_region = grind (arith, nat_tests, found_nowhere is_other key, false_from_ne_true, alike_lengths, ltb-true)
 
 pub other_nowhere :
     (rows : List Likely) (key : Fields) → (0 < length key.language → length key.script + length key.region ≡ 0 → ⊥) → list_all is_alone rows ≡ true →
     likely_for rows key ≡ None
-other_nowhere rows key other = found_nowhere is_alone key apart rows
-  where
-    apart : (row : Likely) → is_alone row ≡ true → are_alike_fields row.from key ≡ false
-    apart row good = false_from_ne_true (are_alike_fields row.from key) (λ alike.
-        let same = alike_lengths row.from key alike in
-        let k = and_parts (ltb 0 (length row.from.language)) (ltb (length row.from.script + length row.from.region) 1) good in
-        let some = ltb-true 0 (length row.from.language) k.0 in
-        let none = ltb-true (length row.from.script + length row.from.region) 1 k.1 in
-        other (omega (arith, same.language, some)) (omega (arith, same.script, same.region, none)))
+other_nowhere rows key other = grind (arith, nat_tests, found_nowhere is_alone key, false_from_ne_true, alike_lengths, and_parts, ltb-true 0, ltb-true)

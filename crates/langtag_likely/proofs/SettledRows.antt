@@ -2,12 +2,13 @@
 use Rattle.std.specs.Prelude.{◌&&◌, ◌||◌, codes}
 use Rattle.std.specs.List.{list_all}
 use Rattle.std.specs.Option.{option_map_or}
-use Rattle.std.proofs.Common.{◌≡◌, ◌==◌, ◌%◌, true, false, Bool, cond, leb, not, List, [], ◌∷◌, ℕ, Option, None, Some, is_some, length, refl, sym, ap, ◌∙◌, arith}
+use Rattle.std.proofs.Common.{◌≡◌, ◌==◌, ◌%◌, true, false, Bool, cond, leb, not, List, [], ◌∷◌, ℕ, Option, None, Some, is_some, refl, sym, ap, ◌∙◌, arith}
 use Rattle.std.proofs.lemmas.Bool.{and_parts, leb-true, eqb-true}
+use Rattle.std.proofs.lemmas.Bool.Decides.{nat_tests}
 use Rattle.langtag_scan.specs.Case.{fold_byte, are_alike}
 use Rattle.langtag_scan.specs.Class.{is_letter, are_letters}
 use Rattle.langtag_tables.specs.Numbers.{letter_number}
-use Rattle.langtag_likely.specs.Likely.{Fields, Likely, language_alone, without_region, without_script, likely_for, looked_up, or_else}
+use Rattle.langtag_likely.specs.Likely.{Fields, Likely, likely_for, looked_up, or_else}
 use Rattle.langtag_likely.specs.LikelySubtags.{language_rows, other_rows, likely_subtags}
 use Rattle.langtag_likely.specs.Rows.{of_language}
 use Rattle.langtag_likely.proofs.LanguageBits.{from_bit, row_at}
@@ -82,8 +83,4 @@ row_by_bit language h =
 -- ---- a look-up without a language
 
 pub looked_up_other : (f : Fields) → f.language ≡ [] → looked_up other_rows f ≡ looked_up likely_subtags f
-looked_up_other f none =
-    rw (here f none, here (without_region f) none, here (without_script f) none, here (language_alone f) none) refl
-  where
-    here : (key : Fields) → key.language ≡ [] → likely_for other_rows key ≡ likely_for likely_subtags key
-    here key empty = all_other key (λ some nothing. let e = ap length empty in omega (arith, e, some))
+looked_up_other f none = grind (arith, nat_tests, all_other)

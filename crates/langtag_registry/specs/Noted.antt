@@ -1,4 +1,5 @@
--- Which singletons occur among the texts of extensions. Only contracts of private functions cite this page.
+-- Which singletons occur among the texts of extensions. Only contracts of private functions, and of a function for langtag_unicode, cite
+-- this page.
 use Rattle.std.specs.Prelude.{◌≡◌, ℕ, Bool, false, List, [], filter, slice_index, slice_index_or}
 use Rattle.langtag_scan.specs.Case.{fold_byte}
 use Rattle.langtag.specs.Repeat.{are_alike_bytes}

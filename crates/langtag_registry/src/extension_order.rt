@@ -10,7 +10,7 @@ use langtag_extension::{Extension, Extensions};
 use langtag_scan::into_smallcase;
 
 /// All singletons (RFC 5646 section 2.2.6) in order.
-pub(crate) const SINGLETONS: [u8; 35] = *b"0123456789abcdefghijklmnopqrstuvwyz";
+pub const SINGLETONS: [u8; 35] = *b"0123456789abcdefghijklmnopqrstuvwyz";
 
 /// Returns whether extensions are in order, which means that no singleton is less than the singleton before it.
 pub(crate) fn are_in_order(extensions: Extensions<'_>) -> bool
@@ -28,7 +28,7 @@ pub(crate) fn are_in_order(extensions: Extensions<'_>) -> bool
 }
 
 /// Returns, for each byte, whether it is the lowercase singleton of one of the extensions.
-pub(crate) fn singletons_of(extensions: Extensions<'_>) -> [bool; 256]
+pub fn singletons_of(extensions: Extensions<'_>) -> [bool; 256]
     ensures { (es : List model.Extension) → SpellsExtensions es (extensions_text extensions.entry) → AreNoted result (map extension_spelling es) }
 {
     let mut present = [false; 256];

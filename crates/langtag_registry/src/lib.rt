@@ -57,3 +57,6 @@ pub use subtags::{
 };
 pub use tables::FILE_DATE;
 pub use validity::{fault_at, validate};
+
+// For langtag_unicode.
+pub use extension_order::{SINGLETONS, singletons_of};

@@ -1,7 +1,8 @@
--- How long the form of a tag may be: at most half as long again as the tag.
-use Rattle.std.proofs.Common.{◌≡◌, ℕ, ◌+◌, ◌*◌, ◌≤◌, ◌&&◌, ◌||◌, ◌==◌, not, leb, Bool, true, false, cond, List, [], ◌∷◌, ◌++◌, length, map, find, Option, None, Some, unwrap_or, inl, inr, refl, sym, ap, subst, ◌∙◌, arith, eqb-true}
-use Rattle.std.proofs.lemmas.Bool.{and_parts, eq-eqb, false≢true, leb-true, not-true}
+-- How long the form of a tag may be: at most 20 bytes longer than the tag, 13 in `u` and 7 in `t`.
+use Rattle.std.proofs.Common.{◌≡◌, ℕ, ◌+◌, ◌≤◌, ◌&&◌, ◌||◌, ◌==◌, not, leb, Bool, true, false, cond, List, [], ◌∷◌, ◌++◌, length, map, find, Option, None, Some, unwrap_or, inl, inr, refl, sym, ap, subst, ◌∙◌, arith, eqb-true}
+use Rattle.std.proofs.lemmas.Bool.{and_parts, eq-eqb, false_from_ne_true, false≢true, leb-true, not-true}
 use Rattle.std.specs.Prelude.{codes}
+use Rattle.std.specs.Str.{bytes_eq}
 use Rattle.std.specs.List.{flat_map, list_all}
 use Rattle.std.specs.Option.{option_map, option_map_or}
 use Rattle.langtag_scan.proofs.NormalTexts.{normal_or_not}
@@ -9,7 +10,7 @@ use Rattle.langtag_likely.proofs.RowsFound.{alike_length}
 use Rattle.langtag_scan.proofs.CaseLaw.{length-fold}
 use Rattle.langtag_scan.proofs.Joins.{length-join}
 use Rattle.langtag_scan.proofs.SubtagLists.{join-subtags}
-use Rattle.langtag_scan.specs.Case.{are_alike, fold_byte, fold_text}
+use Rattle.langtag_scan.specs.Case.{Alike, are_alike, fold_byte, fold_text}
 use Rattle.langtag_scan.specs.CaseLaws.{are_alike-decides}
 use Rattle.langtag_scan.specs.Class.{is_region, is_script}
 use Rattle.langtag_scan.specs.Record.{Extension, Record, extension_flat, spell}
@@ -18,11 +19,12 @@ use Rattle.langtag_scan.specs.Tag.{IsNormal}
 use Rattle.langtag_unicode.specs.Alias.{Alias, TypeAlias, alias_for, type_alias_for}
 use Rattle.langtag_unicode.specs.Aliases.{subdivision_aliases, transform_type_aliases, unicode_type_aliases}
 use Rattle.langtag_unicode.specs.Form as form
-use Rattle.langtag_unicode.specs.Form.{IsExtensionsForm, extension_form, extensions_record, forms_after, in_alphabet, is_before, is_of, is_transform, letters_and_digits, put_among, transform_form, transform_value, unicode_form, unicode_value}
+use Rattle.langtag_unicode.specs.Form.{IsExtensionsForm, extension_form, extensions_record, forms_after, in_alphabet, is_before, is_of, is_transform, language_form, letters_and_digits, put_among, transform_value, unicode_form, unicode_value}
 use Rattle.langtag_unicode.specs.Keys.{length_with_hyphens}
 use Rattle.langtag_unicode.specs.Keywords.{before_key, is_key, value_of}
 use Rattle.langtag_unicode.specs.Transform.{is_field_key}
 use Rattle.langtag_unicode.proofs.ExtensionForms.{form_by, form_tested}
+use Rattle.langtag_unicode.proofs.LocaleTables.{both, found_has, found_is}
 use Rattle.langtag_unicode.proofs.SubtagTexts.{before-from, from_key, length-with_hyphens}
 use Rattle.langtag_scan.proofs.PartOffsets.{length-spell}
 
@@ -61,20 +63,40 @@ alphabet-size (s ∷ ss) =
 
 -- ---- a text and its subtags
 
-pub subtags-size : (t : List ℕ) → 1 ≤ length t → size (subtags t) ≡ length t + 1
-subtags-size t some = by_list (subtags t) refl
+-- the bytes of a text that is put with a hyphen, if it is not empty
+abbrev pub bytes : List ℕ → ℕ
+bytes [] = 0
+bytes (b ∷ t) = length t + 2
+
+pub bytes-alike : (a b : List ℕ) → are_alike a b ≡ true → bytes a ≡ bytes b
+bytes-alike [] [] alike = refl
+bytes-alike [] (y ∷ b) alike = absurd (omega (arith, alike_length [] (y ∷ b) alike))
+bytes-alike (x ∷ a) [] alike = absurd (omega (arith, alike_length (x ∷ a) [] alike))
+bytes-alike (x ∷ a) (y ∷ b) alike = omega (arith, alike_length (x ∷ a) (y ∷ b) alike)
+
+pub bytes-most : (t : List ℕ) → bytes t ≤ length t + 1
+bytes-most [] = omega arith
+bytes-most (b ∷ t) = omega arith
+
+pub subtags-size : (t : List ℕ) → size (subtags t) ≡ bytes t
+subtags-size [] = refl
+subtags-size (b ∷ t) = by_list (subtags (b ∷ t)) refl
   where
-    by_list : (ss : List (List ℕ)) → subtags t ≡ ss → size (subtags t) ≡ length t + 1
-    by_list [] is = let none = ap length (sym (join-subtags t) ∙ ap join is) in absurd (omega (arith, some, none))
+    by_list : (ss : List (List ℕ)) → subtags (b ∷ t) ≡ ss → size (subtags (b ∷ t)) ≡ length t + 2
+    by_list [] is = let none = ap length (sym (join-subtags (b ∷ t)) ∙ ap join is) in absurd (omega (arith, none))
     by_list (s ∷ ss) is =
-        let whole = ap length (sym (join-subtags t) ∙ ap join is) in
+        let whole = ap length (sym (join-subtags (b ∷ t)) ∙ ap join is) in
         let joined = length-join s ss in
         let rest = length-with_hyphens ss in
         ap size is ∙ omega (arith, whole, joined, rest)
 
-join-size : (v : List (List ℕ)) → 1 ≤ length (join v) → size v ≡ length (join v) + 1
-join-size [] some = absurd (omega (arith, some))
-join-size (s ∷ ss) some = let joined = length-join s ss in let rest = length-with_hyphens ss in omega (arith, joined, rest)
+join-size : (v : List (List ℕ)) → bytes (join v) ≤ size v
+join-size [] = omega arith
+join-size (s ∷ ss) =
+    let joined = length-join s ss in
+    let rest = length-with_hyphens ss in
+    let most = bytes-most (join (s ∷ ss)) in
+    omega (arith, joined, rest, most)
 
 -- ---- sums over letters
 
@@ -90,11 +112,11 @@ pub total-none : (f : ℕ → ℕ) → ((a : ℕ) → f a ≡ 0) → (xs : List 
 total-none f none [] = refl
 total-none f none (a ∷ xs) = let one = none a in let later = total-none f none xs in omega (arith, one, later)
 
-pub flat-size : (f : ℕ → List (List ℕ)) (g : ℕ → ℕ) → ((a : ℕ) → 2 * size (f a) ≤ 3 * g a) → (xs : List ℕ) → 2 * size (flat_map f xs) ≤ 3 * total g xs
-flat-size f g le [] = omega arith
-flat-size f g le (a ∷ xs) =
+pub flat-size : (f : ℕ → List (List ℕ)) (g more : ℕ → ℕ) → ((a : ℕ) → size (f a) ≤ g a + more a) → (xs : List ℕ) → size (flat_map f xs) ≤ total g xs + total more xs
+flat-size f g more le [] = omega arith
+flat-size f g more le (a ∷ xs) =
     let one = le a in
-    let later = flat-size f g le xs in
+    let later = flat-size f g more le xs in
     let both = size-append (f a) (flat_map f xs) in
     omega (arith, one, later, both)
 
@@ -142,45 +164,25 @@ abbrev weights : (List ℕ → Bool) → List ℕ → List (List ℕ) → ℕ �
 weights opens letters ss a = total (λ b. weight opens ss (a ∷ b ∷ [])) letters
 
 module _ (opens : List ℕ → Bool) (two : (s : List ℕ) → opens s ≡ true → length s ≡ 2) (letters : List ℕ) (are : are_apart letters ≡ true) where
-  weight-other : (s : List ℕ) (ss : List (List ℕ)) (key : List ℕ) → opens s ≡ false → weight opens (s ∷ ss) key ≡ weight opens ss key
-  weight-other s ss key other = ap (λ t. option_map_or (λ v. 3 + size v) (cond (t && are_alike s key) (Some (before_key opens ss)) (value_of opens key ss)) 0) other
+  -- one more subtag, which is a key or not
+  weight-first :
+      (s : List ℕ) (ss : List (List ℕ)) (key : List ℕ) (b : Bool) → opens s ≡ b →
+      weight opens (s ∷ ss) key ≡ option_map_or (λ v. 3 + size v) (cond (b && are_alike s key) (Some (before_key opens ss)) (value_of opens key ss)) 0
+  weight-first s ss key b is = ap (λ t. option_map_or (λ v. 3 + size v) (cond (t && are_alike s key) (Some (before_key opens ss)) (value_of opens key ss)) 0) is
 
-  weight-key :
-      (s : List ℕ) (ss : List (List ℕ)) (key : List ℕ) → opens s ≡ true →
-      weight opens (s ∷ ss) key ≡ option_map_or (λ v. 3 + size v) (cond (are_alike s key) (Some (before_key opens ss)) (value_of opens key ss)) 0
-  weight-key s ss key is = ap (λ t. option_map_or (λ v. 3 + size v) (cond (t && are_alike s key) (Some (before_key opens ss)) (value_of opens key ss)) 0) is
-
-  weight-apart : (s : List ℕ) (ss : List (List ℕ)) (key : List ℕ) → opens s ≡ true → are_alike s key ≡ false → weight opens (s ∷ ss) key ≤ weight opens ss key
-  weight-apart s ss key is apart =
-      let same = weight-key s ss key is ∙ ap (λ t. option_map_or (λ v. 3 + size v) (cond t (Some (before_key opens ss)) (value_of opens key ss)) 0) apart in omega (arith, same)
+  weight-apart : (s : List ℕ) (ss : List (List ℕ)) (key : List ℕ) → opens s ≡ true → (Alike s key → ⊥) → weight opens (s ∷ ss) key ≤ weight opens ss key
+  weight-apart s ss key is other =
+      let apart = false_from_ne_true (are_alike s key) (λ alike. other ((are_alike-decides s key).0 alike)) in
+      let same = weight-first s ss key true is ∙ ap (λ t. option_map_or (λ v. 3 + size v) (cond t (Some (before_key opens ss)) (value_of opens key ss)) 0) apart in
+      omega (arith, same)
 
   weight-any : (s : List ℕ) (ss : List (List ℕ)) (key : List ℕ) → opens s ≡ true → weight opens (s ∷ ss) key ≤ 3 + size (before_key opens ss) + weight opens ss key
-  weight-any s ss key is = let more = by_test (are_alike s key) in omega (arith, more, weight-key s ss key is)
+  weight-any s ss key is = let more = by_test (are_alike s key) in omega (arith, more, weight-first s ss key true is)
     where
       by_test :
           (t : Bool) → option_map_or (λ v. 3 + size v) (cond t (Some (before_key opens ss)) (value_of opens key ss)) 0 ≤ 3 + size (before_key opens ss) + weight opens ss key
       by_test true = omega arith
       by_test false = omega arith
-
-  apart-first : (x y a b : ℕ) → (fold_byte a == fold_byte x) ≡ false → are_alike (x ∷ y ∷ []) (a ∷ b ∷ []) ≡ false
-  apart-first x y a b other = by_test (are_alike (x ∷ y ∷ []) (a ∷ b ∷ [])) refl
-    where
-      by_test : (t : Bool) → are_alike (x ∷ y ∷ []) (a ∷ b ∷ []) ≡ t → are_alike (x ∷ y ∷ []) (a ∷ b ∷ []) ≡ false
-      by_test true is =
-          let same = (are_alike-decides (x ∷ y ∷ []) (a ∷ b ∷ [])).0 is in
-          let one : fold_byte x ≡ fold_byte a = cc in
-          absurd (false≢true (sym other ∙ eq-eqb _ _ (sym one)))
-      by_test false is = is
-
-  apart-second : (x y a b : ℕ) → (fold_byte b == fold_byte y) ≡ false → are_alike (x ∷ y ∷ []) (a ∷ b ∷ []) ≡ false
-  apart-second x y a b other = by_test (are_alike (x ∷ y ∷ []) (a ∷ b ∷ [])) refl
-    where
-      by_test : (t : Bool) → are_alike (x ∷ y ∷ []) (a ∷ b ∷ []) ≡ t → are_alike (x ∷ y ∷ []) (a ∷ b ∷ []) ≡ false
-      by_test true is =
-          let same = (are_alike-decides (x ∷ y ∷ []) (a ∷ b ∷ [])).0 is in
-          let one : fold_byte y ≡ fold_byte b = cc in
-          absurd (false≢true (sym other ∙ eq-eqb _ _ (sym one)))
-      by_test false is = is
 
   -- one more key weighs at most what it and its value have
   key-weights :
@@ -190,10 +192,10 @@ module _ (opens : List ℕ → Bool) (two : (s : List ℕ) → opens s ≡ true 
   key-weights (x ∷ y ∷ z ∷ s) ss is = absurd (omega (arith, two (x ∷ y ∷ z ∷ s) is))
   key-weights (x ∷ y ∷ []) ss is =
       once (fold_byte x) (3 + size (before_key opens ss)) (weights opens letters ((x ∷ y ∷ []) ∷ ss)) (weights opens letters ss)
-      (λ a other. total-le _ _ (λ b. weight-apart (x ∷ y ∷ []) ss (a ∷ b ∷ []) is (apart-first x y a b other)) letters)
+      (λ a other. total-le _ _ (λ b. weight-apart (x ∷ y ∷ []) ss (a ∷ b ∷ []) is (λ same. let one : fold_byte x ≡ fold_byte a = cc in false≢true (sym other ∙ eq-eqb _ _ (sym one)))) letters)
       (λ a.
       once (fold_byte y) (3 + size (before_key opens ss)) (λ b. weight opens ((x ∷ y ∷ []) ∷ ss) (a ∷ b ∷ [])) (λ b. weight opens ss (a ∷ b ∷ []))
-      (λ b other. weight-apart (x ∷ y ∷ []) ss (a ∷ b ∷ []) is (apart-second x y a b other)) (λ b. weight-any (x ∷ y ∷ []) ss (a ∷ b ∷ []) is) letters are)
+      (λ b other. weight-apart (x ∷ y ∷ []) ss (a ∷ b ∷ []) is (λ same. let one : fold_byte y ≡ fold_byte b = cc in false≢true (sym other ∙ eq-eqb _ _ (sym one)))) (λ b. weight-any (x ∷ y ∷ []) ss (a ∷ b ∷ []) is) letters are)
       letters are
 
   -- all keys weigh at most what stands from the first one on
@@ -212,115 +214,120 @@ module _ (opens : List ℕ → Bool) (two : (s : List ℕ) → opens s ≡ true 
           omega (arith, more, parts, whole, len, later)
       by_test false is later =
           let same = total-le (weights opens letters (s ∷ ss)) (weights opens letters ss)
-          (λ a. total-le _ _ (λ b. let one = weight-other s ss (a ∷ b ∷ []) is in omega (arith, one)) letters) letters in
+          (λ a. total-le _ _ (λ b. let one = weight-first s ss (a ∷ b ∷ []) false is in omega (arith, one)) letters) letters in
           omega (arith, same, later)
 
--- whether a text may replace an old one: it is at most twice as long and, each with 4 bytes more, half as long again
-abbrev may_replace : ℕ → ℕ → Bool
-may_replace old new = leb new (2 * old) && leb (2 * (4 + new)) (3 * (4 + old))
+grown : (n old most sum more : ℕ) → n ≤ old + sum → old ≤ most → sum ≡ more → n ≤ most + more
+grown n old most sum more one two is = omega (arith, one, two, is)
 
-pub record MayReplace (old new : ℕ) : Type 0 where
-  pub double : new ≤ 2 * old
-  pub with_key : 2 * (4 + new) ≤ 3 * (4 + old)
-
-replaces : (old new : ℕ) → may_replace old new ≡ true → MayReplace old new
-replaces old new may =
-    let parts = and_parts (leb new (2 * old)) (leb (2 * (4 + new)) (3 * (4 + old))) may in
-    record { double = leb-true _ _ parts.0; with_key = leb-true _ _ parts.1 }
-
-no_longer : (old new : ℕ) → new ≤ old → MayReplace old new
-no_longer old new short = record { double = omega (arith, short); with_key = omega (arith, short) }
-
--- a keyword is at most half as long again
-module _ (opens : List ℕ → Bool) (canonical : List ℕ → List ℕ → List ℕ) (grows : (key value : List ℕ) → MayReplace (length value) (length (canonical key value))) where
-  keyword-size : (ss : List (List ℕ)) (a b : ℕ) → 2 * size (form.keyword_form opens canonical ss (a ∷ b ∷ [])) ≤ 3 * weight opens ss (a ∷ b ∷ [])
+-- a keyword grows by what its value may grow
+module _ (opens : List ℕ → Bool) (canonical : List ℕ → List ℕ → List ℕ) (growth : List ℕ → ℕ) (grows : (key value : List ℕ) → bytes (canonical key value) ≤ bytes value + growth key) where
+  keyword-size : (ss : List (List ℕ)) (a b : ℕ) → size (form.keyword_form opens canonical ss (a ∷ b ∷ [])) ≤ weight opens ss (a ∷ b ∷ []) + growth (a ∷ b ∷ [])
   keyword-size ss a b = by_value (value_of opens (a ∷ b ∷ []) ss)
     where
-      by_text : (v : List (List ℕ)) (t : List ℕ) → MayReplace (length (join v)) (length t) → 2 * size ((a ∷ b ∷ []) ∷ map fold_text (subtags t)) ≤ 3 * (3 + size v)
-      by_text v [] short = omega arith
-      by_text v (x ∷ t) short =
-          let double = short.double in
-          let with_key = short.with_key in
-          let same = map-size (subtags (x ∷ t)) in
-          let new = subtags-size (x ∷ t) (omega arith) in
-          let old = join-size v (omega (arith, double)) in
-          omega (arith, same, new, old, with_key)
-
       by_value :
           (o : Option (List (List ℕ))) →
-          2 * size (option_map_or (λ v. (a ∷ b ∷ []) ∷ map fold_text (subtags (canonical (a ∷ b ∷ []) (join v)))) o []) ≤ 3 * option_map_or (λ v. 3 + size v) o 0
+          size (option_map_or (λ v. (a ∷ b ∷ []) ∷ map fold_text (subtags (canonical (a ∷ b ∷ []) (join v)))) o []) ≤ option_map_or (λ v. 3 + size v) o 0 + growth (a ∷ b ∷ [])
       by_value None = omega arith
-      by_value (Some v) = by_text v (canonical (a ∷ b ∷ []) (join v)) (grows (a ∷ b ∷ []) (join v))
+      by_value (Some v) =
+          let text = canonical (a ∷ b ∷ []) (join v) in
+          let same = map-size (subtags text) in
+          let new = subtags-size text in
+          let old = join-size v in
+          let more = grows (a ∷ b ∷ []) (join v) in
+          omega (arith, same, new, old, more)
 
-half_again : (n m k : ℕ) → 2 * n ≤ 3 * m → m ≤ k → 2 * n ≤ 3 * k
-half_again n m k one two = omega (arith, one, two)
-
-pub keywords-size :
-    (opens : List ℕ → Bool) → ((s : List ℕ) → opens s ≡ true → length s ≡ 2) → (canonical : List ℕ → List ℕ → List ℕ) →
-    ((key value : List ℕ) → MayReplace (length value) (length (canonical key value))) → (ss : List (List ℕ)) → 2 * size (form.keywords_form opens canonical ss) ≤ 3 * size (from_key opens ss)
-keywords-size opens two canonical grows ss =
-    half_again _ (total (weights opens letters_and_digits ss) letters_and_digits) _
-    (flat-size (form.keywords_from opens canonical ss) (weights opens letters_and_digits ss)
-    (λ a. flat-size (λ b. form.keyword_form opens canonical ss (a ∷ b ∷ [])) (λ b. weight opens ss (a ∷ b ∷ [])) (keyword-size opens canonical grows ss a) letters_and_digits) letters_and_digits)
-    (all-weights opens two letters_and_digits letters_apart ss)
+  -- `more` is what all keys together may grow
+  pub keywords-size :
+      ((s : List ℕ) → opens s ≡ true → length s ≡ 2) → (more : ℕ) → total (λ a. total (λ b. growth (a ∷ b ∷ [])) letters_and_digits) letters_and_digits ≡ more → (ss : List (List ℕ)) →
+      size (form.keywords_form opens canonical ss) ≤ size (from_key opens ss) + more
+  keywords-size two more is ss =
+      grown _ _ _ _ _
+      (flat-size (form.keywords_from opens canonical ss) (weights opens letters_and_digits ss) (λ a. total (λ b. growth (a ∷ b ∷ [])) letters_and_digits)
+      (λ a. flat-size (λ b. form.keyword_form opens canonical ss (a ∷ b ∷ [])) (λ b. weight opens ss (a ∷ b ∷ [])) (λ b. growth (a ∷ b ∷ [])) (keyword-size ss a) letters_and_digits) letters_and_digits)
+      (all-weights opens two letters_and_digits letters_apart ss) is
 
 -- ---- canonical values
 
-alias-grows :
-    (rows : List Alias) (text : List ℕ) → list_all (λ row. may_replace (length row.old) (length row.new)) rows ≡ true →
-    MayReplace (length text) (length (unwrap_or (alias_for rows text) text))
-alias-grows [] text all = no_longer _ _ (omega arith)
-alias-grows (row ∷ rows) text all =
-    let parts = and_parts (may_replace (length row.old) (length row.new)) (list_all (λ r. may_replace (length r.old) (length r.new)) rows) all in
-    by_test (are_alike row.old text) refl (replaces _ _ parts.0) (alias-grows rows text parts.1)
-  where
-    by_test :
-        (t : Bool) → are_alike row.old text ≡ t → MayReplace (length row.old) (length row.new) → MayReplace (length text) (length (unwrap_or (alias_for rows text) text)) →
-        MayReplace (length text) (length (unwrap_or (option_map (λ alias. alias.new) (cond t (Some row) (find (λ alias. are_alike alias.old text) rows))) text))
-    by_test true is here later = subst (λ n. MayReplace n (length row.new)) (alike_length row.old text is) here
-    by_test false is here later = later
+-- how much the value of a key may grow, by the key in lowercase: `islamicc` becomes `islamic-civil`, `gaza` becomes
+-- `gazastrp`, `nzs` becomes `nzcan`, `name` becomes `charname`, and `names` becomes `prprname`
+abbrev unicode_growth : List ℕ → ℕ
+unicode_growth key = cond (bytes_eq key (codes "rg") || bytes_eq key (codes "sd")) 2 (cond (bytes_eq key (codes "ca")) 5 (cond (bytes_eq key (codes "tz")) 4 0))
 
+abbrev transform_growth : List ℕ → ℕ
+transform_growth key = cond (bytes_eq key (codes "d0")) 4 (cond (bytes_eq key (codes "m0")) 3 0)
+
+pub alias-grows :
+    (rows : List Alias) (growth : List ℕ → ℕ) (text : List ℕ) → list_all {X = Alias} (λ row. leb (bytes row.new) (bytes row.old + growth (fold_text row.old))) rows ≡ true →
+    bytes (unwrap_or (alias_for rows text) text) ≤ bytes text + growth (fold_text text)
+alias-grows rows growth text all = by_found (find (λ (row : Alias). are_alike row.old text) rows) refl
+  where
+    by_found : (o : Option Alias) → find (λ (row : Alias). are_alike row.old text) rows ≡ o → bytes (unwrap_or (option_map (λ row. row.new) o) text) ≤ bytes text + growth (fold_text text)
+    by_found None none = omega arith
+    by_found (Some row) found =
+        let most = leb-true _ _ (found_has (λ (row : Alias). leb (bytes row.new) (bytes row.old + growth (fold_text row.old))) (λ (row : Alias). are_alike row.old text) rows row all found) in
+        let is = found_is (λ (row : Alias). are_alike row.old text) rows row found in
+        let same = bytes-alike row.old text is in
+        let one = ap growth ((are_alike-decides row.old text).0 is) in
+        omega (arith, most, same, one)
+
+-- `final` changes what replaces a text
 type-grows :
-    (rows : List TypeAlias) (key text : List ℕ) → list_all (λ row. may_replace (length row.old) (length row.new)) rows ≡ true →
-    MayReplace (length text) (length (unwrap_or (type_alias_for rows key text) text))
-type-grows [] key text all = no_longer _ _ (omega arith)
-type-grows (row ∷ rows) key text all =
-    let parts = and_parts (may_replace (length row.old) (length row.new)) (list_all (λ r. may_replace (length r.old) (length r.new)) rows) all in
-    by_tests (are_alike row.key key) (are_alike row.old text) refl (replaces _ _ parts.0) (type-grows rows key text parts.1)
+    (final : List ℕ → List ℕ) → ((t : List ℕ) → bytes (final t) ≤ bytes t) → (rows : List TypeAlias) (growth : List ℕ → ℕ) (key text : List ℕ) →
+    list_all {X = TypeAlias} (λ row. leb (bytes (final row.new)) (bytes row.old + growth (fold_text row.key))) rows ≡ true →
+    bytes (final (unwrap_or (type_alias_for rows key text) text)) ≤ bytes text + growth (fold_text key)
+type-grows final short rows growth key text all = by_found (find (λ (row : TypeAlias). are_alike row.key key && are_alike row.old text) rows) refl
   where
-    by_tests :
-        (k t : Bool) → are_alike row.old text ≡ t → MayReplace (length row.old) (length row.new) → MayReplace (length text) (length (unwrap_or (type_alias_for rows key text) text)) →
-        MayReplace (length text)
-        (length (unwrap_or (option_map (λ alias. alias.new) (cond (k && t) (Some row) (find (λ alias. are_alike alias.key key && are_alike alias.old text) rows))) text))
-    by_tests true true is here later = subst (λ n. MayReplace n (length row.new)) (alike_length row.old text is) here
-    by_tests true false is here later = later
-    by_tests false t is here later = later
+    by_found :
+        (o : Option TypeAlias) → find (λ (row : TypeAlias). are_alike row.key key && are_alike row.old text) rows ≡ o →
+        bytes (final (unwrap_or (option_map (λ row. row.new) o) text)) ≤ bytes text + growth (fold_text key)
+    by_found None none = let less = short text in omega (arith, less)
+    by_found (Some row) found =
+        let most = leb-true _ _
+        (found_has (λ (row : TypeAlias). leb (bytes (final row.new)) (bytes row.old + growth (fold_text row.key))) (λ (row : TypeAlias). are_alike row.key key && are_alike row.old text) rows row all found) in
+        let is = both (are_alike row.key key) (are_alike row.old text) (found_is (λ (row : TypeAlias). are_alike row.key key && are_alike row.old text) rows row found) in
+        let same = bytes-alike row.old text is.1 in
+        let one = ap growth ((are_alike-decides row.key key).0 is.0) in
+        omega (arith, most, same, one)
 
-subdivision-grows : (value : List ℕ) → MayReplace (length value) (length (form.subdivision value))
+subdivision-grows : (value : List ℕ) → bytes (form.subdivision value) ≤ bytes value + 2
 unfolding form.subdivision subdivision_aliases
-subdivision-grows value = alias-grows subdivision_aliases value refl
+subdivision-grows value = alias-grows subdivision_aliases (λ t. 2) value refl
 
-unicode_type-grows : (key value : List ℕ) → MayReplace (length value) (length (form.unicode_type key value))
-unfolding form.unicode_type unicode_type_aliases
-unicode_type-grows key value = type-grows unicode_type_aliases key value refl
+transform-grows : (key value : List ℕ) → bytes (transform_value key value) ≤ bytes value + transform_growth (fold_text key)
+unfolding transform_value transform_type_aliases fold_byte
+transform-grows key value = type-grows (λ t. t) (λ t. omega arith) transform_type_aliases transform_growth key value refl
 
-pub transform-grows : (key value : List ℕ) → MayReplace (length value) (length (transform_value key value))
-unfolding transform_value transform_type_aliases
-transform-grows key value = type-grows transform_type_aliases key value refl
-
-without-grows : (old : ℕ) (t : List ℕ) → MayReplace old (length t) → MayReplace old (length (form.without_true t))
-without-grows old t may = by_true (are_alike t (codes "true"))
+without_true-short : (t : List ℕ) → bytes (form.without_true t) ≤ bytes t
+without_true-short t = by_true (are_alike t (codes "true"))
   where
-    by_true : (b : Bool) → MayReplace old (length (cond b [] t))
-    by_true true = record { double = omega arith; with_key = omega arith }
-    by_true false = may
+    by_true : (b : Bool) → bytes (cond b [] t) ≤ bytes t
+    by_true true = omega arith
+    by_true false = omega arith
 
-unicode-grows : (key value : List ℕ) → MayReplace (length value) (length (unicode_value key value))
-unicode-grows key value = without-grows (length value) _ (by_test (form.has_subdivision key))
+unicode_type-grows : (key value : List ℕ) → bytes (form.without_true (form.unicode_type key value)) ≤ bytes value + unicode_growth (fold_text key)
+unfolding form.unicode_type unicode_type_aliases fold_byte
+unicode_type-grows key value = type-grows form.without_true without_true-short unicode_type_aliases unicode_growth key value refl
+
+unicode-grows : (key value : List ℕ) → bytes (unicode_value key value) ≤ bytes value + unicode_growth (fold_text key)
+unfolding fold_byte
+unicode-grows key value = by_test (form.has_subdivision key) refl
   where
-    by_test : (b : Bool) → MayReplace (length value) (length (cond b (form.subdivision value) (form.unicode_type key value)))
-    by_test true = subdivision-grows value
-    by_test false = unicode_type-grows key value
+    by_test : (b : Bool) → form.has_subdivision key ≡ b → bytes (form.without_true (cond b (form.subdivision value) (form.unicode_type key value))) ≤ bytes value + unicode_growth (fold_text key)
+    by_test true is =
+        let short = without_true-short (form.subdivision value) in
+        let most = subdivision-grows value in
+        let two = ap {B = ℕ} (λ b. cond b 2 (cond (bytes_eq (fold_text key) (codes "ca")) 5 (cond (bytes_eq (fold_text key) (codes "tz")) 4 0))) is in
+        omega (arith, short, most, two)
+    by_test false is = unicode_type-grows key value
+
+unicode_growths : total (λ a. total (λ b. unicode_growth (fold_text (a ∷ b ∷ []))) letters_and_digits) letters_and_digits ≡ 13
+unfolding fold_byte
+unicode_growths = refl
+
+transform_growths : total (λ a. total (λ b. transform_growth (fold_text (a ∷ b ∷ []))) letters_and_digits) letters_and_digits ≡ 7
+unfolding fold_byte
+transform_growths = refl
 
 -- ---- extensions
 
@@ -333,14 +340,25 @@ field-two (x ∷ []) is = absurd (false≢true is)
 field-two (x ∷ y ∷ []) is = refl
 field-two (x ∷ y ∷ z ∷ s) is = absurd (false≢true is)
 
-pub unicode-size : (ss : List (List ℕ)) → 2 * size (unicode_form ss) ≤ 3 * size ss
+pub unicode-size : (ss : List (List ℕ)) → size (unicode_form ss) ≤ 13 + size ss
 unicode-size ss =
     let both = size-append (in_alphabet (before_key is_key ss)) (form.keywords_form is_key unicode_value ss) in
     let attributes = alphabet-size (before_key is_key ss) in
-    let keywords = keywords-size is_key key-two unicode_value unicode-grows ss in
+    let keywords = keywords-size is_key unicode_value (λ key. unicode_growth (fold_text key)) unicode-grows key-two 13 unicode_growths ss in
     let parts = size-append (before_key is_key ss) (from_key is_key ss) in
     let whole = ap size (before-from is_key ss) in
     omega (arith, both, attributes, keywords, parts, whole)
+
+-- the fields of `t`, after a language that may grow
+pub fields-size :
+    (language : List (List ℕ)) (more : ℕ) (ss : List (List ℕ)) → size language ≤ more + size (before_key is_field_key ss) →
+    size (language ++ form.keywords_form is_field_key transform_value ss) ≤ 7 + more + size ss
+fields-size language more ss grows =
+    let both = size-append language (form.keywords_form is_field_key transform_value ss) in
+    let fields = keywords-size is_field_key transform_value (λ key. transform_growth (fold_text key)) transform-grows field-two 7 transform_growths ss in
+    let parts = size-append (before_key is_field_key ss) (from_key is_field_key ss) in
+    let whole = ap size (before-from is_field_key ss) in
+    omega (arith, both, grows, fields, parts, whole)
 
 pub one-size : (test : List ℕ → Bool) (ss : List (List ℕ)) → size (form.one_of test ss) + size (form.after_one test ss) ≡ size ss
 one-size test [] = refl
@@ -365,34 +383,38 @@ language-size (s ∷ ss) =
     let h = length-fold s in
     omega (arith, a, b, c, d, e, f, g, h)
 
-transform-size : (ss : List (List ℕ)) → 2 * size (transform_form ss) ≤ 3 * size ss
-transform-size ss =
-    let both = size-append (form.language_form (before_key is_field_key ss)) (form.keywords_form is_field_key transform_value ss) in
-    let language = language-size (before_key is_field_key ss) in
-    let fields = keywords-size is_field_key field-two transform_value transform-grows ss in
-    let parts = size-append (before_key is_field_key ss) (from_key is_field_key ss) in
-    let whole = ap size (before-from is_field_key ss) in
-    omega (arith, both, language, fields, parts, whole)
-
-extension-size : (u t : Bool) (e : Extension) → 2 * size (extension_flat (extension_form u t e)) ≤ 3 * size (extension_flat e)
+extension-size : (u t : Bool) (e : Extension) → size (extension_flat (extension_form u t e)) ≤ cond (is_of 117 e && not u) 13 0 + cond (is_of 116 e && not t) 7 0 + size (extension_flat e)
 extension-size u t e =
     let same = ap (λ x. size (extension_flat x)) (form_tested u t _ _ e refl refl) in
-    let most = by_tests (is_of 117 e && not u) (is_of 116 e && not t && is_transform e.subtags) in
+    let most = by_tests (is_of 117 e && not u) (is_of 116 e && not t) (is_transform e.subtags) in
     omega (arith, same, most)
   where
-    by_tests : (a b : Bool) → 2 * size (extension_flat (form_by a b e)) ≤ 3 * size (extension_flat e)
-    by_tests true b = let short = unicode-size e.subtags in omega (arith, short)
-    by_tests false true = let short = transform-size e.subtags in omega (arith, short)
-    by_tests false false = omega arith
+    by_tests : (a b c : Bool) → size (extension_flat (form_by a (b && c) e)) ≤ cond a 13 0 + cond b 7 0 + size (extension_flat e)
+    by_tests true b c = let short = unicode-size e.subtags in omega (arith, short)
+    by_tests false true true =
+        let language = language-size (before_key is_field_key e.subtags) in
+        let short = fields-size (language_form (before_key is_field_key e.subtags)) 0 e.subtags (omega (arith, language)) in
+        omega (arith, short)
+    by_tests false true false = omega arith
+    by_tests false false c = omega arith
 
-forms-size : (u t : Bool) (es : List Extension) → 2 * size (flat_map extension_flat (forms_after u t es)) ≤ 3 * size (flat_map extension_flat es)
+-- only the first extension with a singleton grows
+first_only : (n : ℕ) (this seen : Bool) → cond (this && not seen) n 0 + cond (seen || this) 0 n ≡ cond seen 0 n
+first_only n true true = omega arith
+first_only n true false = omega arith
+first_only n false true = omega arith
+first_only n false false = omega arith
+
+forms-size : (u t : Bool) (es : List Extension) → size (flat_map extension_flat (forms_after u t es)) ≤ cond u 0 13 + cond t 0 7 + size (flat_map extension_flat es)
 forms-size u t [] = omega arith
 forms-size u t (e ∷ es) =
     let later = forms-size (u || is_of 117 e) (t || is_of 116 e) es in
     let one = extension-size u t e in
+    let of_u = first_only 13 (is_of 117 e) u in
+    let of_t = first_only 7 (is_of 116 e) t in
     let new = size-append (extension_flat (extension_form u t e)) (flat_map extension_flat (forms_after (u || is_of 117 e) (t || is_of 116 e) es)) in
     let old = size-append (extension_flat e) (flat_map extension_flat es) in
-    omega (arith, later, one, new, old)
+    omega (arith, later, one, of_u, of_t, new, old)
 
 -- ---- the whole tag
 
@@ -405,22 +427,14 @@ extensions-length r es =
     let new = length-with_hyphens (flat_map extension_flat es) in
     omega (arith, old_all, new_all, old, new)
 
--- and no shorter than its extensions
-extensions-short : (r : Record) → size (flat_map extension_flat r.extensions) ≤ length (spell r)
-extensions-short r =
-    let all = length-spell r in
-    let extensions = length-with_hyphens (flat_map extension_flat r.extensions) in
-    omega (arith, all, extensions)
-
-pub form_length : (r : Record) → 2 * length (spell (extensions_record r)) ≤ 3 * length (spell r)
+pub form_length : (r : Record) → length (spell (extensions_record r)) ≤ length (spell r) + 20
 unfolding extensions_record
 form_length r =
     let whole = extensions-length r (forms_after false false r.extensions) in
-    let short = extensions-short r in
     let extensions = forms-size false false r.extensions in
-    omega (arith, whole, short, extensions)
+    omega (arith, whole, extensions)
 
-pub form_bounded : (old new : List ℕ) → IsExtensionsForm old new → length new ≤ 2 * length old
+pub form_bounded : (old new : List ℕ) → IsExtensionsForm old new → length new ≤ length old + 20
 unfolding IsNormal
 form_bounded old new is = elim (normal_or_not old) [
   | inl here ↦ let long = form_length here.0 in omega (arith, long, ap length (is.parts here.0 here.1), ap length here.1.1)

@@ -3,7 +3,7 @@ use Rattle.std.proofs.Common.{◌≡◌, ℕ, Bool, true, false, cond, List, [],
 use Rattle.std.proofs.lemmas.List.{length-map}
 use Rattle.std.specs.List.{flat_map, list_all}
 use Rattle.std.specs.Option.{is_none, option_map_or}
-use Rattle.std.specs.Prelude.{IfSome, IsTrue, find}
+use Rattle.std.specs.Prelude.{IfSome, IsTrue, codes, find}
 use Rattle.langtag.specs.Repeat.{are_alike_bytes, repeat}
 use Rattle.langtag_case.proofs.RecommendedLaws.{recommended_alike}
 use Rattle.langtag_case.specs.RecommendedCase.{recommended_text}
@@ -69,7 +69,7 @@ likely_regions_good = refl
 
 -- ---- what is found has what all have
 
-row_good : (good : Fields → Bool) (rows : List Likely) (key to : Fields) → list_all (λ row. good row.to) rows ≡ true → likely_for rows key ≡ Some to → good to ≡ true
+pub row_good : (good : Fields → Bool) (rows : List Likely) (key to : Fields) → list_all (λ row. good row.to) rows ≡ true → likely_for rows key ≡ Some to → good to ≡ true
 row_good good [] key to all found = absurd cc
 row_good good (row ∷ rows) key to all found =
     let parts = both (good row.to) (list_all (λ row. good row.to) rows) all in
@@ -109,37 +109,50 @@ replaced_subtags f are = by_found (likely_for language_aliases (language_alone f
           region = either_good is_region_field f.region to.region are.region others.1;
         }
 
-fold_language :
-    (variants : List (List ℕ)) (aliases : List TypeAlias) (language : List ℕ) → list_all {X = TypeAlias} (λ alias. is_unicode_language alias.new) aliases ≡ true → is_unicode_language language ≡ true →
-    is_unicode_language (fold (language_after variants) language aliases) ≡ true
-fold_language variants [] language all is = is
-fold_language variants (a ∷ aliases) language all is =
-    fold_language variants aliases (language_after variants language a) (both (is_unicode_language a.new) (list_all {X = TypeAlias} (λ alias. is_unicode_language alias.new) aliases) all).1
-    (by_test (are_alike a.key language && has_variant variants a.old) (both (is_unicode_language a.new) (list_all {X = TypeAlias} (λ alias. is_unicode_language alias.new) aliases) all).0)
+-- what holds of a language and of all new languages holds of the language after the aliases that fit
+pub fold_good :
+    (good : List ℕ → Bool) (variants : List (List ℕ)) (aliases : List TypeAlias) (language : List ℕ) → list_all {X = TypeAlias} (λ alias. good alias.new) aliases ≡ true → good language ≡ true →
+    good (fold (language_after variants) language aliases) ≡ true
+fold_good good variants [] language all is = is
+fold_good good variants (a ∷ aliases) language all is =
+    let parts = both (good a.new) (list_all {X = TypeAlias} (λ alias. good alias.new) aliases) all in
+    fold_good good variants aliases (language_after variants language a) parts.1 (by_test (are_alike a.key language && has_variant variants a.old) parts.0)
   where
-    by_test : (b : Bool) → is_unicode_language a.new ≡ true → is_unicode_language (cond b a.new language) ≡ true
+    by_test : (b : Bool) → good a.new ≡ true → good (cond b a.new language) ≡ true
     by_test true new = new
     by_test false new = is
 
 variant_subtags : (variants : List (List ℕ)) (f : Fields) → AreSubtags f → AreSubtags (form.variant_language variants f)
 unfolding form.variant_language
 variant_subtags variants f are = record {
-  language = fold_language variants list.variant_languages f.language variant_languages_good are.language;
+  language = fold_good is_unicode_language variants list.variant_languages f.language variant_languages_good are.language;
   script = are.script;
   region = are.region;
 }
 
-sign_subtags : (f : Fields) → AreSubtags f → AreSubtags (form.sign_language f)
-unfolding form.sign_language
-sign_subtags f are = by_sign (sign_for f) refl
+-- what holds of all sign languages holds of the one that is found
+pub sign_found :
+    (good : List ℕ → Bool) (f : Fields) (new : List ℕ) → list_all {X = Alias} (λ alias. good alias.new) list.sign_languages ≡ true → sign_for f ≡ Some new → good new ≡ true
+sign_found good f new all = by_test (are_alike f.language (codes "sgn"))
   where
-    found : (b : Bool) (new : List ℕ) → cond b (alias_for list.sign_languages f.region) None ≡ Some new → is_unicode_language new ≡ true
-    found true new is = found_good is_unicode_language (λ alias. are_alike alias.old f.region) list.sign_languages new sign_languages_good is
-    found false new is = absurd cc
+    by_test : (b : Bool) → cond b (alias_for list.sign_languages f.region) None ≡ Some new → good new ≡ true
+    by_test true is = found_good good (λ alias. are_alike alias.old f.region) list.sign_languages new all is
+    by_test false is = absurd cc
 
-    by_sign : (o : Option (List ℕ)) → sign_for f ≡ o → AreSubtags (option_map_or (form.without_sgn f) o f)
-    by_sign None none = are
-    by_sign (Some new) some = record { language = found _ new some; script = are.script; region = refl }
+-- what holds with each sign language, and without one, holds after that step
+pub sign_cases :
+    (P : Fields → Type 0) (f : Fields) → (sign_for f ≡ None → P f) → ((new : List ℕ) → sign_for f ≡ Some new → P (form.without_sgn f new)) → P (form.sign_language f)
+unfolding form.sign_language
+sign_cases P f none some = by_sign (sign_for f) refl
+  where
+    by_sign : (o : Option (List ℕ)) → sign_for f ≡ o → P (option_map_or (form.without_sgn f) o f)
+    by_sign None is = none is
+    by_sign (Some new) is = some new is
+
+sign_subtags : (f : Fields) → AreSubtags f → AreSubtags (form.sign_language f)
+sign_subtags f are =
+    sign_cases AreSubtags f (λ none. are)
+    (λ new found. record { language = sign_found is_unicode_language f new sign_languages_good found; script = are.script; region = refl })
 
 with_region-subtags : (f : Fields) (region : List ℕ) → AreSubtags f → is_region_field region ≡ true → AreSubtags (form.with_region f region)
 with_region-subtags f region are good = record { language = are.language; script = are.script; region = good }

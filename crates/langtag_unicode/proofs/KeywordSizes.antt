@@ -14,7 +14,7 @@ use Rattle.langtag_scan.specs.Tag.{IsNormal}
 use Rattle.langtag_unicode.specs.Edit.{at_place, belongs, changed_from, edited_record, extension_of, is_place, is_place_of_u, is_this_key, put_keyword, with_keyword, without_keyword, without_within}
 use Rattle.langtag_unicode.specs.Keywords.{is_key}
 use Rattle.langtag_unicode.proofs.ExtensionsPut.{flat-last}
-use Rattle.langtag_unicode.proofs.FormSizes.{extensions-length, size, size-append, subtags-size}
+use Rattle.langtag_unicode.proofs.FormSizes.{bytes-most, extensions-length, size, size-append, subtags-size}
 use Rattle.langtag_unicode.proofs.KeywordEdits.{u-here, u-later}
 
 -- ---- the subtags of `u`
@@ -102,8 +102,7 @@ module _
 -- ---- the whole tag
 
 value-size : (value : List ℕ) → size (subtags value) ≤ length value + 1
-value-size [] = omega arith
-value-size (b ∷ value) = let all = subtags-size (b ∷ value) (omega arith) in omega (arith, all)
+value-size value = omega (arith, subtags-size value, bytes-most value)
 
 set_length : (key value : List ℕ) (r : Record) → length (spell (edited_record key (Some (subtags value)) r)) ≤ length (spell r) + length key + length value + 4
 unfolding edited_record

@@ -1,12 +1,17 @@
 -- A list of extensions, of which some were found to be allowed.
-use Rattle.std.proofs.Common.{◌≡◌, ◌<◌, List, ℕ, Bool, [], ◌∷◌, ◌++◌, ◌&&◌, true, false, cond, length, get_or, map, Option, None, Some, option_map, refl, sym, ap, ◌∙◌, arith, append-nil}
+use Rattle.std.proofs.Common.{◌≡◌, ◌==◌, ◌<◌, List, ℕ, Bool, [], ◌∷◌, ◌++◌, ◌&&◌, true, false, cond, length, get_or, map, Option, None, Some, option_map, refl, sym, ap, ◌∙◌, arith, append-nil}
 use Rattle.std.proofs.lemmas.Bool.{false≢true}
+use Rattle.std.proofs.lemmas.Bool.Decides.{nat_tests}
 use Rattle.std.proofs.lemmas.Grind.{flat_map-append}
 use Rattle.std.proofs.lemmas.List.Folds.{list_all_at}
 use Rattle.std.specs.List.{AllByRecursion, flat_map, list_all}
 use Rattle.std.specs.Option.{option_map_or}
-use Rattle.langtag_extension.proofs.ExtensionLookUp.{extension_found}
-use Rattle.langtag_extension.specs.Spelling.{SpellsExtension, extension_spelling, find_extension}
+use Rattle.langtag.specs.Repeat.{are_alike_bytes}
+use Rattle.langtag_extension.proofs.ExtensionLookUp.{extension_found, first_byte-spelling}
+use Rattle.langtag_extension.specs.Spelling.{SpellsExtension, SpellsExtensions, extension_spelling, find_extension}
+use Rattle.langtag_registry.specs.Noted.{of_singleton}
+use Rattle.langtag_scan.proofs.Joins.{length-join}
+use Rattle.langtag_scan.specs.Case.{fold_byte}
 use Rattle.langtag_scan.specs.Class as class
 use Rattle.langtag_scan.specs.Class.{is_singleton}
 use Rattle.langtag_scan.specs.Record.{Extension, IsWellFormedExtension, extension_flat}
@@ -85,6 +90,30 @@ found_one singleton es members text same = by_found (find_extension singleton es
 pub none_found : (o : Option Extension) → None ≡ option_map extension_spelling o → o ≡ None
 none_found None same = refl
 none_found (Some e) same = absurd cc
+
+-- the empty text spells no extensions
+pub none_spelled : (es : List Extension) (text : List ℕ) → SpellsExtensions es text → text ≡ [] → es ≡ []
+none_spelled [] text spells none = refl
+none_spelled (e ∷ es) text spells none = absurd (omega (arith, length-join (e.singleton ∷ []) (e.subtags ++ flat_map extension_flat es), ap length (spells.joined ∙ none)))
+
+-- a singleton with which no text begins
+pub not_noted : (singleton : ℕ) (es : List Extension) → of_singleton singleton (map extension_spelling es) ≡ [] → find_extension singleton es ≡ None
+not_noted singleton [] none = refl
+not_noted singleton (e ∷ es) none = by_test (are_alike_bytes singleton e.singleton) refl (not_noted singleton es)
+  where
+    others : List (List ℕ)
+    others = of_singleton singleton (map extension_spelling es)
+
+    first : cond (are_alike_bytes singleton e.singleton) (extension_spelling e ∷ others) others ≡ []
+    first = sym (ap (λ b. cond (are_alike_bytes singleton b) (extension_spelling e ∷ others) others) (first_byte-spelling e)) ∙ none
+
+    by_test :
+        (b : Bool) → are_alike_bytes singleton e.singleton ≡ b → (others ≡ [] → find_extension singleton es ≡ None) → find_extension singleton (e ∷ es) ≡ None
+    by_test true same later = absurd (omega (arith, ap length (sym (ap (λ b. cond b (extension_spelling e ∷ others) others) same) ∙ first)))
+    by_test false apart later =
+        let other : (fold_byte e.singleton == fold_byte singleton) ≡ false = grind (arith, nat_tests, apart) in
+        ap (λ b. cond b (Some e) (find_extension singleton es)) other
+        ∙ later (sym (ap (λ b. cond b (extension_spelling e ∷ others) others) apart) ∙ first)
 
 -- ---- the forms
 

@@ -1,5 +1,5 @@
 //! The canonical form of a Unicode locale identifier (UTS #35, part 1, Annex C).
-ghost use Rattle.std.specs.Prelude.{◌≡◌, ◌≤◌, ◌+◌, ◌*◌, IfOk, IfSome, IsTrue, None, Some, [], length, unwrap_or};
+ghost use Rattle.std.specs.Prelude.{◌≡◌, ◌≤◌, ◌+◌, IfOk, IfSome, IsTrue, None, Some, [], length, unwrap_or};
 ghost use Rattle.std.specs.Option.{option_map};
 ghost use Rattle.langtag.specs.Text.{lang_tag_buf_text, lang_tag_text, normal_lang_tag_text};
 ghost use Rattle.langtag_language.specs.Language.{EachLanguageSpelling};
@@ -93,9 +93,9 @@ fn form_bytes(alloc: Global, tag: NormalLangTag<'_>) -> Result<Vec<u8>, AllocErr
 /// Returns `None` if the tag is not a Unicode locale identifier, as [`is_locale`](crate::is_locale) finds. Many of these
 /// tags have a form after `langtag_registry::canonical`: `zh-yue` becomes `yue`, and `i-klingon` becomes `tlh`.
 ///
-/// If the buffer is too short, it stays unchanged, and the length says how long a buffer must be. A buffer of twice the
-/// length of the tag and 27 more bytes is always long enough. It does not allocate. The time is quadratic in the number
-/// of variants, and of attributes. It needs as much stack as `is_locale`.
+/// If the buffer is too short, it stays unchanged, and the length says how long a buffer must be. A buffer of the
+/// tag's length and 32 bytes is always long enough. It does not allocate. The time is quadratic in the number of
+/// variants, and of attributes. It needs as much stack as `is_locale`.
 ///
 /// ```
 /// use langtag::LangTag;
@@ -109,7 +109,7 @@ fn form_bytes(alloc: Global, tag: NormalLangTag<'_>) -> Result<Vec<u8>, AllocErr
 #[tactic(auto, using(crate::proofs::LocaleSettled::locale_settled))]
 pub fn write_locale_form(tag: LangTag<'_>, buffer: &mut [u8]) -> Option<usize>
     ensures form { IfSome result (λ len. Writes (λ form. spec.IsLocaleForm (lang_tag_text tag.entry) (Some form)) buffer.old buffer.new len) }
-    ensures bounded { IfSome result (λ len. len ≤ 2 * length (lang_tag_text tag.entry) + 27) }
+    ensures bounded { IfSome result (λ len. len ≤ length (lang_tag_text tag.entry) + 32) }
     ensures none { result ≡ None → spec.IsLocaleForm (lang_tag_text tag.entry) None }
     ensures locale { (r : model.Record) → model.IsWellFormed r → IsTrue (identifier.is_locale_record r)
         → IsTrue (identifier.is_locale_record (spec.locale_record r)) }

@@ -1,5 +1,5 @@
 //! The canonical form of a tag's extensions `u` and `t` (UTS #35, part 1, Annex C).
-ghost use Rattle.std.specs.Prelude.{◌≡◌, ◌≤◌, ◌*◌, ◌∷◌, ◌&&◌, ◌||◌, length, not, [], IfOk, List, Option, false};
+ghost use Rattle.std.specs.Prelude.{◌≡◌, ◌≤◌, ◌+◌, ◌∷◌, ◌&&◌, ◌||◌, length, not, [], IfOk, List, Option, false};
 ghost use Rattle.std.specs.List.{AllByRecursion, flat_map};
 ghost use Rattle.std.specs.Option.{option_map};
 ghost use Rattle.langtag.specs.Text.{lang_tag_buf_text, lang_tag_text, normal_lang_tag_text};
@@ -84,7 +84,7 @@ fn form_bytes(alloc: Global, tag: LangTag<'_>) -> Result<Vec<u8>, AllocError>
 
 /// Writes a tag with its extensions `u` and `t` in canonical form to a buffer, as [`extensions_form`] returns it, and
 /// returns its length in bytes. If the buffer is too short, it stays unchanged, and the length says how long a buffer
-/// must be. A buffer of twice the length of the tag is always long enough. It does not allocate.
+/// must be. A buffer of the tag's length and 20 bytes is always long enough. It does not allocate.
 ///
 /// ```
 /// use langtag::LangTag;
@@ -97,7 +97,7 @@ fn form_bytes(alloc: Global, tag: LangTag<'_>) -> Result<Vec<u8>, AllocError>
 #[tactic(auto, using(crate::proofs::FormSizes::form_bounded))]
 pub fn write_extensions_form(tag: LangTag<'_>, buffer: &mut [u8]) -> usize
     ensures form { Writes (spec.IsExtensionsForm (lang_tag_text tag.entry)) buffer.old buffer.new result }
-    ensures bounded { result ≤ 2 * length (lang_tag_text tag.entry) }
+    ensures bounded { result ≤ length (lang_tag_text tag.entry) + 20 }
 {
     match tag.as_normal() {
         Some(normal) => write_parts(normal, buffer),

@@ -24,12 +24,10 @@ use crate::language_id::{take_region, take_script};
 use crate::locale_fields::identifier_form;
 use crate::locale_variants::push_variants;
 use crate::subtags::{preceding, split_first};
-use langtag::{Extension, Extensions, Singleton};
+use langtag::{Extension, Extensions, Singleton, into_smallcase};
 use langtag_likely::{TagFields, language_replaced};
 use langtag_output::Output;
-
-/// All singletons (RFC 5646 section 2.2.6) in order.
-const SINGLETONS: [u8; 35] = *b"0123456789abcdefghijklmnopqrstuvwyz";
+use langtag_registry::{SINGLETONS, singletons_of};
 
 /// Appends the extensions in their forms, in the order of their singletons.
 pub(crate) fn push_locale_extensions(out: &mut Output<'_>, extensions: Extensions<'_>)
@@ -38,7 +36,14 @@ pub(crate) fn push_locale_extensions(out: &mut Output<'_>, extensions: Extension
     ensures pushed { (es : List model.Extension) → SpellsExtensions es (extensions_text extensions.entry)
         → Pushes (flat_map model.extension_flat (spec.extensions_in_order es)) out.old out.new }
 {
+    if extensions.as_str().is_empty() {
+        return;
+    }
+    let present = singletons_of(extensions);
     for singleton in SINGLETONS {
+        if !present[usize::from(into_smallcase(singleton))] {
+            continue;
+        }
         push_extension_at(out, extensions, singleton);
     }
 }

@@ -8,7 +8,7 @@ use crate::scan::into_smallcase;
 /// All singletons ([RFC 5646 section 2.2.6]) in order.
 ///
 /// [RFC 5646 section 2.2.6]: https://www.rfc-editor.org/rfc/rfc5646#section-2.2.6
-pub(crate) const SINGLETONS: [u8; 35] = *b"0123456789abcdefghijklmnopqrstuvwyz";
+pub const SINGLETONS: [u8; 35] = *b"0123456789abcdefghijklmnopqrstuvwyz";
 
 /// Returns whether extensions are in order, which means that no singleton is less than the singleton before it.
 #[inline]
@@ -25,7 +25,7 @@ pub(crate) fn are_in_order(extensions: Extensions<'_>) -> bool {
 }
 
 /// Returns, for each byte, whether it is the lowercase singleton of one of the extensions.
-pub(crate) fn singletons_of(extensions: Extensions<'_>) -> [bool; 256] {
+pub fn singletons_of(extensions: Extensions<'_>) -> [bool; 256] {
     let mut present = [false; 256];
     for extension in extensions.iter() {
         present[usize::from(folded_singleton(extension))] = true;

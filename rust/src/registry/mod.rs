@@ -64,3 +64,6 @@ pub use subtags::{
 };
 pub use tables::FILE_DATE;
 pub use validity::{fault_at, validate};
+
+// For langtag_unicode.
+pub(crate) use extension_order::{singletons_of, SINGLETONS};

@@ -92,9 +92,9 @@ fn form_bytes(tag: NormalLangTag<'_>) -> Result<Vec<u8>, AllocError> {
 /// Returns `None` if the tag is not a Unicode locale identifier, as [`is_locale`](crate::unicode::is_locale) finds. Many of these
 /// tags have a form after `langtag::registry::canonical`: `zh-yue` becomes `yue`, and `i-klingon` becomes `tlh`.
 ///
-/// If the buffer is too short, it stays unchanged, and the length says how long a buffer must be. A buffer of twice the
-/// length of the tag and 27 more bytes is always long enough. It does not allocate. The time is quadratic in the number
-/// of variants, and of attributes. It needs as much stack as `is_locale`.
+/// If the buffer is too short, it stays unchanged, and the length says how long a buffer must be. A buffer of the
+/// tag's length and 32 bytes is always long enough. It does not allocate. The time is quadratic in the number of
+/// variants, and of attributes. It needs as much stack as `is_locale`.
 ///
 /// ```
 /// # fn main() -> Result<(), Box<dyn std::error::Error>> {

@@ -75,7 +75,7 @@ fn form_bytes(tag: LangTag<'_>) -> Result<Vec<u8>, AllocError> {
 
 /// Writes a tag with its extensions `u` and `t` in canonical form to a buffer, as [`extensions_form`] returns it, and
 /// returns its length in bytes. If the buffer is too short, it stays unchanged, and the length says how long a buffer
-/// must be. A buffer of twice the length of the tag is always long enough. It does not allocate.
+/// must be. A buffer of the tag's length and 20 bytes is always long enough. It does not allocate.
 ///
 /// ```
 /// # fn main() -> Result<(), Box<dyn std::error::Error>> {

@@ -4,7 +4,8 @@
 
 use crate::likely::{language_replaced, TagFields};
 use crate::output::Output;
-use crate::tag::{Extension, Extensions, Singleton};
+use crate::registry::{singletons_of, SINGLETONS};
+use crate::tag::{into_smallcase, Extension, Extensions, Singleton};
 use crate::unicode::form::{is_of, push_unicode, subtags_of};
 use crate::unicode::keys::Keys;
 use crate::unicode::keyword_form::push_keywords;
@@ -13,13 +14,16 @@ use crate::unicode::locale_fields::identifier_form;
 use crate::unicode::locale_variants::push_variants;
 use crate::unicode::subtags::{preceding, split_first};
 
-/// All singletons (RFC 5646 section 2.2.6) in order.
-const SINGLETONS: [u8; 35] = *b"0123456789abcdefghijklmnopqrstuvwyz";
-
 /// Appends the extensions in their forms, in the order of their singletons.
-#[inline]
 pub(crate) fn push_locale_extensions(out: &mut Output<'_>, extensions: Extensions<'_>) {
+    if extensions.as_str().is_empty() {
+        return;
+    }
+    let present = singletons_of(extensions);
     for singleton in SINGLETONS {
+        if !present[usize::from(into_smallcase(singleton))] {
+            continue;
+        }
         push_extension_at(out, extensions, singleton);
     }
 }

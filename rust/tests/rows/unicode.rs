@@ -76,7 +76,7 @@ pub fn whole_form(text: &str) -> String {
         "{text}"
     );
     assert_eq!(form.as_bytes(), again, "{text}");
-    assert!(len <= 2 * text.len() + 27, "{text}");
+    assert!(len <= text.len() + 32, "{text}");
     let owned = locale_form(tag(text)).expect("there is memory");
     assert_eq!(
         owned.as_ref().map(LangTagBuf::as_str),
@@ -93,6 +93,7 @@ pub fn form(text: &str) -> String {
     let again = extensions_form(form.as_lang_tag()).expect("there is memory");
     assert_eq!(again.as_str(), form.as_str(), "{text}");
 
+    assert!(form.as_str().len() <= text.len() + 20, "{text}");
     let mut buffer = vec![b'!'; form.as_str().len()];
     let short = buffer.len() - 1;
     assert_eq!(

@@ -7,8 +7,8 @@ use crate::unicode::write_extensions_form;
 
 /// Writes a tag with its extensions `u` and `t` in canonical form (UTS #35, part 1, Annex C), and returns its length in
 /// bytes: `en-u-nu-thai-ca-gregory-kn-true` becomes `en-u-ca-gregory-kn-nu-thai`. All other bytes stay. If the buffer
-/// is too short, it stays unchanged, and the length says how long a buffer must be. The length is at most twice that
-/// of the tag.
+/// is too short, it stays unchanged, and the length says how long a buffer must be. The length is at most that of
+/// the tag and 20.
 ///
 /// Returns 0 and writes nothing if the bytes are not a tag.
 #[inline]
