@@ -32,3 +32,11 @@ pub mod KeywordBlocks
 pub mod KeySplits
 pub mod CanonicalKeywords
 pub mod CanonicalTags
+pub mod KeywordsInForm
+pub mod CanonicalValues
+pub mod FormTwice
+pub mod ExtensionsTwice
+pub mod ExtensionCase
+pub mod LocaleCase
+pub mod LocaleTwice
+pub mod KeywordOrder

@@ -6,6 +6,7 @@ ghost use Rattle.langtag.specs.Text.{lang_tag_buf_text, lang_tag_text, normal_la
 ghost use Rattle.langtag_extension.specs.Spelling.{SpellsExtension, SpellsExtensions};
 ghost use Rattle.langtag_extension.specs.Text.{extension_text, extensions_text};
 ghost use Rattle.langtag_likely.specs.Maximal.{IsOnlyForm};
+ghost use Rattle.langtag_likely.specs.MaximalLaws.{IsAlikeForm};
 ghost use Rattle.langtag_output.specs.Output.{IsCounted, Pushes};
 ghost use Rattle.langtag_output.specs.Writes.{Writes};
 ghost use Rattle.langtag_private.specs.Text.{private_use_text};
@@ -14,6 +15,9 @@ ghost use Rattle.langtag_scan.specs.Record as model;
 ghost use Rattle.langtag_scan.specs.Subtags.{join, subtags};
 ghost use Rattle.langtag_scan.specs.Tag.{IsTag};
 ghost use Rattle.langtag_unicode.specs.Form as spec;
+ghost use Rattle.langtag_unicode.specs.FormLaws.{OrderChangesNothing};
+ghost use Rattle.langtag_unicode.specs.Keywords.{is_key};
+ghost use Rattle.langtag_unicode.specs.Transform.{is_field_key};
 ghost use Rattle.langtag_scan.specs.Ends.{to_variants};
 
 use crate::alphabet::push_in_alphabet;
@@ -55,6 +59,10 @@ use std::alloc::{AllocError, Global};
 pub fn extensions_form(alloc: Global, tag: LangTag<'_>) -> Result<LangTagBuf, AllocError>
     ensures form { IfOk result (λ form. spec.IsExtensionsForm (lang_tag_text tag.entry) (lang_tag_buf_text form)) }
     ensures one { IfOk result (λ form. IsOnlyForm spec.extensions_record (lang_tag_text tag.entry) (lang_tag_buf_text form)) }
+    ensures settled { IfOk result (λ form. spec.IsExtensionsForm (lang_tag_buf_text form) (lang_tag_buf_text form)) }
+    ensures keywords_move { OrderChangesNothing is_key spec.unicode_form }
+    ensures fields_move { OrderChangesNothing is_field_key spec.transform_form }
+    ensures alike { IfOk result (λ form. IsAlikeForm spec.IsExtensionsForm (lang_tag_text tag.entry) (lang_tag_buf_text form)) }
 {
     Ok(tag_of(form_bytes(alloc, tag)?))
 }
