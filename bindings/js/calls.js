@@ -133,6 +133,7 @@ export const kind = (text) => askOne("langtag_kind", text);
 export const viable = (text) => Number(askOne("langtag_viable", text));
 export const stop = (text) => Number(askOne("langtag_stop", text));
 export const isCanonical = (text) => askOne("langtag_is_canonical", text) !== 0;
+export const isLocale = (text) => askOne("langtag_is_locale", text) !== 0;
 export const grandfathered = (text) => askOne("langtag_grandfathered", text);
 export const rangeKind = (text) => askOne("langtag_range_kind", text);
 export const isEqual = (one, other) => askTwo("langtag_eq", one, other) !== 0;
@@ -146,6 +147,7 @@ export const canonical = (text) => askText("langtag_canonical", text);
 export const maximize = (text) => askText("langtag_maximize", text);
 export const minimize = (text) => askText("langtag_minimize", text);
 export const extensionsForm = (text) => askText("langtag_extensions_form", text);
+export const localeForm = (text) => askText("langtag_locale_form", text);
 export const fromPosix = (name) => askText("langtag_from_posix", name);
 /** Returns the offset and length of a modifier that is not known, or undefined if there is none. */
 export const unknownModifier = (name) => beforeKeys("langtag_unknown_modifier", name);
