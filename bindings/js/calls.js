@@ -95,8 +95,9 @@ function askTwo(name, one, other) {
     return close(calls[name](textsAddress, BigInt(one.length), BigInt(texts + one.length), BigInt(other.length)));
 }
 
-/** Returns the new text that a call writes after a text, or "" if it writes none. The default room is enough for most texts. */
-function askText(name, text, room = text.length + 16) {
+/** Returns the new text that a call writes after a text, or "" if it writes none. The default room is enough for most texts, and always for the
+ * Unicode forms. */
+function askText(name, text, room = text.length + 32) {
     open(text.length + room);
     write(text, texts);
     const at = texts + text.length;

@@ -290,7 +290,7 @@ test("Unicode locale identifiers", () => {
     assert.deepEqual(forms("ger-UK-u-ca-islamicc", "EN-latn-us-X-A", "zh-yue-HK", "i-klingon"), ["de-GB-u-ca-islamic-civil", "en-Latn-US-x-a", "yue-HK", "tlh"]);
     assert.deepEqual(forms("x-a", "i-default", "und-t-m0"), [undefined, undefined, undefined]);
     assert.deepEqual(["de-1996-u-co-phonebk", "zh-yue", "und-t-m0"].map((text) => LanguageTag.parse(text).isLocale), [true, false, false]);
-    const long = `sh-x-${"abcdefgh-".repeat(100_000)}a`; // longer than the first room
+    const long = `sh-x-${"abcdefgh-".repeat(100_000)}a`;
     assert.deepEqual(forms(long), [`sr-Latn${long.slice(2)}`]);
 });
 
