@@ -20,6 +20,7 @@ pub mod LocaleSizes
 pub mod LocaleAgain
 pub mod LocaleTransforms
 pub mod LocaleSettled
+pub mod WholeForms
 pub mod VariantForms
 pub mod AlphabetTwice
 pub mod IdentifierTables
