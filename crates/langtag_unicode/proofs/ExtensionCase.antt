@@ -1,5 +1,5 @@
 -- The case of letters changes nothing in the forms of extensions but case.
-use Rattle.std.proofs.Common.{◌≡◌, ℕ, Bool, true, false, not, cond, ◌&&◌, ◌||◌, ◌==◌, leb, List, [], ◌∷◌, ◌++◌, length, map, find, Option, None, Some, option_map, unwrap_or, refl, sym, ap, ◌∙◌}
+use Rattle.std.proofs.Common.{◌≡◌, ℕ, Bool, true, false, not, cond, ◌&&◌, ◌||◌, ◌==◌, leb, List, [], ◌∷◌, ◌++◌, length, map, Option, None, Some, option_map, unwrap_or, refl, sym, ap, ◌∙◌}
 use Rattle.std.proofs.lemmas.List.{map-append}
 use Rattle.std.specs.Prelude.{codes}
 use Rattle.std.specs.List.{AllByRecursion, flat_map, list_all, list_any}
@@ -11,7 +11,7 @@ use Rattle.langtag_likely.specs.Likely.{Fields}
 use Rattle.langtag_likely.proofs.TextLaws.{alike_forms}
 use Rattle.langtag_likely.specs.Maximal.{subtag_of}
 use Rattle.langtag_likely.specs.MaximalLaws.{IsAlikeForm}
-use Rattle.langtag_scan.proofs.CaseLaw.{classes-fold, fold_byte-twice, fold_text-twice, is_digit-fold, is_letter-fold, join-fold, length-fold, map-twice}
+use Rattle.langtag_scan.proofs.CaseLaw.{classes-fold, fold_byte-twice, fold_text-twice, join-fold, length-fold, map-twice}
 use Rattle.langtag_scan.specs.AlikeRecords.{AlikeRecords, fold_extension, fold_record}
 use Rattle.langtag_scan.specs.Case.{Alike, are_alike, fold_byte, fold_text}
 use Rattle.langtag_scan.specs.Class.{is_region, is_script, is_variant}
@@ -25,7 +25,7 @@ use Rattle.langtag_unicode.specs.Form as form
 use Rattle.langtag_unicode.specs.Form.{IsExtensionsForm, after_one, are_different_variants, are_fields, extension_form, extensions_record, forms_after, has_subdivision, in_alphabet, language_form, is_language_id, is_language_or_none, is_of, is_transform, is_unicode_language, may_follow, one_of, subdivision, transform_form, transform_value, unicode_form, unicode_type, unicode_value, without_true}
 use Rattle.langtag_unicode.specs.Keywords.{before_key, is_key, value_of}
 use Rattle.langtag_unicode.specs.Locale.{is_locale_extension, is_unicode_subtag}
-use Rattle.langtag_unicode.specs.LocaleForm.{extension_at, extensions_in_order, first_subtag, identifier_fields, identifier_flat, identifier_form, identifier_variants, locale_extension_form, locale_transform_form, new_variants, singletons, transform_language_form}
+use Rattle.langtag_unicode.specs.LocaleForm.{extension_at, extensions_in_order, first_subtag, identifier_fields, identifier_flat, identifier_variants, locale_extension_form, locale_transform_form, singletons, transform_language_form}
 use Rattle.langtag_unicode.specs.Transform.{is_field_key}
 use Rattle.langtag_unicode.proofs.AlphabetTwice.{in_alphabet-alike}
 use Rattle.langtag_unicode.proofs.CanonicalKeywords.{key-fold, unicode_key-fold}

@@ -1,27 +1,24 @@
 -- The form of the extension `u`, and of `t`, is its own form.
-use Rattle.std.proofs.Common.{◌≡◌, ℕ, Bool, true, false, not, cond, ◌&&◌, ◌==◌, List, [], ◌∷◌, ◌++◌, length, map, Option, None, Some, option_map, refl, sym, ap, subst, ◌∙◌}
-use Rattle.std.proofs.lemmas.Bool.{false≢true}
-use Rattle.std.specs.List.{AllByRecursion}
-use Rattle.langtag_likely.proofs.FieldClasses.{from_region, from_script}
+use Rattle.std.proofs.Common.{◌≡◌, ℕ, Bool, true, false, not, cond, ◌&&◌, ◌==◌, List, [], ◌∷◌, ◌++◌, length, map, refl, sym, ap, subst, ◌∙◌}
 use Rattle.langtag_likely.specs.Good.{is_region_field, is_script_field}
 use Rattle.langtag_likely.specs.Likely.{Fields}
 use Rattle.langtag_likely.specs.Maximal.{subtag_of}
 use Rattle.langtag_scan.proofs.CaseLaw.{classes-fold, fold_text-twice, length-fold}
-use Rattle.langtag_scan.specs.Case.{are_alike, fold_text}
+use Rattle.langtag_scan.specs.Case.{fold_text}
 use Rattle.langtag_scan.specs.Class.{is_primary, is_region, is_script, is_variant}
 use Rattle.langtag_scan.specs.Record.{one_flat}
 use Rattle.langtag_scan.specs.Stage.{Classes}
-use Rattle.langtag_scan.specs.Subtags.{join, subtags}
+use Rattle.langtag_scan.specs.Subtags.{subtags}
 use Rattle.langtag_unicode.specs.Form as form
 use Rattle.langtag_unicode.specs.Form.{after_one, are_different_variants, are_fields, in_alphabet, is_language_or_none, is_transform, is_unicode_language, language_form, one_of, transform_form, transform_value, unicode_form, unicode_value}
-use Rattle.langtag_unicode.specs.Keywords.{before_key, is_key, value_of}
+use Rattle.langtag_unicode.specs.Keywords.{before_key, is_key}
 use Rattle.langtag_unicode.specs.LocaleForm.{first_subtag, identifier_fields, identifier_flat, identifier_variants}
 use Rattle.langtag_unicode.specs.Transform.{is_field_key}
 use Rattle.langtag_unicode.proofs.AlphabetTwice.{in_alphabet-twice}
 use Rattle.langtag_unicode.proofs.CanonicalKeywords.{key-fold, values-are}
 use Rattle.langtag_unicode.proofs.CanonicalValues.{transform-settled, unicode-settled}
 use Rattle.langtag_unicode.proofs.Each.{each-alphabet}
-use Rattle.langtag_unicode.proofs.FormRecords.{Good, good-value}
+use Rattle.langtag_unicode.proofs.FormRecords.{Good}
 use Rattle.langtag_unicode.proofs.IdentifierForms.{AreSubtags}
 use Rattle.langtag_unicode.proofs.KeywordsInForm.{Plain, front-again, keywords-again, plain-before}
 use Rattle.langtag_unicode.proofs.LocaleAgain.{alphabet-apart}

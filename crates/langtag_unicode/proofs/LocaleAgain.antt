@@ -9,7 +9,7 @@ use Rattle.langtag.specs.Repeat.{are_alike_bytes, repeat, repeat_index_after}
 use Rattle.langtag_extension.specs.Spelling.{find_extension}
 use Rattle.langtag_likely.specs.Likely.{Fields}
 use Rattle.langtag_likely.specs.Matching.{language_replaced}
-use Rattle.langtag_scan.proofs.CaseLaw.{fold_text-twice, is_digit-fold, is_letter-fold}
+use Rattle.langtag_scan.proofs.CaseLaw.{is_digit-fold, is_letter-fold}
 use Rattle.langtag_scan.proofs.SubtagLists.{each-append}
 use Rattle.langtag_scan.specs.Case.{are_alike, fold_byte, fold_text}
 use Rattle.langtag_scan.specs.CaseLaws.{are_alike-decides}
@@ -23,7 +23,7 @@ use Rattle.langtag_unicode.specs.LocaleForm.{extension_at, extensions_in_order, 
 use Rattle.langtag_unicode.proofs.AlphabetLaws.{Rise, Under, before-itself, before-trans, rise-in_alphabet}
 use Rattle.langtag_unicode.proofs.AlphabetTwice.{lower-in_alphabet}
 use Rattle.langtag_unicode.proofs.CanonicalKeywords.{form-blocks, key-fold, values, values-are}
-use Rattle.langtag_unicode.proofs.Each.{each-alphabet, each-before, each-put}
+use Rattle.langtag_unicode.proofs.Each.{each-alphabet, each-before}
 use Rattle.langtag_unicode.proofs.FormRecords.{Good}
 use Rattle.langtag_unicode.proofs.FormSizes.{are_apart}
 use Rattle.langtag_unicode.proofs.KeySplits.{all_keys}

@@ -1,5 +1,5 @@
 -- The case of a tag changes nothing in its form as a Unicode locale identifier.
-use Rattle.std.proofs.Common.{◌≡◌, ℕ, Bool, true, false, cond, ◌&&◌, ◌||◌, ◌==◌, List, [], ◌∷◌, ◌++◌, length, map, Option, None, Some, option_map, unwrap_or, refl, sym, ap, ◌∙◌}
+use Rattle.std.proofs.Common.{◌≡◌, ℕ, Bool, cond, ◌&&◌, ◌||◌, ◌==◌, List, [], ◌∷◌, ◌++◌, length, map, Option, None, Some, option_map, unwrap_or, refl, sym, ap, ◌∙◌}
 use Rattle.std.proofs.lemmas.List.{length-map, map-append}
 use Rattle.std.proofs.lemmas.Option.{slice_get-map}
 use Rattle.std.specs.Prelude.{slice_get}
@@ -10,13 +10,13 @@ use Rattle.langtag_case.proofs.RecommendedLaws.{alike_recommended}
 use Rattle.langtag_likely.proofs.AlikeFields.{AlikeFields}
 use Rattle.langtag_likely.specs.Likely.{Fields}
 use Rattle.langtag_likely.specs.Maximal.{subtag_of}
-use Rattle.langtag_scan.proofs.CaseLaw.{fold_byte-twice, fold_text-twice, map-twice, spelled_alike}
+use Rattle.langtag_scan.proofs.CaseLaw.{fold_byte-twice, fold_text-twice, spelled_alike}
 use Rattle.langtag_scan.specs.AlikeRecords.{AlikeRecords, fold_extension, fold_private_use, fold_record}
 use Rattle.langtag_scan.specs.Case.{Alike, are_alike, fold_byte, fold_text}
 use Rattle.langtag_scan.specs.Record.{Extension, PrivateUse, Record, spell}
 use Rattle.langtag_unicode.specs.Form.{is_unicode_language}
 use Rattle.langtag_unicode.specs.Locale.{is_locale_extension, is_locale_record}
-use Rattle.langtag_unicode.specs.LocaleForm.{extensions_in_order, identifier_form, locale_record, locale_text, new_variants, record_fields}
+use Rattle.langtag_unicode.specs.LocaleForm.{identifier_form, locale_record, locale_text, record_fields}
 use Rattle.langtag_unicode.proofs.ExtensionCase.{alike-left, alike-right, all_allowed-fold, extensions-alike, lower-twice}
 use Rattle.langtag_unicode.proofs.FormTwice.{unicode_language-fold}
 use Rattle.langtag_unicode.proofs.IdentifierCase.{AreAlike, identifier_form-alike, new_variants-alike}

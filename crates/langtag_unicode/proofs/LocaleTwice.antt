@@ -1,5 +1,5 @@
 -- The form of a Unicode locale identifier is its own form, and alike identifiers have the same form.
-use Rattle.std.proofs.Common.{◌≡◌, ℕ, Bool, true, false, cond, ◌&&◌, ◌||◌, ◌==◌, List, [], ◌∷◌, ◌++◌, Option, None, Some, option_map, unwrap_or, refl, sym, ap, subst, ◌∙◌, eqb-true}
+use Rattle.std.proofs.Common.{◌≡◌, ℕ, Bool, true, false, cond, ◌||◌, ◌==◌, List, [], ◌∷◌, ◌++◌, Option, None, Some, option_map, unwrap_or, refl, sym, ap, subst, ◌∙◌, eqb-true}
 use Rattle.std.specs.List.{AllByRecursion, flat_map, list_all, list_any}
 use Rattle.std.specs.Option.{option_map_or}
 use Rattle.std.specs.Prelude.{find}
@@ -10,13 +10,12 @@ use Rattle.langtag_extension.specs.Spelling.{find_extension}
 use Rattle.langtag_likely.specs.Likely.{Fields}
 use Rattle.langtag_likely.specs.Maximal.{subtag_of}
 use Rattle.langtag_scan.proofs.CaseLaw.{alike_parts}
-use Rattle.langtag_scan.specs.AlikeRecords.{AlikeRecords, IsSpelledAlike}
 use Rattle.langtag_scan.specs.Case.{fold_byte, fold_text}
-use Rattle.langtag_scan.specs.Record.{Extension, IsWellFormed, IsWellFormedExtension, PrivateUse, Record, Spells, spell}
-use Rattle.langtag_unicode.specs.Form.{are_different_variants, are_fields, is_language_or_none, is_of, is_transform, is_unicode_language, unicode_form}
+use Rattle.langtag_scan.specs.Record.{Extension, IsWellFormed, IsWellFormedExtension, PrivateUse, Record, spell}
+use Rattle.langtag_unicode.specs.Form.{are_different_variants, are_fields, is_language_or_none, is_of, is_unicode_language}
 use Rattle.langtag_unicode.specs.Keywords.{before_key}
 use Rattle.langtag_unicode.specs.Locale.{IsLocale, is_locale_extension, is_locale_record}
-use Rattle.langtag_unicode.specs.LocaleForm.{IsLocaleForm, extension_at, extensions_in_order, identifier_fields, identifier_flat, identifier_form, identifier_variants, locale_extension_form, locale_record, locale_text, locale_transform_form, new_variants, record_fields, singletons, transform_language_form}
+use Rattle.langtag_unicode.specs.LocaleForm.{IsLocaleForm, extension_at, extensions_in_order, identifier_fields, identifier_flat, identifier_form, identifier_variants, locale_extension_form, locale_record, locale_text, new_variants, record_fields, singletons, transform_language_form}
 use Rattle.langtag_unicode.specs.Transform.{is_field_key}
 use Rattle.langtag_unicode.proofs.FormTwice.{IsLanguageForm, after_language, fields-again, unicode-twice, variants-again, with-twice}
 use Rattle.langtag_unicode.proofs.IdentifierForms.{form_is, form_subtags}
