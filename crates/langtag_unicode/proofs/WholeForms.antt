@@ -21,7 +21,7 @@ use Rattle.langtag_registry.specs.Subtags.{tag_preferred}
 use Rattle.langtag_scan.proofs.NormalTexts.{normal_or_not, spelled_once}
 use Rattle.langtag_scan.specs.Case.{are_alike}
 use Rattle.langtag_scan.specs.Class.{is_extended}
-use Rattle.langtag_scan.specs.Record.{EachRecord, IsWellFormed, Record, Spells, extension_flat, one_flat, private_part_flat, spell}
+use Rattle.langtag_scan.specs.Record.{EachRecord, IsWellFormed, Record, Spells, extension_flat, one_flat, private_part_flat}
 use Rattle.langtag_scan.specs.Subtags.{join}
 use Rattle.langtag_scan.specs.Tag.{IsNormal}
 use Rattle.langtag_tables.proofs.Letters.{extended_primary}
