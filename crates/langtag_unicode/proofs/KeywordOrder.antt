@@ -34,10 +34,7 @@ module _ (opens : List ℕ → Bool) where
   value-first :
       (key k : List ℕ) (v rest : List (List ℕ)) → AreKeyword opens k v → before_key opens rest ≡ [] →
       value_of opens key (k ∷ (v ++ rest)) ≡ cond (are_alike k key) (Some v) (value_of opens key rest)
-  value-first key k v rest are none =
-      ap (λ b. cond (b && are_alike k key) (Some (before_key opens (v ++ rest))) (value_of opens key (v ++ rest))) are.0
-      ∙ ap (λ t. cond (are_alike k key) (Some t) (value_of opens key (v ++ rest))) (before-plain opens v rest are.1 ∙ ap (λ t. v ++ t) none ∙ append-nil v)
-      ∙ ap (λ o. cond (are_alike k key) (Some v) o) (value-plain opens key v rest are.1)
+  value-first key k v rest are none = rw (are.0, before-plain opens v rest are.1, none, append-nil v, value-plain opens key v rest are.1) refl
 
   value-moved :
       (key : List ℕ) (before after : List (List ℕ)) (k l : List ℕ) (v w : List (List ℕ)) →
