@@ -1,5 +1,5 @@
 //! The canonical form of a Unicode locale identifier (UTS #35, part 1, Annex C).
-ghost use Rattle.std.specs.Prelude.{◌≡◌, ◌≤◌, ◌+◌, IfOk, IfSome, IsTrue, None, Some, [], length, unwrap_or};
+ghost use Rattle.std.specs.Prelude.{◌≡◌, ◌≤◌, ◌<◌, ◌+◌, IfOk, IfSome, IsTrue, None, Some, [], length, unwrap_or};
 ghost use Rattle.std.specs.Option.{option_map};
 ghost use Rattle.langtag.specs.Text.{lang_tag_buf_text, lang_tag_text, normal_lang_tag_text};
 ghost use Rattle.langtag_language.specs.Language.{EachLanguageSpelling};
@@ -112,12 +112,30 @@ fn write_parts(tag: NormalLangTag<'_>, buffer: &mut [u8]) -> usize
     requires { identifier.IsLocale (normal_lang_tag_text tag) }
     ensures { model.EachRecord (normal_lang_tag_text tag.entry) (λ r. Writes (λ form. form ≡ spec.locale_text r) buffer.old buffer.new result) }
 {
-    let len = put_parts(tag, &mut []);
-    if len <= buffer.len() {
-        put_parts(tag, buffer);
-        make_recommended_case(&mut buffer[..len]);
+    if let Some(len) = longer_than(tag, buffer.len()) {
+        return len;
     }
+    let len = put_parts(tag, buffer);
+    make_recommended_case(&mut buffer[..len]);
     len
+}
+
+/// Returns the length of the form if it is longer than a buffer of `room` bytes. It is not counted if the buffer is long
+/// enough for the form of every tag of this length.
+fn longer_than(tag: NormalLangTag<'_>, room: usize) -> Option<usize>
+    requires { identifier.IsLocale (normal_lang_tag_text tag) }
+    ensures longer { IfSome result (λ len. model.EachRecord (normal_lang_tag_text tag.entry) (λ r.
+        (len ≡ length (spec.locale_text r)) × (room < length (spec.locale_text r)))) }
+    ensures fits { result ≡ None → model.EachRecord (normal_lang_tag_text tag.entry) (λ r. length (spec.locale_text r) ≤ room) }
+{
+    if room >= tag.as_str().len() + 32 {
+        return None;
+    }
+    let len = put_parts(tag, &mut []);
+    if len <= room {
+        return None;
+    }
+    Some(len)
 }
 
 /// Writes as much of the form, before its case is changed, as fits into a buffer, and returns its full length.

@@ -1,5 +1,5 @@
 //! The canonical form of a tag's extensions `u` and `t` (UTS #35, part 1, Annex C).
-ghost use Rattle.std.specs.Prelude.{◌≡◌, ◌≤◌, ◌+◌, ◌∷◌, ◌&&◌, ◌||◌, length, not, [], IfOk, List, Option, false};
+ghost use Rattle.std.specs.Prelude.{◌≡◌, ◌≤◌, ◌<◌, ◌+◌, ◌∷◌, ◌&&◌, ◌||◌, length, not, [], IfOk, IfSome, List, None, Option, false};
 ghost use Rattle.std.specs.List.{AllByRecursion, flat_map};
 ghost use Rattle.std.specs.Option.{option_map};
 ghost use Rattle.langtag.specs.Text.{lang_tag_buf_text, lang_tag_text, normal_lang_tag_text};
@@ -118,11 +118,28 @@ pub fn write_extensions_form(tag: LangTag<'_>, buffer: &mut [u8]) -> usize
 fn write_parts(tag: NormalLangTag<'_>, buffer: &mut [u8]) -> usize
     ensures { model.EachRecord (normal_lang_tag_text tag.entry) (λ r. Writes (λ form. form ≡ model.spell (spec.extensions_record r)) buffer.old buffer.new result) }
 {
-    let len = put_parts(tag, &mut []);
-    if len <= buffer.len() {
-        put_parts(tag, buffer);
+    if let Some(len) = longer_than(tag, buffer.len()) {
+        return len;
     }
-    len
+    put_parts(tag, buffer)
+}
+
+/// Returns the length of the form if it is longer than a buffer of `room` bytes. It is not counted if the buffer is long
+/// enough for the form of every tag of this length.
+#[tactic(auto, using(crate::proofs::FormSizes::form_length))]
+fn longer_than(tag: NormalLangTag<'_>, room: usize) -> Option<usize>
+    ensures longer { IfSome result (λ len. model.EachRecord (normal_lang_tag_text tag.entry) (λ r.
+        (len ≡ length (model.spell (spec.extensions_record r))) × (room < length (model.spell (spec.extensions_record r))))) }
+    ensures fits { result ≡ None → model.EachRecord (normal_lang_tag_text tag.entry) (λ r. length (model.spell (spec.extensions_record r)) ≤ room) }
+{
+    if room >= tag.as_str().len() + 20 {
+        return None;
+    }
+    let len = put_parts(tag, &mut []);
+    if len <= room {
+        return None;
+    }
+    Some(len)
 }
 
 /// Writes as much of a tag with its extensions in canonical form as fits into a buffer, and returns the length of

@@ -100,12 +100,25 @@ pub fn write_locale_form(tag: LangTag<'_>, buffer: &mut [u8]) -> Option<usize> {
 
 /// Writes the form of a Unicode locale identifier.
 fn write_parts(tag: NormalLangTag<'_>, buffer: &mut [u8]) -> usize {
-    let len = put_parts(tag, &mut []);
-    if len <= buffer.len() {
-        put_parts(tag, buffer);
-        make_recommended_case(&mut buffer[..len]);
+    if let Some(len) = longer_than(tag, buffer.len()) {
+        return len;
     }
+    let len = put_parts(tag, buffer);
+    make_recommended_case(&mut buffer[..len]);
     len
+}
+
+/// Returns the length of the form if it is longer than a buffer of `room` bytes. It is not counted if the buffer is long
+/// enough for the form of every tag of this length.
+fn longer_than(tag: NormalLangTag<'_>, room: usize) -> Option<usize> {
+    if room >= tag.as_str().len() + 32 {
+        return None;
+    }
+    let len = put_parts(tag, &mut []);
+    if len <= room {
+        return None;
+    }
+    Some(len)
 }
 
 /// Writes as much of the form, before its case is changed, as fits into a buffer, and returns its full length.
