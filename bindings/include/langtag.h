@@ -9,10 +9,11 @@
  * It is proved that each function, for every input, ends, returns and writes what its comment says, and touches only
  * the memory of its arguments. No function allocates, keeps state between calls, calls back, prints, exits or sets
  * errno. So the functions may be called from several threads at once, and from signal handlers. Time grows linearly
- * with the length of the texts, except for langtag_repeats, langtag_extensions_form, and the calls that take a list of
- * tags. langtag_next_keyword and langtag_next_field compare each key with the subtags before it.
+ * with the length of the texts, except for langtag_repeats, langtag_extensions_form, langtag_is_locale,
+ * langtag_locale_form, and the calls that take a list of tags. langtag_next_keyword and langtag_next_field compare each
+ * key with the subtags before it.
  *
- * Only langtag_validity, langtag_canonical and langtag_is_canonical use the IANA registry.
+ * Only langtag_validity, langtag_canonical, langtag_is_canonical and langtag_locale_form use the IANA registry.
  *
  * WHAT THE CALLER MUST ENSURE. Nothing checks these rules at run time.
  *
@@ -25,7 +26,8 @@
  *   4. Memory that a call may write through one argument (an out struct, `rest`, `passed`, a buffer, the bytes of langtag_fold and
  *      langtag_recommend) does not overlap the memory of any other argument. Texts that are only read may overlap.
  *   5. An x86-64 processor has SSE4.2 (x86-64-v2). Any aarch64 processor is supported. Calls follow the C calling
- *      convention of the platform. 4 KiB of the stack is free for each call, and 96 KiB for langtag_repeats.
+ *      convention of the platform. 4 KiB of the stack is free for each call, and 96 KiB for
+ *      langtag_repeats and langtag_is_locale and langtag_locale_form.
  *
  * Offsets and lengths are in bytes, and offsets count from the start of the text. Case is that of ASCII letters only.
  */
@@ -337,6 +339,42 @@ size_t langtag_without_keyword(const char *tag, size_t tag_len, const char *key,
  * Returns 0 and writes nothing if the text is not a tag.
  */
 size_t langtag_extensions_form(const char *bytes, size_t len, char *buffer, size_t buffer_len);
+
+/*
+ * Returns whether a text is a Unicode locale identifier (UTS #35, part 1, section "Unicode Locale Identifier"), as Intl
+ * of JavaScript requires: true for de-1996-u-co-phonebk, false for x-a, i-klingon, zh-yue and und-t-m0, which are tags,
+ * and for a text that is not a tag.
+ *
+ * The language has two, three, or five to eight letters, and no extended language. No variant and no singleton is
+ * repeated. Each key of u ends with a letter. In t, the language meets the same rules, and each field has a value.
+ *
+ * Time is quadratic in the number of variants beyond 8,192, and in the number of variants in the language of t.
+ */
+LANGTAG_PURE bool langtag_is_locale(const char *bytes, size_t len);
+
+/*
+ * Writes the canonical form of a tag as a Unicode locale identifier to `buffer` (UTS #35, part 1, Annex C), and returns its
+ * length: eng becomes en, ger-UK becomes de-GB, and sh becomes sr-Latn. As with langtag_with_part, nothing is written if
+ * the buffer is too short.
+ *
+ *     char buffer[64];
+ *     size_t len = langtag_locale_form("ger-UK-u-ca-islamicc", 20, buffer, sizeof buffer);
+ *     if (len > 0 && len <= sizeof buffer) printf("%.*s\n", (int)len, buffer); // de-GB-u-ca-islamic-civil
+ *
+ * CLDR's aliases replace the language, the script, the region and the variants. Variants are put in alphabetical order,
+ * and extensions in the order of their singletons. u and t get the form of langtag_extensions_form. The script is in
+ * titlecase, the region in uppercase, and everything else in lowercase. sgn-NO becomes nsl, as in the IANA registry,
+ * where CLDR has nsi.
+ *
+ * A tag that is not a Unicode locale identifier is replaced first. A tag with a Preferred-Value in the IANA registry
+ * becomes that value: i-klingon becomes tlh. In any other tag, a registered extended language replaces the language
+ * before it: zh-yue-HK becomes yue-HK. If the result is not a Unicode locale identifier, either, the tag has no form.
+ *
+ * Time is quadratic in the number of variants, and of attributes. A size of len + 32 is always enough.
+ *
+ * Returns 0 and writes nothing if the tag has no form, as x-a, i-default and und-t-m0, or if the text is not a tag.
+ */
+size_t langtag_locale_form(const char *bytes, size_t len, char *buffer, size_t buffer_len);
 
 /* Where the repeated subtags of a tag are. A span has the length 0 if no such subtag is repeated. */
 typedef struct langtag_repeated {

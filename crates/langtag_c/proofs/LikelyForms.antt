@@ -1,5 +1,7 @@
 -- The forms of a tag, and the tag of a name, are not empty.
-use Rattle.std.proofs.Common.{ℕ, ◌≤◌, List, length}
+use Rattle.std.proofs.Common.{◌≡◌, ◌↔◌, ℕ, ◌≤◌, List, length, Option, None, Some, unwrap_or, refl, sym, subst, arith}
+use Rattle.std.specs.Prelude.{IfSome}
+use Rattle.langtag_output.specs.Writes.{Writes}
 use Rattle.langtag_scan.specs.Tag.{IsTag}
 use Rattle.langtag_registry.proofs.CanonicalParts as canonical
 use Rattle.langtag_registry.specs.Canonical.{IsCanonicalForm}
@@ -11,7 +13,10 @@ use Rattle.langtag_likely.proofs.FormLaws.{form_is_tag}
 use Rattle.langtag_likely.proofs.GoodForms.{maximal_well_formed, minimal_well_formed}
 use Rattle.langtag_likely.proofs.PosixLaws.{said_well_formed}
 use Rattle.langtag_unicode.proofs.FormRecords.{form_well_formed}
+use Rattle.langtag_unicode.proofs.LocaleRecords.{locale_tag}
+use Rattle.langtag_unicode.proofs.WholeForms.{not_both, whole_of_record}
 use Rattle.langtag_unicode.specs.Form.{IsExtensionsForm, extensions_record}
+use Rattle.langtag_unicode.specs.LocaleForm.{IsWholeForm}
 use Rattle.langtag_c.proofs.TagLengths.{some_tag}
 
 pub some_canonical : (old new : List ℕ) → IsTag old → IsCanonicalForm old new → 1 ≤ length new
@@ -28,3 +33,16 @@ some_extensions old new tag is = some_tag new (form_is_tag extensions_record for
 
 pub some_named : (name new : List ℕ) → NamesTag name → IsTagOfName name new → 1 ≤ length new
 some_named name new names is = some_tag new (form_is_tag (with_said name) (said_well_formed name) (hyphened (locale_place name)) new names.tag is)
+
+pub some_locale : (old new : List ℕ) → IsWholeForm old (Some new) → 1 ≤ length new
+some_locale old new is = let (r, fits, locale, same) = whole_of_record old new is in some_tag new (subst IsTag (sym same) (locale_tag r fits locale))
+
+-- 0 bytes stand for no form
+pub locale_none :
+    (bytes text before after : List ℕ) (o : Option ℕ) (result : ℕ) → text ≡ bytes → IsTag bytes → result ≡ unwrap_or o 0 →
+    IfSome o (λ len. Writes (λ form. IsWholeForm text (Some form)) before after len) → (o ≡ None → IsWholeForm text None) → (result ≡ 0) ↔ (IsTag bytes → IsWholeForm bytes None)
+locale_none bytes text before after None result same tag is written none = (λ _ _. subst (λ t. IsWholeForm t None) same (none refl), λ _. is)
+locale_none bytes text before after (Some len) result same tag is written none = (
+  λ zero _. absurd (omega (arith, zero, is, written.whole, some_locale text written.text written.is_so)),
+  λ whole. absurd (not_both text written.text written.is_so (subst (λ t. IsWholeForm t None) (sym same) (whole tag))),
+)

@@ -17,6 +17,7 @@ mod fallback;
 mod grandfathered;
 mod keyword;
 mod likely;
+mod locale_form;
 mod look_up;
 mod parse;
 mod part;

@@ -3,14 +3,12 @@ use Rattle.std.proofs.Common.{◌≡◌, ℕ, true, false, Bool, cond, not, List
 use Rattle.std.specs.Prelude.{◌&&◌, ◌||◌, codes}
 use Rattle.std.specs.List.{list_all}
 use Rattle.std.specs.Option.{option_map_or}
-use Rattle.std.proofs.lemmas.Bool.{and_parts, not-true}
-use Rattle.std.proofs.lemmas.Bool.Decides.{nat_tests}
-use Rattle.std.proofs.lemmas.Grind.{common_steps}
+use Rattle.std.proofs.lemmas.Bool.{and_parts}
 use Rattle.langtag_scan.specs.Case.{Alike, are_alike, fold_text}
 use Rattle.langtag_likely.specs.Likely.{Fields, Likely, are_alike_fields, likely_for, looked_up, or_else, or_other, filled, known, known_fields, add_likely, language_alone}
 use Rattle.langtag_likely.specs.LikelySubtags.{other_rows, likely_subtags}
 use Rattle.langtag_likely.proofs.AlikeFields.{AlikeFields, alike_is, alike_fields, likely_for-alike, looked_up-alike, alone_alike}
-use Rattle.langtag_likely.proofs.SettledRows.{is_there, is_language_row, is_kept, is_whole, has_bit, stays_unknown, is_other_row, is_settled, rows_settled, row_by_bit, looked_up_other}
+use Rattle.langtag_likely.proofs.SettledRows.{is_there, is_language_row, is_kept, is_whole, stays_unknown, is_other_row, is_settled, rows_settled, row_by_bit, looked_up_other}
 
 -- ---- texts that are there
 
@@ -32,7 +30,7 @@ absent [] h = refl
 absent (x ∷ a) h = absurd cc
 
 there_alike : (a b : List ℕ) → Alike a b → is_there a ≡ is_there b
-there_alike a b h = grind (arith, nat_tests)
+there_alike a b h = grind arith
 
 pub or_other_there : (a b : List ℕ) → is_there a ≡ true → or_other a b ≡ a
 or_other_there [] b h = absurd cc
@@ -68,13 +66,9 @@ row_of : (rows : List Likely) (key to : Fields) → list_all is_settled rows ≡
 row_of [] key to all is = absurd cc
 row_of (row ∷ rows) key to all is =
     let k = and_parts (is_settled row) (list_all is_settled rows) all in
-    by_test (are_alike_fields row.from key) refl (likely_for rows key) is (λ later. row_of rows key to k.1 later) k.0
-  where
-    by_test :
-        (b : Bool) → are_alike_fields row.from key ≡ b → (o : Option Fields) → cond b (Some row.to) o ≡ Some to → (o ≡ Some to → RowOf key to) →
-        is_settled row ≡ true → RowOf key to
-    by_test true same o is later good = record { row = row; to_is = cc; from_is = alike_fields row.from key same; settled = good }
-    by_test false same o is later good = later is
+    either_way (are_alike_fields row.from key)
+    (λ same. record { row = row; to_is = let here : Some row.to ≡ Some to = sym (rw same refl) ∙ is in cc; from_is = alike_fields row.from key same; settled = k.0 })
+    (λ other. row_of rows key to k.1 (sym (rw other refl) ∙ is))
 
 -- the fields that were looked up have the language, and each of the others has it or has none
 record IsKey (f key : Fields) : Type 0 where
@@ -90,10 +84,10 @@ record Found (f to : Fields) : Type 0 where
 first_found :
     {P : Type 0} (a b c d : Option Fields) (to : Fields) → or_else a (or_else b (or_else c d)) ≡ Some to →
     (a ≡ Some to → P) → (b ≡ Some to → P) → (c ≡ Some to → P) → (d ≡ Some to → P) → P
-first_found a b c d to is p q r s = grind (arith, nat_tests)
+first_found a b c d to is p q r s = grind arith
 
 found_of : (f to : Fields) → looked_up likely_subtags f ≡ Some to → Found f to
-found_of f to is = grind (arith, common_steps, first_found)
+found_of f to is = grind arith
 
 last_found : (a b c d : Option Fields) → is_some d ≡ true → (v : Fields) × (or_else a (or_else b (or_else c d)) ≡ Some v)
 last_found (Some v) b c d h = (v, refl)
@@ -110,7 +104,7 @@ filled_whole m v l s r = rw (or_other_there m.language v.language l, or_other_th
 whole_again :
     (m : Fields) → is_there m.language ≡ true → is_there m.script ≡ true → is_there m.region ≡ true → is_some (likely_for likely_subtags (language_alone m)) ≡ true →
     add_likely likely_subtags m ≡ Some m
-whole_again m l s r alone = grind (arith, common_steps, last_found, filled_whole)
+whole_again m l s r alone = grind arith
 
 -- ---- what a row says
 
@@ -123,13 +117,13 @@ record IsWhole (row : Likely) : Type 0 where
   kept : is_kept row.from.language row.to.language ≡ true
 
 whole_of : (row : Likely) → is_whole row ≡ true → IsWhole row
-whole_of row h = grind (arith, nat_tests, and_parts, not-true)
+whole_of row h = grind (arith, and_parts)
 
 -- of another row: its language, if it has one, has a row of its own
 other_of :
     (row : Likely) → is_other_row row ≡ true →
     cond (is_there row.to.language) (is_some (likely_for likely_subtags (language_alone row.to))) (stays_unknown row) ≡ true
-other_of row h = grind (arith, common_steps, either_way, is_there, has_bit, stays_unknown, row_by_bit)
+other_of row h = grind (arith, row_by_bit)
 
 record IsOfLanguage (row : Likely) : Type 0 where
   language : is_there row.from.language ≡ true
@@ -137,7 +131,7 @@ record IsOfLanguage (row : Likely) : Type 0 where
   region : row.from.region ≡ []
 
 language_of : (row : Likely) → is_language_row row ≡ true → IsOfLanguage row
-language_of row h = grind (arith, nat_tests, and_parts, absent, not-true)
+language_of row h = grind arith
 
 record StaysUnknown (row : Likely) : Type 0 where
   from_language : is_there row.from.language ≡ false
@@ -147,13 +141,13 @@ record StaysUnknown (row : Likely) : Type 0 where
   settles : option_map_or (λ v. not (is_there v.language)) (looked_up other_rows row.to) false ≡ true
 
 unknown_of : (row : Likely) → stays_unknown row ≡ true → StaysUnknown row
-unknown_of row h = grind (arith, nat_tests, and_parts, not-true)
+unknown_of row h = grind arith
 
 -- a field is alike that of the right side, which keeps the left side, if it is on the left side where it is written
 field_alike :
     (field to from key : List ℕ) → (key ≡ field) ⊎ (key ≡ []) → Alike from key → is_kept from to ≡ true → (is_there field ≡ true → is_there from ≡ true) →
     Alike (or_other field to) to
-field_alike field to from key is same kept there = grind (arith, nat_tests, alike_is from to, clash, there_alike from key same, is_there)
+field_alike field to from key is same kept there = grind (arith, alike_is from to)
 
 not_first : (a b : List ℕ) → is_there (or_other a b) ≡ false → is_there a ≡ false
 not_first [] b h = refl
@@ -185,7 +179,7 @@ module _ (f : Fields) (row : Likely) (key : Fields) (is_key : IsKey f key) (from
 
   -- the row of the language alone is found for each language that is alike
   alone_by : (language : List ℕ) → Alike row.from.language language → IsOfLanguage row → likely_for likely_subtags (record { language = language; script = []; region = [] }) ≡ Some row.to
-  alone_by language same is = grind (arith, common_steps, likely_for-alike)
+  alone_by language same is = grind (arith, likely_for-alike)
 
   alone_other : is_other_row row ≡ true → is_there row.to.language ≡ true → Alike row.to.language most.language → is_some (likely_for likely_subtags (language_alone most)) ≡ true
   alone_other other there same =
@@ -209,8 +203,7 @@ module _ (f : Fields) (row : Likely) (key : Fields) (is_key : IsKey f key) (from
           kind
 
       unwritten : is_there f.language ≡ false → is_some (likely_for likely_subtags (language_alone most)) ≡ true
-      unwritten it =
-          search (rules, or_other_absent, by_or, is_language_row, is_other_row, clash, language_of, there_alike, language_same, alone_other, is_there)
+      unwritten it = search (rules, alone_other)
 
   script_there : is_there most.script ≡ true
   script_there = there_other f.script row.to.script whole.script
@@ -233,13 +226,13 @@ module _ (f : Fields) (row : Likely) (key : Fields) (is_key : IsKey f key) (from
       to_none = sym (ap is_there (or_other_absent f.language row.to.language f_none)) ∙ none
 
       unknown : StaysUnknown row
-      unknown = search (rules, by_or, is_language_row, is_other_row, clash, language_of, there_alike, language_same, unknown_of, stays_unknown, other_of)
+      unknown = search (rules, unknown_of)
 
       no_language : most.language ≡ []
       no_language = or_other_absent f.language row.to.language f_none ∙ absent row.to.language to_none
 
       written : (is_there f.script && is_there f.region) ≡ true → add_likely likely_subtags most ≡ Some most
-      written both = grind (arith, common_steps, and_parts, is_there, or_other_absent, absent, or_other_there)
+      written both = grind arith
 
       unwritten : (is_there f.script && is_there f.region) ≡ false → add_likely likely_subtags most ≡ Some most
       unwritten one =
@@ -259,7 +252,7 @@ module _ (f : Fields) (row : Likely) (key : Fields) (is_key : IsKey f key) (from
           ap (option_map (filled most)) (looked_up-alike most row.to same) ∙ by_row (looked_up likely_subtags row.to) settles
         where
           by_row : (o : Option Fields) → option_map_or (λ v. not (is_there v.language)) o false ≡ true → option_map (filled most) o ≡ Some most
-          by_row o h = grind (arith, common_steps, or_other_absent, absent, not-true, is_there, or_other_there, script_there, region_there)
+          by_row o h = grind arith
 
   region_not : are_alike (codes "ZZ") most.region ≡ false
   region_not = other_test (codes "ZZ") f.region row.to.region region_known whole.region_known

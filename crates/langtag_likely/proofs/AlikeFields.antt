@@ -1,11 +1,7 @@
 -- Fields that are equal but for case have likely subtags that are.
 use Rattle.std.proofs.Common.{◌≡◌, ℕ, true, false, Bool, cond, List, [], ◌∷◌, Option, None, Some, option_map, refl, ap, ◌∙◌, subst, arith}
-use Rattle.std.specs.Prelude.{codes}
 use Rattle.std.specs.Option.{option_map_or}
 use Rattle.std.specs.Str.{bytes_eq}
-use Rattle.std.proofs.lemmas.Bool.{and_parts}
-use Rattle.std.proofs.lemmas.Bool.Decides.{nat_tests}
-use Rattle.std.proofs.lemmas.Grind.{common_steps}
 use Rattle.langtag_scan.specs.Case.{Alike, are_alike, fold_text}
 use Rattle.langtag_scan.specs.CaseLaws.{are_alike-decides}
 use Rattle.langtag_likely.specs.Likely.{Fields, Likely, are_alike_fields, likely_for, looked_up, or_other, filled, known, known_fields, add_likely, remove_likely, least, suffices, language_alone, without_script, without_region}
@@ -23,7 +19,7 @@ pub alike_is : (a b : List ℕ) → are_alike a b ≡ true → Alike a b
 alike_is a b is = (are_alike-decides a b).0 is
 
 pub alike_fields : (a b : Fields) → are_alike_fields a b ≡ true → AlikeFields a b
-alike_fields a b is = grind (arith, common_steps, and_parts, alike_is)
+alike_fields a b is = grind (arith, alike_is)
 
 -- ---- a test answers alike of texts that are alike
 
@@ -52,13 +48,13 @@ pub alone_alike : (a b : Fields) → Alike a.language b.language → AlikeFields
 alone_alike a b h = record { language = h; script = refl; region = refl }
 
 pub looked_up-alike : (a b : Fields) → AlikeFields a b → looked_up likely_subtags a ≡ looked_up likely_subtags b
-looked_up-alike a b h = grind (arith, common_steps, likely_for-alike, alone_alike)
+looked_up-alike a b h = grind (arith, likely_for-alike)
 
 pub or_other-alike : (a b v : List ℕ) → Alike a b → Alike (or_other a v) (or_other b v)
-or_other-alike a b v h = grind (arith, nat_tests)
+or_other-alike a b v h = grind arith
 
 filled-alike : (a b v : Fields) → AlikeFields a b → AlikeFields (filled a v) (filled b v)
-filled-alike a b v h = grind (arith, common_steps, or_other-alike)
+filled-alike a b v h = grind arith
 
 -- none and none, or some that are alike
 abbrev pub AlikeOptions : Option Fields → Option Fields → Type 0
@@ -70,76 +66,42 @@ AlikeOptions (Some a) (Some b) = AlikeFields a b
 -- what holds of none, and of fields that are alike, holds of these
 pub by_options :
     (P : Option Fields → Option Fields → Type 0) → P None None → ((a b : Fields) → AlikeFields a b → P (Some a) (Some b)) → (o p : Option Fields) → AlikeOptions o p → P o p
-by_options P none some o p same = grind (arith, nat_tests)
+by_options P none some o p same = grind arith
 
 -- what holds of a value twice holds of two that are the same
 pub by_same : {A : Type 0} (P : A → A → Type 0) → ((x : A) → P x x) → (x y : A) → x ≡ y → P x y
 by_same P each x y same = subst (P x) same (each x)
 
 pub added-alike : (a b : Fields) → AlikeFields a b → AlikeOptions (add_likely likely_subtags a) (add_likely likely_subtags b)
-added-alike a b h = grind (arith, nat_tests, by_same, looked_up-alike a b h, filled-alike a b)
+added-alike a b h = grind (arith, looked_up-alike a b h)
 
 -- ---- and removed
 
 pub known-alike : (unknown a b : List ℕ) → Alike a b → Alike (known unknown a) (known unknown b)
-known-alike unknown a b h = grind (arith, nat_tests, by_same, are_alike-right unknown a b h)
+known-alike unknown a b h = grind arith
 
 pub known_fields-alike : (a b : Fields) → AlikeFields a b → AlikeFields (known_fields a) (known_fields b)
-known_fields-alike a b h =
-    grind (arith, nat_tests, known-alike (codes "Zzzz") a.script b.script h.script, known-alike (codes "ZZ") a.region b.region h.region)
+known_fields-alike a b h = grind arith
 
 pub suffices-alike : (m n a b : Fields) → AlikeFields m n → AlikeFields a b → suffices likely_subtags m a ≡ suffices likely_subtags n b
 suffices-alike m n a b most few =
     by_options (λ o p. option_map_or (λ form. are_alike_fields m form) o false ≡ option_map_or (λ form. are_alike_fields n form) p false) refl
     (λ v w same. fields-left m n v most ∙ fields-right n v w same) _ _ (added-alike a b few)
 
+few-alike :
+    (s t u : Bool) (a b m n : Fields) → AlikeFields a b → AlikeFields m n →
+    AlikeFields (cond s (language_alone a) (cond t (without_script a) (cond u (without_region a) m))) (cond s (language_alone b) (cond t (without_script b) (cond u (without_region b) n)))
+few-alike s t u a b m n few same = grind arith
+
 least-alike : (m n : Fields) → AlikeFields m n → AlikeFields (least likely_subtags m) (least likely_subtags n)
 least-alike m n h =
-    by_tests (suffices likely_subtags m a) (suffices likely_subtags n a2) (suffices likely_subtags m b) (suffices likely_subtags n b2) (suffices likely_subtags m c) (suffices likely_subtags n c2)
-    (suffices-alike m n a a2 h ha) (suffices-alike m n b b2 h hb) (suffices-alike m n c c2 h hc)
-  where
-    a : Fields
-    a = language_alone (known_fields m)
-
-    a2 : Fields
-    a2 = language_alone (known_fields n)
-
-    b : Fields
-    b = without_script (known_fields m)
-
-    b2 : Fields
-    b2 = without_script (known_fields n)
-
-    c : Fields
-    c = without_region (known_fields m)
-
-    c2 : Fields
-    c2 = without_region (known_fields n)
-
-    k : AlikeFields (known_fields m) (known_fields n)
-    k = known_fields-alike m n h
-
-    ha : AlikeFields a a2
-    ha = record { language = k.language; script = refl; region = refl }
-
-    hb : AlikeFields b b2
-    hb = record { language = k.language; script = refl; region = k.region }
-
-    hc : AlikeFields c c2
-    hc = record { language = k.language; script = k.script; region = refl }
-
-    by_tests :
-        (s s2 t t2 u u2 : Bool) → s ≡ s2 → t ≡ t2 → u ≡ u2 → AlikeFields (cond s a (cond t b (cond u c m))) (cond s2 a2 (cond t2 b2 (cond u2 c2 n)))
-    by_tests true true t t2 u u2 e f g = ha
-    by_tests true false t t2 u u2 e f g = absurd cc
-    by_tests false true t t2 u u2 e f g = absurd cc
-    by_tests false false true true u u2 e f g = hb
-    by_tests false false true false u u2 e f g = absurd cc
-    by_tests false false false true u u2 e f g = absurd cc
-    by_tests false false false false true true e f g = hc
-    by_tests false false false false true false e f g = absurd cc
-    by_tests false false false false false true e f g = absurd cc
-    by_tests false false false false false false e f g = h
+    let k = known_fields-alike m n h in
+    rw (
+      suffices-alike m n (language_alone (known_fields m)) (language_alone (known_fields n)) h (record { language = k.language; script = refl; region = refl }),
+      suffices-alike m n (without_script (known_fields m)) (without_script (known_fields n)) h (record { language = k.language; script = refl; region = k.region }),
+      suffices-alike m n (without_region (known_fields m)) (without_region (known_fields n)) h (record { language = k.language; script = k.script; region = refl }),
+    )
+    (few-alike (suffices likely_subtags n (language_alone (known_fields n))) (suffices likely_subtags n (without_script (known_fields n))) (suffices likely_subtags n (without_region (known_fields n))) (known_fields m) (known_fields n) m n k h)
 
 pub removed-alike : (a b : Fields) → AlikeFields a b → AlikeOptions (remove_likely likely_subtags a) (remove_likely likely_subtags b)
 removed-alike a b h =

@@ -1,7 +1,6 @@
 -- A range and a text without what both begin with: whether they are equal, and whether the one begins with the other.
-use Rattle.std.proofs.Common.{◌≡◌, ℕ, ◌+◌, ◌-◌, ◌<◌, ◌≤◌, Bool, true, false, ◌==◌, List, [], ◌∷◌, length, length-drop, get_or, take, drop, refl, sym, ap, ◌∙◌, arith}
+use Rattle.std.proofs.Common.{◌≡◌, ℕ, ◌+◌, ◌-◌, ◌<◌, ◌≤◌, true, false, ◌==◌, List, [], ◌∷◌, length, length-drop, get_or, take, drop, refl, sym, ap, ◌∙◌, arith}
 use Rattle.std.specs.Prelude.{◌&&◌}
-use Rattle.std.proofs.lemmas.Bool.{eq-eqb, ne_eqb}
 use Rattle.std.proofs.lemmas.Bool.Decides.{nat_tests}
 use Rattle.std.proofs.lemmas.List.{length-map, take_all}
 use Rattle.std.proofs.lemmas.Grind.{common_steps}
@@ -12,6 +11,7 @@ use Rattle.langtag_match.specs.LookUp.{begins_with_wildcard}
 use Rattle.langtag_match.proofs.BasicForms.{length-basic}
 use Rattle.langtag_match.proofs.Wildcards.{basic_form-byte}
 use Rattle.langtag_likely.specs.Ranges.{after_common, BeginsPlain}
+use Rattle.langtag_likely.proofs.AddedTwice.{either_way}
 
 -- ---- a range is read from its start
 
@@ -36,10 +36,10 @@ rest_of n text = take_all (length text - n) (drop n text) (omega (arith, length-
 
 pub star_off : (range : List ℕ) → begins_with_wildcard (hyphened range) ≡ true → basic_text (take (length range - 2) (drop 2 range)) ≡ basic_text range
 unfolding basic_text
-star_off range star = grind (arith, nat_tests, rest_of 2 range)
+star_off range star = grind (arith, rest_of 2 range)
 
 pub byte_off : (range : List ℕ) → 1 ≤ length range → BeginsPlain range → length (basic_text range) ≡ 1 + length (basic_text (take (length range - 1) (drop 1 range)))
-byte_off range some plain = grind (arith, nat_tests, read_byte, rest_of 1)
+byte_off range some plain = grind (arith, read_byte, rest_of 1)
 
 pub length_read : (range : List ℕ) → length (basic_text range) ≤ length range
 unfolding basic_text
@@ -50,12 +50,12 @@ length_read range = omega (arith, length-basic (hyphened range), length-map rang
 pub common_next :
     (range text : List ℕ) → 1 ≤ length range → 1 ≤ length text → BeginsPlain range → fold_byte (hyphened_byte (get_or range 0 0)) ≡ fold_byte (get_or text 0 0) →
     after_common (basic_text (take (length range - 1) (drop 1 range))) (take (length text - 1) (drop 1 text)) ≡ after_common (basic_text range) text
-common_next range text some any plain same = grind (arith, nat_tests, rest_of 1, read_byte, eq-eqb)
+common_next range text some any plain same = grind (arith, rest_of 1, read_byte)
 
 pub common_apart :
     (range text : List ℕ) → 1 ≤ length range → 1 ≤ length text → BeginsPlain range → (fold_byte (hyphened_byte (get_or range 0 0)) ≡ fold_byte (get_or text 0 0) → ⊥) →
     after_common (basic_text range) text ≡ (basic_text range, text)
-common_apart range text some any plain other = grind (arith, common_steps, read_byte, ne_eqb)
+common_apart range text some any plain other = grind (arith, common_steps, read_byte)
 
 common_none : (range : List ℕ) → after_common range [] ≡ (range, [])
 common_none [] = refl
@@ -72,15 +72,10 @@ alike_left : (range text : List ℕ) → are_alike range text ≡ ((length (afte
 alike_left [] [] = refl
 alike_left [] (b ∷ text) = rw (some_length b text) refl
 alike_left (a ∷ range) [] = rw (some_length a range) refl
-alike_left (a ∷ range) (b ∷ text) = by_test (fold_byte a == fold_byte b) refl (alike_left range text)
-  where
-    by_test :
-        (test : Bool) → (fold_byte a == fold_byte b) ≡ test → are_alike range text ≡ ((length (after_common range text).0 == 0) && (length (after_common range text).1 == 0)) →
-        are_alike (a ∷ range) (b ∷ text) ≡ ((length (after_common (a ∷ range) (b ∷ text)).0 == 0) && (length (after_common (a ∷ range) (b ∷ text)).1 == 0))
-    by_test true is rest = rw is rest
-    by_test false is rest = rw (is, some_length a range) refl
+alike_left (a ∷ range) (b ∷ text) =
+    either_way (fold_byte a == fold_byte b) (λ is. rw is (alike_left range text)) (λ is. rw (is, some_length a range) refl)
 
 pub nothing_left :
     (range text left rest : List ℕ) → BeginsPlain left → (basic_text left, rest) ≡ after_common (basic_text range) text →
     are_alike (basic_text range) text ≡ ((length left == 0) && (length rest == 0))
-nothing_left range text left rest plain is = grind (arith, nat_tests, alike_left (basic_text range) text, nothing_read left plain)
+nothing_left range text left rest plain is = grind (arith, alike_left (basic_text range) text, nothing_read left plain)

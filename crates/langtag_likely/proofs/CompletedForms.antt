@@ -1,29 +1,28 @@
 -- The matching form of a text, made in two steps; a language that is there stays.
 use Rattle.std.proofs.Common.{◌≡◌, ℕ, ◌<◌, List, [], ◌∷◌, length, option_map, refl, arith}
-use Rattle.std.proofs.lemmas.Bool.Decides.{nat_tests}
 use Rattle.langtag_likely.specs.Likely.{Fields, or_other}
 use Rattle.langtag_likely.specs.Matching.{completed, matching_form, most_likely, most_unknown, region_replaced, replaced_form}
 
 pub form_completed : (text : List ℕ) → matching_form text ≡ option_map completed (replaced_form text)
 unfolding matching_form replaced_form
-form_completed text = grind (arith, nat_tests)
+form_completed text = grind arith
 
 -- ---- a language that is there stays
 
 region_language : (f : Fields) → (region_replaced f).language ≡ f.language
 unfolding region_replaced
-region_language f = grind (arith, nat_tests)
+region_language f = grind arith
 
 or_other_first : (text other : List ℕ) → 0 < length text → or_other text other ≡ text
 or_other_first [] other some = absurd (omega (arith, some))
 or_other_first (b ∷ text) other some = refl
 
 unknown_language : (f : Fields) → (most_unknown f).language ≡ f.language
-unknown_language f = grind (arith, nat_tests)
+unknown_language f = grind arith
 
 likely_language : (f : Fields) → 0 < length f.language → (most_likely f).language ≡ f.language
 unfolding most_likely
-likely_language f some = grind (arith, nat_tests, unknown_language f, or_other_first f.language)
+likely_language f some = grind arith
 
 pub completed_language : (f : Fields) → 0 < length f.language → (completed f).language ≡ f.language
-completed_language f some = grind (arith, nat_tests, region_language f, likely_language (region_replaced f))
+completed_language f some = grind (arith, region_language f, likely_language (region_replaced f))

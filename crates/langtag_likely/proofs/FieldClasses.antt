@@ -1,6 +1,5 @@
 -- What the class of a field says of its letters and its length.
 use Rattle.std.proofs.Common.{◌≡◌, ℕ, ◌<◌, ◌≤◌, true, Bool, List, [], ◌∷◌, length, refl, arith}
-use Rattle.std.proofs.lemmas.Bool.Decides.{nat_tests}
 use Rattle.langtag_scan.specs.Class.{are_letters, are_alphanumeric, is_primary, is_extended, is_script, is_region}
 use Rattle.langtag_tables.specs.Numbers.{letter_number}
 use Rattle.langtag_tables.proofs.Letters.{primary_letters, extended_primary}
@@ -51,7 +50,7 @@ region_alphanumeric [] good = refl
 region_alphanumeric (b ∷ text) good = (of_region (b ∷ text) good).alphanumeric
 
 pub region_length : (text : List ℕ) → is_region_field text ≡ true → length text ≤ 4
-region_length text good = grind (arith, nat_tests, region_two_three)
+region_length text good = grind (arith, region_two_three)
 
 pub fields_plain :
     (f : Fields) → is_language_field f.language ≡ true → is_script_field f.script ≡ true → is_region_field f.region ≡ true → are_plain f ≡ true
@@ -69,7 +68,7 @@ number_of_none (b ∷ text) none = absurd (omega (arith, none))
 -- ---- what is known is of the class
 
 pub known_good : (is_good : List ℕ → Bool) (unknown text : List ℕ) → is_good [] ≡ true → is_good text ≡ true → is_good (known unknown text) ≡ true
-known_good is_good unknown text none good = grind (arith, nat_tests)
+known_good is_good unknown text none good = grind arith
 
 pub known_language : (unknown text : List ℕ) → is_language_field text ≡ true → is_language_field (known unknown text) ≡ true
 known_language unknown text good = known_good is_language_field unknown text refl good

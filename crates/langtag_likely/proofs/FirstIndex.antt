@@ -5,10 +5,10 @@ use Rattle.std.specs.List.{list_all}
 use Rattle.std.specs.List.Sorted.{IsBinarySearchResult}
 use Rattle.std.specs.Ordering.{nat_cmp}
 use Rattle.std.specs.Result.{result_ok}
-use Rattle.std.proofs.lemmas.Bool.{and_parts, ltb-true, eq-eqb, ne_eqb, true_from_ne_false, both_ways}
-use Rattle.std.proofs.lemmas.Bool.Decides.{eqb_tells, nat_tests}
+use Rattle.std.proofs.lemmas.Bool.{ltb-true, eq-eqb, ne_eqb, true_from_ne_false, both_ways}
+use Rattle.std.proofs.lemmas.Bool.Decides.{eqb_tells}
 use Rattle.langtag_tables.specs.Numbers.{climbs_from}
-use Rattle.langtag_tables.proofs.Rising.{climb_searched, searched_apart, above_first}
+use Rattle.langtag_tables.proofs.Rising.{climb_searched, above_first}
 use Rattle.langtag_likely.specs.Numbers.{first_index}
 use Rattle.std.proofs.lemmas.List.Folds.{list_all_at}
 use Rattle.std.proofs.lemmas.List.Sorted.{searched}
@@ -17,8 +17,7 @@ index_found :
     (low : ℕ) (keys : List ℕ) (key i : ℕ) → climbs_from low keys ≡ true → i < length keys → get_or keys i 0 ≡ key → first_index keys key ≡ Some i
 index_found low [] key i climbs inside at = absurd (omega (arith, inside))
 index_found low (k ∷ keys) key zero climbs inside at = rw (eq-eqb key k (sym at)) refl
-index_found low (k ∷ keys) key (suc i) climbs inside at =
-    grind (arith, nat_tests, and_parts (ltb low k) (climbs_from k keys) climbs, above_first k keys i, ne_eqb key k, index_found k keys key i)
+index_found low (k ∷ keys) key (suc i) climbs inside at = grind (arith, above_first k keys i, index_found k keys key i)
 
 index_absent : (keys : List ℕ) (key : ℕ) → ((k : ℕ) → k < length keys → get_or keys k 0 ≢ key) → first_index keys key ≡ None
 index_absent [] key none = refl
@@ -28,7 +27,7 @@ index_absent (k ∷ keys) key none =
 -- what a binary search finds
 pub index_searched :
     (keys : List ℕ) (key : ℕ) (found : Result ℕ ℕ) → climbs_from 0 keys ≡ true → IsBinarySearchResult (λ k. nat_cmp k key) keys found → result_ok found ≡ first_index keys key
-index_searched keys key found climbs position = search (rules, searched, climb_searched, index_found, index_absent, searched_apart)
+index_searched keys key found climbs position = search (rules, searched, climb_searched, index_found, index_absent)
 
 -- a first index is one of the list, and the number stands there
 pub record IsIndex (keys : List ℕ) (key i : ℕ) : Type 0 where

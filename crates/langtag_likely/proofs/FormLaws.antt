@@ -1,6 +1,5 @@
 -- What a tag becomes where its record becomes another.
 use Rattle.std.proofs.Common.{◌≡◌, ℕ, List, inl, inr, sym, subst, ◌∙◌, length, append-nil, arith}
-use Rattle.std.proofs.lemmas.Bool.Decides.{nat_tests}
 use Rattle.langtag_scan.specs.Record.{Record, Spells, IsWellFormed, spell}
 use Rattle.langtag_scan.specs.Tag.{IsNormal, IsTag}
 use Rattle.langtag_scan.proofs.NormalTexts.{spelled_once, normal_or_not}
@@ -19,12 +18,12 @@ module _ (form_of : Record → Record) where
 
   pub record_form : (old new : List ℕ) (r : Record) → Spells r old → new ≡ spell (form_of r) → IsForm form_of old new
   unfolding IsNormal
-  record_form old new r spells same = grind (arith, nat_tests, spelled_once r)
+  record_form old new r spells same = grind (arith, spelled_once r)
 
   -- there is one
   pub one_form : (old new other : List ℕ) → IsForm form_of old new → IsForm form_of old other → new ≡ other
   unfolding IsNormal
-  one_form old new other a b = grind (arith, nat_tests, normal_or_not old)
+  one_form old new other a b = grind (arith, normal_or_not old)
 
   -- and it is a tag
   pub form_is_tag : ((r : Record) → IsWellFormed r → IsWellFormed (form_of r)) → (old new : List ℕ) → IsTag old → IsForm form_of old new → IsTag new
@@ -48,4 +47,4 @@ module _ (form_of : Record → Record) where
       (old first one before after : List ℕ) (n len : ℕ) → Writes (IsForm form_of old) first one n → Writes (IsForm form_of old) before after len → length before ≡ n →
       (length after ≡ n) × IsForm form_of old after
   written_whole old first one before after n len counted w room =
-      grind (arith, nat_tests, one_form old counted.text w.text counted.is_so w.is_so, drop_all len before, append-nil w.text)
+      grind (arith, one_form old counted.text w.text counted.is_so w.is_so, drop_all len before, append-nil w.text)

@@ -1,7 +1,6 @@
 -- How long the maximal and the minimal form of a tag may be.
 use Rattle.std.specs.Option.{option_map_or}
 use Rattle.std.proofs.Common.{ℕ, ◌+◌, ◌≤◌, List, length, Option, None, Some, IfSome, IsTrue, arith, length-append}
-use Rattle.std.proofs.lemmas.Bool.Decides.{nat_tests}
 use Rattle.langtag_scan.specs.Class.{is_script, is_region}
 use Rattle.langtag_scan.specs.Record.{Record, IsWellFormed, one_flat, spell}
 use Rattle.langtag_scan.specs.Tag.{IsNormal}
@@ -11,16 +10,15 @@ use Rattle.langtag_scan.proofs.SubtagFacts.{of_primary}
 use Rattle.langtag_likely.specs.Likely.{Fields, add_likely, remove_likely}
 use Rattle.langtag_likely.specs.LikelySubtags.{likely_subtags}
 use Rattle.langtag_likely.specs.Maximal.{IsForm, fields_of, put_fields, put_language, subtag_of, maximal_record, minimal_record}
-use Rattle.langtag_scan.proofs.NormalTexts.{normal_or_not}
 use Rattle.langtag_likely.proofs.GoodForms.{maximal_well_formed, minimal_well_formed}
 use Rattle.langtag_scan.proofs.PartOffsets.{length-spell}
 
 -- a script and a region with the hyphen before them
 script_size : (o : Option (List ℕ)) → IfSome o (λ s. IsTrue (is_script s)) → length (hyphenated (one_flat o)) ≤ 5
-script_size o is = grind (arith, nat_tests, script_four, length-append)
+script_size o is = grind (arith, script_four, length-append)
 
 region_size : (o : Option (List ℕ)) → IfSome o (λ s. IsTrue (is_region s)) → length (hyphenated (one_flat o)) ≤ 4
-region_size o is = grind (arith, nat_tests, region_short, length-append)
+region_size o is = grind (arith, region_short, length-append)
 
 -- the fields of another tag
 put_length : (r : Record) (f : Fields) → IsWellFormed (put_fields r f) → length (spell (put_fields r f)) ≤ length (spell r) + 17
@@ -49,4 +47,4 @@ pub form_bounded :
     (form_of : Record → Record) → ((r : Record) → IsWellFormed r → length (spell (form_of r)) ≤ length (spell r) + 17) → (old new : List ℕ) → IsForm form_of old new →
     length new ≤ length old + 17
 unfolding IsNormal
-form_bounded form_of longer old new is = grind (arith, nat_tests, normal_or_not old)
+form_bounded form_of longer old new is = grind arith

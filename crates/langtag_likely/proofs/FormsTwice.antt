@@ -3,8 +3,6 @@ use Rattle.std.proofs.Common.{◌≡◌, ℕ, ◌≤◌, true, false, List, [], 
 use Rattle.std.specs.Prelude.{codes}
 use Rattle.std.specs.List.{AllByRecursion}
 use Rattle.std.specs.Option.{option_map_or}
-use Rattle.std.proofs.lemmas.Bool.Decides.{nat_tests}
-use Rattle.std.proofs.lemmas.Grind.{common_steps}
 use Rattle.langtag_scan.specs.AlikeRecords.{AlikeRecords, fold_record}
 use Rattle.langtag_scan.specs.Case.{Alike, are_alike, fold_text}
 use Rattle.langtag_scan.specs.Class.{is_extended}
@@ -14,7 +12,7 @@ use Rattle.langtag_likely.specs.Likely.{Fields, or_other, known, known_fields, a
 use Rattle.langtag_likely.specs.LikelySubtags.{likely_subtags}
 use Rattle.langtag_likely.specs.Maximal.{fields_of, language_field, put_fields, put_language, subtag_of, maximal_record, minimal_record}
 use Rattle.langtag_likely.proofs.AddedTwice.{AreKnown, added, either_way, or_other_there, known_stays, known_goes}
-use Rattle.langtag_likely.proofs.AlikeFields.{AlikeFields, AlikeOptions, are_alike-right, known-alike, added-alike, removed-alike, by_options, by_same}
+use Rattle.langtag_likely.proofs.AlikeFields.{AlikeFields, AlikeOptions, known-alike, added-alike, removed-alike, by_options}
 use Rattle.langtag_likely.proofs.LeastTwice.{has_form}
 use Rattle.langtag_likely.proofs.SettledRows.{is_there}
 
@@ -31,13 +29,13 @@ last_there p e (f ∷ es) all = last_there p f es all.1
 language_put :
     (p : List ℕ) (es : List (List ℕ)) (l : List ℕ) → is_there p ≡ true → AllByRecursion (λ s. IsTrue (is_extended s)) es → are_alike (codes "und") l ≡ false →
     language_field (put_language p es (or_other (language_field p es) l)) es ≡ or_other (language_field p es) l
-language_put p es l there all not_und = grind (arith, common_steps, known_goes, known_stays, or_other_there, last_there)
+language_put p es l there all not_und = grind (arith, or_other_there, last_there)
 
 put_language-twice : (p : List ℕ) (es : List (List ℕ)) (l : List ℕ) → put_language (put_language p es l) es l ≡ put_language p es l
-put_language-twice p es l = grind (arith, nat_tests)
+put_language-twice p es l = grind arith
 
 put_twice : (r : Record) (a b : Fields) → a.language ≡ b.language → put_fields (put_fields r a) b ≡ put_fields r b
-put_twice r a b same = grind (arith, nat_tests, put_language-twice r.primary r.extended b.language)
+put_twice r a b same = grind arith
 
 subtag_back : (a : List ℕ) → unwrap_or (subtag_of a) [] ≡ a
 subtag_back [] = refl
@@ -46,7 +44,7 @@ subtag_back (x ∷ a) = refl
 fields_put :
     (r : Record) (n : Fields) (l : List ℕ) → IsWellFormed r → n.language ≡ or_other (fields_of r).language l → are_alike (codes "und") l ≡ false →
     fields_of (put_fields r n) ≡ known_fields n
-fields_put r n l fits same not_und = grind (arith, common_steps, language_put, there_by_length, primary_length, subtag_back)
+fields_put r n l fits same not_und = grind (arith, language_put, primary_length)
 
 -- ---- a record, and what likely subtags are added to it
 
@@ -55,7 +53,7 @@ known_not unknown a none =
     either_way (are_alike unknown a) (λ is. ap (are_alike unknown) (known_goes unknown a is) ∙ none) (λ other. ap (are_alike unknown) (known_stays unknown a other) ∙ other)
 
 fields_known : (r : Record) → AreKnown (fields_of r)
-fields_known r = grind (arith, nat_tests, known_not (codes "Zzzz") (unwrap_or r.script []) refl, known_not (codes "ZZ") (unwrap_or r.region []) refl)
+fields_known r = grind arith
 
 max_of : (q : Record) (m : Fields) → add_likely likely_subtags (fields_of q) ≡ Some m → maximal_record q ≡ put_fields q m
 unfolding maximal_record
@@ -112,25 +110,25 @@ maximal-twice r fits = elim (forms_of r fits) [
 ]
 
 pub minimal-of_maximal : (r : Record) → IsWellFormed r → minimal_record (maximal_record r) ≡ minimal_record r
-minimal-of_maximal r fits = grind (arith, nat_tests, forms_of r fits, min_of, put_twice r, has_form)
+minimal-of_maximal r fits = grind (arith, forms_of r fits, min_of, put_twice r, has_form)
 
 pub minimal-twice : (r : Record) → IsWellFormed r → minimal_record (minimal_record r) ≡ minimal_record r
-minimal-twice r fits = grind (arith, nat_tests, forms_of r fits, has_form, min_of, put_twice r)
+minimal-twice r fits = grind (arith, forms_of r fits, has_form, min_of, put_twice r)
 
 -- ---- without regard to case
 
 or_other-both : (a b v w : List ℕ) → Alike a b → Alike v w → Alike (or_other a v) (or_other b w)
-or_other-both a b v w h k = grind (arith, nat_tests)
+or_other-both a b v w h k = grind arith
 
 put_language-alike :
     (p q : List ℕ) (es fs : List (List ℕ)) (l m : List ℕ) → Alike p q → map fold_text es ≡ map fold_text fs → Alike l m → Alike (put_language p es l) (put_language q fs m)
-put_language-alike p q es fs l m h all k = grind (arith, nat_tests, by_same, are_alike-right (codes "und") p q h, or_other-both l m p q k h)
+put_language-alike p q es fs l m h all k = grind arith
 
 subtag-alike : (a b : List ℕ) → Alike a b → option_map fold_text (subtag_of a) ≡ option_map fold_text (subtag_of b)
-subtag-alike a b h = grind (arith, nat_tests)
+subtag-alike a b h = grind arith
 
 put-alike : (r q : Record) (a b : Fields) → AlikeRecords r q → AlikeFields a b → AlikeRecords (put_fields r a) (put_fields q b)
-put-alike r q a b same h = grind (arith, common_steps, put_language-alike, subtag-alike)
+put-alike r q a b same h = grind arith
 
 language_field-alike :
     (p q : List ℕ) (es fs : List (List ℕ)) → Alike p q → map fold_text es ≡ map fold_text fs → Alike (language_field p es) (language_field q fs)
@@ -143,10 +141,10 @@ language_field-alike p q (e ∷ d ∷ es) (f ∷ []) h all = absurd cc
 language_field-alike p q (e ∷ d ∷ es) (f ∷ g ∷ fs) h all = language_field-alike p q (d ∷ es) (g ∷ fs) h cc
 
 subtag_text-alike : (o p : Option (List ℕ)) → option_map fold_text o ≡ option_map fold_text p → Alike (unwrap_or o []) (unwrap_or p [])
-subtag_text-alike o p h = grind (arith, nat_tests)
+subtag_text-alike o p h = grind arith
 
 pub fields-alike : (r q : Record) → AlikeRecords r q → AlikeFields (fields_of r) (fields_of q)
-fields-alike r q same = grind (arith, common_steps, language_field-alike, known-alike, subtag_text-alike)
+fields-alike r q same = grind (arith, language_field-alike)
 
 option-alike : (r q : Record) (o p : Option Fields) → AlikeRecords r q → AlikeOptions o p → AlikeRecords (option_map_or (put_fields r) o r) (option_map_or (put_fields q) p q)
 option-alike r q o p same = by_options (λ o p. AlikeRecords (option_map_or (put_fields r) o r) (option_map_or (put_fields q) p q)) same (λ a b alike. put-alike r q a b same alike) o p

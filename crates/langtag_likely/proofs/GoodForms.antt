@@ -1,11 +1,9 @@
 -- The maximal and the minimal record of a well-formed one are well-formed.
 use Rattle.std.specs.Option.{option_map_or}
-use Rattle.std.proofs.Common.{◌≡◌, ℕ, ◌≤◌, ◌⊎◌, true, false, Bool, cond, List, [], ◌∷◌, length, Option, None, Some, option_map, unwrap_or, IfSome, IsTrue, inr, refl, arith, rules}
+use Rattle.std.proofs.Common.{◌≡◌, ℕ, ◌≤◌, ◌⊎◌, true, Bool, cond, List, [], ◌∷◌, length, Option, None, Some, option_map, unwrap_or, IfSome, IsTrue, inr, refl, arith, rules}
 use Rattle.std.specs.Prelude.{◌&&◌, codes}
 use Rattle.std.specs.List.{list_all, AllByRecursion}
 use Rattle.std.proofs.lemmas.Bool.{and_parts}
-use Rattle.std.proofs.lemmas.Bool.Decides.{nat_tests}
-use Rattle.std.proofs.lemmas.Grind.{common_steps}
 use Rattle.langtag_scan.specs.Case.{fold_byte}
 use Rattle.langtag_scan.specs.Class.{is_letter, is_digit, is_primary, is_extended, is_script, is_region}
 use Rattle.langtag_scan.specs.Record.{Record, IsWellFormed}
@@ -13,7 +11,7 @@ use Rattle.langtag_likely.specs.Good.{is_language_field, is_script_field, is_reg
 use Rattle.langtag_likely.specs.Likely.{Fields, Likely, likely_for, looked_up, or_else, or_other, filled, known, known_fields, add_likely, remove_likely, least, suffices, language_alone, without_script, without_region}
 use Rattle.langtag_likely.specs.LikelySubtags.{language_rows, other_rows, likely_subtags}
 use Rattle.langtag_likely.specs.Maximal.{fields_of, language_field, put_fields, put_language, subtag_of, maximal_record, minimal_record}
-use Rattle.langtag_likely.proofs.FieldClasses.{from_primary, from_extended, from_script, from_region, known_good}
+use Rattle.langtag_likely.proofs.FieldClasses.{from_primary, from_extended, known_good}
 
 -- each field is of its class
 pub record AreGood (f : Fields) : Type 0 where
@@ -25,7 +23,7 @@ abbrev are_good : Likely → Bool
 are_good row = is_language_field row.to.language && (is_script_field row.to.script && is_region_field row.to.region)
 
 same-good : (f g : Fields) → f ≡ g → AreGood f → AreGood g
-same-good f g same good = grind (arith, nat_tests)
+same-good f g same good = grind arith
 
 rows_good : list_all are_good likely_subtags ≡ true
 unfolding likely_subtags language_rows other_rows fold_byte is_primary is_script is_region is_letter is_digit
@@ -36,7 +34,7 @@ IfGood o = (f : Fields) → o ≡ Some f → AreGood f
 
 row_good : (rows : List Likely) (key to : Fields) → list_all are_good rows ≡ true → likely_for rows key ≡ Some to → AreGood to
 row_good [] key to all is = absurd cc
-row_good (row ∷ rows) key to all is = grind (arith, common_steps, row_good rows key to, and_parts, same-good)
+row_good (row ∷ rows) key to all is = grind (arith, row_good rows key to, and_parts)
 
 -- ---- likely subtags added
 
@@ -54,7 +52,7 @@ or_other-good is_good [] b ga gb = gb
 or_other-good is_good (x ∷ a) b ga gb = ga
 
 filled-good : (f v : Fields) → AreGood f → AreGood v → AreGood (filled f v)
-filled-good f v gf gv = grind (arith, common_steps, or_other-good)
+filled-good f v gf gv = grind arith
 
 mapped-good : (change : Fields → Fields) (o : Option Fields) → ((f : Fields) → AreGood f → AreGood (change f)) → IfGood o → IfGood (option_map change o)
 unfolding IfGood
@@ -67,21 +65,16 @@ added-good f good = mapped-good (filled f) (looked_up likely_subtags f) (λ v gv
 -- ---- and removed
 
 known_fields-good : (f : Fields) → AreGood f → AreGood (known_fields f)
-known_fields-good f good = grind (arith, common_steps, known_good)
+known_fields-good f good = grind arith
+
+few-good :
+    (a b c : Bool) (few most : Fields) → AreGood few → AreGood most → AreGood (cond a (language_alone few) (cond b (without_script few) (cond c (without_region few) most)))
+few-good a b c few most small good = grind arith
 
 least-good : (most : Fields) → AreGood most → AreGood (least likely_subtags most)
 least-good most good =
-    let few = known_fields-good most good in
-    by_tests (suffices likely_subtags most (language_alone (known_fields most))) (suffices likely_subtags most (without_script (known_fields most)))
-    (suffices likely_subtags most (without_region (known_fields most))) few
-  where
-    by_tests :
-        (a b c : Bool) → AreGood (known_fields most) →
-        AreGood (cond a (language_alone (known_fields most)) (cond b (without_script (known_fields most)) (cond c (without_region (known_fields most)) most)))
-    by_tests true b c few = record { language = few.language; script = refl; region = refl }
-    by_tests false true c few = record { language = few.language; script = refl; region = few.region }
-    by_tests false false true few = record { language = few.language; script = few.script; region = refl }
-    by_tests false false false few = good
+    few-good (suffices likely_subtags most (language_alone (known_fields most))) (suffices likely_subtags most (without_script (known_fields most)))
+    (suffices likely_subtags most (without_region (known_fields most))) (known_fields most) most (known_fields-good most good) good
 
 -- ---- the fields of a tag
 
@@ -98,12 +91,12 @@ optional-good is_class is_good unknown none some None is = known_good is_good un
 optional-good is_class is_good unknown none some (Some s) is = known_good is_good unknown s none (some s is)
 
 pub fields_of-good : (r : Record) → IsWellFormed r → AreGood (fields_of r)
-fields_of-good r well = grind (arith, common_steps, language_field-good, optional-good, from_script, from_region)
+fields_of-good r well = grind (arith, language_field-good)
 
 -- ---- a tag with other fields
 
 put_language-good : (p : List ℕ) (es : List (List ℕ)) (l : List ℕ) → is_primary p ≡ true → is_language_field l ≡ true → is_primary (put_language p es l) ≡ true
-put_language-good p es l is good = grind (arith, nat_tests)
+put_language-good p es l is good = grind arith
 
 put_language-short : (p : List ℕ) (es : List (List ℕ)) (l : List ℕ) → (length p ≤ 3) ⊎ (es ≡ []) → (length (put_language p es l) ≤ 3) ⊎ (es ≡ [])
 put_language-short p [] l short = inr refl
@@ -118,7 +111,7 @@ subtag_of-region [] good = tt
 subtag_of-region (b ∷ s) good = good
 
 put_fields-well_formed : (r : Record) (f : Fields) → IsWellFormed r → AreGood f → IsWellFormed (put_fields r f)
-put_fields-well_formed r f well good = grind (arith, common_steps, put_language-good, put_language-short, subtag_of-script, subtag_of-region)
+put_fields-well_formed r f well good = grind arith
 
 put-well_formed : (r : Record) (o : Option Fields) → IsWellFormed r → IfGood o → IsWellFormed (option_map_or (put_fields r) o r)
 unfolding IfGood

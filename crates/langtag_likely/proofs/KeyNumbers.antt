@@ -2,9 +2,8 @@
 use Rattle.std.proofs.Common.{◌≡◌, ℕ, suc, ◌+◌, ◌*◌, ◌<◌, ◌≤◌, true, ◌==◌, Bool, leb, List, [], ◌∷◌, length, get_or, Option, None, Some, inl, inr, refl, sym, ap, ◌∙◌, arith}
 use Rattle.std.specs.Option.{option_map_or}
 use Rattle.std.specs.Prelude.{◌&&◌}
-use Rattle.std.proofs.lemmas.Bool.{and_parts, leb-true, eq-eqb, ne_eqb}
+use Rattle.std.proofs.lemmas.Bool.{and_parts, eq-eqb, ne_eqb}
 use Rattle.std.proofs.lemmas.Bool.Decides.{eqb_tells, nat_tests}
-use Rattle.std.proofs.lemmas.Grind.{common_steps}
 use Rattle.langtag_scan.specs.Case.{are_alike, folded_number}
 use Rattle.langtag_scan.specs.Class.{are_letters, are_alphanumeric}
 use Rattle.langtag_scan.specs.Case.{folded_number}
@@ -52,17 +51,17 @@ index-tells keys n m inside = by_first (first_index keys n) refl inside
 
 pub place-tells :
     (keys a b : List ℕ) → are_alphanumeric a ≡ true → are_alphanumeric b ≡ true → place keys a ≤ length keys → (place keys b == place keys a) ≡ are_alike a b
-place-tells keys a b al bl known = grind (arith, nat_tests, ne_eqb, index-tells keys, folded_number-tells)
+place-tells keys a b al bl known = grind (arith, index-tells keys, folded_number-tells)
 
 -- ---- three numbers as one
 
 three-tell :
     (l s r l2 s2 r2 : ℕ) → s ≤ 255 → r ≤ 511 → s2 ≤ 255 → r2 ≤ 511 →
     (l * 131072 + (s * 512 + r) == l2 * 131072 + (s2 * 512 + r2)) ≡ ((l == l2) && ((s == s2) && (r == r2)))
-three-tell l s r l2 s2 r2 a b c d = grind (arith, nat_tests, eqb_tells l l2, eqb_tells s s2, eqb_tells r r2, eq-eqb, ne_eqb)
+three-tell l s r l2 s2 r2 a b c d = grind arith
 
 add_one-tells : (a b : ℕ) → (a + 1 == b + 1) ≡ (a == b)
-add_one-tells a b = grind (arith, nat_tests, eqb_tells a b, eq-eqb, ne_eqb)
+add_one-tells a b = grind arith
 
 -- ---- fields
 
@@ -86,5 +85,4 @@ few_regions = refl
 
 pub key_number-tells : (key : Fields) (row : Likely) → are_plain key ≡ true → is_numbered row ≡ true → (key_number key == key_number row.from) ≡ are_alike_fields row.from key
 unfolding key_number
-key_number-tells key row plain numbered =
-    grind (arith, common_steps, and_parts, leb-true, few_scripts, few_regions, place-bound, three-tell, add_one-tells, letter_number-tells, place-tells)
+key_number-tells key row plain numbered = grind (arith, nat_tests, and_parts, place-bound, three-tell, add_one-tells, letter_number-tells, place-tells)

@@ -4,11 +4,9 @@ use Rattle.std.specs.List.{list_all}
 use Rattle.std.specs.Int.Count.{ones_step}
 use Rattle.std.proofs.Math.Nat.{div-one, pow-succ', two-pow-succ, div-div-eq-div-mul}
 use Rattle.std.proofs.Math.Seq.{take-append-add}
-use Rattle.std.proofs.lemmas.Bool.{and_parts, eq-eqb, ne_eqb, eqb-true, eqb-false, ltb-true}
+use Rattle.std.proofs.lemmas.Bool.{and_parts, eq-eqb, ne_eqb, ltb-true}
 use Rattle.std.proofs.lemmas.List.{get_or_append_left, get_or-append-add, take-append-le}
 use Rattle.std.proofs.lemmas.Nat.{ones_le_self}
-use Rattle.std.proofs.lemmas.Bool.Decides.{nat_tests}
-use Rattle.std.proofs.lemmas.Grind.{common_steps}
 use Rattle.langtag_scan.specs.Case.{fold_byte}
 use Rattle.langtag_tables.specs.Numbers.{letter_number, places}
 use Rattle.langtag_likely.specs.declared.tables.TheConstants.{LANGUAGE_BITS, LANGUAGE_ENDS}
@@ -39,14 +37,14 @@ count-append (true ∷ a) b = let later = count-append a b in omega (arith, late
 count-append (false ∷ a) b = count-append a b
 
 count-lowest : (word : ℕ) (list : List Bool) → count ((word % 2 == 1) ∷ list) ≡ word % 2 + count list
-count-lowest word list = grind (arith, nat_tests, eqb-true, eqb-false)
+count-lowest word list = grind arith
 
 half_below : (k word : ℕ) → word < 2 ^ suc k → word / 2 < 2 ^ k
 half_below k word small = let double = two-pow-succ k in omega (arith, small, double)
 
 count-bits : (k word : ℕ) → word < 2 ^ k → count_ones word ≡ count (bits k word)
 unfolding bits
-count-bits zero word small = grind (arith, nat_tests, ones_le_self 0)
+count-bits zero word small = grind (arith, ones_le_self 0)
 count-bits (suc k) word small =
     ones_step word ∙ ap (λ n. word % 2 + n) (count-bits k (word / 2) (half_below k word small)) ∙ sym (count-lowest word (bits k (word / 2)))
 
@@ -63,9 +61,8 @@ bit_at (suc k) word (suc i) inside = bit_at k (word / 2) i (omega (arith, inside
 count-split : (k word i : ℕ) → word < 2 ^ k → i < k → count (take i (bits k word)) + count_ones (word / 2 ^ i) ≡ count (bits k word)
 unfolding bits
 count-split zero word i small inside = absurd (omega (arith, inside))
-count-split (suc k) word zero small inside = grind (arith, nat_tests, div-one word, count-bits (suc k) word small)
-count-split (suc k) word (suc i) small inside =
-    grind (arith, common_steps, count-split k (word / 2) i (half_below k word small), count-lowest, half_below, inside, shifted_again)
+count-split (suc k) word zero small inside = grind (arith, div-one word, count-bits (suc k) word small)
+count-split (suc k) word (suc i) small inside = grind (arith, count-split k (word / 2) i (half_below k word small), count-lowest, shifted_again)
 
 -- ---- the bits of words
 
@@ -124,8 +121,8 @@ unfolding places
 index_of_place n i [] = refl
 index_of_place n zero (true ∷ list) = rw (eq-eqb (n + 0) n (omega arith)) refl
 index_of_place n zero (false ∷ list) = not_before (n + 0) (n + 1) list (omega arith)
-index_of_place n (suc i) (true ∷ list) = grind (arith, nat_tests, ne_eqb (n + suc i) n, index_of_place (n + 1) i list)
-index_of_place n (suc i) (false ∷ list) = grind (arith, nat_tests, index_of_place (n + 1) i list)
+index_of_place n (suc i) (true ∷ list) = grind (arith, ne_eqb (n + suc i) n, index_of_place (n + 1) i list)
+index_of_place n (suc i) (false ∷ list) = grind (arith, index_of_place (n + 1) i list)
 
 -- ---- any two tables: the bits of some numbers, and the ends of their words
 
@@ -143,11 +140,11 @@ module _ (table last numbers : List ℕ) (all : list_all is_word table ≡ true)
 
   count_is : before + count_ones rest ≡ get_or last (place / 64) 0
   unfolding before
-  count_is = grind (arith, nat_tests, divided, count-words 0 table (place / 64) (place % 64) all inside, inside)
+  count_is = grind (arith, count-words 0 table (place / 64) (place % 64) all inside)
 
   index_is : first_index numbers (27 + place) ≡ cond (rest % 2 == 1) (Some before) None
   unfolding before
-  index_is = grind (arith, nat_tests, index_of_place 27 place (words table), divided, bit_of_words table (place / 64) (place % 64) inside, inside)
+  index_is = grind (arith, index_of_place 27 place (words table), bit_of_words table (place / 64) (place % 64) inside)
 
   unset : rest % 2 ≡ 0 → first_index numbers (27 + place) ≡ None
   unset none = index_is ∙ ap (λ b. cond b (Some before) None) (ne_eqb (rest % 2) 1 (λ one. absurd (omega (arith, none, one))))
@@ -156,7 +153,7 @@ module _ (table last numbers : List ℕ) (all : list_all is_word table ≡ true)
   enough = omega (arith, count_is)
 
   found : rest % 2 ≡ 1 → first_index numbers (27 + place) ≡ Some (get_or last (place / 64) 0 - count_ones rest)
-  found one = grind (arith, nat_tests, before, count_is, index_is, eq-eqb (rest % 2) 1 one)
+  found one = grind (arith, count_is, index_is)
 
 -- ---- the tables of languages: by computation
 

@@ -1,22 +1,19 @@
 -- The fewest fields have the maximal form, and are their own fewest.
-use Rattle.std.proofs.Common.{◌≡◌, ℕ, true, false, Bool, cond, List, [], ◌∷◌, Option, None, Some, option_map, refl, sym, ap, ◌∙◌, arith}
+use Rattle.std.proofs.Common.{◌≡◌, ℕ, true, false, List, [], ◌∷◌, Option, None, Some, option_map, refl, sym, ap, ◌∙◌, arith}
 use Rattle.std.specs.Prelude.{codes}
-use Rattle.std.specs.Option.{option_map_or}
-use Rattle.std.proofs.lemmas.Bool.Decides.{nat_tests}
-use Rattle.std.proofs.lemmas.Grind.{common_steps}
 use Rattle.langtag_scan.specs.Case.{Alike, fold_text}
-use Rattle.langtag_likely.specs.Likely.{Fields, are_alike_fields, looked_up, or_other, filled, known, known_fields, add_likely, least, suffices, language_alone, without_script, without_region}
+use Rattle.langtag_likely.specs.Likely.{Fields, looked_up, or_other, filled, known, known_fields, add_likely, least, suffices, language_alone, without_script, without_region}
 use Rattle.langtag_likely.specs.LikelySubtags.{likely_subtags}
-use Rattle.langtag_likely.proofs.AddedTwice.{either_way, known_stays, known_goes}
-use Rattle.langtag_likely.proofs.AlikeFields.{AlikeFields, alike_refl, alike_fields, known-alike, known_fields-alike, suffices-alike}
+use Rattle.langtag_likely.proofs.AddedTwice.{either_way}
+use Rattle.langtag_likely.proofs.AlikeFields.{AlikeFields, alike_fields, known-alike, known_fields-alike, suffices-alike}
 
 -- ---- one field
 
 known_none : (unknown : List ℕ) → known unknown [] ≡ []
-known_none unknown = grind (arith, nat_tests)
+known_none unknown = grind arith
 
 known_twice : (unknown a : List ℕ) → known unknown (known unknown a) ≡ known unknown a
-known_twice unknown a = grind (arith, common_steps, either_way, known_goes, known_none, known_stays)
+known_twice unknown a = grind arith
 
 alike_none : (a : List ℕ) → Alike a [] → a ≡ []
 alike_none [] h = refl
@@ -40,15 +37,14 @@ record Suffices (m few : Fields) : Type 0 where
   made : filled few v ≡ form
   same : AlikeFields m form
 
+some_value : {A P : Type 0} (o : Option A) → (o ≡ None → P) → ((v : A) → o ≡ Some v → P) → P
+some_value None none some = none refl
+some_value (Some v) none some = some v refl
+
 sufficed : (m few : Fields) → suffices likely_subtags m few ≡ true → Suffices m few
-sufficed m few h = by_row (looked_up likely_subtags few) refl h
-  where
-    by_row :
-        (o : Option Fields) → looked_up likely_subtags few ≡ o → option_map_or (λ form. are_alike_fields m form) (option_map (filled few) o) false ≡ true →
-        Suffices m few
-    by_row None looked h = absurd cc
-    by_row (Some v) looked h =
-        record { form = filled few v; v = v; is = ap (option_map (filled few)) looked; made = refl; same = alike_fields m (filled few v) h }
+sufficed m few h =
+    some_value (looked_up likely_subtags few) (λ looked. absurd (let lost : false ≡ true = sym (rw looked refl) ∙ h in cc))
+    (λ v looked. record { form = filled few v; v = v; is = ap (option_map (filled few)) looked; made = refl; same = alike_fields m (filled few v) (sym (rw looked refl) ∙ h) })
 
 -- ---- the fewest fields
 
@@ -86,7 +82,7 @@ module _ (m : Fields) (again : add_likely likely_subtags (known_fields m) ≡ So
         sym (suffices-alike m form c (without_region k) same (record { language = same.language; script = (known_fields-alike m form same).script; region = refl }))
 
   by_language : suffices likely_subtags m a ≡ true → HasForm m a
-  by_language one = grind (arith, nat_tests, sufficed m a one, language_back m.language, known_none (codes "Zzzz"), known_none (codes "ZZ"))
+  by_language one = grind (arith, sufficed m a one, language_back m.language)
 
   by_region : suffices likely_subtags m a ≡ false → suffices likely_subtags m b ≡ true → HasForm m b
   by_region one two =
@@ -121,16 +117,10 @@ module _ (m : Fields) (again : add_likely likely_subtags (known_fields m) ≡ So
       }
 
   by_all : suffices likely_subtags m a ≡ false → suffices likely_subtags m b ≡ false → suffices likely_subtags m c ≡ false → HasForm m m
-  by_all one two three = grind (arith, nat_tests, alike_refl m)
+  by_all one two three = grind arith
 
   pub has_form : HasForm m (least likely_subtags m)
   has_form =
-      by_tests (suffices likely_subtags m a) (suffices likely_subtags m b) (suffices likely_subtags m c) refl refl refl
-    where
-      by_tests :
-          (s t u : Bool) → suffices likely_subtags m a ≡ s → suffices likely_subtags m b ≡ t → suffices likely_subtags m c ≡ u →
-          HasForm m (cond s a (cond t b (cond u c m)))
-      by_tests true t u one two three = by_language one
-      by_tests false true u one two three = by_region one two
-      by_tests false false true one two three = by_script one two three
-      by_tests false false false one two three = by_all one two three
+      either_way (suffices likely_subtags m a) (λ one. rw one (by_language one)) (λ one.
+      either_way (suffices likely_subtags m b) (λ two. rw (one, two) (by_region one two)) (λ two.
+      either_way (suffices likely_subtags m c) (λ three. rw (one, two, three) (by_script one two three)) (λ three. rw (one, two, three) (by_all one two three))))

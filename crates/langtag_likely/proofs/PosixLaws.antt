@@ -7,21 +7,18 @@ use Rattle.std.specs.Str.{IsUtf8}
 use Rattle.std.proofs.lemmas.Str.{IsUtf8-from_ascii}
 use Rattle.std.proofs.lemmas.Bool.{and_parts}
 use Rattle.std.proofs.lemmas.List.{length-append}
-use Rattle.std.proofs.lemmas.Bool.Decides.{nat_tests}
 use Rattle.std.proofs.lemmas.Grind.{common_steps}
 use Rattle.langtag_scan.specs.Case.{are_alike, fold_byte}
 use Rattle.langtag_scan.specs.Class.{is_letter, is_digit, is_script, is_variant}
 use Rattle.langtag_scan.specs.Record.{EachRecord, Record, IsWellFormed, Spells, spell}
 use Rattle.langtag_scan.specs.Tag.{IsNormal, IsTag}
 use Rattle.langtag_scan.proofs.Ascii.{IsAscii-spelled}
-use Rattle.langtag_scan.proofs.Joins.{hyphenated}
 use Rattle.langtag_scan.proofs.SubtagFacts.{of_script}
 use Rattle.langtag.specs.Edit.{with_script}
 use Rattle.langtag.proofs.EditLaws.{script-replaces}
 use Rattle.langtag_place.specs.Text.{script_text}
 use Rattle.langtag_place.specs.declared.script.Script.{Script}
 use Rattle.langtag_place.specs.Variants.{IsVariants, SpellsVariants}
-use Rattle.langtag_likely.proofs.FormLaws.{record_form}
 use Rattle.langtag_likely.specs.declared.tables.TheConstants.{SCRIPT_NAMES}
 use Rattle.langtag_likely.specs.Scripts.{script_codes}
 use Rattle.langtag_likely.specs.Likely.{or_else}
@@ -48,7 +45,7 @@ is_variants variant is = (variant ∷ [], one_variant variant is)
 
 module _ (r : Record) (fits : IsWellFormed r) where
   variant_fits : (variant : Option (List ℕ)) → IfSome variant (λ v. IsTrue (is_variant v)) → IsWellFormed (with_said_variant variant r)
-  variant_fits variant is = grind (arith, nat_tests)
+  variant_fits variant is = grind arith
 
   script_fits : (script : Option (List ℕ)) → IfSome script (λ s. IsTrue (is_script s)) → IsWellFormed (with_said_script script r)
   script_fits None is = fits
@@ -103,14 +100,17 @@ modifier_variant-fits modifier = by_tests (are_alike (codes "ijekavian") modifie
     by_tests false false false = tt
 
 behind-fits : (front : List ℕ) → IfSome (script_behind front) (λ s. IsTrue (is_script s))
-behind-fits front = grind (arith, nat_tests)
+behind-fits front = grind arith
+
+or_else-fits : (a b : Option (List ℕ)) → IfSome a (λ s. IsTrue (is_script s)) → IfSome b (λ s. IsTrue (is_script s)) → IfSome (or_else a b) (λ s. IsTrue (is_script s))
+or_else-fits None b first second = second
+or_else-fits (Some s) b first second = first
 
 pub said_script-fits : (name : List ℕ) → IfSome (said_script name) (λ s. IsTrue (is_script s))
-said_script-fits name = by_first (modifier_script (modifier_of name)) (modifier_script-fits (modifier_of name))
-  where
-    by_first : (o : Option (List ℕ)) → IfSome o (λ s. IsTrue (is_script s)) → IfSome (or_else o (script_behind (front_of name))) (λ s. IsTrue (is_script s))
-    by_first None is = behind-fits (front_of name)
-    by_first (Some s) is = is
+said_script-fits name =
+    let first = modifier_script-fits (modifier_of name) in
+    let behind = behind-fits (front_of name) in
+    or_else-fits (modifier_script (modifier_of name)) (script_behind (front_of name)) first behind
 
 pub script_well_formed : (script : Option (List ℕ)) → IfSome script (λ s. IsTrue (is_script s)) → (r : Record) → IsWellFormed r → IsWellFormed (with_said_script script r)
 script_well_formed script is r fits = script_fits r fits script is
@@ -132,15 +132,14 @@ script_or (Some s) b = refl
 -- ---- a script makes a text at most five bytes longer
 
 pub longer_by_script : (r : Record) (script : List ℕ) → length script ≡ 4 → length (spell (with_script r (Some script))) ≤ length (spell r) + 5
-longer_by_script r script four =
-    grind (arith, nat_tests, length-spell r, length-spell (with_script r (Some script)), hyphenated (script ∷ []), length-append script)
+longer_by_script r script four = grind (arith, length-spell r, length-spell (with_script r (Some script)), length-append script)
 
 -- a text that is spelled with a script, and what the other text's record spells
 pub set_script :
     (old new script : List ℕ) → is_script script ≡ true → IsNormal old → EachRecord old (λ r. Spells (with_script r (Some script)) new) →
     IsTag new × (length new ≤ length old + 5) × IsForm (with_said_script (Some script)) old new
 unfolding IsTag IsNormal
-set_script old new script is h4 set = grind (arith, common_steps, longer_by_script, script_four, record_form)
+set_script old new script is h4 set = grind (arith, longer_by_script, script_four)
 
 -- ---- the form of a form
 

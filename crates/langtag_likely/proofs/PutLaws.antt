@@ -3,20 +3,18 @@ use Rattle.std.proofs.Common.{◌≡◌, ℕ, ◌+◌, ◌≤◌, true, List, []
 use Rattle.std.specs.Prelude.{codes}
 use Rattle.std.specs.List.{flat_map}
 use Rattle.std.proofs.lemmas.List.{length-append, append-nil}
-use Rattle.std.proofs.lemmas.Bool.Decides.{nat_tests}
 use Rattle.std.proofs.lemmas.Grind.{common_steps}
 use Rattle.langtag_scan.specs.Case.{are_alike}
 use Rattle.langtag_scan.specs.CaseLaws.{are_alike-decides}
 use Rattle.langtag_scan.specs.Ends.{ends_of}
 use Rattle.langtag_scan.specs.Record.{Record, one_flat, extension_flat, private_part_flat, spell}
 use Rattle.langtag_scan.specs.Subtags.{join}
-use Rattle.langtag_scan.proofs.Joins.{hyphenated, hyphenated-append, join-append, length-join, drop-join}
+use Rattle.langtag_scan.proofs.Joins.{hyphenated, hyphenated-append, join-append, drop-join}
 use Rattle.langtag_scan.proofs.PartOffsets.{ends_in_order, length-spell}
 use Rattle.langtag_language.specs.Language.{SpellsLanguage}
 use Rattle.langtag_tables.proofs.Letters.{primary_length, extended_primary}
 use Rattle.langtag_likely.specs.Likely.{Fields, or_other}
 use Rattle.langtag_likely.specs.Maximal.{put_fields, put_language, subtag_of}
-use Rattle.langtag_likely.proofs.RowsFound.{alike_length}
 
 -- ---- the language
 
@@ -27,8 +25,7 @@ alike_turned a b alike = (are_alike-decides b a).1 (sym ((are_alike-decides a b)
 pub und_alone :
     (primary : List ℕ) (extended : List (List ℕ)) (text other : List ℕ) → SpellsLanguage primary extended text → are_alike text (codes "und") ≡ true →
     or_other other text ≡ join (put_language primary extended other ∷ extended)
-und_alone primary extended text other spells und =
-    grind (arith, common_steps, alike_turned, primary_length, extended_primary, alike_length, length-join, length-append, hyphenated)
+und_alone primary extended text other spells und = grind (arith, common_steps, primary_length, extended_primary, length-append)
 
 -- ---- the whole text
 
@@ -45,21 +42,20 @@ pub put_spelled :
     join (put_language r.primary r.extended f.language ∷ r.extended)
     ++ (before_script ++ (f.script ++ (before_region ++ (f.region ++ (drop (ends_of r).region (spell r) ++ [])))))
     ≡ spell (put_fields r f)
-put_spelled r f before_script before_region script_is region_is =
-    grind (arith, common_steps, append-nil, rest_of, append_assoc, hyphenated, hyphenated-append, join-append)
+put_spelled r f before_script before_region script_is region_is = grind (arith, append-nil, rest_of, append_assoc, hyphenated-append, join-append)
 
 -- ---- its length
 
 -- the region ends inside the text
 pub region_inside : (r : Record) → (ends_of r).region ≤ length (spell r)
-region_inside r = grind (arith, nat_tests, ends_in_order r)
+region_inside r = grind (arith, ends_in_order r)
 
 subtag-length : (s : List ℕ) → length (hyphenated (one_flat (subtag_of s))) ≤ length s + 1
 subtag-length [] = omega arith
 subtag-length (b ∷ s) = let same = ap length (append-nil s) in omega (arith, same)
 
 put_language-length : (p : List ℕ) (es : List (List ℕ)) (l : List ℕ) → length (put_language p es l) ≤ length p + length l
-put_language-length p es l = grind (arith, nat_tests)
+put_language-length p es l = grind arith
 
 -- a tag with other fields is longer by no more than these and two hyphens
 pub put_length : (r : Record) (f : Fields) → length (spell (put_fields r f)) ≤ length (spell r) + (length f.language + (length f.script + (length f.region + 2)))

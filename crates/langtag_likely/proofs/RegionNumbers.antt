@@ -1,9 +1,7 @@
 -- The number of a region tells it apart but for case.
 use Rattle.std.proofs.Common.{◌≡◌, ℕ, ◌+◌, true, ◌==◌, Bool, ltb, length, arith}
 use Rattle.std.specs.Prelude.{◌&&◌}
-use Rattle.std.proofs.lemmas.Bool.{and_parts, ltb-true}
 use Rattle.std.proofs.lemmas.List.{nil_from_length}
-use Rattle.std.proofs.lemmas.Grind.{common_steps}
 use Rattle.langtag_scan.specs.Case.{folded_number}
 use Rattle.langtag_scan.specs.Class.{are_alphanumeric}
 use Rattle.langtag_scan.proofs.FoldedNumbers.{folded_number-tells}
@@ -19,4 +17,4 @@ region_number f = folded_number f.region
 pub region-tells :
     (f : Fields) → are_alphanumeric f.region ≡ true → (row : Likely) → is_region_alone row ≡ true →
     (region_number (region_alone f) == region_number row.from) ≡ are_alike_fields row.from (region_alone f)
-region-tells f plain row good = grind (arith, common_steps, and_parts, ltb-true, nil_from_length, folded_number-tells)
+region-tells f plain row good = grind (arith, nil_from_length, folded_number-tells)

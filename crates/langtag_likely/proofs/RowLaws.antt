@@ -1,11 +1,7 @@
 -- The rows of the tables are those of the lists.
 use Rattle.std.proofs.Common.{◌≡◌, ℕ, ◌+◌, ◌<◌, true, ◌==◌, Bool, List, [], length, get_or, map, Option, None, Some, option_map, refl, sym, ap, ◌∙◌, arith}
 use Rattle.std.specs.Prelude.{◌&&◌}
-use Rattle.std.proofs.Math.Bool.{and-true}
-use Rattle.std.proofs.lemmas.Bool.{and_parts, ltb-true}
 use Rattle.std.proofs.lemmas.List.{get_or-map, nil_from_length}
-use Rattle.std.proofs.lemmas.Bool.Decides.{nat_tests}
-use Rattle.std.proofs.lemmas.Grind.{common_steps}
 use Rattle.langtag_scan.specs.Class.{are_letters}
 use Rattle.langtag_tables.specs.Numbers.{letter_number}
 use Rattle.langtag_tables.proofs.Letters.{letter_number-tells}
@@ -26,7 +22,7 @@ language_number f = letter_number f.language
 pub language-tells :
     (l : List ℕ) → are_letters l ≡ true → (row : Likely) → is_language row ≡ true →
     (language_number (of_language l) == language_number row.from) ≡ are_alike_fields row.from (of_language l)
-language-tells l letters row good = grind (arith, common_steps, and_parts, is_alone, ltb-true, nil_from_length, letter_number-tells, and-true)
+language-tells l letters row good = grind (arith, nil_from_length, letter_number-tells)
 
 -- ---- what is found by a number
 
@@ -49,7 +45,7 @@ pub language_at :
     (i : ℕ) (script region : List ℕ) → i < length language_rows →
     script ≡ get_or (map (λ row. row.to.script) language_rows) i [] → region ≡ get_or (map (λ row. row.to.region) language_rows) i [] →
     record { language = []; script = script; region = region } ≡ places_of (get_or language_rows i no_row).to
-language_at i script region inside script_is region_is = grind (arith, nat_tests, get_or-map)
+language_at i script region inside script_is region_is = grind (arith, get_or-map)
 
 -- any other row at an index
 pub other_at :
@@ -57,7 +53,7 @@ pub other_at :
     language ≡ get_or (map (λ row. row.to.language) other_rows) i [] → script ≡ get_or (map (λ row. row.to.script) other_rows) i [] →
     region ≡ get_or (map (λ row. row.to.region) other_rows) i [] →
     record { language = language; script = script; region = region } ≡ (get_or other_rows i no_row).to
-other_at i language script region inside language_is script_is region_is = grind (arith, nat_tests, get_or-map)
+other_at i language script region inside language_is script_is region_is = grind (arith, get_or-map)
 
 -- ---- all rows
 
@@ -70,16 +66,16 @@ or_none None = refl
 or_none (Some x) = refl
 
 pub all_long : (key : Fields) → 3 < length key.language → likely_for likely_subtags key ≡ None
-all_long key long = grind (arith, common_steps, either, long_nowhere, languages_short, others_short)
+all_long key long = grind (arith, either, long_nowhere, languages_short, others_short)
 
 fill_places : (l : List ℕ) → 0 < length l → (o : Option Fields) → option_map (filled (of_language l)) (option_map places_of o) ≡ option_map (filled (of_language l)) o
-fill_places l some o = grind (arith, nat_tests)
+fill_places l some o = grind arith
 
 -- a language and no more
 pub all_alone :
     (key : Fields) → 0 < length key.language → length key.script ≡ 0 → length key.region ≡ 0 →
     option_map (filled key) (places_for key.language) ≡ option_map (filled key) (likely_for likely_subtags key)
-all_alone key some no_script no_region = grind (arith, common_steps, nil_from_length, fill_places, either, alone_nowhere, others_other, or_none)
+all_alone key some no_script no_region = grind (arith, either, alone_nowhere, others_other)
 
 -- any other left side
 pub all_other : (key : Fields) → (0 < length key.language → length key.script + length key.region ≡ 0 → ⊥) → likely_for other_rows key ≡ likely_for likely_subtags key

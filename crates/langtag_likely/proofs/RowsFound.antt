@@ -2,9 +2,6 @@
 use Rattle.std.proofs.Common.{◌≡◌, ℕ, ◌+◌, ◌*◌, ◌<◌, true, false, ◌==◌, Bool, cond, ltb, List, [], ◌∷◌, ◌++◌, length, get_or, map, Option, None, Some, option_map, refl, arith}
 use Rattle.std.specs.Prelude.{◌&&◌}
 use Rattle.std.specs.List.{list_all}
-use Rattle.std.proofs.lemmas.Bool.{and_parts, ltb-true, false_from_ne_true}
-use Rattle.std.proofs.lemmas.Bool.Decides.{nat_tests}
-use Rattle.std.proofs.lemmas.Grind.{common_steps}
 use Rattle.langtag_scan.specs.Case.{are_alike}
 use Rattle.langtag_scan.specs.CaseLaws.{are_alike-decides}
 use Rattle.langtag_likely.specs.Likely.{Fields, Likely, are_alike_fields, likely_for, or_else}
@@ -19,14 +16,14 @@ module _ (number : Fields → ℕ) (is_good : Likely → Bool) (key : Fields)
       (rows : List Likely) → list_all is_good rows ≡ true →
       option_map (λ i. (get_or rows i no_row).to) (first_index (map (λ row. number row.from) rows) (number key)) ≡ likely_for rows key
   found_by_number [] all = refl
-  found_by_number (row ∷ rows) all = grind (arith, nat_tests, and_parts, found_by_number rows)
+  found_by_number (row ∷ rows) all = grind (arith, found_by_number rows)
 
 -- ---- no row
 
 module _ (is_good : Likely → Bool) (key : Fields) (apart : (row : Likely) → is_good row ≡ true → are_alike_fields row.from key ≡ false) where
   pub found_nowhere : (rows : List Likely) → list_all is_good rows ≡ true → likely_for rows key ≡ None
   found_nowhere [] all = refl
-  found_nowhere (row ∷ rows) all = grind (arith, nat_tests, and_parts (is_good row) (list_all is_good rows) all, found_nowhere rows)
+  found_nowhere (row ∷ rows) all = grind (arith, found_nowhere rows)
 
 append-test :
     (b : Bool) (to : Fields) (xs ys all : Option Fields) → all ≡ or_else xs ys → cond b (Some to) all ≡ or_else (cond b (Some to) xs) ys
@@ -49,7 +46,7 @@ record HaveLengths (a b : Fields) : Type 0 where
   region : length a.region ≡ length b.region
 
 alike_lengths : (a b : Fields) → are_alike_fields a b ≡ true → HaveLengths a b
-alike_lengths a b alike = grind (arith, common_steps, and_parts, alike_length)
+alike_lengths a b alike = grind (arith, alike_length)
 
 -- a language of at most three letters
 abbrev pub is_short : Likely → Bool
@@ -64,14 +61,14 @@ abbrev pub is_other : Likely → Bool
 is_other row = ltb (length row.from.language) (1 + 8 * (length row.from.script + length row.from.region))
 
 pub long_nowhere : (rows : List Likely) (key : Fields) → 3 < length key.language → list_all is_short rows ≡ true → likely_for rows key ≡ None
-long_nowhere rows key long = grind (arith, nat_tests, found_nowhere is_short key, false_from_ne_true, alike_lengths, ltb-true)
+long_nowhere rows key long = grind (arith, found_nowhere is_short key, alike_lengths)
 
 pub alone_nowhere :
     (rows : List Likely) (key : Fields) → 0 < length key.language → length key.script ≡ 0 → length key.region ≡ 0 → list_all is_other rows ≡ true →
     likely_for rows key ≡ None
-alone_nowhere rows key some no_script no_region = grind (arith, nat_tests, found_nowhere is_other key, false_from_ne_true, alike_lengths, ltb-true)
+alone_nowhere rows key some no_script no_region = grind (arith, found_nowhere is_other key, alike_lengths)
 
 pub other_nowhere :
     (rows : List Likely) (key : Fields) → (0 < length key.language → length key.script + length key.region ≡ 0 → ⊥) → list_all is_alone rows ≡ true →
     likely_for rows key ≡ None
-other_nowhere rows key other = grind (arith, nat_tests, found_nowhere is_alone key, false_from_ne_true, alike_lengths, and_parts, ltb-true 0, ltb-true)
+other_nowhere rows key other = grind (arith, found_nowhere is_alone key, alike_lengths)

@@ -4,7 +4,6 @@ use Rattle.std.specs.List.{list_all}
 use Rattle.std.specs.Option.{option_map_or}
 use Rattle.std.proofs.Common.{◌≡◌, ◌==◌, ◌%◌, true, false, Bool, cond, leb, not, List, [], ◌∷◌, ℕ, Option, None, Some, is_some, refl, sym, ap, ◌∙◌, arith}
 use Rattle.std.proofs.lemmas.Bool.{and_parts, leb-true, eqb-true}
-use Rattle.std.proofs.lemmas.Bool.Decides.{nat_tests}
 use Rattle.langtag_scan.specs.Case.{fold_byte, are_alike}
 use Rattle.langtag_scan.specs.Class.{is_letter, are_letters}
 use Rattle.langtag_tables.specs.Numbers.{letter_number}
@@ -83,4 +82,4 @@ row_by_bit language h =
 -- ---- a look-up without a language
 
 pub looked_up_other : (f : Fields) → f.language ≡ [] → looked_up other_rows f ≡ looked_up likely_subtags f
-looked_up_other f none = grind (arith, nat_tests, all_other)
+looked_up_other f none = grind (arith, all_other)

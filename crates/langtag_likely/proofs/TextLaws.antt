@@ -18,7 +18,7 @@ use Rattle.langtag_likely.proofs.GoodForms.{maximal_well_formed, minimal_well_fo
 -- ---- one form after another
 
 module _ (first second both : Record → Record) (well : (r : Record) → IsWellFormed r → IsWellFormed (first r)) where
-  composed :
+  pub composed :
       ((r : Record) → IsWellFormed r → second (first r) ≡ both r) → (old mid new : List ℕ) → IsForm first old mid → IsForm both old new → IsForm second mid new
   unfolding IsNormal
   composed law old mid new a b = elim (normal_or_not old) [
@@ -43,7 +43,7 @@ module _ (first second both : Record → Record) (well : (r : Record) → IsWell
   ]
 
 module _ (form_of : Record → Record) where
-  alike_forms : ((r q : Record) → AlikeRecords r q → AlikeRecords (form_of r) (form_of q)) → (old new : List ℕ) → IsForm form_of old new → IsAlikeForm (IsForm form_of) old new
+  pub alike_forms : ((r q : Record) → AlikeRecords r q → AlikeRecords (form_of r) (form_of q)) → (old new : List ℕ) → IsForm form_of old new → IsAlikeForm (IsForm form_of) old new
   unfolding IsNormal
   alike_forms law old new a = λ other form alike b. elim (normal_or_not old) [
     | inl (r, spells) ↦

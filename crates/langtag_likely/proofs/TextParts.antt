@@ -1,7 +1,6 @@
 -- The subtags of a text in which "_" is read as "-", one after the other.
 use Rattle.std.proofs.Common.{◌≡◌, ℕ, true, false, cond, codes, Some, None, List, [], ◌∷◌, inl, inr, refl, sym, ap, ◌∙◌, arith}
 use Rattle.std.specs.List.{before_first, after_first}
-use Rattle.std.proofs.lemmas.Bool.Decides.{nat_tests}
 use Rattle.langtag_scan.specs.Class.{is_primary}
 use Rattle.langtag_scan.specs.Subtags.{subtags}
 use Rattle.langtag_match.specs.Wanted.{hyphened, is_separator}
@@ -12,7 +11,7 @@ use Rattle.langtag_likely.specs.TextFields.{counts, fields_of_subtags, text_fiel
 -- the first subtag, if it counts, and those of the rest
 pub next_part :
     (text : List ℕ) → counted_parts text ≡ cond (counts (before_first is_separator text)) (before_first is_separator text ∷ counted_parts (after_first is_separator text)) (counted_parts (after_first is_separator text))
-next_part text = grind (arith, nat_tests, cut_or_whole is_separator text)
+next_part text = grind (arith, cut_or_whole is_separator text)
 
 -- those after the first
 others_part : (text : List ℕ) → fields_of_subtags (subtags (hyphened text)) ≡ cond (is_primary (before_first is_separator text)) (Some (record {

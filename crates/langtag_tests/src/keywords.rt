@@ -86,6 +86,8 @@ fn tags_have_a_form_as_locales(rt: HostRuntime) {
         ("i-default", "-"),
         ("x-a", "-"),
         ("zh-yue-t-m0", "-"),
+        ("zh-yue-hepburn-heploc", "yue-alalc97"),
+        ("zh-min", "-"),
     ];
     are_answered(&rt, rt.alloc(), &rows, localized);
 }

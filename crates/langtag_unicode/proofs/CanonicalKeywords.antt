@@ -3,7 +3,7 @@ use Rattle.std.proofs.Common.{◌≡◌, ℕ, ◌==◌, ◌&&◌, leb, Bool, tru
 use Rattle.std.proofs.lemmas.Bool.{and_parts, false≢true}
 use Rattle.std.proofs.lemmas.Bool.Decides.{nat_tests}
 use Rattle.std.proofs.lemmas.Grind.{flat_map-append}
-use Rattle.std.specs.List.{AllByRecursion, flat_map}
+use Rattle.std.specs.List.{AllByRecursion}
 use Rattle.std.specs.Option.{is_some, option_map_or}
 use Rattle.std.specs.Str.{bytes_eq}
 use Rattle.langtag_likely.proofs.RowsFound.{alike_length}
@@ -20,22 +20,16 @@ use Rattle.langtag_unicode.specs.Form.{in_alphabet, letters_and_digits, unicode_
 use Rattle.langtag_unicode.specs.Keywords.{before_key, is_key, value_of}
 use Rattle.langtag_unicode.proofs.Each.{each-alphabet}
 use Rattle.langtag_unicode.proofs.FormRecords.{Good, good-value, types-unicode}
-use Rattle.langtag_unicode.proofs.KeySplits.{KeySplit, all_keys, flat-pairs, key-split}
+use Rattle.langtag_unicode.proofs.KeySplits.{KeySplit, all_keys, key-split}
 use Rattle.langtag_unicode.proofs.KeywordBlocks.{AreValues, block, blocks, find-among, find-passed, found_key, put-among, put-passed, removed-among, without-passed}
+use Rattle.langtag_unicode.proofs.KeywordsInForm as in_form
+use Rattle.langtag_unicode.proofs.KeywordsInForm.{flat-same, plain-before}
 use Rattle.langtag_unicode.proofs.KeywordLaws.{AreNoKeys, alike-itself, allowed_from, before-kept, before-put, fits_from, none_after_removal, others_after_removal, others_after_set, read_after_set, standing-this, type-no_key}
 
 -- ---- values in canonical form have no keys
 
 pub key-fold : (s : List ℕ) → is_key (fold_text s) ≡ is_key s
 key-fold s = ap (λ n. n == 2) (length-fold s)
-
-no_keys-before : (ss : List (List ℕ)) → AreNoKeys (before_key is_key ss)
-no_keys-before [] = tt
-no_keys-before (s ∷ ss) = by_test (is_key s) refl (no_keys-before ss)
-  where
-    by_test : (b : Bool) → is_key s ≡ b → AreNoKeys (before_key is_key ss) → AreNoKeys (cond b [] (s ∷ before_key is_key ss))
-    by_test true is later = tt
-    by_test false is later = (is, later)
 
 -- what is found is the value of a key, and has no keys
 record FoundValue (key : List ℕ) (w : List (List ℕ)) : Type 0 where
@@ -52,7 +46,7 @@ found-value key (s ∷ ss) w found = by_test (is_key s && are_alike s key) refl 
     by_test true this later found =
         let parts = and_parts (is_key s) (are_alike s key) this in
         let same : before_key is_key ss ≡ w = cc in
-        record { opens = ap (λ n. n == 2) (sym (alike_length s key parts.1)) ∙ parts.0; no_keys = subst AreNoKeys same (no_keys-before ss) }
+        record { opens = ap (λ n. n == 2) (sym (alike_length s key parts.1)) ∙ parts.0; no_keys = subst AreNoKeys same (plain-before is_key ss) }
     by_test false this later found = later found
 
 type_from : (s : List ℕ) → is_extension_subtag s ≡ true → is_key s ≡ false → is_type s ≡ true
@@ -91,25 +85,8 @@ values-are ss good key v is = by_found (value_of is_key key ss) refl is
 
 -- ---- the form, key after key
 
-flat-same : (f g : List ℕ → List (List ℕ)) (keys : List (List ℕ)) → AllByRecursion (λ k. f k ≡ g k) keys → flat_map f keys ≡ flat_map g keys
-flat-same f g [] same = refl
-flat-same f g (k ∷ keys) same = ap (λ t. t ++ flat_map f keys) same.0 ∙ ap (λ t. g k ++ t) (flat-same f g keys same.1)
-
 pub form-blocks : (ss : List (List ℕ)) → form.keywords_form is_key unicode_value ss ≡ blocks (values ss) all_keys
-form-blocks ss =
-    flat-pairs (form.keyword_form is_key unicode_value ss) letters_and_digits letters_and_digits
-    ∙ flat-same (form.keyword_form is_key unicode_value ss) (block (values ss)) all_keys (each all_keys)
-  where
-    by_value :
-        (key : List ℕ) (o : Option (List (List ℕ))) →
-        option_map_or (λ w. key ∷ map fold_text (subtags (unicode_value key (join w)))) o []
-        ≡ option_map_or (λ v. key ∷ v) (option_map (λ w. map fold_text (subtags (unicode_value key (join w)))) o) []
-    by_value key None = refl
-    by_value key (Some w) = refl
-
-    each : (keys : List (List ℕ)) → AllByRecursion (λ k. form.keyword_form is_key unicode_value ss k ≡ block (values ss) k) keys
-    each [] = tt
-    each (k ∷ keys) = (by_value k (value_of is_key k ss), each keys)
+form-blocks = in_form.form-blocks is_key unicode_value
 
 pub alike-back : (a b : List ℕ) → are_alike a b ≡ false → are_alike b a ≡ false
 alike-back a b apart = by_test (are_alike b a) refl
@@ -132,7 +109,7 @@ module _ (ss : List (List ℕ)) (good : Good ss) (own : unicode_form ss ≡ ss) 
   shape = sym own ∙ ap (λ t. attributes ++ t) (form-blocks ss ∙ apart-form ss)
 
   plain : AreNoKeys attributes
-  plain = each-alphabet (λ t. is_key t ≡ false) (λ t other. key-fold t ∙ other) (before_key is_key ss) (no_keys-before ss)
+  plain = each-alphabet (λ t. is_key t ≡ false) (λ t other. key-fold t ∙ other) (before_key is_key ss) (plain-before is_key ss)
 
   removed-shape : without_keyword key ss ≡ spelled []
   removed-shape =
@@ -211,7 +188,7 @@ without-fold key inside (s ∷ ss) =
     ∙ ap (λ t. cond (cond (is_key s) (are_alike s key) inside) t (s ∷ without_within (fold_text key) false ss)) (without-fold key true ss)
     ∙ ap (λ t. cond (cond (is_key s) (are_alike s key) inside) (without_within key true ss) (s ∷ t)) (without-fold key false ss)
 
-unicode_key-fold : (key : List ℕ) → is_unicode_key (fold_text key) ≡ is_unicode_key key
+pub unicode_key-fold : (key : List ℕ) → is_unicode_key (fold_text key) ≡ is_unicode_key key
 unicode_key-fold [] = refl
 unicode_key-fold (a ∷ []) = refl
 unicode_key-fold (a ∷ b ∷ []) = rw (is_letter-fold a, is_digit-fold a, is_letter-fold b) refl

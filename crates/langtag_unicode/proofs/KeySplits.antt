@@ -79,7 +79,7 @@ lower_by_test (k ∷ keys) all =
     let parts = and_parts (bytes_eq (fold_text k) k) (list_all (λ j. bytes_eq (fold_text j) j) keys) all in
     ((bytes_eq-Decides (fold_text k) k).0 parts.0, lower_by_test keys parts.1)
 
-all_lower : AllByRecursion (λ k. fold_text k ≡ k) all_keys
+pub all_lower : AllByRecursion (λ k. fold_text k ≡ k) all_keys
 unfolding fold_byte
 all_lower = lower_by_test all_keys refl
 

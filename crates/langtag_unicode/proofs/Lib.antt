@@ -20,6 +20,7 @@ pub mod LocaleSizes
 pub mod LocaleAgain
 pub mod LocaleTransforms
 pub mod LocaleSettled
+pub mod WholeForms
 pub mod VariantForms
 pub mod AlphabetTwice
 pub mod IdentifierTables
@@ -32,3 +33,11 @@ pub mod KeywordBlocks
 pub mod KeySplits
 pub mod CanonicalKeywords
 pub mod CanonicalTags
+pub mod KeywordsInForm
+pub mod CanonicalValues
+pub mod FormTwice
+pub mod ExtensionsTwice
+pub mod ExtensionCase
+pub mod LocaleCase
+pub mod LocaleTwice
+pub mod KeywordOrder

@@ -9,7 +9,7 @@ use Rattle.langtag.specs.Repeat.{are_alike_bytes, repeat, repeat_index_after}
 use Rattle.langtag_extension.specs.Spelling.{find_extension}
 use Rattle.langtag_likely.specs.Likely.{Fields}
 use Rattle.langtag_likely.specs.Matching.{language_replaced}
-use Rattle.langtag_scan.proofs.CaseLaw.{fold_text-twice, is_digit-fold, is_letter-fold}
+use Rattle.langtag_scan.proofs.CaseLaw.{is_digit-fold, is_letter-fold}
 use Rattle.langtag_scan.proofs.SubtagLists.{each-append}
 use Rattle.langtag_scan.specs.Case.{are_alike, fold_byte, fold_text}
 use Rattle.langtag_scan.specs.CaseLaws.{are_alike-decides}
@@ -21,8 +21,9 @@ use Rattle.langtag_unicode.specs.Keywords.{before_key, is_key, value_of}
 use Rattle.langtag_unicode.specs.Locale.{is_unicode_subtag}
 use Rattle.langtag_unicode.specs.LocaleForm.{extension_at, extensions_in_order, locale_extension_form, new_variants, singletons}
 use Rattle.langtag_unicode.proofs.AlphabetLaws.{Rise, Under, before-itself, before-trans, rise-in_alphabet}
+use Rattle.langtag_unicode.proofs.AlphabetTwice.{lower-in_alphabet}
 use Rattle.langtag_unicode.proofs.CanonicalKeywords.{form-blocks, key-fold, values, values-are}
-use Rattle.langtag_unicode.proofs.Each.{each-alphabet, each-before, each-put}
+use Rattle.langtag_unicode.proofs.Each.{each-alphabet, each-before}
 use Rattle.langtag_unicode.proofs.FormRecords.{Good}
 use Rattle.langtag_unicode.proofs.FormSizes.{are_apart}
 use Rattle.langtag_unicode.proofs.KeySplits.{all_keys}
@@ -64,10 +65,6 @@ module _ {A : Type 0} (alike : A → A → Bool) where
 
 -- ---- the variants
 
-lower-alphabet : (ss : List (List ℕ)) → AllByRecursion (λ s. fold_text s ≡ s) (in_alphabet ss)
-lower-alphabet [] = tt
-lower-alphabet (s ∷ ss) = each-put (λ s. fold_text s ≡ s) (fold_text s) (in_alphabet ss) (fold_text-twice s) (lower-alphabet ss)
-
 under-next : (s t : List ℕ) (ts : List (List ℕ)) → is_before s t ≡ true → Under t ts → Under s ts
 under-next s t [] below under = tt
 under-next s t (u ∷ us) below under = before-trans s t u below under
@@ -93,14 +90,15 @@ rise-apart : (ss : List (List ℕ)) → AllByRecursion (λ s. fold_text s ≡ s)
 rise-apart [] lowers rise = tt
 rise-apart (s ∷ ss) lowers rise = (after-apart s ss lowers.0 lowers.1 (all_after s ss rise.0 rise.1), rise-apart ss lowers.1 rise.1)
 
+pub alphabet-apart : (ss : List (List ℕ)) → Apart are_alike (in_alphabet ss)
+alphabet-apart ss = rise-apart (in_alphabet ss) (lower-in_alphabet ss) (rise-in_alphabet ss)
+
 pub new_variants-apart : (variants : List (List ℕ)) (f : Fields) → Apart are_alike (new_variants variants f)
-new_variants-apart variants f =
-    let all = forms (language_replaced f).language variants variants in
-    rise-apart (in_alphabet all) (lower-alphabet all) (rise-in_alphabet all)
+new_variants-apart variants f = alphabet-apart (forms (language_replaced f).language variants variants)
 
 -- ---- the singletons
 
-form_singleton : (e : Extension) → fold_byte (locale_extension_form e).singleton ≡ fold_byte e.singleton
+pub form_singleton : (e : Extension) → fold_byte (locale_extension_form e).singleton ≡ fold_byte e.singleton
 unfolding fold_byte
 form_singleton e = ap (λ x. fold_byte x.singleton) (locale_form_tested _ _ e refl refl) ∙ by_tests (is_of 117 e) (is_of 116 e) refl refl
   where

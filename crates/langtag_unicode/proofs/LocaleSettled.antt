@@ -9,18 +9,19 @@ use Rattle.langtag_likely.specs.Likely.{Fields}
 use Rattle.langtag_scan.proofs.SubtagLists.{each_from_test, test_from_each}
 use Rattle.langtag_scan.specs.Case.{are_alike, fold_byte}
 use Rattle.langtag_scan.specs.Record.{Extension, IsWellFormed, IsWellFormedExtension, Record}
-use Rattle.langtag_unicode.specs.Form.{are_different_variants, are_fields, is_language_or_none, is_of, is_transform, is_unicode_language, unicode_form}
+use Rattle.langtag_unicode.specs.Form.{are_different_variants, are_fields, is_language_or_none, is_of, is_transform, is_unicode_language, transform_value, unicode_form}
 use Rattle.langtag_unicode.specs.Keywords.{before_key}
 use Rattle.langtag_unicode.specs.Locale.{is_locale_extension, is_locale_record, is_unicode_subtag}
 use Rattle.langtag_unicode.specs.LocaleForm.{extension_at, extensions_in_order, identifier_fields, identifier_form, identifier_variants, locale_extension_form, locale_record, locale_transform_form, new_variants, record_fields, singletons, transform_language_form}
 use Rattle.langtag_unicode.specs.Transform.{is_field_key}
 use Rattle.langtag_unicode.proofs.FormRecords.{Good}
 use Rattle.langtag_unicode.proofs.IdentifierForms.{form_subtags, record_subtags}
+use Rattle.langtag_unicode.proofs.KeywordsInForm.{front-again}
 use Rattle.langtag_unicode.proofs.LocaleAgain.{new_variants-apart, none_repeated, singletons-apart, unicode_form-may}
 use Rattle.langtag_unicode.proofs.LocaleExtensions.{locale_form_by, locale_form_tested, transform_allowed}
 use Rattle.langtag_unicode.proofs.LocaleRecords.{all_allowed, different_variants, fields_good, new_variants_good}
 use Rattle.langtag_unicode.proofs.LocaleTables.{both, found_has}
-use Rattle.langtag_unicode.proofs.LocaleTransforms.{AreNoFields, are-fields, before-fields, identifier-no_field, identifier-variants}
+use Rattle.langtag_unicode.proofs.LocaleTransforms.{AreNoFields, are-fields, field_values, identifier-no_field, identifier-variants}
 
 both_true : (x y : Bool) → x ≡ true → y ≡ true → (x && y) ≡ true
 both_true true y one two = two
@@ -28,7 +29,7 @@ both_true false y one two = one
 
 -- ---- the extension `t`
 
-language-no_field : (ss : List (List ℕ)) → is_language_or_none ss ≡ true → AreNoFields (transform_language_form ss)
+pub language-no_field : (ss : List (List ℕ)) → is_language_or_none ss ≡ true → AreNoFields (transform_language_form ss)
 language-no_field [] is = tt
 language-no_field (s ∷ ss) is =
     let f : Fields = identifier_fields s ss in
@@ -36,7 +37,7 @@ language-no_field (s ∷ ss) is =
     let parts = both (is_unicode_language s) (are_different_variants vs) is in
     identifier-no_field (identifier_form vs f) (new_variants vs f) (form_subtags vs f (fields_good s ss parts.0)) (new_variants_good vs f (different_variants vs parts.1))
 
-language-allowed : (ss : List (List ℕ)) → is_language_or_none ss ≡ true → is_language_or_none (transform_language_form ss) ≡ true
+pub language-allowed : (ss : List (List ℕ)) → is_language_or_none ss ≡ true → is_language_or_none (transform_language_form ss) ≡ true
 language-allowed [] is = refl
 language-allowed (s ∷ ss) is =
     let f : Fields = identifier_fields s ss in
@@ -51,7 +52,7 @@ transform-allowed ss good is =
     let parts = both (is_language_or_none (before_key is_field_key ss)) (are_fields false false ss) is in
     let language = transform_language_form (before_key is_field_key ss) in
     let none = language-no_field (before_key is_field_key ss) parts.0 in
-    both_true _ _ (ap is_language_or_none (before-fields ss good parts.1 language none) ∙ language-allowed (before_key is_field_key ss) parts.0) (are-fields ss good parts.1 language none)
+    both_true _ _ (ap is_language_or_none (front-again is_field_key transform_value ss (field_values ss good parts.1) language none) ∙ language-allowed (before_key is_field_key ss) parts.0) (are-fields ss good parts.1 language none)
 
 -- ---- extensions
 

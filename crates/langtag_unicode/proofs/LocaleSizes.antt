@@ -9,7 +9,6 @@ use Rattle.langtag.proofs.RepeatLaws.{repeat-first}
 use Rattle.langtag_extension.specs.Spelling.{find_extension}
 use Rattle.langtag_likely.specs.Likely.{Fields}
 use Rattle.langtag_likely.specs.Maximal.{subtag_of}
-use Rattle.langtag_output.specs.Writes.{Writes}
 use Rattle.langtag_scan.proofs.NormalTexts.{spelled_once}
 use Rattle.langtag_scan.proofs.PartOffsets.{length-spell}
 use Rattle.langtag_scan.specs.Case.{are_alike, fold_byte}
@@ -112,13 +111,15 @@ part-size part = grind (arith, common_steps, bytes-most)
 variants_once : (r : Record) → is_locale_record r ≡ true → HasOneHeploc r.variants
 variants_once r locale = grind (arith, common_steps, repeat-first are_alike r.variants, both, one-pairs r.variants, false≢true)
 
-pub locale_length : (r : Record) → IsWellFormed r → is_locale_record r ≡ true → length (locale_text r) ≤ length (spell r) + 32
+-- `more` is the bytes by which the extensions grow
+parts_length :
+    (r : Record) (more : ℕ) → IsWellFormed r → is_locale_record r ≡ true →
+    size (flat_map extension_flat (extensions_in_order r.extensions)) ≤ size (flat_map extension_flat r.extensions) + more → length (locale_text r) ≤ length (spell r) + 6 + more
 unfolding locale_record
-locale_length r fits locale =
+parts_length r more fits locale extensions =
     let f = record_fields r in
     let form : Fields = identifier_form r.variants f in
     let identifier = identifier-size f r.variants (record_subtags r fits locale) (variants_once r locale) in
-    let extensions = extensions-size r.extensions (all_allowed r locale) in
     let same = same_length r in
     let new_all = length-spell (locale_record r) in
     let old_all = length-spell r in
@@ -137,6 +138,17 @@ locale_length r fits locale =
     let i = length-with_hyphens (flat_map extension_flat r.extensions) in
     omega (arith, identifier, extensions, same, new_all, old_all, primary, script, region, new, new_later, a, b, c, d, e, g, h, i)
 
+pub locale_length : (r : Record) → IsWellFormed r → is_locale_record r ≡ true → length (locale_text r) ≤ length (spell r) + 32
+locale_length r fits locale = let most = parts_length r 26 fits locale (extensions-size r.extensions (all_allowed r locale)) in omega (arith, most)
+
+-- a record without extensions
+pub plain_length : (r : Record) → IsWellFormed r → is_locale_record r ≡ true → r.extensions ≡ [] → length (locale_text r) ≤ length (spell r) + 6
+plain_length r fits locale none = let most = parts_length r 0 fits locale (by_list r.extensions none) in omega (arith, most)
+  where
+    by_list : (es : List Extension) → es ≡ [] → size (flat_map extension_flat (extensions_in_order es)) ≤ size (flat_map extension_flat es) + 0
+    by_list [] none = omega arith
+    by_list (e ∷ es) none = absurd cc
+
 -- the record of a Unicode locale identifier is allowed
 pub spelled_locale : (tag : List ℕ) (r : Record) → IsLocale tag → Spells r tag → is_locale_record r ≡ true
 spelled_locale tag r (q, also, locale) spells = ap is_locale_record (spelled_once r q spells.0 also.0 (spells.1 ∙ sym also.1)) ∙ locale
@@ -144,8 +156,3 @@ spelled_locale tag r (q, also, locale) spells = ap is_locale_record (spelled_onc
 -- the form of a tag that fits into memory has a length
 pub form_short : (tag : List ℕ) (r : Record) → IsLocale tag → Spells r tag → length tag < 2 ^ 63 → length (locale_text r) < 2 ^ 64
 form_short tag r is spells short = omega (arith, locale_length r spells.0 (spelled_locale tag r is spells), ap length spells.1, short)
-
--- what is written is no longer
-pub written_bounded :
-    (tag before after : List ℕ) (len : ℕ) (r : Record) → Spells r tag → is_locale_record r ≡ true → Writes (λ form. form ≡ locale_text r) before after len → len ≤ length tag + 32
-written_bounded tag before after len r spells locale written = omega (arith, written.whole, ap length written.is_so, locale_length r spells.0 locale, ap length spells.1)

@@ -26,6 +26,7 @@ use Rattle.langtag_unicode.specs.Transform.{is_field_key}
 use Rattle.langtag_unicode.proofs.CanonicalKeywords.{alike-back}
 use Rattle.langtag_unicode.proofs.FormRecords.{Good, good-value}
 use Rattle.langtag_unicode.proofs.IdentifierForms.{AreSubtags, language_primary}
+use Rattle.langtag_unicode.proofs.KeywordsInForm.{AreKeywords, values_in_form}
 use Rattle.langtag_unicode.proofs.LocaleAgain.{Apart}
 use Rattle.langtag_unicode.proofs.LocaleRecords.{AreVariants}
 use Rattle.langtag_unicode.proofs.LocaleTables.{both, found_has}
@@ -91,7 +92,7 @@ identifier-no_field f vs subtags variants = (
 
 -- ---- the parts of a language identifier are found again
 
-variant-no_script : (v : List ℕ) → is_variant v ≡ true → is_script v ≡ false
+pub variant-no_script : (v : List ℕ) → is_variant v ≡ true → is_script v ≡ false
 variant-no_script v is = by_test (is_script v) refl
   where
     by_test : (b : Bool) → is_script v ≡ b → is_script v ≡ false
@@ -103,23 +104,29 @@ variant-no_script v is = by_test (is_script v) refl
         ]
     by_test false other = other
 
-after_region : (s : List ℕ) (vs : List (List ℕ)) → is_region_field s ≡ true → AreVariants vs → after_one is_region (one_flat (subtag_of s) ++ vs) ≡ vs
+pub variant-no_region : (v : List ℕ) → is_variant v ≡ true → is_region v ≡ false
+variant-no_region v is = by_test (is_region v) refl
+  where
+    by_test : (b : Bool) → is_region v ≡ b → is_region v ≡ false
+    by_test true region = let three = region_short v region in let four = variant_four v is in absurd (omega (arith, three, four))
+    by_test false other = other
+
+pub region-no_script : (s : List ℕ) → is_region s ≡ true → is_script s ≡ false
+region-no_script s is = by_test (is_script s) refl
+  where
+    by_test : (b : Bool) → is_script s ≡ b → is_script s ≡ false
+    by_test true script = let three = region_short s is in let four = (script_four s script).0 in absurd (omega (arith, three, four))
+    by_test false other = other
+
+pub after_region : (s : List ℕ) (vs : List (List ℕ)) → is_region_field s ≡ true → AreVariants vs → after_one is_region (one_flat (subtag_of s) ++ vs) ≡ vs
 after_region (b ∷ s) vs is variants = ap (λ t. cond t vs ((b ∷ s) ∷ vs)) is
 after_region [] [] is variants = refl
-after_region [] (v ∷ vs) is variants = by_test (is_region v) refl
-  where
-    by_test : (t : Bool) → is_region v ≡ t → cond (is_region v) vs (v ∷ vs) ≡ v ∷ vs
-    by_test true region = let three = region_short v region in let four = variant_four v variants.0 in absurd (omega (arith, three, four))
-    by_test false other = ap (λ t. cond t vs (v ∷ vs)) other
+after_region [] (v ∷ vs) is variants = ap (λ t. cond t vs (v ∷ vs)) (variant-no_region v variants.0)
 
-after_script : (s r : List ℕ) (vs : List (List ℕ)) → is_script_field s ≡ true → is_region_field r ≡ true → AreVariants vs →
+pub after_script : (s r : List ℕ) (vs : List (List ℕ)) → is_script_field s ≡ true → is_region_field r ≡ true → AreVariants vs →
     after_one is_script (one_flat (subtag_of s) ++ (one_flat (subtag_of r) ++ vs)) ≡ one_flat (subtag_of r) ++ vs
 after_script (b ∷ s) r vs is region variants = ap (λ t. cond t (one_flat (subtag_of r) ++ vs) ((b ∷ s) ∷ (one_flat (subtag_of r) ++ vs))) is
-after_script [] (b ∷ r) vs is region variants = by_test (is_script (b ∷ r)) refl
-  where
-    by_test : (t : Bool) → is_script (b ∷ r) ≡ t → cond (is_script (b ∷ r)) vs ((b ∷ r) ∷ vs) ≡ (b ∷ r) ∷ vs
-    by_test true script = let three = region_short (b ∷ r) region in let four = (script_four (b ∷ r) script).0 in absurd (omega (arith, three, four))
-    by_test false other = ap (λ t. cond t vs ((b ∷ r) ∷ vs)) other
+after_script [] (b ∷ r) vs is region variants = ap (λ t. cond t vs ((b ∷ r) ∷ vs)) (region-no_script (b ∷ r) region)
 after_script [] [] [] is region variants = refl
 after_script [] [] (v ∷ vs) is region variants = ap (λ t. cond t vs (v ∷ vs)) (variant-no_script v variants.0)
 
@@ -168,7 +175,7 @@ fields-value (s ∷ ss) are = by_test (is_field_key s) are
     by_test true are = absurd (false≢true are)
     by_test false are = let parts = both (leb 3 (length s)) (are_fields true false ss) are in record { some = omega arith; long = (parts.0, fields-long ss parts.1) }
 
-field_key-fold : (s : List ℕ) → is_field_key (fold_text s) ≡ is_field_key s
+pub field_key-fold : (s : List ℕ) → is_field_key (fold_text s) ≡ is_field_key s
 field_key-fold [] = refl
 field_key-fold (a ∷ []) = refl
 field_key-fold (a ∷ b ∷ []) = rw (is_letter-fold a, is_digit-fold b) refl
@@ -226,10 +233,13 @@ lower-value : (ss : List (List ℕ)) → IsValue ss → IsValue (map fold_text s
 lower-value [] value = let some = value.some in absurd (omega (arith, some))
 lower-value (s ∷ ss) value = record { some = omega arith; long = lower-long (s ∷ ss) value.long }
 
+value-no_field : (ss : List (List ℕ)) → AllByRecursion (λ s. leb 3 (length s) ≡ true) ss → AreNoFields ss
+value-no_field [] long = tt
+value-no_field (s ∷ ss) long = (long-no_field s (leb-true _ _ long.0), value-no_field ss long.1)
+
 -- ---- fields, each of which is a key and a value, or nothing
 
 record IsField (ss : List (List ℕ)) : Type 0 where
-  begins : (rest : List (List ℕ)) → before_key is_field_key rest ≡ [] → before_key is_field_key (ss ++ rest) ≡ []
   follows : (inside : Bool) (rest : List (List ℕ)) → ((b : Bool) → are_fields b false rest ≡ true) → are_fields inside false (ss ++ rest) ≡ true
 
 long-fields :
@@ -247,18 +257,16 @@ value-fields (s ∷ v) rest value later =
 
 field : (key : List ℕ) (v : List (List ℕ)) → is_field_key key ≡ true → IsValue v → IsField (key ∷ v)
 field key v opens value = record {
-  begins = λ rest none. ap (λ b. cond b [] (key ∷ before_key is_field_key (v ++ rest))) opens;
   follows = λ inside rest later.
       ap (λ b. cond b true (not inside || leb 3 (length key)) && are_fields (inside || b) b (v ++ rest)) opens
       ∙ ap (λ b. are_fields b true (v ++ rest)) (or_true inside) ∙ value-fields v rest value later;
 }
 
 nothing : IsField []
-nothing = record { begins = λ rest none. none; follows = λ inside rest later. later inside }
+nothing = record { follows = λ inside rest later. later inside }
 
 pair : (xs ys : List (List ℕ)) → IsField xs → IsField ys → IsField (xs ++ ys)
 pair xs ys one two = record {
-  begins = λ rest none. ap (before_key is_field_key) (append_assoc xs ys rest) ∙ one.begins (ys ++ rest) (two.begins rest none);
   follows = λ inside rest later. ap (are_fields inside false) (append_assoc xs ys rest) ∙ one.follows inside (ys ++ rest) (λ b. two.follows b rest later);
 }
 
@@ -279,12 +287,21 @@ module _ (ss : List (List ℕ)) (good : Good ss) (are : are_fields false false s
   fields : IsField (form.keywords_form is_field_key transform_value ss)
   fields = all-fields _ (λ a. all-fields _ (λ b. keyword-field (a ∷ b ∷ [])) letters_and_digits) letters_and_digits
 
-  -- after subtags of a language
-  pub before-fields : (language : List (List ℕ)) → AreNoFields language → before_key is_field_key (language ++ form.keywords_form is_field_key transform_value ss) ≡ language
-  before-fields [] none = ap (before_key is_field_key) (sym (append-nil (form.keywords_form is_field_key transform_value ss))) ∙ fields.begins [] refl
-  before-fields (s ∷ language) none =
-      ap (λ b. cond b [] (s ∷ before_key is_field_key (language ++ form.keywords_form is_field_key transform_value ss))) none.0 ∙ ap (λ t. s ∷ t) (before-fields language none.1)
+  -- a value is that of a key, and has no keys
+  pub field_values : AreKeywords is_field_key (values_in_form is_field_key transform_value ss)
+  field_values key v is = by_value (value_of is_field_key key ss) refl is
+    where
+      by_value :
+          (o : Option (List (List ℕ))) → value_of is_field_key key ss ≡ o → option_map (λ w. map fold_text (subtags (transform_value key (join w)))) o ≡ Some v →
+          (is_field_key key ≡ true) × AreNoFields v
+      by_value None none is = absurd cc
+      by_value (Some w) found is =
+          let this = found-field false false key ss w are found in
+          let value = lower-value _ (transform-value key w (good-value is_field_key key ss w good found) this.value) in
+          let same : map fold_text (subtags (transform_value key (join w))) ≡ v = cc in
+          (this.opens, subst AreNoFields same (value-no_field _ value.long))
 
+  -- after subtags of a language
   pub are-fields : (language : List (List ℕ)) → AreNoFields language → are_fields false false (language ++ form.keywords_form is_field_key transform_value ss) ≡ true
   are-fields [] none = ap (are_fields false false) (sym (append-nil (form.keywords_form is_field_key transform_value ss))) ∙ fields.follows false [] (λ b. refl)
   are-fields (s ∷ language) none =

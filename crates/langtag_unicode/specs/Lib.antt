@@ -5,6 +5,7 @@ pub mod Transform
 pub mod Alias
 pub mod Aliases
 pub mod Form
+pub mod FormLaws
 pub mod Alphabet
 pub mod Marks
 pub mod Edit

@@ -1,9 +1,10 @@
 -- The canonical form of a Unicode locale identifier (UTS #35, part 1, Annex C, 'LocaleId Canonicalization'). The annex
 -- repeats the rules of CLDR until none fits. Here they are seven steps, each of which is done once.
-use Rattle.std.specs.Prelude.{ℕ, Bool, List, [], ◌∷◌, ◌++◌, Option, None, Some, codes, find, if◌then◌else◌, ◌&&◌, ◌||◌, unwrap_or}
+use Rattle.std.specs.Prelude.{◌≡◌, ℕ, Bool, List, [], ◌∷◌, ◌++◌, Option, None, Some, codes, find, if◌then◌else◌, ◌&&◌, ◌||◌, unwrap_or}
 use Rattle.std.specs.List.{flat_map, fold, list_any}
 use Rattle.std.specs.Option.{is_some, option_map, option_map_or}
 use Rattle.langtag.specs.Part.{PartOf}
+use Rattle.langtag.specs.Registered.{IsGrandfathered}
 use Rattle.langtag_case.specs.RecommendedCase.{recommended_text}
 use Rattle.langtag_extension.specs.Spelling.{find_extension}
 use Rattle.langtag_likely.specs.Aliases.{region_replacements}
@@ -11,7 +12,8 @@ use Rattle.langtag_likely.specs.Likely.{Fields, add_likely, known, likely_for, o
 use Rattle.langtag_likely.specs.LikelySubtags.{likely_subtags}
 use Rattle.langtag_likely.specs.Matching.{language_replaced, region_alone}
 use Rattle.langtag_likely.specs.Maximal.{subtag_of}
-use Rattle.langtag_registry.specs.Canonical.{IsCanonicalForm}
+use Rattle.langtag_registry.specs.Fields.{preferred_tag}
+use Rattle.langtag_registry.specs.Registered.{is_registered_extlang}
 use Rattle.langtag_scan.specs.Case.{are_alike}
 use Rattle.langtag_scan.specs.Class.{is_region, is_script}
 use Rattle.langtag_scan.specs.Record.{Extension, Record, one_flat, spell}
@@ -197,12 +199,32 @@ locale_record r =
 unfoldable pub locale_text : Record → List ℕ
 locale_text r = recommended_text (spell (locale_record r))
 
+-- the form of a record, or `None` if the record is not a unicode_locale_id
+abbrev pub record_form : Record → Option (List ℕ)
+record_form r = if is_locale_record r then Some (locale_text r) else None
+
 -- the form of a Unicode locale identifier; `None` for a tag that is not a Unicode locale identifier
 abbrev pub IsLocaleForm : List ℕ → Option (List ℕ) → Type 0
-IsLocaleForm tag form = PartOf tag (λ r. if is_locale_record r then Some (locale_text r) else None) None form
+IsLocaleForm tag form = PartOf tag record_form None form
 
--- the form of any tag: of a Unicode locale identifier its form, and of any other tag the form of its canonical form (RFC
--- 5646 section 4.5); `None` if that is not a Unicode locale identifier, either
+-- the record in which the extended language, if it is registered and the only one, has replaced the language before it
+-- (RFC 5646 section 4.5): `zh-yue-HK` becomes `yue-HK`
+abbrev pub replace_language : List (List ℕ) → Record → Record
+replace_language [] r = r
+replace_language (extlang ∷ []) r = if is_registered_extlang extlang then record r { primary = extlang; extended = [] } else r
+replace_language (first ∷ second ∷ others) r = r
+
+abbrev pub extlang_replaced : Record → Record
+extlang_replaced r = replace_language r.extended r
+
+-- the form of any tag. A Unicode locale identifier gets its form. A tag with a Preferred-Value in IANA's registry gets the
+-- form of that value, any other grandfathered tag has no form, and every other tag gets the form of its record after the
+-- extended language has replaced the language. `None` if no Unicode locale identifier comes of it.
+--
+-- This is the form of the canonical form (RFC 5646 section 4.5) for all tags but those with variants such as in
+-- `zh-yue-hepburn-heploc`, which gets the form of `yue-hepburn-heploc`
 pub record IsWholeForm (tag : List ℕ) (form : Option (List ℕ)) : Type 0 where
   pub locale : IsLocale tag → IsLocaleForm tag form
-  pub other : (IsLocale tag → ⊥) → (canonical : List ℕ) × IsCanonicalForm tag canonical × IsLocaleForm canonical form
+  pub whole : (IsLocale tag → ⊥) → (value : List ℕ) → preferred_tag tag ≡ Some value → IsLocaleForm value form
+  pub kept : (IsLocale tag → ⊥) → preferred_tag tag ≡ None → IsGrandfathered tag → form ≡ None
+  pub parts : (IsLocale tag → ⊥) → preferred_tag tag ≡ None → (IsGrandfathered tag → ⊥) → PartOf tag (λ r. record_form (extlang_replaced r)) None form

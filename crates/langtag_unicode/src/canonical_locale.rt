@@ -1,5 +1,5 @@
 //! The canonical form of a Unicode locale identifier (UTS #35, part 1, Annex C).
-ghost use Rattle.std.specs.Prelude.{◌≡◌, ◌≤◌, ◌+◌, IfOk, IfSome, IsTrue, None, Some, [], length, unwrap_or};
+ghost use Rattle.std.specs.Prelude.{◌≡◌, ◌≤◌, ◌<◌, ◌+◌, IfOk, IfSome, IsTrue, None, Some, [], length, unwrap_or};
 ghost use Rattle.std.specs.Option.{option_map};
 ghost use Rattle.langtag.specs.Text.{lang_tag_buf_text, lang_tag_text, normal_lang_tag_text};
 ghost use Rattle.langtag_language.specs.Language.{EachLanguageSpelling};
@@ -14,22 +14,19 @@ ghost use Rattle.langtag_unicode.specs.Locale as identifier;
 ghost use Rattle.langtag_unicode.specs.LocaleForm as spec;
 
 use crate::form::{push_private_use, tag_of};
-use crate::locale::{is_locale, is_locale_record};
 use crate::locale_extensions::{push_identifier, push_locale_extensions};
+use crate::locale_for::locale_for;
 use crate::subtags::nonempty;
 use langtag::{LangTag, LangTagBuf, Language, NormalLangTag, Region, Script};
 use langtag_case::make_recommended_case;
 use langtag_likely::TagFields;
 use langtag_output::Output;
-use langtag_registry::canonical;
 use std::alloc::{AllocError, Global};
 
 /// Returns the canonical form of a tag as a Unicode locale identifier (UTS #35, part 1, Annex C): `ger-UK` becomes
 /// `de-GB`, `sh` becomes `sr-Latn`, and `hy-SU` becomes `hy-AM`.
 ///
-/// [`write_locale_form`] says what changes. A tag that is not a Unicode locale identifier gets its canonical form first
-/// (RFC 5646 section 4.5), as `langtag_registry::canonical` returns it: `zh-yue` becomes `yue`, and `i-klingon` becomes
-/// `tlh`. Returns `None` if that form is not a Unicode locale identifier, either, as in `x-a` and `und-t-m0`.
+/// [`write_locale_form`] says what changes, and which tags have no form.
 ///
 /// The time is quadratic in the number of variants, and of attributes.
 ///
@@ -48,24 +45,10 @@ use std::alloc::{AllocError, Global};
 pub fn locale_form(alloc: Global, tag: LangTag<'_>) -> Result<Option<LangTagBuf>, AllocError>
     ensures form { IfOk result (λ form. spec.IsWholeForm (lang_tag_text tag.entry) (option_map lang_tag_buf_text form)) }
 {
-    if is_locale(tag) {
-        return owned_form(alloc, tag);
-    }
-    let canonical_tag = canonical(alloc, tag)?;
-    owned_form(alloc, canonical_tag.as_lang_tag())
-}
-
-/// Returns the form of a tag, or `None` if the tag is not a Unicode locale identifier.
-fn owned_form(alloc: Global, tag: LangTag<'_>) -> Result<Option<LangTagBuf>, AllocError>
-    ensures { IfOk result (λ form. spec.IsLocaleForm (lang_tag_text tag.entry) (option_map lang_tag_buf_text form)) }
-{
-    let Some(tag) = tag.as_normal() else {
+    let Some(locale) = locale_for(tag) else {
         return Ok(None);
     };
-    if !is_locale_record(tag) {
-        return Ok(None);
-    }
-    Ok(Some(tag_of(form_bytes(alloc, tag)?)))
+    Ok(Some(tag_of(form_bytes(alloc, locale)?)))
 }
 
 /// Returns the bytes of the form of a Unicode locale identifier. It allocates once, exactly their number.
@@ -79,8 +62,8 @@ fn form_bytes(alloc: Global, tag: NormalLangTag<'_>) -> Result<Vec<u8>, AllocErr
     Ok(bytes)
 }
 
-/// Writes the canonical form of a Unicode locale identifier (UTS #35, part 1, Annex C) to a buffer, and returns its
-/// length in bytes: `ger-UK` becomes `de-GB`, `sh` becomes `sr-Latn`, and `hy-SU` becomes `hy-AM`.
+/// Writes the canonical form of a tag as a Unicode locale identifier (UTS #35, part 1, Annex C) to a buffer, and returns
+/// its length in bytes: `ger-UK` becomes `de-GB`, `sh` becomes `sr-Latn`, and `hy-SU` becomes `hy-AM`.
 ///
 /// The language, the script, the region and the variants are replaced by CLDR's aliases, in the tag and in the language
 /// of `t`. Variants are put in alphabetical order, and extensions in the order of their singletons. `u` and the fields of
@@ -90,8 +73,10 @@ fn form_bytes(alloc: Global, tag: NormalLangTag<'_>) -> Result<Vec<u8>, AllocErr
 ///
 /// Norwegian Sign Language, `sgn-NO`, becomes `nsl`, as in IANA's registry. CLDR has `nsi` there, which is Nigerian.
 ///
-/// Returns `None` if the tag is not a Unicode locale identifier, as [`is_locale`](crate::is_locale) finds. Many of these
-/// tags have a form after `langtag_registry::canonical`: `zh-yue` becomes `yue`, and `i-klingon` becomes `tlh`.
+/// If the tag is not a Unicode locale identifier, as [`is_locale`](crate::is_locale) finds, it is replaced first. A tag
+/// with a Preferred-Value in IANA's registry becomes that value: `i-klingon` becomes `tlh`. In any other tag, a
+/// registered extended language replaces the language before it: `zh-yue-HK` becomes `yue-HK`. Returns `None` if the
+/// result is not a Unicode locale identifier, either, as in `x-a`, `i-default` and `und-t-m0`.
 ///
 /// If the buffer is too short, it stays unchanged, and the length says how long a buffer must be. A buffer of the
 /// tag's length and 32 bytes is always long enough. It does not allocate. The time is quadratic in the number of
@@ -104,22 +89,20 @@ fn form_bytes(alloc: Global, tag: NormalLangTag<'_>) -> Result<Vec<u8>, AllocErr
 /// let mut buffer = [0; 16];
 /// write_locale_form(LangTag::new("ger-UK")?, &mut buffer); // Some(5)
 /// buffer.get(..5); // Some(&b"de-GB"[..])
-/// write_locale_form(LangTag::new("zh-yue")?, &mut buffer); // None
+/// write_locale_form(LangTag::new("zh-yue")?, &mut buffer); // Some(3)
+/// write_locale_form(LangTag::new("x-a")?, &mut buffer); // None
 /// ```
 #[tactic(auto, using(crate::proofs::LocaleSettled::locale_settled))]
 pub fn write_locale_form(tag: LangTag<'_>, buffer: &mut [u8]) -> Option<usize>
-    ensures form { IfSome result (λ len. Writes (λ form. spec.IsLocaleForm (lang_tag_text tag.entry) (Some form)) buffer.old buffer.new len) }
+    ensures form { IfSome result (λ len. Writes (λ form. spec.IsWholeForm (lang_tag_text tag.entry) (Some form)) buffer.old buffer.new len) }
     ensures bounded { IfSome result (λ len. len ≤ length (lang_tag_text tag.entry) + 32) }
-    ensures none { result ≡ None → spec.IsLocaleForm (lang_tag_text tag.entry) None }
+    ensures none { result ≡ None → spec.IsWholeForm (lang_tag_text tag.entry) None }
     ensures locale { (r : model.Record) → model.IsWellFormed r → IsTrue (identifier.is_locale_record r)
         → IsTrue (identifier.is_locale_record (spec.locale_record r)) }
     ensures unchanged { result ≡ None → buffer.new ≡ buffer.old }
 {
-    let normal = tag.as_normal()?;
-    if !is_locale_record(normal) {
-        return None;
-    }
-    Some(write_parts(normal, buffer))
+    let locale = locale_for(tag)?;
+    Some(write_parts(locale, buffer))
 }
 
 /// Writes the form of a Unicode locale identifier.
@@ -127,12 +110,30 @@ fn write_parts(tag: NormalLangTag<'_>, buffer: &mut [u8]) -> usize
     requires { identifier.IsLocale (normal_lang_tag_text tag) }
     ensures { model.EachRecord (normal_lang_tag_text tag.entry) (λ r. Writes (λ form. form ≡ spec.locale_text r) buffer.old buffer.new result) }
 {
-    let len = put_parts(tag, &mut []);
-    if len <= buffer.len() {
-        put_parts(tag, buffer);
-        make_recommended_case(&mut buffer[..len]);
+    if let Some(len) = longer_than(tag, buffer.len()) {
+        return len;
     }
+    let len = put_parts(tag, buffer);
+    make_recommended_case(&mut buffer[..len]);
     len
+}
+
+/// Returns the length of the form if it is longer than a buffer of `room` bytes. It is not counted if the buffer is long
+/// enough for the form of every tag of this length.
+fn longer_than(tag: NormalLangTag<'_>, room: usize) -> Option<usize>
+    requires { identifier.IsLocale (normal_lang_tag_text tag) }
+    ensures longer { IfSome result (λ len. model.EachRecord (normal_lang_tag_text tag.entry) (λ r.
+        (len ≡ length (spec.locale_text r)) × (room < length (spec.locale_text r)))) }
+    ensures fits { result ≡ None → model.EachRecord (normal_lang_tag_text tag.entry) (λ r. length (spec.locale_text r) ≤ room) }
+{
+    if room >= tag.as_str().len() + 32 {
+        return None;
+    }
+    let len = put_parts(tag, &mut []);
+    if len <= room {
+        return None;
+    }
+    Some(len)
 }
 
 /// Writes as much of the form, before its case is changed, as fits into a buffer, and returns its full length.

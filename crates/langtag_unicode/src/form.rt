@@ -1,11 +1,12 @@
 //! The canonical form of a tag's extensions `u` and `t` (UTS #35, part 1, Annex C).
-ghost use Rattle.std.specs.Prelude.{◌≡◌, ◌≤◌, ◌+◌, ◌∷◌, ◌&&◌, ◌||◌, length, not, [], IfOk, List, Option, false};
+ghost use Rattle.std.specs.Prelude.{◌≡◌, ◌≤◌, ◌<◌, ◌+◌, ◌∷◌, ◌&&◌, ◌||◌, length, not, [], IfOk, IfSome, List, None, Option, false};
 ghost use Rattle.std.specs.List.{AllByRecursion, flat_map};
 ghost use Rattle.std.specs.Option.{option_map};
 ghost use Rattle.langtag.specs.Text.{lang_tag_buf_text, lang_tag_text, normal_lang_tag_text};
 ghost use Rattle.langtag_extension.specs.Spelling.{SpellsExtension, SpellsExtensions};
 ghost use Rattle.langtag_extension.specs.Text.{extension_text, extensions_text};
 ghost use Rattle.langtag_likely.specs.Maximal.{IsOnlyForm};
+ghost use Rattle.langtag_likely.specs.MaximalLaws.{IsAlikeForm};
 ghost use Rattle.langtag_output.specs.Output.{IsCounted, Pushes};
 ghost use Rattle.langtag_output.specs.Writes.{Writes};
 ghost use Rattle.langtag_private.specs.Text.{private_use_text};
@@ -14,6 +15,9 @@ ghost use Rattle.langtag_scan.specs.Record as model;
 ghost use Rattle.langtag_scan.specs.Subtags.{join, subtags};
 ghost use Rattle.langtag_scan.specs.Tag.{IsTag};
 ghost use Rattle.langtag_unicode.specs.Form as spec;
+ghost use Rattle.langtag_unicode.specs.FormLaws.{OrderChangesNothing};
+ghost use Rattle.langtag_unicode.specs.Keywords.{is_key};
+ghost use Rattle.langtag_unicode.specs.Transform.{is_field_key};
 ghost use Rattle.langtag_scan.specs.Ends.{to_variants};
 
 use crate::alphabet::push_in_alphabet;
@@ -55,6 +59,10 @@ use std::alloc::{AllocError, Global};
 pub fn extensions_form(alloc: Global, tag: LangTag<'_>) -> Result<LangTagBuf, AllocError>
     ensures form { IfOk result (λ form. spec.IsExtensionsForm (lang_tag_text tag.entry) (lang_tag_buf_text form)) }
     ensures one { IfOk result (λ form. IsOnlyForm spec.extensions_record (lang_tag_text tag.entry) (lang_tag_buf_text form)) }
+    ensures settled { IfOk result (λ form. spec.IsExtensionsForm (lang_tag_buf_text form) (lang_tag_buf_text form)) }
+    ensures keywords_move { OrderChangesNothing is_key spec.unicode_form }
+    ensures fields_move { OrderChangesNothing is_field_key spec.transform_form }
+    ensures alike { IfOk result (λ form. IsAlikeForm spec.IsExtensionsForm (lang_tag_text tag.entry) (lang_tag_buf_text form)) }
 {
     Ok(tag_of(form_bytes(alloc, tag)?))
 }
@@ -110,11 +118,28 @@ pub fn write_extensions_form(tag: LangTag<'_>, buffer: &mut [u8]) -> usize
 fn write_parts(tag: NormalLangTag<'_>, buffer: &mut [u8]) -> usize
     ensures { model.EachRecord (normal_lang_tag_text tag.entry) (λ r. Writes (λ form. form ≡ model.spell (spec.extensions_record r)) buffer.old buffer.new result) }
 {
-    let len = put_parts(tag, &mut []);
-    if len <= buffer.len() {
-        put_parts(tag, buffer);
+    if let Some(len) = longer_than(tag, buffer.len()) {
+        return len;
     }
-    len
+    put_parts(tag, buffer)
+}
+
+/// Returns the length of the form if it is longer than a buffer of `room` bytes. It is not counted if the buffer is long
+/// enough for the form of every tag of this length.
+#[tactic(auto, using(crate::proofs::FormSizes::form_length))]
+fn longer_than(tag: NormalLangTag<'_>, room: usize) -> Option<usize>
+    ensures longer { IfSome result (λ len. model.EachRecord (normal_lang_tag_text tag.entry) (λ r.
+        (len ≡ length (model.spell (spec.extensions_record r))) × (room < length (model.spell (spec.extensions_record r))))) }
+    ensures fits { result ≡ None → model.EachRecord (normal_lang_tag_text tag.entry) (λ r. length (model.spell (spec.extensions_record r)) ≤ room) }
+{
+    if room >= tag.as_str().len() + 20 {
+        return None;
+    }
+    let len = put_parts(tag, &mut []);
+    if len <= room {
+        return None;
+    }
+    Some(len)
 }
 
 /// Writes as much of a tag with its extensions in canonical form as fits into a buffer, and returns the length of

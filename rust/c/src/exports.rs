@@ -14,7 +14,7 @@ use crate::calls::repeats::Repeated;
 use crate::calls::span::Span;
 use crate::calls::{
     accepted, best_match, canonical, choice, compare, direction, extensions_form, fallback,
-    grandfathered, keyword, likely, look_up, parse, posix, range as ranges, recommend, refused,
+    grandfathered, keyword, likely, locale_form, look_up, parse, posix, range as ranges, recommend, refused,
     registry_date, repeats, suggestion, transform, validity, viable, walk, with_keyword, with_part,
 };
 use core::slice;
@@ -302,6 +302,21 @@ pub unsafe extern "C" fn langtag_extensions_form(
     buffer_len: usize,
 ) -> usize {
     extensions_form::langtag_extensions_form(lent(bytes, len), taken(buffer, buffer_len))
+}
+
+#[no_mangle]
+pub unsafe extern "C" fn langtag_is_locale(bytes: *const u8, len: usize) -> bool {
+    locale_form::langtag_is_locale(lent(bytes, len))
+}
+
+#[no_mangle]
+pub unsafe extern "C" fn langtag_locale_form(
+    bytes: *const u8,
+    len: usize,
+    buffer: *mut u8,
+    buffer_len: usize,
+) -> usize {
+    locale_form::langtag_locale_form(lent(bytes, len), taken(buffer, buffer_len))
 }
 
 #[no_mangle]

@@ -6,8 +6,6 @@ use crate::case::make_recommended_case;
 use crate::likely::TagFields;
 use crate::output::Output;
 #[cfg(feature = "alloc")]
-use crate::registry::canonical;
-#[cfg(feature = "alloc")]
 use crate::shim::{try_vec, AllocError};
 #[cfg(feature = "alloc")]
 use crate::tag::LangTagBuf;
@@ -15,8 +13,8 @@ use crate::tag::{LangTag, Language, NormalLangTag, Region, Script};
 use crate::unicode::form::push_private_use;
 #[cfg(feature = "alloc")]
 use crate::unicode::form::tag_of;
-use crate::unicode::locale::{is_locale, is_locale_record};
 use crate::unicode::locale_extensions::{push_identifier, push_locale_extensions};
+use crate::unicode::locale_for::locale_for;
 use crate::unicode::subtags::nonempty;
 #[cfg(feature = "alloc")]
 use alloc::vec::Vec;
@@ -24,9 +22,7 @@ use alloc::vec::Vec;
 /// Returns the canonical form of a tag as a Unicode locale identifier (UTS #35, part 1, Annex C): `ger-UK` becomes
 /// `de-GB`, `sh` becomes `sr-Latn`, and `hy-SU` becomes `hy-AM`.
 ///
-/// [`write_locale_form`] says what changes. A tag that is not a Unicode locale identifier gets its canonical form first
-/// ([RFC 5646 section 4.5]), as `langtag::registry::canonical` returns it: `zh-yue` becomes `yue`, and `i-klingon` becomes
-/// `tlh`. Returns `None` if that form is not a Unicode locale identifier, either, as in `x-a` and `und-t-m0`.
+/// [`write_locale_form`] says what changes, and which tags have no form.
 ///
 /// The time is quadratic in the number of variants, and of attributes.
 ///
@@ -45,28 +41,13 @@ use alloc::vec::Vec;
 /// # Ok(())
 /// # }
 /// ```
-///
-/// [RFC 5646 section 4.5]: https://www.rfc-editor.org/rfc/rfc5646#section-4.5
 #[cfg(feature = "alloc")]
 #[inline]
 pub fn locale_form(tag: LangTag<'_>) -> Result<Option<LangTagBuf>, AllocError> {
-    if is_locale(tag) {
-        return owned_form(tag);
-    }
-    let canonical_tag = canonical(tag)?;
-    owned_form(canonical_tag.as_lang_tag())
-}
-
-/// Returns the form of a tag, or `None` if the tag is not a Unicode locale identifier.
-#[cfg(feature = "alloc")]
-fn owned_form(tag: LangTag<'_>) -> Result<Option<LangTagBuf>, AllocError> {
-    let Some(tag) = tag.as_normal() else {
+    let Some(locale) = locale_for(tag) else {
         return Ok(None);
     };
-    if !is_locale_record(tag) {
-        return Ok(None);
-    }
-    Ok(Some(tag_of(form_bytes(tag)?)))
+    Ok(Some(tag_of(form_bytes(locale)?)))
 }
 
 /// Returns the bytes of the form of a Unicode locale identifier. It allocates once, exactly their number.
@@ -78,8 +59,8 @@ fn form_bytes(tag: NormalLangTag<'_>) -> Result<Vec<u8>, AllocError> {
     Ok(bytes)
 }
 
-/// Writes the canonical form of a Unicode locale identifier (UTS #35, part 1, Annex C) to a buffer, and returns its
-/// length in bytes: `ger-UK` becomes `de-GB`, `sh` becomes `sr-Latn`, and `hy-SU` becomes `hy-AM`.
+/// Writes the canonical form of a tag as a Unicode locale identifier (UTS #35, part 1, Annex C) to a buffer, and returns
+/// its length in bytes: `ger-UK` becomes `de-GB`, `sh` becomes `sr-Latn`, and `hy-SU` becomes `hy-AM`.
 ///
 /// The language, the script, the region and the variants are replaced by CLDR's aliases, in the tag and in the language
 /// of `t`. Variants are put in alphabetical order, and extensions in the order of their singletons. `u` and the fields of
@@ -89,8 +70,10 @@ fn form_bytes(tag: NormalLangTag<'_>) -> Result<Vec<u8>, AllocError> {
 ///
 /// Norwegian Sign Language, `sgn-NO`, becomes `nsl`, as in IANA's registry. CLDR has `nsi` there, which is Nigerian.
 ///
-/// Returns `None` if the tag is not a Unicode locale identifier, as [`is_locale`](crate::unicode::is_locale) finds. Many of these
-/// tags have a form after `langtag::registry::canonical`: `zh-yue` becomes `yue`, and `i-klingon` becomes `tlh`.
+/// If the tag is not a Unicode locale identifier, as [`is_locale`](crate::unicode::is_locale) finds, it is replaced first. A tag
+/// with a Preferred-Value in IANA's registry becomes that value: `i-klingon` becomes `tlh`. In any other tag, a
+/// registered extended language replaces the language before it: `zh-yue-HK` becomes `yue-HK`. Returns `None` if the
+/// result is not a Unicode locale identifier, either, as in `x-a`, `i-default` and `und-t-m0`.
 ///
 /// If the buffer is too short, it stays unchanged, and the length says how long a buffer must be. A buffer of the
 /// tag's length and 32 bytes is always long enough. It does not allocate. The time is quadratic in the number of
@@ -104,27 +87,38 @@ fn form_bytes(tag: NormalLangTag<'_>) -> Result<Vec<u8>, AllocError> {
 /// let mut buffer = [0; 16];
 /// assert_eq!(write_locale_form(LangTag::new("ger-UK")?, &mut buffer), Some(5));
 /// assert_eq!(buffer.get(..5), Some(&b"de-GB"[..]));
-/// assert_eq!(write_locale_form(LangTag::new("zh-yue")?, &mut buffer), None);
+/// assert_eq!(write_locale_form(LangTag::new("zh-yue")?, &mut buffer), Some(3));
+/// assert_eq!(write_locale_form(LangTag::new("x-a")?, &mut buffer), None);
 /// # Ok(())
 /// # }
 /// ```
 #[inline]
 pub fn write_locale_form(tag: LangTag<'_>, buffer: &mut [u8]) -> Option<usize> {
-    let normal = tag.as_normal()?;
-    if !is_locale_record(normal) {
-        return None;
-    }
-    Some(write_parts(normal, buffer))
+    let locale = locale_for(tag)?;
+    Some(write_parts(locale, buffer))
 }
 
 /// Writes the form of a Unicode locale identifier.
 fn write_parts(tag: NormalLangTag<'_>, buffer: &mut [u8]) -> usize {
-    let len = put_parts(tag, &mut []);
-    if len <= buffer.len() {
-        put_parts(tag, buffer);
-        make_recommended_case(&mut buffer[..len]);
+    if let Some(len) = longer_than(tag, buffer.len()) {
+        return len;
     }
+    let len = put_parts(tag, buffer);
+    make_recommended_case(&mut buffer[..len]);
     len
+}
+
+/// Returns the length of the form if it is longer than a buffer of `room` bytes. It is not counted if the buffer is long
+/// enough for the form of every tag of this length.
+fn longer_than(tag: NormalLangTag<'_>, room: usize) -> Option<usize> {
+    if room >= tag.as_str().len() + 32 {
+        return None;
+    }
+    let len = put_parts(tag, &mut []);
+    if len <= room {
+        return None;
+    }
+    Some(len)
 }
 
 /// Writes as much of the form, before its case is changed, as fits into a buffer, and returns its full length.

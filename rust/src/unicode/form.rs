@@ -99,11 +99,23 @@ pub fn write_extensions_form(tag: LangTag<'_>, buffer: &mut [u8]) -> usize {
 /// Writes a tag with its extensions in canonical form.
 #[inline]
 fn write_parts(tag: NormalLangTag<'_>, buffer: &mut [u8]) -> usize {
-    let len = put_parts(tag, &mut []);
-    if len <= buffer.len() {
-        put_parts(tag, buffer);
+    if let Some(len) = longer_than(tag, buffer.len()) {
+        return len;
     }
-    len
+    put_parts(tag, buffer)
+}
+
+/// Returns the length of the form if it is longer than a buffer of `room` bytes. It is not counted if the buffer is long
+/// enough for the form of every tag of this length.
+fn longer_than(tag: NormalLangTag<'_>, room: usize) -> Option<usize> {
+    if room >= tag.as_str().len() + 20 {
+        return None;
+    }
+    let len = put_parts(tag, &mut []);
+    if len <= room {
+        return None;
+    }
+    Some(len)
 }
 
 /// Writes as much of a tag with its extensions in canonical form as fits into a buffer, and returns the length of

@@ -31,6 +31,7 @@ mod language_id;
 mod locale;
 mod locale_extensions;
 mod locale_fields;
+mod locale_for;
 mod locale_tables;
 mod locale_variants;
 mod owned_keywords;

@@ -18,6 +18,7 @@ pub(crate) mod fallback;
 pub(crate) mod grandfathered;
 pub(crate) mod keyword;
 pub(crate) mod likely;
+pub(crate) mod locale_form;
 pub(crate) mod look_up;
 pub(crate) mod parse;
 pub(crate) mod part;

@@ -1,13 +1,16 @@
-use Rattle.std.proofs.Common.{false, subst}
-use Rattle.std.proofs.lemmas.Result.{IfOk-weaker}
-use Rattle.langtag.specs.Part.{PartOf}
-use Rattle.langtag.specs.Text.{lang_tag_text}
-use Rattle.langtag_unicode.specs.Locale.{is_locale_record}
-use Rattle.langtag_unicode.proofs.LocaleRecords.{locale_from}
+use Rattle.std.proofs.Common.{sym, subst, ◌∙◌}
+use Rattle.langtag.specs.Text.{lang_tag_buf_text}
+use Rattle.langtag_scan.specs.Tag.{IsTag}
+use Rattle.langtag_unicode.proofs.IdentifierForms.{form_is}
+use Rattle.langtag_unicode.proofs.LocaleRecords.{locale_tag}
 use Rattle.langtag_unicode.proofs.canonical_locale.locale_form.Goals as goal
 
-pub returns-then-is_locale : goal.returns-then-is_locale
-returns-then-is_locale c =
-    let tag = lang_tag_text c.args.tag in
-    let is = locale_from tag (subst (PartOf tag is_locale_record false) c.if-is_locale.true c.is_locale.ensures.locale) in
-    record { form = IfOk-weaker c.owned_form.result _ _ (λ form of. record { locale = λ _. of; other = λ no. absurd (no is) }) c.owned_form.ensures }
+pub tag_of-requires : goal.tag_of-requires
+tag_of-requires c =
+    let (r, spells, locale) = c.in-Some.ensures.is_locale in
+    subst IsTag (sym (c.in_ok-form_bytes.ensures r spells)) (locale_tag r spells.0 locale)
+
+pub returns : goal.returns
+returns c =
+    let (r, spells, locale) = c.in-Some.ensures.is_locale in
+    record { form = c.in-Some.ensures.form (lang_tag_buf_text c.tag_of.result) (form_is _ _ r spells locale (c.tag_of.ensures ∙ c.in_ok-form_bytes.ensures r spells)) }

@@ -1,0 +1,377 @@
+-- The case of letters changes nothing in the forms of extensions but case.
+use Rattle.std.proofs.Common.{◌≡◌, ℕ, Bool, true, false, not, cond, ◌&&◌, ◌||◌, ◌==◌, leb, List, [], ◌∷◌, ◌++◌, length, map, Option, None, Some, option_map, unwrap_or, refl, sym, ap, ◌∙◌}
+use Rattle.std.proofs.lemmas.List.{map-append}
+use Rattle.std.specs.Prelude.{codes}
+use Rattle.std.specs.List.{AllByRecursion, flat_map, list_all, list_any}
+use Rattle.std.specs.Option.{option_map_or}
+use Rattle.std.specs.Str.{bytes_eq}
+use Rattle.langtag_extension.specs.Spelling.{find_extension}
+use Rattle.langtag_likely.proofs.AlikeFields.{AlikeFields}
+use Rattle.langtag_likely.specs.Likely.{Fields}
+use Rattle.langtag_likely.proofs.TextLaws.{alike_forms}
+use Rattle.langtag_likely.specs.Maximal.{subtag_of}
+use Rattle.langtag_likely.specs.MaximalLaws.{IsAlikeForm}
+use Rattle.langtag_scan.proofs.CaseLaw.{classes-fold, fold_byte-twice, fold_text-twice, join-fold, length-fold, map-twice}
+use Rattle.langtag_scan.specs.AlikeRecords.{AlikeRecords, fold_extension, fold_record}
+use Rattle.langtag_scan.specs.Case.{Alike, are_alike, fold_byte, fold_text}
+use Rattle.langtag_scan.specs.Class.{is_region, is_script, is_variant}
+use Rattle.langtag_scan.specs.Record.{Extension, Record, one_flat}
+use Rattle.langtag_scan.specs.Stage.{Classes}
+use Rattle.langtag_scan.specs.Subtags.{join, subtags}
+use Rattle.langtag_unicode.specs.Aliases.{subdivision_aliases, transform_type_aliases, unicode_type_aliases}
+use Rattle.langtag_unicode.specs.Alias.{alias_for, type_alias_for}
+use Rattle.langtag_unicode.specs.Edit.{is_unicode_key}
+use Rattle.langtag_unicode.specs.Form as form
+use Rattle.langtag_unicode.specs.Form.{IsExtensionsForm, after_one, are_different_variants, are_fields, extension_form, extensions_record, forms_after, has_subdivision, in_alphabet, language_form, is_language_id, is_language_or_none, is_of, is_transform, is_unicode_language, may_follow, one_of, subdivision, transform_form, transform_value, unicode_form, unicode_type, unicode_value, without_true}
+use Rattle.langtag_unicode.specs.Keywords.{before_key, is_key, value_of}
+use Rattle.langtag_unicode.specs.Locale.{is_locale_extension, is_unicode_subtag}
+use Rattle.langtag_unicode.specs.LocaleForm.{extension_at, extensions_in_order, first_subtag, identifier_fields, identifier_flat, identifier_variants, locale_extension_form, locale_transform_form, singletons, transform_language_form}
+use Rattle.langtag_unicode.specs.Transform.{is_field_key}
+use Rattle.langtag_unicode.proofs.AlphabetTwice.{in_alphabet-alike}
+use Rattle.langtag_unicode.proofs.CanonicalKeywords.{key-fold, unicode_key-fold}
+use Rattle.langtag_unicode.proofs.CanonicalValues.{alias-fold, replaced, subtags-fold, type-fold}
+use Rattle.langtag_unicode.proofs.ExtensionForms.{form_by, form_tested}
+use Rattle.langtag_unicode.proofs.FormTwice.{language-parts, lower_fields, same_fields, unicode_language-fold}
+use Rattle.langtag_unicode.proofs.IdentifierCase.{AreAlike, identifier_form-alike, new_variants-alike}
+use Rattle.langtag_unicode.proofs.KeySplits.{all_keys}
+use Rattle.langtag_unicode.proofs.KeywordBlocks.{block}
+use Rattle.langtag_unicode.proofs.KeywordsInForm.{flat-same, form-blocks, values_in_form}
+use Rattle.langtag_unicode.proofs.LocaleExtensions.{locale_form_by, locale_form_tested}
+use Rattle.langtag_unicode.proofs.LocaleTransforms.{field_key-fold}
+
+pub alike-left : (s t : List ℕ) → are_alike (fold_text s) t ≡ are_alike s t
+alike-left s t = ap (λ x. bytes_eq x (fold_text t)) (fold_text-twice s)
+
+pub alike-right : (s t : List ℕ) → are_alike s (fold_text t) ≡ are_alike s t
+alike-right s t = ap (bytes_eq (fold_text s)) (fold_text-twice t)
+
+pub lower-twice : (ss : List (List ℕ)) → map fold_text (map fold_text ss) ≡ map fold_text ss
+lower-twice = map-twice fold_text fold_text-twice
+
+-- ---- keywords
+
+module _ (opens : List ℕ → Bool) (opens-fold : (s : List ℕ) → opens (fold_text s) ≡ opens s) where
+  before-fold : (ss : List (List ℕ)) → before_key opens (map fold_text ss) ≡ map fold_text (before_key opens ss)
+  before-fold [] = refl
+  before-fold (s ∷ ss) =
+      ap (λ b. cond b [] (fold_text s ∷ before_key opens (map fold_text ss))) (opens-fold s) ∙ ap (λ t. cond (opens s) [] (fold_text s ∷ t)) (before-fold ss) ∙ by_test (opens s)
+    where
+      by_test : (b : Bool) → cond b [] (fold_text s ∷ map fold_text (before_key opens ss)) ≡ map fold_text (cond b [] (s ∷ before_key opens ss))
+      by_test true = refl
+      by_test false = refl
+
+  value-fold : (key : List ℕ) (ss : List (List ℕ)) → value_of opens key (map fold_text ss) ≡ option_map (map fold_text) (value_of opens key ss)
+  value-fold key [] = refl
+  value-fold key (s ∷ ss) =
+      ap (λ b. cond (b && are_alike (fold_text s) key) (Some (before_key opens (map fold_text ss))) (value_of opens key (map fold_text ss))) (opens-fold s)
+      ∙ ap (λ b. cond (opens s && b) (Some (before_key opens (map fold_text ss))) (value_of opens key (map fold_text ss))) (alike-left s key)
+      ∙ by_test (opens s && are_alike s key) (value-fold key ss)
+    where
+      by_test :
+          (b : Bool) → value_of opens key (map fold_text ss) ≡ option_map (map fold_text) (value_of opens key ss) →
+          cond b (Some (before_key opens (map fold_text ss))) (value_of opens key (map fold_text ss)) ≡ option_map (map fold_text) (cond b (Some (before_key opens ss)) (value_of opens key ss))
+      by_test true later = ap (λ t. Some t) (before-fold ss)
+      by_test false later = later
+
+  module _ (canonical : List ℕ → List ℕ → List ℕ) (canonical-fold : (key text : List ℕ) → Alike (canonical key (fold_text text)) (canonical key text)) where
+    in_form-fold : (ss : List (List ℕ)) (key : List ℕ) → values_in_form opens canonical (map fold_text ss) key ≡ values_in_form opens canonical ss key
+    in_form-fold ss key = ap (option_map (λ w. map fold_text (subtags (canonical key (join w))))) (value-fold key ss) ∙ by_value (value_of opens key ss)
+      where
+        by_value :
+            (o : Option (List (List ℕ))) →
+            option_map (λ w. map fold_text (subtags (canonical key (join w)))) (option_map (map fold_text) o) ≡ option_map (λ w. map fold_text (subtags (canonical key (join w)))) o
+        by_value None = refl
+        by_value (Some w) =
+            ap (λ t. Some t)
+            (ap (λ t. map fold_text (subtags (canonical key t))) (join-fold w) ∙ sym (subtags-fold (canonical key (fold_text (join w)))) ∙ ap subtags (canonical-fold key (join w))
+            ∙ subtags-fold (canonical key (join w)))
+
+    keywords-fold : (ss : List (List ℕ)) → form.keywords_form opens canonical (map fold_text ss) ≡ form.keywords_form opens canonical ss
+    keywords-fold ss =
+        form-blocks opens canonical (map fold_text ss)
+        ∙ flat-same (block (values_in_form opens canonical (map fold_text ss))) (block (values_in_form opens canonical ss)) all_keys (each all_keys)
+        ∙ sym (form-blocks opens canonical ss)
+      where
+        each :
+            (keys : List (List ℕ)) → AllByRecursion (λ k. block (values_in_form opens canonical (map fold_text ss)) k ≡ block (values_in_form opens canonical ss) k) keys
+        each [] = tt
+        each (k ∷ keys) = (ap (λ o. option_map_or (λ v. k ∷ v) o []) (in_form-fold ss k), each keys)
+
+-- ---- values
+
+or_fold : (o : Option (List ℕ)) (text : List ℕ) → Alike (unwrap_or o (fold_text text)) (unwrap_or o text)
+or_fold None text = fold_text-twice text
+or_fold (Some new) text = refl
+
+replaced-fold : (key text : List ℕ) → Alike (replaced key (fold_text text)) (replaced key text)
+unfolding subdivision unicode_type
+replaced-fold key text = by_test (has_subdivision key)
+  where
+    by_test : (b : Bool) → Alike (cond b (subdivision (fold_text text)) (unicode_type key (fold_text text))) (cond b (subdivision text) (unicode_type key text))
+    by_test true = ap (λ o. fold_text (unwrap_or o (fold_text text))) (alias-fold subdivision_aliases text) ∙ or_fold (alias_for subdivision_aliases text) text
+    by_test false = ap (λ o. fold_text (unwrap_or o (fold_text text))) (type-fold unicode_type_aliases key text) ∙ or_fold (type_alias_for unicode_type_aliases key text) text
+
+without-alike : (a b : List ℕ) → Alike a b → Alike (without_true a) (without_true b)
+without-alike a b alike = lower a ∙ ap (λ t. cond (bytes_eq t (fold_text (codes "true"))) [] t) alike ∙ sym (lower b)
+  where
+    lower : (text : List ℕ) → fold_text (without_true text) ≡ cond (are_alike text (codes "true")) [] (fold_text text)
+    lower text = by_test (are_alike text (codes "true"))
+      where
+        by_test : (t : Bool) → fold_text (cond t [] text) ≡ cond t [] (fold_text text)
+        by_test true = refl
+        by_test false = refl
+
+unicode_value-fold : (key text : List ℕ) → Alike (unicode_value key (fold_text text)) (unicode_value key text)
+unicode_value-fold key text = without-alike (replaced key (fold_text text)) (replaced key text) (replaced-fold key text)
+
+transform_value-fold : (key text : List ℕ) → Alike (transform_value key (fold_text text)) (transform_value key text)
+unfolding transform_value
+transform_value-fold key text = ap (λ o. fold_text (unwrap_or o (fold_text text))) (type-fold transform_type_aliases key text) ∙ or_fold (type_alias_for transform_type_aliases key text) text
+
+-- ---- the extension `u`
+
+unicode-fold : (ss : List (List ℕ)) → unicode_form (map fold_text ss) ≡ unicode_form ss
+unicode-fold ss =
+    ap (λ t. in_alphabet t ++ form.keywords_form is_key unicode_value (map fold_text ss)) (before-fold is_key key-fold ss)
+    ∙ ap (λ t. t ++ form.keywords_form is_key unicode_value (map fold_text ss)) (in_alphabet-alike (map fold_text (before_key is_key ss)) (before_key is_key ss) (lower-twice (before_key is_key ss)))
+    ∙ ap (λ t. in_alphabet (before_key is_key ss) ++ t) (keywords-fold is_key key-fold unicode_value unicode_value-fold ss)
+
+-- ---- the language of `t`
+
+module _ (test : List ℕ → Bool) (test-fold : (s : List ℕ) → test (fold_text s) ≡ test s) where
+  one-fold : (ss : List (List ℕ)) → first_subtag (one_of test (map fold_text ss)) ≡ fold_text (first_subtag (one_of test ss))
+  one-fold [] = refl
+  one-fold (s ∷ ss) = ap (λ b. first_subtag (cond b (fold_text s ∷ []) [])) (test-fold s) ∙ by_test (test s)
+    where
+      by_test : (b : Bool) → first_subtag (cond b (fold_text s ∷ []) []) ≡ fold_text (first_subtag (cond b (s ∷ []) []))
+      by_test true = refl
+      by_test false = refl
+
+  after-fold : (ss : List (List ℕ)) → after_one test (map fold_text ss) ≡ map fold_text (after_one test ss)
+  after-fold [] = refl
+  after-fold (s ∷ ss) = ap (λ b. cond b (map fold_text ss) (fold_text s ∷ map fold_text ss)) (test-fold s) ∙ by_test (test s)
+    where
+      by_test : (b : Bool) → cond b (map fold_text ss) (fold_text s ∷ map fold_text ss) ≡ map fold_text (cond b ss (s ∷ ss))
+      by_test true = refl
+      by_test false = refl
+
+script-fold : (s : List ℕ) → is_script (fold_text s) ≡ is_script s
+script-fold s = ap (λ (c : Classes). c.script) (classes-fold s)
+
+region-fold : (s : List ℕ) → is_region (fold_text s) ≡ is_region s
+region-fold s = ap (λ (c : Classes). c.region) (classes-fold s)
+
+variants-fold : (ss : List (List ℕ)) → identifier_variants (map fold_text ss) ≡ map fold_text (identifier_variants ss)
+variants-fold ss = ap (after_one is_region) (after-fold is_script script-fold ss) ∙ after-fold is_region region-fold (after_one is_script ss)
+
+fields-fold : (s : List ℕ) (ss : List (List ℕ)) → AlikeFields (identifier_fields (fold_text s) (map fold_text ss)) (identifier_fields s ss)
+fields-fold s ss = record {
+  language = fold_text-twice s;
+  script = ap fold_text (one-fold is_script script-fold ss) ∙ fold_text-twice (first_subtag (one_of is_script ss));
+  region =
+      ap (λ t. fold_text (first_subtag (one_of is_region t))) (after-fold is_script script-fold ss)
+      ∙ ap fold_text (one-fold is_region region-fold (after_one is_script ss)) ∙ fold_text-twice (first_subtag (one_of is_region (after_one is_script ss)));
+}
+
+subtag-fold : (s : List ℕ) → map fold_text (one_flat (subtag_of s)) ≡ one_flat (subtag_of (fold_text s))
+subtag-fold [] = refl
+subtag-fold (b ∷ s) = refl
+
+lower-flat :
+    (f : Fields) (vs : List (List ℕ)) →
+    map fold_text (identifier_flat f vs)
+    ≡ fold_text f.language ∷ (one_flat (subtag_of (fold_text f.script)) ++ (one_flat (subtag_of (fold_text f.region)) ++ map fold_text vs))
+lower-flat f vs =
+    ap (λ t. fold_text f.language ∷ t)
+    (map-append fold_text (one_flat (subtag_of f.script)) (one_flat (subtag_of f.region) ++ vs)
+    ∙ ap (λ t. t ++ map fold_text (one_flat (subtag_of f.region) ++ vs)) (subtag-fold f.script)
+    ∙ ap (λ t. one_flat (subtag_of (fold_text f.script)) ++ t)
+    (map-append fold_text (one_flat (subtag_of f.region)) vs ∙ ap (λ t. t ++ map fold_text vs) (subtag-fold f.region)))
+
+flat-alike : (f g : Fields) (vs ws : List (List ℕ)) → AlikeFields f g → vs ≡ ws → AreAlike (identifier_flat f vs) (identifier_flat g ws)
+flat-alike f g vs ws h same =
+    lower-flat f vs
+    ∙ ap (λ t. t ∷ (one_flat (subtag_of (fold_text f.script)) ++ (one_flat (subtag_of (fold_text f.region)) ++ map fold_text vs))) h.language
+    ∙ ap (λ t. fold_text g.language ∷ (one_flat (subtag_of t) ++ (one_flat (subtag_of (fold_text f.region)) ++ map fold_text vs))) h.script
+    ∙ ap (λ t. fold_text g.language ∷ (one_flat (subtag_of (fold_text g.script)) ++ (one_flat (subtag_of t) ++ map fold_text vs))) h.region
+    ∙ ap (λ t. fold_text g.language ∷ (one_flat (subtag_of (fold_text g.script)) ++ (one_flat (subtag_of (fold_text g.region)) ++ map fold_text t))) same
+    ∙ sym (lower-flat g ws)
+
+language-fold : (ss : List (List ℕ)) → AreAlike (transform_language_form (map fold_text ss)) (transform_language_form ss)
+language-fold [] = refl
+language-fold (s ∷ ss) =
+    let variants : AreAlike (identifier_variants (map fold_text ss)) (identifier_variants ss) = ap (map fold_text) (variants-fold ss) ∙ lower-twice (identifier_variants ss) in
+    flat-alike _ _ _ _ (identifier_form-alike _ _ _ _ variants (fields-fold s ss)) (new_variants-alike _ _ _ _ variants (fields-fold s ss))
+
+-- ---- the extension `t`
+
+transform-fold : (ss : List (List ℕ)) → AreAlike (locale_transform_form (map fold_text ss)) (locale_transform_form ss)
+transform-fold ss =
+    map-append fold_text (transform_language_form (before_key is_field_key (map fold_text ss))) (form.keywords_form is_field_key transform_value (map fold_text ss))
+    ∙ ap (λ t. map fold_text (transform_language_form t) ++ map fold_text (form.keywords_form is_field_key transform_value (map fold_text ss))) (before-fold is_field_key field_key-fold ss)
+    ∙ ap (λ t. t ++ map fold_text (form.keywords_form is_field_key transform_value (map fold_text ss))) (language-fold (before_key is_field_key ss))
+    ∙ ap (λ t. map fold_text (transform_language_form (before_key is_field_key ss)) ++ map fold_text t) (keywords-fold is_field_key field_key-fold transform_value transform_value-fold ss)
+    ∙ sym (map-append fold_text (transform_language_form (before_key is_field_key ss)) (form.keywords_form is_field_key transform_value ss))
+
+-- ---- whether `t` is allowed
+
+any-fold : (v : List ℕ) (vs : List (List ℕ)) → list_any (are_alike (fold_text v)) (map fold_text vs) ≡ list_any (are_alike v) vs
+any-fold v [] = refl
+any-fold v (w ∷ vs) =
+    ap (λ b. b || list_any (are_alike (fold_text v)) (map fold_text vs)) (alike-left v (fold_text w) ∙ alike-right v w) ∙ ap (λ b. are_alike v w || b) (any-fold v vs)
+
+different-fold : (vs : List (List ℕ)) → are_different_variants (map fold_text vs) ≡ are_different_variants vs
+different-fold [] = refl
+different-fold (v ∷ vs) =
+    ap (λ (c : Classes). c.variant && not (list_any (are_alike (fold_text v)) (map fold_text vs)) && are_different_variants (map fold_text vs)) (classes-fold v)
+    ∙ ap (λ b. is_variant v && not b && are_different_variants (map fold_text vs)) (any-fold v vs)
+    ∙ ap (λ b. is_variant v && not (list_any (are_alike v) vs) && b) (different-fold vs)
+
+language_or_none-fold : (ss : List (List ℕ)) → is_language_or_none (map fold_text ss) ≡ is_language_or_none ss
+language_or_none-fold [] = refl
+language_or_none-fold (s ∷ ss) =
+    ap (λ b. b && are_different_variants (identifier_variants (map fold_text ss))) (unicode_language-fold s)
+    ∙ ap (λ b. is_unicode_language s && b) (ap are_different_variants (variants-fold ss) ∙ different-fold (identifier_variants ss))
+
+follow-fold : (inside after : Bool) (s : List ℕ) → may_follow inside after (fold_text s) ≡ may_follow inside after s
+follow-fold inside after s =
+    ap (λ b. cond b (not after) (not inside || leb 3 (length (fold_text s)))) (field_key-fold s)
+    ∙ ap (λ n. cond (is_field_key s) (not after) (not inside || leb 3 n)) (length-fold s)
+
+are_fields-fold : (inside after : Bool) (ss : List (List ℕ)) → are_fields inside after (map fold_text ss) ≡ are_fields inside after ss
+are_fields-fold inside after [] = refl
+are_fields-fold inside after (s ∷ ss) =
+    ap (λ b. b && are_fields (inside || is_field_key (fold_text s)) (is_field_key (fold_text s)) (map fold_text ss)) (follow-fold inside after s)
+    ∙ ap (λ b. may_follow inside after s && are_fields (inside || b) b (map fold_text ss)) (field_key-fold s)
+    ∙ ap (λ b. may_follow inside after s && b) (are_fields-fold (inside || is_field_key s) (is_field_key s) ss)
+
+is_transform-fold : (ss : List (List ℕ)) → is_transform (map fold_text ss) ≡ is_transform ss
+is_transform-fold ss =
+    ap (λ t. is_language_or_none t && are_fields false false (map fold_text ss)) (before-fold is_field_key field_key-fold ss)
+    ∙ ap (λ b. b && are_fields false false (map fold_text ss)) (language_or_none-fold (before_key is_field_key ss))
+    ∙ ap (λ b. is_language_or_none (before_key is_field_key ss) && b) (are_fields-fold false false ss)
+
+-- ---- the form of the extension `t`, with its case and the order of its variants changed alone
+
+language_form-fold : (ss : List (List ℕ)) → language_form (map fold_text ss) ≡ language_form ss
+language_form-fold [] = refl
+language_form-fold (s ∷ ss) =
+    let h = fields-fold s ss in
+    language-parts (fold_text s) (map fold_text ss)
+    ∙ ap (λ g. identifier_flat g (in_alphabet (identifier_variants (map fold_text ss))))
+    (same_fields (lower_fields (identifier_fields (fold_text s) (map fold_text ss))) (lower_fields (identifier_fields s ss)) h.language h.script h.region)
+    ∙ ap (identifier_flat (lower_fields (identifier_fields s ss)))
+    (in_alphabet-alike (identifier_variants (map fold_text ss)) (identifier_variants ss) (ap (map fold_text) (variants-fold ss) ∙ lower-twice (identifier_variants ss)))
+    ∙ sym (language-parts s ss)
+
+transform_form-fold : (ss : List (List ℕ)) → transform_form (map fold_text ss) ≡ transform_form ss
+transform_form-fold ss =
+    ap (λ t. language_form t ++ form.keywords_form is_field_key transform_value (map fold_text ss)) (before-fold is_field_key field_key-fold ss)
+    ∙ ap (λ t. t ++ form.keywords_form is_field_key transform_value (map fold_text ss)) (language_form-fold (before_key is_field_key ss))
+    ∙ ap (λ t. language_form (before_key is_field_key ss) ++ t) (keywords-fold is_field_key field_key-fold transform_value transform_value-fold ss)
+
+-- ---- extensions
+
+is_of-fold : (n : ℕ) (e : Extension) → is_of n (fold_extension e) ≡ is_of n e
+is_of-fold n e = ap (λ b. b == n) (fold_byte-twice e.singleton)
+
+unicode_subtags-fold : (ss : List (List ℕ)) → list_all is_unicode_subtag (map fold_text ss) ≡ list_all is_unicode_subtag ss
+unicode_subtags-fold [] = refl
+unicode_subtags-fold (s ∷ ss) =
+    ap (λ b. (not b || is_unicode_key (fold_text s)) && list_all is_unicode_subtag (map fold_text ss)) (key-fold s)
+    ∙ ap (λ b. (not (is_key s) || b) && list_all is_unicode_subtag (map fold_text ss)) (unicode_key-fold s)
+    ∙ ap (λ b. is_unicode_subtag s && b) (unicode_subtags-fold ss)
+
+allowed-fold : (e : Extension) → is_locale_extension (fold_extension e) ≡ is_locale_extension e
+allowed-fold e =
+    ap (λ b. cond b (list_all is_unicode_subtag (map fold_text e.subtags)) (cond (is_of 116 (fold_extension e)) (is_transform (map fold_text e.subtags)) true)) (is_of-fold 117 e)
+    ∙ ap (λ b. cond (is_of 117 e) (list_all is_unicode_subtag (map fold_text e.subtags)) (cond b (is_transform (map fold_text e.subtags)) true)) (is_of-fold 116 e)
+    ∙ ap (λ b. cond (is_of 117 e) b (cond (is_of 116 e) (is_transform (map fold_text e.subtags)) true)) (unicode_subtags-fold e.subtags)
+    ∙ ap (λ b. cond (is_of 117 e) (list_all is_unicode_subtag e.subtags) (cond (is_of 116 e) b true)) (is_transform-fold e.subtags)
+
+pub all_allowed-fold : (es : List Extension) → list_all is_locale_extension (map fold_extension es) ≡ list_all is_locale_extension es
+all_allowed-fold [] = refl
+all_allowed-fold (e ∷ es) = ap (λ b. b && list_all is_locale_extension (map fold_extension es)) (allowed-fold e) ∙ ap (λ b. is_locale_extension e && b) (all_allowed-fold es)
+
+pub extension-twice : (e : Extension) → fold_extension (fold_extension e) ≡ fold_extension e
+extension-twice e =
+    ap (λ n. record { singleton = n; subtags = map fold_text (map fold_text e.subtags) }) (fold_byte-twice e.singleton)
+    ∙ ap (λ ss. record { singleton = fold_byte e.singleton; subtags = ss }) (lower-twice e.subtags)
+
+extension-alike : (e : Extension) → fold_extension (locale_extension_form (fold_extension e)) ≡ fold_extension (locale_extension_form e)
+extension-alike e =
+    ap fold_extension (locale_form_tested (is_of 117 e) (is_of 116 e) (fold_extension e) (is_of-fold 117 e) (is_of-fold 116 e))
+    ∙ by_tests (is_of 117 e) (is_of 116 e)
+  where
+    by_tests : (a b : Bool) → fold_extension (locale_form_by a b (fold_extension e)) ≡ fold_extension (locale_form_by a b e)
+    by_tests true b = ap (λ ss. fold_extension (record { singleton = 117; subtags = ss })) (unicode-fold e.subtags)
+    by_tests false true = ap (λ ss. record { singleton = fold_byte 116; subtags = ss }) (transform-fold e.subtags)
+    by_tests false false = extension-twice e
+
+find-fold : (n : ℕ) (es : List Extension) → find_extension n (map fold_extension es) ≡ option_map fold_extension (find_extension n es)
+find-fold n [] = refl
+find-fold n (e ∷ es) =
+    ap (λ b. cond (b == fold_byte n) (Some (fold_extension e)) (find_extension n (map fold_extension es))) (fold_byte-twice e.singleton)
+    ∙ by_test (fold_byte e.singleton == fold_byte n) (find-fold n es)
+  where
+    by_test :
+        (b : Bool) → find_extension n (map fold_extension es) ≡ option_map fold_extension (find_extension n es) →
+        cond b (Some (fold_extension e)) (find_extension n (map fold_extension es)) ≡ option_map fold_extension (cond b (Some e) (find_extension n es))
+    by_test true later = refl
+    by_test false later = later
+
+at-fold : (es : List Extension) (n : ℕ) → map fold_extension (extension_at (map fold_extension es) n) ≡ map fold_extension (extension_at es n)
+at-fold es n = ap (λ o. map fold_extension (option_map_or (λ e. locale_extension_form e ∷ []) o [])) (find-fold n es) ∙ by_found (find_extension n es)
+  where
+    by_found :
+        (o : Option Extension) →
+        map fold_extension (option_map_or (λ e. locale_extension_form e ∷ []) (option_map fold_extension o) []) ≡ map fold_extension (option_map_or (λ e. locale_extension_form e ∷ []) o [])
+    by_found None = refl
+    by_found (Some e) = ap (λ x. x ∷ []) (extension-alike e)
+
+all-fold : (es : List Extension) (ns : List ℕ) → map fold_extension (flat_map (extension_at (map fold_extension es)) ns) ≡ map fold_extension (flat_map (extension_at es) ns)
+all-fold es [] = refl
+all-fold es (n ∷ ns) =
+    map-append fold_extension (extension_at (map fold_extension es) n) (flat_map (extension_at (map fold_extension es)) ns)
+    ∙ ap (λ t. t ++ map fold_extension (flat_map (extension_at (map fold_extension es)) ns)) (at-fold es n)
+    ∙ ap (λ t. map fold_extension (extension_at es n) ++ t) (all-fold es ns)
+    ∙ sym (map-append fold_extension (extension_at es n) (flat_map (extension_at es) ns))
+
+-- the forms of extensions in lowercase are those of the extensions, but for case
+pub extensions-alike : (es : List Extension) → map fold_extension (extensions_in_order (map fold_extension es)) ≡ map fold_extension (extensions_in_order es)
+extensions-alike es = all-fold es singletons
+
+-- ---- the forms of the first `u` and the first `t`
+
+one_form-fold : (u t : Bool) (e : Extension) → fold_extension (extension_form u t (fold_extension e)) ≡ fold_extension (extension_form u t e)
+one_form-fold u t e =
+    ap fold_extension
+    (form_tested u t _ _ (fold_extension e) (ap (λ b. b && not u) (is_of-fold 117 e))
+    (ap (λ b. b && not t && is_transform (map fold_text e.subtags)) (is_of-fold 116 e) ∙ ap (λ b. is_of 116 e && not t && b) (is_transform-fold e.subtags)))
+    ∙ by_tests (is_of 117 e && not u) (is_of 116 e && not t && is_transform e.subtags)
+  where
+    by_tests : (a b : Bool) → fold_extension (form_by a b (fold_extension e)) ≡ fold_extension (form_by a b e)
+    by_tests true b = ap (λ ss. fold_extension (record { singleton = 117; subtags = ss })) (unicode-fold e.subtags)
+    by_tests false true = ap (λ ss. fold_extension (record { singleton = 116; subtags = ss })) (transform_form-fold e.subtags)
+    by_tests false false = extension-twice e
+
+forms-fold : (u t : Bool) (es : List Extension) → map fold_extension (forms_after u t (map fold_extension es)) ≡ map fold_extension (forms_after u t es)
+forms-fold u t [] = refl
+forms-fold u t (e ∷ es) =
+    ap (λ x. x ∷ map fold_extension (forms_after (u || is_of 117 (fold_extension e)) (t || is_of 116 (fold_extension e)) (map fold_extension es))) (one_form-fold u t e)
+    ∙ ap (λ b. fold_extension (extension_form u t e) ∷ map fold_extension (forms_after (u || b) (t || is_of 116 (fold_extension e)) (map fold_extension es))) (is_of-fold 117 e)
+    ∙ ap (λ b. fold_extension (extension_form u t e) ∷ map fold_extension (forms_after (u || is_of 117 e) (t || b) (map fold_extension es))) (is_of-fold 116 e)
+    ∙ ap (λ x. fold_extension (extension_form u t e) ∷ x) (forms-fold (u || is_of 117 e) (t || is_of 116 e) es)
+
+abbrev with_extensions : List Extension → Record → Record
+with_extensions es r = record r { extensions = es }
+
+record-alike : (r q : Record) → AlikeRecords r q → AlikeRecords (extensions_record r) (extensions_record q)
+unfolding extensions_record
+record-alike r q alike =
+    let same = sym (forms-fold false false r.extensions) ∙ ap (λ x. map fold_extension (forms_after false false x.extensions)) alike ∙ forms-fold false false q.extensions in
+    ap (λ es. with_extensions es (fold_record r)) same ∙ ap (with_extensions (map fold_extension (forms_after false false q.extensions))) alike
+
+-- tags that are alike have forms that are
+pub extensions_form-alike : (tag form : List ℕ) → IsExtensionsForm tag form → IsAlikeForm IsExtensionsForm tag form
+extensions_form-alike tag form is = alike_forms extensions_record record-alike tag form is

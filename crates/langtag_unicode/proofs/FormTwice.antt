@@ -1,0 +1,184 @@
+-- The form of the extension `u`, and of `t`, is its own form.
+use Rattle.std.proofs.Common.{◌≡◌, ℕ, Bool, true, false, not, cond, ◌&&◌, ◌==◌, List, [], ◌∷◌, ◌++◌, length, map, refl, sym, ap, subst, ◌∙◌}
+use Rattle.langtag_likely.specs.Good.{is_region_field, is_script_field}
+use Rattle.langtag_likely.specs.Likely.{Fields}
+use Rattle.langtag_likely.specs.Maximal.{subtag_of}
+use Rattle.langtag_scan.proofs.CaseLaw.{classes-fold, fold_text-twice, length-fold}
+use Rattle.langtag_scan.specs.Case.{fold_text}
+use Rattle.langtag_scan.specs.Class.{is_primary, is_region, is_script, is_variant}
+use Rattle.langtag_scan.specs.Record.{one_flat}
+use Rattle.langtag_scan.specs.Stage.{Classes}
+use Rattle.langtag_scan.specs.Subtags.{subtags}
+use Rattle.langtag_unicode.specs.Form as form
+use Rattle.langtag_unicode.specs.Form.{after_one, are_different_variants, are_fields, in_alphabet, is_language_or_none, is_transform, is_unicode_language, language_form, one_of, transform_form, transform_value, unicode_form, unicode_value}
+use Rattle.langtag_unicode.specs.Keywords.{before_key, is_key}
+use Rattle.langtag_unicode.specs.LocaleForm.{first_subtag, identifier_fields, identifier_flat, identifier_variants}
+use Rattle.langtag_unicode.specs.Transform.{is_field_key}
+use Rattle.langtag_unicode.proofs.AlphabetTwice.{in_alphabet-twice}
+use Rattle.langtag_unicode.proofs.CanonicalKeywords.{key-fold, values-are}
+use Rattle.langtag_unicode.proofs.CanonicalValues.{transform-settled, unicode-settled}
+use Rattle.langtag_unicode.proofs.Each.{each-alphabet}
+use Rattle.langtag_unicode.proofs.FormRecords.{Good}
+use Rattle.langtag_unicode.proofs.IdentifierForms.{AreSubtags}
+use Rattle.langtag_unicode.proofs.KeywordsInForm.{Plain, front-again, keywords-again, plain-before}
+use Rattle.langtag_unicode.proofs.LocaleAgain.{alphabet-apart}
+use Rattle.langtag_unicode.proofs.LocaleRecords.{AreVariants, different_variants, fields_good}
+use Rattle.langtag_unicode.proofs.LocaleTables.{both}
+use Rattle.langtag_unicode.proofs.LocaleTransforms.{AreNoFields, after_region, after_script, are-fields, field_values, identifier-no_field, identifier-variants, variant-no_region, variant-no_script, region-no_script}
+
+-- ---- the extension `u`
+
+pub unicode-twice : (ss : List (List ℕ)) → Good ss → unicode_form (unicode_form ss) ≡ unicode_form ss
+unicode-twice ss good =
+    let front : List (List ℕ) = in_alphabet (before_key is_key ss) in
+    let plain : Plain is_key front = each-alphabet (λ s. is_key s ≡ false) (λ s other. key-fold s ∙ other) (before_key is_key ss) (plain-before is_key ss) in
+    ap (λ t. in_alphabet t ++ form.keywords_form is_key unicode_value (unicode_form ss)) (front-again is_key unicode_value ss (values-are ss good) front plain)
+    ∙ ap (λ t. t ++ form.keywords_form is_key unicode_value (unicode_form ss)) (in_alphabet-twice (before_key is_key ss))
+    ∙ ap (λ t. front ++ t) (keywords-again is_key unicode_value ss (values-are ss good) front plain unicode-settled)
+
+-- ---- the parts of a language identifier are read again
+
+pub same_fields : (f g : Fields) → f.language ≡ g.language → f.script ≡ g.script → f.region ≡ g.region → f ≡ g
+same_fields f g one two three =
+    ap (λ x. record { language = x; script = f.script; region = f.region }) one ∙ ap (λ x. record { language = g.language; script = x; region = f.region }) two
+    ∙ ap (λ x. record { language = g.language; script = g.script; region = x }) three
+
+region_again : (s : List ℕ) (vs : List (List ℕ)) → is_region_field s ≡ true → AreVariants vs → first_subtag (one_of is_region (one_flat (subtag_of s) ++ vs)) ≡ s
+region_again (b ∷ s) vs is variants = ap (λ t. first_subtag (cond t ((b ∷ s) ∷ []) [])) is
+region_again [] [] is variants = refl
+region_again [] (v ∷ vs) is variants = ap (λ t. first_subtag (cond t (v ∷ []) [])) (variant-no_region v variants.0)
+
+script_again :
+    (s r : List ℕ) (vs : List (List ℕ)) → is_script_field s ≡ true → is_region_field r ≡ true → AreVariants vs →
+    first_subtag (one_of is_script (one_flat (subtag_of s) ++ (one_flat (subtag_of r) ++ vs))) ≡ s
+script_again (b ∷ s) r vs is region variants = ap (λ t. first_subtag (cond t ((b ∷ s) ∷ []) [])) is
+script_again [] (b ∷ r) vs is region variants = ap (λ t. first_subtag (cond t ((b ∷ r) ∷ []) [])) (region-no_script (b ∷ r) region)
+script_again [] [] [] is region variants = refl
+script_again [] [] (v ∷ vs) is region variants = ap (λ t. first_subtag (cond t (v ∷ []) [])) (variant-no_script v variants.0)
+
+-- the subtags after the language
+abbrev pub after_language : Fields → List (List ℕ) → List (List ℕ)
+after_language f vs = one_flat (subtag_of f.script) ++ (one_flat (subtag_of f.region) ++ vs)
+
+pub fields-again : (f : Fields) (vs : List (List ℕ)) → AreSubtags f → AreVariants vs → identifier_fields f.language (after_language f vs) ≡ f
+fields-again f vs subtags variants =
+    same_fields (identifier_fields f.language (after_language f vs)) f refl (script_again f.script f.region vs subtags.script subtags.region variants)
+    (ap (λ ss. first_subtag (one_of is_region ss)) (after_script f.script f.region vs subtags.script subtags.region variants) ∙ region_again f.region vs subtags.region variants)
+
+pub variants-again : (f : Fields) (vs : List (List ℕ)) → AreSubtags f → AreVariants vs → identifier_variants (after_language f vs) ≡ vs
+variants-again f vs subtags variants =
+    ap (after_one is_region) (after_script f.script f.region vs subtags.script subtags.region variants) ∙ after_region f.region vs subtags.region variants
+
+-- ---- the language of `t`, with its case and the order of its variants changed alone
+
+abbrev pub lower_fields : Fields → Fields
+lower_fields f = record { language = fold_text f.language; script = fold_text f.script; region = fold_text f.region }
+
+lower_subtag : (test : List ℕ → Bool) → test [] ≡ false → (ss : List (List ℕ)) → map fold_text (one_of test ss) ≡ one_flat (subtag_of (fold_text (first_subtag (one_of test ss))))
+lower_subtag test none [] = refl
+lower_subtag test none ([] ∷ ss) =
+    ap (λ b. map fold_text (cond b ([] ∷ []) [])) none ∙ ap (λ b. one_flat (subtag_of (fold_text (first_subtag (cond b ([] ∷ []) []))))) (sym none)
+lower_subtag test none ((b ∷ s) ∷ ss) = by_test (test (b ∷ s))
+  where
+    by_test : (t : Bool) → map fold_text (cond t ((b ∷ s) ∷ []) []) ≡ one_flat (subtag_of (fold_text (first_subtag (cond t ((b ∷ s) ∷ []) []))))
+    by_test true = refl
+    by_test false = refl
+
+pub language-parts : (s : List ℕ) (ss : List (List ℕ)) → language_form (s ∷ ss) ≡ identifier_flat (lower_fields (identifier_fields s ss)) (in_alphabet (identifier_variants ss))
+unfolding is_script is_region
+language-parts s ss =
+    ap (λ t. fold_text s ∷ (t ++ (map fold_text (one_of is_region (after_one is_script ss)) ++ in_alphabet (identifier_variants ss)))) (lower_subtag is_script refl ss)
+    ∙ ap (λ t. fold_text s ∷ (one_flat (subtag_of (fold_text (first_subtag (one_of is_script ss)))) ++ (t ++ in_alphabet (identifier_variants ss)))) (lower_subtag is_region refl (after_one is_script ss))
+
+script_field-fold : (s : List ℕ) → is_script_field (fold_text s) ≡ is_script_field s
+script_field-fold [] = refl
+script_field-fold (b ∷ s) = ap (λ (c : Classes). c.script) (classes-fold (b ∷ s))
+
+region_field-fold : (s : List ℕ) → is_region_field (fold_text s) ≡ is_region_field s
+region_field-fold [] = refl
+region_field-fold (b ∷ s) = ap (λ (c : Classes). c.region) (classes-fold (b ∷ s))
+
+pub unicode_language-fold : (s : List ℕ) → is_unicode_language (fold_text s) ≡ is_unicode_language s
+unicode_language-fold s = ap (λ (c : Classes). c.primary && not (length (fold_text s) == 4)) (classes-fold s) ∙ ap (λ n. is_primary s && not (n == 4)) (length-fold s)
+
+lower-subtags : (f : Fields) → AreSubtags f → AreSubtags (lower_fields f)
+lower-subtags f subtags = record {
+  language = unicode_language-fold f.language ∙ subtags.language;
+  script = script_field-fold f.script ∙ subtags.script;
+  region = region_field-fold f.region ∙ subtags.region;
+}
+
+alphabet-variants : (vs : List (List ℕ)) → AreVariants vs → AreVariants (in_alphabet vs)
+alphabet-variants vs variants = each-alphabet (λ v. is_variant v ≡ true) (λ v is. ap (λ (c : Classes). c.variant) (classes-fold v) ∙ is) vs variants
+
+lower-twice : (f : Fields) → lower_fields (lower_fields f) ≡ lower_fields f
+lower-twice f = same_fields (lower_fields (lower_fields f)) (lower_fields f) (fold_text-twice f.language) (fold_text-twice f.script) (fold_text-twice f.region)
+
+-- a form of the language of `t`: it is one, has no key of a field, and is its own form
+pub record IsLanguageForm (language : List (List ℕ) → List (List ℕ)) (ss : List (List ℕ)) : Type 0 where
+  pub none : AreNoFields (language ss)
+  pub allowed : is_language_or_none (language ss) ≡ true
+  pub twice : language (language ss) ≡ language ss
+
+pub language-is_form : (ss : List (List ℕ)) → is_language_or_none ss ≡ true → IsLanguageForm language_form ss
+language-is_form [] is = record { none = tt; allowed = refl; twice = refl }
+language-is_form (s ∷ ss) is =
+    let vs = identifier_variants ss in
+    let parts = both (is_unicode_language s) (are_different_variants vs) is in
+    let f : Fields = lower_fields (identifier_fields s ss) in
+    let new = in_alphabet vs in
+    let subtags : AreSubtags f = lower-subtags (identifier_fields s ss) (fields_good s ss parts.0) in
+    let variants = alphabet-variants vs (different_variants vs parts.1) in
+    let same = language-parts s ss in
+    record {
+      none = subst AreNoFields (sym same) (identifier-no_field f new subtags variants);
+      allowed =
+          ap is_language_or_none same ∙ ap (λ b. b && are_different_variants (identifier_variants (after_language f new))) subtags.language
+          ∙ identifier-variants f new subtags variants (alphabet-apart vs);
+      twice =
+          ap language_form same
+          ∙ language-parts f.language (after_language f new)
+          ∙ ap (λ g. identifier_flat (lower_fields g) (in_alphabet (identifier_variants (after_language f new)))) (fields-again f new subtags variants)
+          ∙ ap (λ ws. identifier_flat (lower_fields f) (in_alphabet ws)) (variants-again f new subtags variants)
+          ∙ ap (λ g. identifier_flat g (in_alphabet new)) (lower-twice (identifier_fields s ss))
+          ∙ ap (identifier_flat f) (in_alphabet-twice vs)
+          ∙ sym same;
+    }
+
+-- ---- the extension `t`
+
+-- `t` whose language has some form
+module _ (language : List (List ℕ) → List (List ℕ)) where
+  abbrev pub form_with : List (List ℕ) → List (List ℕ)
+  form_with ss = language (before_key is_field_key ss) ++ form.keywords_form is_field_key transform_value ss
+
+  module _ (ss : List (List ℕ)) (good : Good ss) (is : is_transform ss ≡ true) (form_is : IsLanguageForm language (before_key is_field_key ss)) where
+    abbrev start : List (List ℕ)
+    start = before_key is_field_key ss
+
+    fields_are : are_fields false false ss ≡ true
+    fields_are = (both (is_language_or_none start) (are_fields false false ss) is).1
+
+    start-again : before_key is_field_key (form_with ss) ≡ language start
+    start-again = front-again is_field_key transform_value ss (field_values ss good fields_are) (language start) form_is.none
+
+    pub with-twice : form_with (form_with ss) ≡ form_with ss
+    with-twice =
+        ap (λ t. language t ++ form.keywords_form is_field_key transform_value (form_with ss)) start-again
+        ∙ ap (λ t. t ++ form.keywords_form is_field_key transform_value (form_with ss)) form_is.twice
+        ∙ ap (λ t. language start ++ t) (keywords-again is_field_key transform_value ss (field_values ss good fields_are) (language start) form_is.none transform-settled)
+
+    pub with-allowed : is_transform (form_with ss) ≡ true
+    with-allowed =
+        ap (λ t. is_language_or_none t && are_fields false false (form_with ss)) start-again
+        ∙ ap (λ b. b && are_fields false false (form_with ss)) form_is.allowed
+        ∙ are-fields ss good fields_are (language start) form_is.none
+
+pub transform-is_form : (ss : List (List ℕ)) → is_transform ss ≡ true → IsLanguageForm language_form (before_key is_field_key ss)
+transform-is_form ss is = language-is_form (before_key is_field_key ss) (both (is_language_or_none (before_key is_field_key ss)) (are_fields false false ss) is).0
+
+pub transform-twice : (ss : List (List ℕ)) → Good ss → is_transform ss ≡ true → transform_form (transform_form ss) ≡ transform_form ss
+transform-twice ss good is = with-twice language_form ss good is (transform-is_form ss is)
+
+pub transform_form-is : (ss : List (List ℕ)) → Good ss → is_transform ss ≡ true → is_transform (transform_form ss) ≡ true
+transform_form-is ss good is = with-allowed language_form ss good is (transform-is_form ss is)

@@ -1,0 +1,85 @@
+-- Keywords that change places leave each key its value, and so the form as it is.
+use Rattle.std.proofs.Common.{◌≡◌, ℕ, Bool, true, false, cond, ◌&&◌, List, [], ◌∷◌, ◌++◌, map, Option, Some, refl, sym, ap, ◌∙◌, append-nil}
+use Rattle.std.proofs.lemmas.Bool.{false≢true}
+use Rattle.std.specs.List.{flat_map}
+use Rattle.std.specs.Option.{option_map_or}
+use Rattle.langtag_scan.specs.Case.{are_alike, fold_text}
+use Rattle.langtag_scan.specs.CaseLaws.{are_alike-decides}
+use Rattle.langtag_scan.specs.Subtags.{join, subtags}
+use Rattle.langtag_unicode.specs.Form as form
+use Rattle.langtag_unicode.specs.Form.{in_alphabet, language_form, letters_and_digits, transform_form, transform_value, unicode_form, unicode_value}
+use Rattle.langtag_unicode.specs.FormLaws.{AreKeyword, OrderChangesNothing}
+use Rattle.langtag_unicode.specs.Keywords.{before_key, is_key, value_of}
+use Rattle.langtag_unicode.specs.Transform.{is_field_key}
+use Rattle.langtag_unicode.proofs.KeywordsInForm.{before-plain, value-plain}
+
+module _ (opens : List ℕ → Bool) where
+  stops : (k : List ℕ) (ss : List (List ℕ)) → opens k ≡ true → before_key opens (k ∷ ss) ≡ []
+  stops k ss is = ap (λ b. cond b [] (k ∷ before_key opens ss)) is
+
+  -- before two keys
+  before-same : (xs rs qs : List (List ℕ)) (k l : List ℕ) → opens k ≡ true → opens l ≡ true → before_key opens (xs ++ k ∷ rs) ≡ before_key opens (xs ++ l ∷ qs)
+  before-same [] rs qs k l is other = stops k rs is ∙ sym (stops l qs other)
+  before-same (x ∷ xs) rs qs k l is other = ap (λ t. cond (opens x) [] (x ∷ t)) (before-same xs rs qs k l is other)
+
+  value-same :
+      (key : List ℕ) (xs rs qs : List (List ℕ)) (k l : List ℕ) → opens k ≡ true → opens l ≡ true → value_of opens key (k ∷ rs) ≡ value_of opens key (l ∷ qs) →
+      value_of opens key (xs ++ k ∷ rs) ≡ value_of opens key (xs ++ l ∷ qs)
+  value-same key [] rs qs k l is other same = same
+  value-same key (x ∷ xs) rs qs k l is other same =
+      ap (λ t. cond (opens x && are_alike x key) (Some t) (value_of opens key (xs ++ k ∷ rs))) (before-same xs rs qs k l is other)
+      ∙ ap (λ o. cond (opens x && are_alike x key) (Some (before_key opens (xs ++ l ∷ qs))) o) (value-same key xs rs qs k l is other same)
+
+  -- a keyword, and what follows it
+  value-first :
+      (key k : List ℕ) (v rest : List (List ℕ)) → AreKeyword opens k v → before_key opens rest ≡ [] →
+      value_of opens key (k ∷ (v ++ rest)) ≡ cond (are_alike k key) (Some v) (value_of opens key rest)
+  value-first key k v rest are none =
+      ap (λ b. cond (b && are_alike k key) (Some (before_key opens (v ++ rest))) (value_of opens key (v ++ rest))) are.0
+      ∙ ap (λ t. cond (are_alike k key) (Some t) (value_of opens key (v ++ rest))) (before-plain opens v rest are.1 ∙ ap (λ t. v ++ t) none ∙ append-nil v)
+      ∙ ap (λ o. cond (are_alike k key) (Some v) o) (value-plain opens key v rest are.1)
+
+  value-moved :
+      (key : List ℕ) (before after : List (List ℕ)) (k l : List ℕ) (v w : List (List ℕ)) →
+      AreKeyword opens k v → AreKeyword opens l w → are_alike k l ≡ false → before_key opens after ≡ [] →
+      value_of opens key (before ++ k ∷ (v ++ l ∷ (w ++ after))) ≡ value_of opens key (before ++ l ∷ (w ++ k ∷ (v ++ after)))
+  value-moved key before after k l v w one two differ none = value-same key before _ _ k l one.0 two.0 pair
+    where
+      by_tests :
+          (a b : Bool) → are_alike k key ≡ a → are_alike l key ≡ b → (rest : Option (List (List ℕ))) → cond a (Some v) (cond b (Some w) rest) ≡ cond b (Some w) (cond a (Some v) rest)
+      by_tests true true first second rest =
+          absurd (false≢true (sym differ ∙ (are_alike-decides k l).1 ((are_alike-decides k key).0 first ∙ sym ((are_alike-decides l key).0 second))))
+      by_tests true false first second rest = refl
+      by_tests false true first second rest = refl
+      by_tests false false first second rest = refl
+
+      pair : value_of opens key (k ∷ (v ++ l ∷ (w ++ after))) ≡ value_of opens key (l ∷ (w ++ k ∷ (v ++ after)))
+      pair =
+          value-first key k v (l ∷ (w ++ after)) one (stops l (w ++ after) two.0)
+          ∙ ap (λ o. cond (are_alike k key) (Some v) o) (value-first key l w after two none)
+          ∙ by_tests (are_alike k key) (are_alike l key) refl refl (value_of opens key after)
+          ∙ ap (λ o. cond (are_alike l key) (Some w) o) (sym (value-first key k v after one none))
+          ∙ sym (value-first key l w (k ∷ (v ++ after)) two (stops k (v ++ after) one.0))
+
+  -- keywords in which each key has the same value have the same form
+  keywords-same :
+      (canonical : List ℕ → List ℕ → List ℕ) (ss ts : List (List ℕ)) → ((key : List ℕ) → value_of opens key ss ≡ value_of opens key ts) →
+      form.keywords_form opens canonical ss ≡ form.keywords_form opens canonical ts
+  keywords-same canonical ss ts same =
+      ap
+      (λ (values : List ℕ → Option (List (List ℕ))).
+      flat_map (λ a. flat_map (λ b. option_map_or (λ w. (a ∷ b ∷ []) ∷ map fold_text (subtags (canonical (a ∷ b ∷ []) (join w)))) (values (a ∷ b ∷ [])) []) letters_and_digits)
+      letters_and_digits)
+      (λ i key. same key i)
+
+  moved : (start : List (List ℕ) → List (List ℕ)) (canonical : List ℕ → List ℕ → List ℕ) → OrderChangesNothing opens (λ ss. start (before_key opens ss) ++ form.keywords_form opens canonical ss)
+  moved start canonical before after k l v w one two differ none =
+      ap (λ t. start t ++ form.keywords_form opens canonical (before ++ k ∷ (v ++ l ∷ (w ++ after)))) (before-same before _ _ k l one.0 two.0)
+      ∙ ap (λ t. start (before_key opens (before ++ l ∷ (w ++ k ∷ (v ++ after)))) ++ t)
+      (keywords-same canonical _ _ (λ key. value-moved key before after k l v w one two differ none))
+
+pub unicode-moved : OrderChangesNothing is_key unicode_form
+unicode-moved = moved is_key in_alphabet unicode_value
+
+pub transform-moved : OrderChangesNothing is_field_key transform_form
+transform-moved = moved is_field_key language_form transform_value
