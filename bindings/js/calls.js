@@ -95,8 +95,9 @@ function askTwo(name, one, other) {
     return close(calls[name](textsAddress, BigInt(one.length), BigInt(texts + one.length), BigInt(other.length)));
 }
 
-/** Returns the new text that a call writes after a text, or "" if it writes none. The default room is enough for most texts. */
-function askText(name, text, room = text.length + 16) {
+/** Returns the new text that a call writes after a text, or "" if it writes none. The default room is enough for most texts, and always for the
+ * Unicode forms. */
+function askText(name, text, room = text.length + 32) {
     open(text.length + room);
     write(text, texts);
     const at = texts + text.length;
@@ -133,6 +134,7 @@ export const kind = (text) => askOne("langtag_kind", text);
 export const viable = (text) => Number(askOne("langtag_viable", text));
 export const stop = (text) => Number(askOne("langtag_stop", text));
 export const isCanonical = (text) => askOne("langtag_is_canonical", text) !== 0;
+export const isLocale = (text) => askOne("langtag_is_locale", text) !== 0;
 export const grandfathered = (text) => askOne("langtag_grandfathered", text);
 export const rangeKind = (text) => askOne("langtag_range_kind", text);
 export const isEqual = (one, other) => askTwo("langtag_eq", one, other) !== 0;
@@ -146,6 +148,7 @@ export const canonical = (text) => askText("langtag_canonical", text);
 export const maximize = (text) => askText("langtag_maximize", text);
 export const minimize = (text) => askText("langtag_minimize", text);
 export const extensionsForm = (text) => askText("langtag_extensions_form", text);
+export const localeForm = (text) => askText("langtag_locale_form", text);
 export const fromPosix = (name) => askText("langtag_from_posix", name);
 /** Returns the offset and length of a modifier that is not known, or undefined if there is none. */
 export const unknownModifier = (name) => beforeKeys("langtag_unknown_modifier", name);

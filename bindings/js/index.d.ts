@@ -7,8 +7,8 @@
  *     tag.equals("ZH-YUE-hant-hk-U-CO-pinyin-x-MINE");                            // true
  *     bestForHeader("zh-TW,zh;q=0.9,en;q=0.8", ["en", "zh-Hans", "zh-Hant"]);     // "zh-Hant"
  *
- * Offsets and lengths count UTF-16 code units, as in JavaScript's strings. Only `isValid`, `invalidSubtag`, `isCanonical` and `canonical`
- * use the IANA registry. Functions that take a tag or a range also accept a string. An invalid string throws `InvalidTag` or
+ * Offsets and lengths count UTF-16 code units, as in JavaScript's strings. Only `isValid`, `invalidSubtag`, `isCanonical`, `canonical` and
+ * `localeForm` use the IANA registry. Functions that take a tag or a range also accept a string. An invalid string throws `InvalidTag` or
  * `InvalidRange`, and any other value throws a `TypeError`.
  */
 
@@ -148,6 +148,14 @@ export class LanguageTag {
      * de-u-ca-roc-nu-thai. Each key stands once, with its first value. The rest of the tag stays.
      */
     extensionsForm(): LanguageTag;
+    /** Whether the tag is a Unicode locale identifier (UTS #35), as Intl requires: false for zh-yue, i-klingon and x-a. */
+    get isLocale(): boolean;
+    /**
+     * Returns the canonical form of a Unicode locale identifier (UTS #35, part 1, Annex C), by CLDR_VERSION: eng becomes en, and ger-UK
+     * becomes de-GB. A tag that is not such an identifier is first replaced by the registry of REGISTRY_DATE: zh-yue becomes yue. Returns
+     * undefined if it is not one then, either: x-a, i-default.
+     */
+    localeForm(): LanguageTag | undefined;
     /** Whether the tag is written from right to left, by its script or its likely script: true for he, pa-PK and az-Arab. */
     get isRightToLeft(): boolean;
     /** Returns the tag in the case that RFC 5646 section 2.1.1 recommends: zh-hant-tw becomes zh-Hant-TW. */

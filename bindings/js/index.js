@@ -314,6 +314,15 @@ export class LanguageTag {
         return new LanguageTag(calls.extensionsForm(this.text));
     }
 
+    get isLocale() {
+        return calls.isLocale(this.text);
+    }
+
+    localeForm() {
+        const form = calls.localeForm(this.text);
+        return form === "" ? undefined : new LanguageTag(form);
+    }
+
     with(parts) {
         for (const name of Object.keys(parts)) {
             if (!PARTS.includes(name) && name !== "keywords") throw new TypeError(`a tag has no part ${quoted(name)}`);

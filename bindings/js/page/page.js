@@ -48,13 +48,21 @@ const KEYS = {
     nu: "Digits", rg: "Region override", sd: "Subdivision", ss: "Sentence breaks", tz: "Time zone", va: "Variant of the locale",
 };
 
-/** The length of the longest tag whose keywords and form of extensions are shown. They take time in proportion to its square. */
+/** The length of the longest tag whose keywords and Unicode forms are shown. They take time in proportion to its square. */
 const LONG = 20_000;
+const TOO_LONG = "not shown for so long a tag";
 
 /** Returns the name and the value of each keyword of a tag, at most MOST of them. An empty value is shown as true. */
 function keywordsOf(tag) {
     if (tag.text.length > LONG) return [];
     return [...tag.keywords].slice(0, MOST).map(([key, value]) => [KEYS[key] === undefined ? `Key ${key}` : `${KEYS[key]} (${key})`, value || "true"]);
+}
+
+/** Returns the canonical form of a Unicode locale identifier, or words in its place, and then their class. */
+function unicodeForm(tag) {
+    if (tag.text.length > LONG) return [TOO_LONG];
+    const form = tag.localeForm();
+    return form === undefined ? ["none: not a Unicode locale identifier", "words"] : [form];
 }
 
 /** Shows a text as it is typed, in pieces. Only some pieces have a class. */
@@ -140,7 +148,7 @@ function showTag() {
     for (const head of find("tag-parts").tBodies[0].querySelectorAll("th")) head.scope = "row";
     const forms = [
         ["Name", describe(tag), "words"], ["Kind", tag.kind, "words"], ["Validity", validity, "words"], ["Recommended case", tag.toRecommended()], ["Canonical form", tag.canonical()],
-        ["With canonical extensions", tag.text.length > LONG ? "not shown for so long a tag" : tag.extensionsForm()],
+        ["Unicode form", ...unicodeForm(tag)], ["With canonical extensions", tag.text.length > LONG ? TOO_LONG : tag.extensionsForm()],
         ["With likely subtags", tag.maximize()], ["Without them", tag.minimize()],
         ["Written", tag.isRightToLeft ? "from right to left" : "from left to right", "words"], ...keywordsOf(tag),
     ];

@@ -258,6 +258,16 @@ function answerExtensionsForm(text) {
     return form.text;
 }
 
+function answerLocaleForm(text) {
+    const tag = LanguageTag.parse(text), form = tag.localeForm();
+    if (form === undefined) {
+        assert(!tag.isLocale, "a locale has a form");
+        return "-";
+    }
+    assert(form.isLocale && form.localeForm().text === form.text, "the form of the form");
+    return form.text;
+}
+
 const orEmpty = (text) => (text === "" ? "''" : text);
 const said = (pairs) => [...pairs].map(([key, value]) => `${key}=${value}`).join(" ");
 
@@ -275,6 +285,8 @@ function answerTransform(text) {
 export const answers = {
     "with-keyword": answerWithKeyword,
     "extensions-form": answerExtensionsForm,
+    "is-locale": (text) => (LanguageTag.parse(text).isLocale ? "yes" : "no"),
+    "locale-form": answerLocaleForm,
     keyword: (text, key) => orEmpty(LanguageTag.parse(text).keyword(key) ?? "-"),
     keywords: answerKeywords,
     attributes: (text) => LanguageTag.parse(text).attributes.join(" ") || "-",
@@ -308,4 +320,4 @@ export const answers = {
     edit: answerEdit,
 };
 
-export const FLOORS = { "table.txt": 360, "texts.txt": 710, "negotiation.txt": 102, "edits.txt": 125, "likely.txt": 200, "posix.txt": 150, "direction.txt": 300, "distance.txt": 130, "choices.txt": 275, "lists.txt": 15, "refused.txt": 60, "unicode.txt": 400, "keywords.txt": 380, "extensions.txt": 630 };
+export const FLOORS = { "table.txt": 360, "texts.txt": 710, "negotiation.txt": 102, "edits.txt": 125, "likely.txt": 200, "posix.txt": 150, "direction.txt": 300, "distance.txt": 130, "choices.txt": 275, "lists.txt": 15, "refused.txt": 60, "unicode.txt": 400, "keywords.txt": 380, "extensions.txt": 630, "locale.txt": 750, "cldr.txt": 1773 };

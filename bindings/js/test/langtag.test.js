@@ -285,6 +285,15 @@ test("the form of extensions", () => {
     assert.equal(LanguageTag.parse("x-a").extensionsForm().text, "x-a");
 });
 
+test("Unicode locale identifiers", () => {
+    const forms = (...texts) => texts.map((text) => LanguageTag.parse(text).localeForm()?.text);
+    assert.deepEqual(forms("ger-UK-u-ca-islamicc", "EN-latn-us-X-A", "zh-yue-HK", "i-klingon"), ["de-GB-u-ca-islamic-civil", "en-Latn-US-x-a", "yue-HK", "tlh"]);
+    assert.deepEqual(forms("x-a", "i-default", "und-t-m0"), [undefined, undefined, undefined]);
+    assert.deepEqual(["de-1996-u-co-phonebk", "zh-yue", "und-t-m0"].map((text) => LanguageTag.parse(text).isLocale), [true, false, false]);
+    const long = `sh-x-${"abcdefgh-".repeat(100_000)}a`;
+    assert.deepEqual(forms(long), [`sr-Latn${long.slice(2)}`]);
+});
+
 test("the code that is meant by one that is not registered", () => {
     const of = (text) => LanguageTag.parse(text).invalidSubtag;
     assert.deepEqual({ ...of("ger-AT") }, { fault: "language", subtag: "ger", start: 0, suggestion: "de" });

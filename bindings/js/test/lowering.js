@@ -43,7 +43,7 @@ const modules = ["langtag64.wasm", "langtag32.wasm"].map((name) => new Raw(name)
 const ONE = {
     kind: [], viable: [], stop: [], grandfathered: [], is_canonical: [], range_kind: [], fold: [], recommend: [], parse: ["out"], validity: ["out"],
     repeats: ["out"], canonical: ["buffer", "room"], maximize: ["buffer", "room"], minimize: ["buffer", "room"], is_right_to_left: [], from_posix: ["buffer", "room"], unknown_modifier: ["out"],
-    extensions_form: ["buffer", "room"],
+    extensions_form: ["buffer", "room"], is_locale: [], locale_form: ["buffer", "room"],
 };
 const TWO = { eq: [], cmp: [], matches_basic: [], matches_extended: [], distance: [] };
 

@@ -57,7 +57,7 @@ test("a tag's parts, by name and section", { skip }, async () => {
 test("validity and forms", { skip }, async () => {
     await type("tag", "IW-latn-il");
     assert.deepEqual(await forms(), { Name: "Hebrew (Latin, Israel)", Kind: "normal", Validity: "valid", "Recommended case": "iw-Latn-IL", "Canonical form": "he-latn-il",
-        "With canonical extensions": "IW-latn-il", "With likely subtags": "IW-latn-il", "Without them": "IW-latn-il", Written: "from left to right" });
+        "Unicode form": "he-Latn-IL", "With canonical extensions": "IW-latn-il", "With likely subtags": "IW-latn-il", "Without them": "IW-latn-il", Written: "from left to right" });
     await type("tag", "zh-hant-TW");
     assert.deepEqual([(await forms())["With likely subtags"], (await forms())["Without them"]], ["zh-hant-TW", "zh-TW"]);
     await type("tag", "de-1996-1996");
@@ -78,6 +78,14 @@ test("keywords by name, and the form of extensions", { skip }, async () => {
     assert.deepEqual([digits, calendar, numeric, other], ["thai", "islamicc", "true", "abc"]);
     await type("tag", "x-u-ca-roc");
     assert.ok(!("Calendar (ca)" in (await forms())));
+});
+
+test("the form of a Unicode locale identifier", { skip }, async () => {
+    for (const [text, wanted] of [["ger-uk-u-ca-islamicc", "de-GB-u-ca-islamic-civil"], ["zh-yue-hk", "yue-HK"], ["x-a", "none: not a Unicode locale identifier"],
+        [`de-x-${"abcdefgh-".repeat(3000)}a`, "not shown for so long a tag"]]) {
+        await type("tag", text);
+        assert.equal((await forms())["Unicode form"], wanted);
+    }
 });
 
 test("a refusal, and what could stand there", { skip }, async () => {

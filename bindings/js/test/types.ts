@@ -9,6 +9,7 @@ const meant: string | undefined = tag.invalidSubtag?.suggestion;
 const other = tag.with({ script: "Latn", region: null, variants: ["1996"], extensions: { u: ["co", "pinyin"] }, privateUse: undefined });
 const again = LanguageTag.from({ language: "de", extensions: other.extensions, keywords: tag.keywords });
 const form: LanguageTag = again.with({ keywords: { ca: "buddhist", nu: null, kn: undefined } }).with({ keywords: [["ca", "roc"]] }).extensionsForm();
+const identifier: LanguageTag | undefined = form.isLocale ? form.localeForm() : undefined;
 const found: "de" | "fr" = tagForHeader("fr", ["de", "fr"] as const, "de");
 const none: LanguageTag | undefined = lookUp(["fr", LanguageRange.parse("*")], [tag, again]);
 const best: "de" | "fr" | undefined = bestForRanges([...(["fr"] as readonly string[]), LanguageRange.parse("de")], ["de", "fr"] as const);
@@ -27,7 +28,7 @@ try {
     if (error instanceof InvalidTag) console.log(error.text, error.offset, error.viable, error.message);
     if (error instanceof EditError) console.log(error.part === "script" || error.part === "key");
 }
-console.log(script, subtags, form, fault, found, none, best, absent, weights, sorted, kinds, REGISTRY_DATE.length, tag.fnv1a() > 0n, tag.equals("ZH"));
+console.log(script, subtags, form, identifier, fault, found, none, best, absent, weights, sorted, kinds, REGISTRY_DATE.length, tag.fnv1a() > 0n, tag.equals("ZH"));
 
 // @ts-expect-error a number is not a text
 LanguageTag.parse(5);
@@ -39,5 +40,7 @@ tag.with({ language: null });
 tag.with({ scripts: "Latn" });
 // @ts-expect-error a tag does not change
 tag.text = "de";
+// @ts-expect-error a tag may have no form
+const named: LanguageTag = tag.localeForm();
 // @ts-expect-error a script may be absent
 const certain: string = tag.script;

@@ -3,6 +3,7 @@
 use Rattle.std.proofs.Common.{◌≡◌, ℕ, ◌≤◌, IsTrue, List, [], ◌∷◌, ◌++◌, length, Option, None, Some, IfSome, unwrap_or, refl, sym, ap, ◌∙◌, arith, append_assoc, append-nil}
 use Rattle.std.specs.List.{AllByRecursion, flat_map, replace_range}
 use Rattle.std.specs.Option.{option_map}
+use Rattle.std.proofs.lemmas.Grind.{common_steps}
 use Rattle.langtag_scan.specs.Class.{is_script, is_region, is_variant}
 use Rattle.langtag_scan.specs.Ends.{ends_of, HasEnds}
 use Rattle.langtag_scan.specs.Record.{Extension, PrivateUse, Record, EachRecord, IsWellFormed, Spells, extension_flat, one_flat, private_part_flat, spell}
@@ -40,12 +41,7 @@ part_lengths r = record {
 
 -- its parts end where they add up to
 ends_from-part_lengths : (r : Record) → ends_from (part_lengths r) ≡ ends_of r
-ends_from-part_lengths r = ends_equal _ _ refl
-    (simp (length-join, length-hyphenated) (omega arith))
-    (simp (length-join, length-hyphenated) (omega arith))
-    (simp (length-join, length-hyphenated) (omega arith))
-    (simp (length-join, length-hyphenated) (omega arith))
-    (simp (length-join, length-hyphenated) (omega arith))
+ends_from-part_lengths r = grind (arith, common_steps, ends_equal, length-join, length-hyphenated)
 
 abbrev lengths : ℕ → ℕ → ℕ → ℕ → ℕ → ℕ → Lengths
 lengths l s g v x p = record { language = l; script = s; region = g; variants = v; extensions = x; private_use = p }
@@ -58,9 +54,7 @@ lengths_equal l s g v x p s' g' v' x' p' es eg ev ex ep = rw (es, eg, ev, ex, ep
 
 -- lengths are found again between the ends that they add up to
 lengths_of-ends_from : (m : Lengths) → lengths_of (ends_from m) ≡ m
-lengths_of-ends_from m =
-    lengths_equal m.language _ _ _ _ _ m.script m.region m.variants m.extensions m.private_use
-    (omega arith) (omega arith) (omega arith) (omega arith) (omega arith)
+lengths_of-ends_from m = grind (arith, common_steps, lengths_equal m.language)
 
 lengths_of-ends_of : (r : Record) → lengths_of (ends_of r) ≡ part_lengths r
 lengths_of-ends_of r = ap lengths_of (sym (ends_from-part_lengths r)) ∙ lengths_of-ends_from (part_lengths r)
@@ -81,8 +75,7 @@ module _ {part : List ℕ} {low high : Ends → ℕ} {with_length : Lengths → 
   pub spells-edited :
       (old new : List ℕ) (ends : Ends) → HasEnds old ends → new ≡ replace_range old (low ends) (high ends) part →
       EachRecord old (λ r. Spells (change r) new)
-  spells-edited old new ends kept made r spells =
-      (replaces.fits r spells.0, sym (made ∙ rw (ends_each old ends kept r spells, ← spells.1) (replaces.spelled r)))
+  spells-edited old new ends kept made r spells = grind (arith, common_steps, ends_each old ends kept r spells)
 
   pub ends-edited :
       (old new : List ℕ) (ends : Ends) (count : ℕ) → HasEnds old ends → new ≡ replace_range old (low ends) (high ends) part →
@@ -105,15 +98,11 @@ record IsPart (part : List ℕ) (ss : List (List ℕ)) : Type 0 where
   pub begins : BeginsWithByte ss
 
 begins : (s : List ℕ) (ss : List (List ℕ)) → 1 ≤ length s → BeginsWithByte (s ∷ ss)
-begins [] ss some = absurd (omega (arith, some))
-begins (b ∷ s) ss some = tt
+begins s ss some = grind (arith, common_steps)
 
 -- what stands in the text for the part is each of its subtags after a hyphen
 after_hyphen-join : (ss : List (List ℕ)) → BeginsWithByte ss → after_hyphen (join ss) ≡ hyphenated ss
-after_hyphen-join [] some = refl
-after_hyphen-join ([] ∷ ss) some = absurd some
-after_hyphen-join ((b ∷ s) ∷ []) some = ap (λ t. 45 ∷ t) (join-hyphenated (b ∷ s) [])
-after_hyphen-join ((b ∷ s) ∷ t ∷ ss) some = ap (λ t. 45 ∷ t) (join-hyphenated (b ∷ s) (t ∷ ss))
+after_hyphen-join ss some = grind (arith, common_steps, join-hyphenated)
 
 after_hyphen-part : (part : List ℕ) (ss : List (List ℕ)) → IsPart part ss → after_hyphen part ≡ hyphenated ss
 after_hyphen-part part ss is = rw (← is.joined) (after_hyphen-join ss is.begins)
@@ -123,8 +112,7 @@ join-part_replaced :
     (part x : List ℕ) (xs ys zs us prefix whole changed : List (List ℕ)) → IsPart part us →
     prefix ≡ xs ++ ys → whole ≡ xs ++ (ys ++ zs) → changed ≡ xs ++ (us ++ zs) →
     replace_range (join (x ∷ whole)) (length (join (x ∷ xs))) (length (join (x ∷ prefix))) (after_hyphen part) ≡ join (x ∷ changed)
-join-part_replaced part x xs ys zs us prefix whole changed is to_prefix to_whole to_changed =
-    rw (to_prefix, to_whole, to_changed, after_hyphen-part part us is) (join-replaced x xs ys zs us)
+join-part_replaced part x xs ys zs us prefix whole changed is to_prefix to_whole to_changed = cc (after_hyphen-part part us is, join-replaced x xs ys zs us)
 
 -- ---- what stands after each part
 
@@ -134,41 +122,27 @@ after_variants r = flat_map extension_flat r.extensions ++ private_part_flat r.p
 abbrev after_region : Record → List (List ℕ)
 after_region r = r.variants ++ after_variants r
 
-abbrev after_script : Record → List (List ℕ)
-after_script r = one_flat r.region ++ after_region r
-
-abbrev after_language : Record → List (List ℕ)
-after_language r = one_flat r.script ++ after_script r
-
 -- ---- the language
 
 pub language-replaces :
     (primary : List ℕ) (extended : List (List ℕ)) (text : List ℕ) → SpellsLanguage primary extended text →
     Replaces text (λ ends. 0) (λ ends. ends.language) (λ m n. record m { language = n }) (λ r. with_language r primary extended)
-language-replaces primary extended text spells = record {
-  fits = λ r fits. record { primary = spells.first; extended = spells.others; few = spells.few; short = spells.short; script = fits.script; region = fits.region; variants = fits.variants; extensions = fits.extensions; private_use = fits.private_use };
-  spelled = λ r. rw (drop-join r.primary r.extended (after_language r), ← spells.joined) (sym (join-append primary extended (after_language r)));
-  lengths = λ r. rw spells.joined refl;
-}
+language-replaces primary extended text spells = grind (arith, common_steps, drop-join, join-append primary extended)
 
 -- ---- the script and the region
 
 pub is_script-member : (script : Option Script) → IfSome (option_map script_text script) (λ s. IsTrue (is_script s))
-is_script-member None = tt
-is_script-member (Some script) = script.in_class
+is_script-member script = grind (arith, common_steps)
 
 pub is_region-member : (region : Option Region) → IfSome (option_map region_text region) (λ s. IsTrue (is_region s))
-is_region-member None = tt
-is_region-member (Some region) = region.in_class
+is_region-member region = grind (arith, common_steps)
 
 -- a subtag that may be there
 one_part : (part : Option (List ℕ)) → IfSome part (λ s. 1 ≤ length s) → IsPart (unwrap_or part []) (one_flat part)
-one_part None some = record { joined = refl; begins = tt }
-one_part (Some s) some = record { joined = refl; begins = begins s [] some }
+one_part part some = grind (arith, common_steps, begins)
 
 if_some : (P Q : List ℕ → Type 0) (part : Option (List ℕ)) → ((s : List ℕ) → P s → Q s) → IfSome part P → IfSome part Q
-if_some P Q None step fact = tt
-if_some P Q (Some s) step fact = step s fact
+if_some P Q part step fact = grind (arith, common_steps)
 
 script_part : (script : Option (List ℕ)) → IfSome script (λ s. IsTrue (is_script s)) → IsPart (unwrap_or script []) (one_flat script)
 script_part script member = one_part script (if_some _ _ script (λ s h. (of_script s h).some) member)
@@ -179,13 +153,7 @@ region_part region member = one_part region (if_some _ _ region (λ s h. (of_reg
 pub script-replaces :
     (script : Option (List ℕ)) → IfSome script (λ s. IsTrue (is_script s)) →
     Replaces (after_hyphen (unwrap_or script [])) (λ ends. ends.language) (λ ends. ends.script) (λ m n. record m { script = n }) (λ r. with_script r script)
-script-replaces script member =
-    let is = script_part script member in
-    record {
-      fits = λ r fits. record { primary = fits.primary; extended = fits.extended; few = fits.few; short = fits.short; script = member; region = fits.region; variants = fits.variants; extensions = fits.extensions; private_use = fits.private_use };
-      spelled = λ r. join-part_replaced _ r.primary r.extended (one_flat r.script) (after_script r) (one_flat script) _ _ _ is refl refl refl;
-      lengths = λ r. rw (after_hyphen-part _ _ is) refl;
-    }
+script-replaces script member = grind (arith, common_steps, script_part script member, join-part_replaced, after_hyphen-part)
 
 pub region-replaces :
     (region : Option (List ℕ)) → IfSome region (λ s. IsTrue (is_region s)) →
@@ -216,8 +184,7 @@ variants-replaces variants text spells =
     }
   where
     variants-begin : (variants : List (List ℕ)) → AllByRecursion (λ s. IsTrue (is_variant s)) variants → BeginsWithByte variants
-    variants-begin [] members = tt
-    variants-begin (s ∷ variants) members = begins s variants (of_variant s members.0).some
+    variants-begin variants members = grind (arith, common_steps, begins, of_variant)
 
 pub extensions-replaces :
     (extensions : List Extension) (text : List ℕ) → SpellsExtensions extensions text →
@@ -238,8 +205,7 @@ extensions-replaces extensions text spells =
 
 -- the text of a private use part that may be there, and the subtags of the one that spells it
 private_use_part : (part : Option PrivateUse) (text : Option (List ℕ)) → SpellsPrivateUse part text → IsPart (unwrap_or text []) (private_part_flat part)
-private_use_part None text spells = record { joined = ap (λ o. unwrap_or o []) spells.joined; begins = tt }
-private_use_part (Some p) text spells = record { joined = ap (λ o. unwrap_or o []) spells.joined; begins = tt }
+private_use_part part text spells = grind (arith, common_steps, begins)
 
 pub private_use-replaces :
     (part : Option PrivateUse) (text : Option (List ℕ)) → SpellsPrivateUse part text →
@@ -285,9 +251,7 @@ made_of_parts primary extended language script region text spelled script_member
 
 -- a part of one subtag takes at most nine bytes
 short_part : (part : Option (List ℕ)) → IfSome part (λ s. length s ≤ 8) → length (after_hyphen (unwrap_or part [])) ≤ 9
-short_part None short = omega arith
-short_part (Some []) short = omega arith
-short_part (Some (b ∷ s)) short = omega (arith, short)
+short_part part short = grind (arith, common_steps)
 
 pub short_script : (script : Option (List ℕ)) → IfSome script (λ s. IsTrue (is_script s)) → length (after_hyphen (unwrap_or script [])) ≤ 9
 short_script script member = short_part script (if_some _ _ script (λ s h. (of_script s h).short) member)

@@ -1,8 +1,9 @@
 -- Irregular tags, and their beginnings, by a test of each.
-use Rattle.std.proofs.Common.{◌≡◌, ◌↔◌, ℕ, true, Bool, IsTrue, List, [], length, take, slice_get, Some, Decides, refl, sym, ap, ◌∙◌}
+use Rattle.std.proofs.Common.{◌≡◌, ◌↔◌, ℕ, true, Bool, IsTrue, List, [], length, take, slice_get, Some, Decides, ap, ◌∙◌, arith}
 use Rattle.std.specs.List.{list_any}
 use Rattle.std.proofs.lemmas.List.Folds.{Any-from_list_any, list_any_at}
 use Rattle.std.proofs.lemmas.Option.{slice_get_read, slice_get_within, get_or_from_slice_get}
+use Rattle.std.proofs.lemmas.Grind.{common_steps}
 use Rattle.langtag_scan.specs.Case.{Alike, are_alike}
 use Rattle.langtag_scan.specs.CaseLaws.{are_alike-decides}
 use Rattle.langtag_scan.specs.Grandfathered.{irregular_texts}
@@ -12,9 +13,7 @@ use Rattle.langtag_scan.specs.Viable.{IsIrregularPrefix}
 -- some irregular tag has a property exactly where one passes the test that decides it
 module _ (test : List ℕ → Bool) (P : List ℕ → Type 0) (decides : (name : List ℕ) → Decides (test name) (P name)) where
   from_test : list_any test irregular_texts ≡ true → (k : ℕ) × (name : List ℕ) × (slice_get irregular_texts k ≡ Some name) × P name
-  from_test found =
-      let (k, name, below, at, passes) = Any-from_list_any test irregular_texts found in
-      (k, name, slice_get_read irregular_texts (length irregular_texts) k name refl below (sym at), (decides name).0 passes)
+  from_test found = grind (arith, common_steps, Any-from_list_any, slice_get_read)
 
   to_test : (k : ℕ) (name : List ℕ) → slice_get irregular_texts k ≡ Some name → P name → list_any test irregular_texts ≡ true
   to_test k name at is =

@@ -1,5 +1,6 @@
 -- What the finding that a tag keeps says of its text.
 use Rattle.std.proofs.Common.{◌≡◌, ◌↔◌, ℕ, ◌<◌, List, Some, IsTrue, sym, subst, arith}
+use Rattle.std.proofs.lemmas.Grind.{common_steps}
 use Rattle.langtag_scan.specs.Case.{Alike}
 use Rattle.langtag_scan.specs.Found.{IsFoundOf, is_normal, is_private_use, irregular_index}
 use Rattle.langtag_scan.specs.Tag.{IsNormal, IsPrivate, IsIrregularAt, IsIrregular, IsTag}
@@ -13,11 +14,9 @@ use Rattle.langtag_scan.proofs.SpelledTexts.{offsets_kept}
 use Rattle.langtag_private.proofs.Rules.{IsPrivate-from_test}
 use Rattle.langtag.specs.Kinds.{IsOfKind, AreOfOneKind}
 use Rattle.langtag.specs.Recognised.{finding_of}
-use Rattle.langtag.specs.Registered.{index_of}
 use Rattle.langtag.specs.Typed.{IsTypedAs, kind_of_tag}
 use Rattle.langtag.specs.declared.recognised.Recognised.{Recognised}
 use Rattle.langtag.specs.declared.typed_lang_tag.TypedLangTag.{TypedLangTag}
-use Rattle.langtag.specs.declared.typed_lang_tag.TypedLangTag.TheVariants.{Normal, PrivateUse, Grandfathered}
 
 -- the text is a tag, of the kind that was found
 pub record TellsKind (text : List ℕ) (found : Finding) : Type 0 where
@@ -27,8 +26,7 @@ pub record TellsKind (text : List ℕ) (found : Finding) : Type 0 where
 
 pub found_kept : (text : List ℕ) (found : Finding) → ∥ IsFoundOf text found ∥₁ → TellsKind text found
 found_kept text found merely =
-    let kept = found_had text found merely in
-    record { tag = tag_found text found kept; normal = normal_found text found kept; private_use = private_found text found kept }
+    grind (arith, common_steps, found_had text found merely, tag_found text found, normal_found text found, private_found text found)
 
 -- ---- what is kept of what the recogniser found
 
@@ -38,11 +36,7 @@ pub record IsAtIndex (text : List ℕ) (index : ℕ) : Type 0 where
   pub is : IsIrregularAt index text
 
 pub irregular_found : (text : List ℕ) (found : Finding) (index : ℕ) → IsFoundOf text found → Some index ≡ irregular_index found → IsAtIndex text index
-irregular_found text (found_at.Normal ends) index kept at = absurd cc
-irregular_found text found_at.PrivateUse index kept at = absurd cc
-irregular_found text (found_at.Irregular k) index kept at =
-    let same : index ≡ k = cc in
-    rw same (record { within = omega (arith, (irregular_fold text k kept).0); is = kept })
+irregular_found text found index kept at = grind (arith, common_steps, irregular_fold text)
 
 -- what is kept of a text holds of it
 pub kept_as : (text : List ℕ) (kept same : Recognised) → ∥ IsFoundOf text (finding_of kept) ∥₁ → kept ≡ same → IsFoundOf text (finding_of same)
@@ -51,17 +45,12 @@ kept_as text kept same merely is = subst (λ found. IsFoundOf text (finding_of f
 -- the variant of a typed tag says of which kind its text is
 pub typed_kind : (text : List ℕ) (typed : TypedLangTag) → IsTypedAs text typed → IsOfKind text (kind_of_tag typed)
 unfolding IsIrregular
-typed_kind text (Normal tag) same = rw (← same) (offsets_kept _ _ tag.kept_ends).normal
-typed_kind text (PrivateUse tag) same = rw (← same) (IsPrivate-from_test _ tag.in_class)
-typed_kind text (Grandfathered tag) is = (index_of tag, is)
+typed_kind text typed is = grind (arith, common_steps, offsets_kept, IsPrivate-from_test)
 
 -- no text is of two kinds
 pub ruleset one_kind = (normal_no_private, normal_no_irregular, private_no_irregular)
 
 -- alike texts are of one kind
 pub alike_kinds : (t u : List ℕ) → Alike t u → AreOfOneKind t u
-alike_kinds t u alike = record {
-  normal = (alike_normal t u alike, alike_normal u t (sym alike));
-  private_use = (alike_private t u alike, alike_private u t (sym alike));
-  irregular = λ k. (alike_irregular k t u alike, alike_irregular k u t (sym alike));
-}
+alike_kinds t u alike =
+    grind (arith, common_steps, alike_normal t u alike, alike_normal u t (sym alike), alike_private t u alike, alike_private u t (sym alike), alike_irregular)

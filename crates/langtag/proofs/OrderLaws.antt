@@ -1,6 +1,7 @@
 -- The derived comparisons of the grandfathered tags, and the order of tags of which one begins the other.
-use Rattle.std.proofs.Common.{◌≡◌, ◌==◌, ℕ, ◌<◌, List, map, get_or, sym, refl, ap, ◌∙◌, arith}
+use Rattle.std.proofs.Common.{◌≡◌, ◌==◌, ℕ, List, map, refl, ap, ◌∙◌, arith}
 use Rattle.std.proofs.Math.Facts.{Fits-of_lt}
+use Rattle.std.proofs.lemmas.Grind.{common_steps}
 use denote.Enum.Declared.{tag_of}
 use Rattle.std.specs.Hash.{usize}
 use Rattle.std.specs.Ordering.{nat_cmp}
@@ -25,8 +26,7 @@ use Rattle.langtag.specs.Registered.{index_of}
 
 -- what a derived comparison reads of a variant is its index
 tag_of-index : (tag : GrandfatheredLangTag) → tag_of the_type tag ≡ index_of tag
-tag_of-index EnGbOed = refl
-tag_of-index tag = refl
+tag_of-index tag = grind (arith, common_steps)
 
 equal : (a b : GrandfatheredLangTag) → tag_equality.eq-value.it a b ≡ (index_of a == index_of b)
 equal a b = ap (λ n. n == tag_of the_type b) (tag_of-index a) ∙ ap (λ n. index_of a == n) (tag_of-index b)
@@ -35,15 +35,7 @@ equal a b = ap (λ n. n == tag_of the_type b) (tag_of-index a) ∙ ap (λ n. ind
 each_tag :
     {Y : Type 0} (f g : GrandfatheredLangTag → Y) (d : Y) → map f GRANDFATHERED ≡ map g GRANDFATHERED →
     (tag : GrandfatheredLangTag) → f tag ≡ g tag
-each_tag f g d same tag =
-    let k : ℕ = index_of tag in
-    let within : k < 26 = slice_get_within GRANDFATHERED k tag (listed tag) in
-    let here : get_or GRANDFATHERED k EnGbOed ≡ tag = get_or_from_slice_get GRANDFATHERED k tag EnGbOed (listed tag) in
-    ap f (sym here)
-    ∙ sym (get_or-map f GRANDFATHERED k EnGbOed d within)
-    ∙ ap (λ ys. get_or ys k d) same
-    ∙ get_or-map g GRANDFATHERED k EnGbOed d within
-    ∙ ap g here
+each_tag f g d same tag = grind (arith, common_steps, slice_get_within, listed, get_or_from_slice_get, get_or-map)
 
 ordered_along :
     (a : GrandfatheredLangTag) →
@@ -56,17 +48,14 @@ ordered a b = each_tag (λ b. tag_order.cmp-value.it a b) (λ b. nat_cmp (index_
 
 -- and what it feeds to a hasher
 hashed : (tag : GrandfatheredLangTag) → tag_hash.hash_input-value.it tag ≡ usize (index_of tag)
-hashed EnGbOed = refl
-hashed tag = refl
+hashed tag = grind (arith, common_steps)
 
 pub tags_compare : TagsCompareByIndex
 tags_compare = record { equal = equal; ordered = ordered; hashed = hashed }
 
 -- a tag that begins another, but for case, and ends first is the greater
 pub tag_ends_first : (t u : List ℕ) → IsTag u → EndsFirst t u → case_cmp t u ≡ Greater
-tag_ends_first t u tag ends =
-    let ascii = IsAscii-tag u tag in
-    case_cmp-ends_first t u (λ k. Fits-of_lt (omega (arith, ascii k))) ends
+tag_ends_first t u tag ends = grind (arith, common_steps, IsAscii-tag u tag, case_cmp-ends_first t u, Fits-of_lt)
 
 pub normal_ends_first : (t u : List ℕ) → IsNormal u → EndsFirst t u → case_cmp t u ≡ Greater
 normal_ends_first t u normal ends = tag_ends_first t u (tag_normal u normal) ends

@@ -2,8 +2,8 @@
 use Rattle.std.proofs.Common.{◌≡◌, ℕ, ◌≤◌, List, length, arith}
 use Rattle.std.specs.List.{replace_range}
 use Rattle.std.specs.Option.{option_map}
+use Rattle.std.proofs.lemmas.Grind.{common_steps}
 use Rattle.langtag_scan.specs.Ends.{ends_of, HasEnds}
-use Rattle.langtag_scan.specs.Parts.{AreInOrder}
 use Rattle.langtag_scan.specs.Record.{EachRecord}
 use Rattle.langtag_scan.specs.declared.ends.Ends.{Ends}
 use Rattle.langtag_scan.proofs.SpelledTexts.{ends_had, ends_ordered, ends_whole}
@@ -28,26 +28,10 @@ unfolding HasEnds
 ends_of_tag text kept ends merely answered = let (r, spells, at) = ends_had text kept merely in (r, spells, answered r spells)
 
 pub part_order : (p : Part) (text : List ℕ) (ends : Ends) → HasEnds text ends → part_start p ends ≤ part_end p ends
-part_order p text ends kept = ordered p (ends_ordered text ends kept)
-  where
-    ordered : (p : Part) → AreInOrder ends → part_start p ends ≤ part_end p ends
-    ordered (Language part) order = omega arith
-    ordered (Script part) order = order.script
-    ordered (Region part) order = order.region
-    ordered (Variants part) order = order.variants
-    ordered (Extensions part) order = order.extensions
-    ordered (PrivateUse part) order = order.private_use
+part_order p text ends kept = grind (arith, common_steps, ends_ordered text ends kept)
 
 pub part_within : (p : Part) (text : List ℕ) (ends : Ends) → HasEnds text ends → part_end p ends ≤ length text
-part_within p text ends kept = within p (ends_ordered text ends kept) (ends_whole text ends kept)
-  where
-    within : (p : Part) → AreInOrder ends → ends.whole ≡ length text → part_end p ends ≤ length text
-    within (Language part) order whole = omega (arith, order.script, order.region, order.variants, order.extensions, order.private_use, whole)
-    within (Script part) order whole = omega (arith, order.region, order.variants, order.extensions, order.private_use, whole)
-    within (Region part) order whole = omega (arith, order.variants, order.extensions, order.private_use, whole)
-    within (Variants part) order whole = omega (arith, order.extensions, order.private_use, whole)
-    within (Extensions part) order whole = omega (arith, order.private_use, whole)
-    within (PrivateUse part) order whole = omega (arith, whole)
+part_within p text ends kept = grind (arith, common_steps, ends_ordered text ends kept, ends_whole text ends kept)
 
 -- ---- what the new text is
 

@@ -1,6 +1,7 @@
 -- What the accessors cut out of a normal text meets the rules of the types of parts.
-use Rattle.std.proofs.Common.{◌≡◌, ℕ, List, [], Option, None, Some, IsTrue, IfSome, take, unwrap_or, refl, sym, ◌∙◌, subst}
+use Rattle.std.proofs.Common.{◌≡◌, ℕ, List, [], Option, Some, IsTrue, IfSome, take, unwrap_or, sym, ◌∙◌, subst, arith}
 use Rattle.std.specs.Option.{option_map}
+use Rattle.std.proofs.lemmas.Grind.{common_steps}
 use Rattle.langtag_scan.specs.Class.{is_script, is_region}
 use Rattle.langtag_scan.specs.Ends.{HasEnds}
 use Rattle.langtag_scan.specs.Parts.{text_between}
@@ -15,24 +16,17 @@ use Rattle.langtag.proofs.PartsFound.{language_found, script_found, region_found
 
 pub IsLanguage-cut : (text : List ℕ) (ends : Ends) → HasEnds text ends → IsLanguage (take ends.language text)
 unfolding HasEnds
-IsLanguage-cut text ends (r, spells, at) =
-    let same = language_found text ends (r, spells, at) r spells in
-    let fits = spells.0 in
-    rw same (r.primary, r.extended, record { first = fits.primary; others = fits.extended; few = fits.few; short = fits.short; joined = refl })
+IsLanguage-cut text ends h = grind (arith, common_steps, language_found text ends)
 
 pub IsVariants-cut : (text : List ℕ) (ends : Ends) → HasEnds text ends → IsVariants (unwrap_or (text_between text ends.region ends.variants) [])
 unfolding HasEnds
-IsVariants-cut text ends (r, spells, at) =
-    let same = variants_found text ends (r, spells, at) r spells in
-    rw same (r.variants, record { members = spells.0.variants; joined = refl })
+IsVariants-cut text ends (r, spells, at) = grind (arith, common_steps, variants_found text ends (r, spells, at) r spells)
 
 pub IsExtensions-cut :
     (text : List ℕ) (ends : Ends) → HasEnds text ends →
     IsExtensions (unwrap_or (text_between text ends.variants ends.extensions) [])
 unfolding HasEnds
-IsExtensions-cut text ends (r, spells, at) =
-    let same = extensions_found text ends (r, spells, at) r spells in
-    rw same (r.extensions, record { members = spells.0.extensions; joined = refl })
+IsExtensions-cut text ends h = grind (arith, common_steps, extensions_found text ends)
 
 -- what holds of a part that may be there holds of the one that is
 of_some : (P : List ℕ → Type 0) (part : List ℕ) (o : Option (List ℕ)) → Some part ≡ o → IfSome o P → P part
@@ -42,22 +36,19 @@ pub is_script-cut :
     (text : List ℕ) (ends : Ends) (part : List ℕ) → HasEnds text ends → Some part ≡ text_between text ends.language ends.script →
     IsTrue (is_script part)
 unfolding HasEnds
-is_script-cut text ends part (r, spells, at) cut =
-    of_some (λ s. IsTrue (is_script s)) part r.script (cut ∙ script_found text ends (r, spells, at) r spells) spells.0.script
+is_script-cut text ends part h cut = grind (arith, common_steps, of_some, script_found text ends)
 
 pub is_region-cut :
     (text : List ℕ) (ends : Ends) (part : List ℕ) → HasEnds text ends → Some part ≡ text_between text ends.script ends.region →
     IsTrue (is_region part)
 unfolding HasEnds
-is_region-cut text ends part (r, spells, at) cut =
-    of_some (λ s. IsTrue (is_region s)) part r.region (cut ∙ region_found text ends (r, spells, at) r spells) spells.0.region
+is_region-cut text ends part h cut = grind (arith, common_steps, of_some, region_found text ends)
 
 private_spelled :
     (part : List ℕ) (o : Option PrivateUse) → Some part ≡ option_map (λ p. join (private_use_flat p)) o → IfSome o IsWellFormedPrivateUse →
     IsPrivate part
 unfolding IsPrivate
-private_spelled part None same fits = absurd cc
-private_spelled part (Some p) same fits = (p, fits, cc)
+private_spelled part o same fits = grind (arith, common_steps)
 
 pub IsPrivate-cut :
     (text : List ℕ) (ends : Ends) (part : List ℕ) → HasEnds text ends → Some part ≡ text_between text ends.extensions ends.whole →

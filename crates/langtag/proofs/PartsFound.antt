@@ -1,9 +1,9 @@
 -- What stands in a normal text between two of its ends is the part of each record that spells it.
-use Rattle.std.proofs.Common.{◌≡◌, ℕ, List, [], take, unwrap_or, ap, ◌∙◌}
-use Rattle.std.specs.List.{flat_map}
+use Rattle.std.proofs.Common.{◌≡◌, ℕ, List, [], take, unwrap_or, arith}
+use Rattle.std.proofs.lemmas.Grind.{common_steps}
 use Rattle.langtag_scan.specs.Ends.{HasEnds}
 use Rattle.langtag_scan.specs.Parts.{language_part, variants_part, extensions_part, private_use_part, text_between}
-use Rattle.langtag_scan.specs.Record.{Record, EachRecord, extension_flat, spell}
+use Rattle.langtag_scan.specs.Record.{Record, EachRecord, spell}
 use Rattle.langtag_scan.specs.declared.ends.Ends.{Ends}
 use Rattle.langtag_scan.proofs.Joins.{unwrap_or-joined}
 use Rattle.langtag_scan.proofs.PartOffsets.{language_between, script_between, region_between, variants_between, extensions_between, private_use_between}
@@ -12,14 +12,8 @@ use Rattle.langtag.specs.Offsets.{PartsStandIn}
 
 -- each part of a record stands between its offsets in the spelling
 pub parts_stand : (r : Record) → PartsStandIn (spell r) r
-parts_stand r = record {
-  language = language_between r;
-  script = script_between r;
-  region = region_between r;
-  variants = ap (λ o. unwrap_or o []) (variants_between r) ∙ unwrap_or-joined r.variants;
-  extensions = ap (λ o. unwrap_or o []) (extensions_between r) ∙ unwrap_or-joined (flat_map extension_flat r.extensions);
-  private_use = private_use_between r;
-}
+parts_stand r =
+    grind (arith, common_steps, language_between, script_between, region_between, variants_between, unwrap_or-joined, extensions_between, private_use_between)
 
 -- what stands between the ends that are kept, part by part
 pub language_found : (text : List ℕ) (ends : Ends) → HasEnds text ends → EachRecord text (λ r. take ends.language text ≡ language_part r)

@@ -1,8 +1,9 @@
 -- Where the first subtag ends that is refused, by how much of a text and a hyphen is viable.
-use Rattle.std.proofs.Common.{◌≡◌, ◌↔◌, ℕ, ◌+◌, ◌<◌, ◌≤◌, ◌⊎◌, List, [], ◌∷◌, ◌++◌, length, take, slice_index, inl, inr, sym, ap, subst, ◌∙◌, arith, append-nil}
+use Rattle.std.proofs.Common.{◌≡◌, ◌↔◌, ℕ, ◌+◌, ◌<◌, ◌≤◌, ◌⊎◌, List, [], ◌∷◌, ◌++◌, length, take, slice_index, inl, inr, sym, subst, ◌∙◌, arith, append-nil}
 use Rattle.std.proofs.Math.Seq.{take-length}
 use Rattle.std.proofs.lemmas.Bool.{cases_lt}
 use Rattle.std.proofs.lemmas.List.{take-append-le, take_all, take_more, length_push}
+use Rattle.std.proofs.lemmas.Grind.{common_steps}
 use Rattle.langtag_scan.specs.Subtags.{NoHyphenWithin}
 use Rattle.langtag_scan.specs.Tag.{IsTag}
 use Rattle.langtag_scan.specs.Viable.{IsViable, IsViableLength, IsIrregularPrefix}
@@ -11,11 +12,7 @@ use Rattle.langtag.specs.Refusal.{MayStand, IsRefusedEnd, EndsTooSoon, IsOpen}
 
 -- the text up to the end of a subtag, and a hyphen
 hyphened : (t : List ℕ) (k : ℕ) → k ≤ length t → (k < length t → slice_index t k ≡ 45) → take (k + 1) (t ++ 45 ∷ []) ≡ take k t ++ 45 ∷ []
-hyphened t k within hyphen = elim (cases_lt k (length t)) [
-  | inl below ↦ take-append-le (k + 1) t (45 ∷ []) (omega (arith, below)) ∙ take_more t k 0 below ∙ ap (λ b. take k t ++ b ∷ []) (hyphen below)
-  | inr past ↦
-      take_all (k + 1) (t ++ 45 ∷ []) (omega (arith, past, length_push t 45)) ∙ ap (λ p. p ++ 45 ∷ []) (sym (take_all k t (omega (arith, past))))
-]
+hyphened t k within hyphen = grind (arith, common_steps, cases_lt, take-append-le, take_more, take_all, length_push)
 
 module _ (t : List ℕ) (m : ℕ) (v : IsViableLength (t ++ 45 ∷ []) m) where
   -- within what is viable a hyphen may follow
@@ -24,26 +21,12 @@ module _ (t : List ℕ) (m : ℕ) (v : IsViableLength (t ++ 45 ∷ []) m) where
 
   -- and past it none may
   pub hyphen_dead : (k : ℕ) → k ≤ length t → (k < length t → slice_index t k ≡ 45) → m ≤ k → IsViable (take k t ++ 45 ∷ []) → ⊥
-  hyphen_dead k within hyphen le viable =
-      v.longest (k + 1) (omega (arith, le)) (omega (arith, within, length_push t 45)) (subst IsViable (sym (hyphened t k within hyphen)) viable)
+  hyphen_dead k within hyphen le viable = grind (arith, common_steps, length_push t 45, hyphened t k within hyphen)
 
   -- the first end at or past it
   pub first_end :
       (e : ℕ) → m ≤ e → e ≤ length t → NoHyphenWithin t m e → (e < length t → slice_index t e ≡ 45) → (IsTag (take e t) → ⊥) → IsRefusedEnd t e
-  first_end e from within none hyphen no_tag = record {
-    within = within;
-    hyphen = hyphen;
-    refused = by_case;
-    before = λ k below at. inr (hyphen_viable k (omega (arith, below, within)) (λ some. at) (viable_there k below at (cases_lt k m)));
-  }
-    where
-      by_case : MayStand (take e t) → ⊥
-      by_case (inl tag) = no_tag tag
-      by_case (inr viable) = hyphen_dead e within hyphen from viable
-
-      viable_there : (k : ℕ) → k < e → slice_index t k ≡ 45 → (k < m) ⊎ (m ≤ k) → k + 1 ≤ m
-      viable_there k below at (inl less) = omega (arith, less)
-      viable_there k below at (inr more) = absurd (let no = none k 0 more below in let is = at in cc)
+  first_end e from within none hyphen no_tag = grind (arith, common_steps, hyphen_viable, cases_lt, hyphen_dead e within hyphen from)
 
   -- the end after that of a tag with which none goes on
   pub second_end :
@@ -65,10 +48,7 @@ module _ (t : List ℕ) (m : ℕ) (v : IsViableLength (t ++ 45 ∷ []) m) where
       by_case (inr viable) = hyphen_dead f within hyphen_after (omega (arith, from, after)) viable
 
       stands : (k : ℕ) → k < f → slice_index t k ≡ 45 → (k < m) ⊎ (m ≤ k) → (k < e) ⊎ (e ≤ k) → (e < k) ⊎ (k ≤ e) → MayStand (take k t)
-      stands k less at (inl viable) first second = inr (hyphen_viable k (omega (arith, less, within)) (λ some. at) (omega (arith, viable)))
-      stands k less at (inr dead) (inl first) second = absurd (let no = none k 0 dead first in cc)
-      stands k less at (inr dead) (inr past) (inl more) = absurd (let no = none_after k 0 (omega (arith, more)) less in cc)
-      stands k less at (inr dead) (inr past) (inr same) = let here : e ≡ k = omega (arith, past, same) in inl (subst (λ n. IsTag (take n t)) here tag)
+      stands k less at h first second = grind (arith, common_steps, hyphen_viable k)
 
   -- ---- texts that end too soon
 
@@ -82,25 +62,14 @@ module _ (t : List ℕ) (m : ℕ) (v : IsViableLength (t ++ 45 ∷ []) m) where
   viable_whole le = subst IsViable whole_text (v.viable (length t) le)
 
   pub goes_on_by_hyphen : (IsTag t → ⊥) → length t < m → EndsTooSoon t
-  goes_on_by_hyphen no_tag less = record {
-    no_tag = no_tag;
-    viable = viable_whole (omega (arith, less));
-    goes_on = inl (subst IsViable whole_hyphened (v.viable (length t + 1) (omega (arith, less))));
-  }
+  goes_on_by_hyphen no_tag less = grind (arith, common_steps, viable_whole, whole_hyphened)
 
   pub hyphen_past : m ≤ length t → IsViable (t ++ 45 ∷ []) → ⊥
-  hyphen_past le viable =
-      v.longest (length t + 1) (omega (arith, le)) (omega (arith, length_push t 45)) (subst IsViable (sym whole_hyphened) viable)
+  hyphen_past le viable = grind (arith, common_steps, length_push t 45, whole_hyphened)
 
   -- a text with which no hyphen goes on, and whose last subtag has a byte
   pub irregular_left : (IsTag t → ⊥) → length t ≡ m → (IsOpen t → ⊥) → IsIrregularPrefix t ↔ EndsTooSoon t
-  irregular_left no_tag all closed =
-      (λ is. record { no_tag = no_tag; viable = viable_whole (omega (arith, all)); goes_on = inr (inr is) }, λ ends. by_case ends.goes_on)
-    where
-      by_case : IsViable (t ++ 45 ∷ []) ⊎ IsOpen t ⊎ IsIrregularPrefix t → IsIrregularPrefix t
-      by_case (inl viable) = absurd (hyphen_past (omega (arith, all)) viable)
-      by_case (inr (inl ended)) = absurd (closed ended)
-      by_case (inr (inr is)) = is
+  irregular_left no_tag all closed = grind (arith, common_steps, viable_whole, hyphen_past)
 
   pub open_end : (IsTag t → ⊥) → length t ≡ m → IsOpen t → EndsTooSoon t
   open_end no_tag all ended = record { no_tag = no_tag; viable = viable_whole (omega (arith, all)); goes_on = inr (inl ended) }

@@ -1,5 +1,5 @@
 -- The variants of `GrandfatheredLangTag` and `GRANDFATHERED`, beside the table of registered tags.
-use Rattle.std.proofs.Common.{◌≡◌, ℕ, ◌<◌, ◌≤◌, true, cond, ltb, IsTrue, List, [], length, map, get_or, slice_get, Some, None, inl, inr, refl, sym, ap, ◌∙◌, arith, zero-add}
+use Rattle.std.proofs.Common.{◌≡◌, ℕ, ◌<◌, ◌≤◌, true, cond, ltb, List, [], length, map, get_or, slice_get, Some, None, refl, sym, ap, ◌∙◌, arith, zero-add}
 use Rattle.std.specs.List.{position, position_or_len, range_with_len}
 use Rattle.std.specs.Option.{option_map_or}
 use Rattle.std.specs.Str.{bytes_eq}
@@ -9,6 +9,7 @@ use Rattle.std.proofs.lemmas.List.FromFn.{get_or-range_with_len}
 use Rattle.std.proofs.lemmas.List.Quantifiers.{position-Some}
 use Rattle.std.proofs.lemmas.List.Sums.{fails_before_first}
 use Rattle.std.proofs.lemmas.Option.{slice_get-get_or, slice_get_within, get_or_from_slice_get}
+use Rattle.std.proofs.lemmas.Grind.{common_steps}
 use Rattle.langtag_scan.specs.Case.{fold_byte, fold_text, Alike, are_alike}
 use Rattle.langtag_scan.specs.CaseLaws.{are_alike-decides}
 use Rattle.langtag_scan.specs.Class.{is_letter, is_primary}
@@ -41,14 +42,11 @@ text_at_entry k lt = get_or-map (λ entry. entry.text) grandfathered_tags k noth
 -- a text is the one at an index where it is alike that spelling
 pub grandfathered_at : (k : ℕ) (t : List ℕ) → k < 26 → Alike (text_at k) t → IsGrandfatheredAt k t
 unfolding IsGrandfatheredAt
-grandfathered_at k t lt alike =
-    (get_or grandfathered_tags k nothing, slice_get-get_or grandfathered_tags k nothing (omega (arith, length-grandfathered_tags)), ap fold_text (sym (text_at_entry k lt)) ∙ alike)
+grandfathered_at k t lt alike = grind (arith, common_steps, slice_get-get_or grandfathered_tags k nothing, length-grandfathered_tags, text_at_entry k lt)
 
 pub alike_at : (k : ℕ) (t : List ℕ) → IsGrandfatheredAt k t → (k < 26) × Alike (text_at k) t
 unfolding IsGrandfatheredAt
-alike_at k t (entry, at, alike) =
-    let within : k < 26 = omega (arith, length-grandfathered_tags, slice_get_within grandfathered_tags k entry at) in
-    (within, ap fold_text (text_at_entry k within ∙ ap (λ e. e.text) (get_or_from_slice_get grandfathered_tags k entry nothing at)) ∙ alike)
+alike_at k t h = grind (arith, common_steps, length-grandfathered_tags, slice_get_within, text_at_entry, get_or_from_slice_get)
 
 -- the registered spellings, folded
 abbrev folded : List (List ℕ)
@@ -75,10 +73,7 @@ index_from_fold k lt =
 
 -- no text is at two indices
 pub one_index : (j k : ℕ) (t : List ℕ) → IsGrandfatheredAt j t → IsGrandfatheredAt k t → j ≡ k
-one_index j k t h g =
-    let a = alike_at j t h in
-    let b = alike_at k t g in
-    sym (index_from_fold j a.0) ∙ ap first_index (a.1 ∙ sym b.1) ∙ index_from_fold k b.0
+one_index j k t h g = grind (arith, common_steps, alike_at j t h, alike_at k t g, index_from_fold j, index_from_fold k)
 
 -- ---- the variants
 
@@ -87,21 +82,16 @@ indices : map index_of GRANDFATHERED ≡ range_with_len 0 26
 indices = refl
 
 pub index_listed : (k : ℕ) (d : GrandfatheredLangTag) → k < 26 → index_of (get_or GRANDFATHERED k d) ≡ k
-index_listed k d lt =
-    sym (get_or-map index_of GRANDFATHERED k d 0 lt) ∙ ap (λ ks. get_or ks k 0) indices ∙ get_or-range_with_len 0 26 k 0 lt ∙ zero-add k
+index_listed k d lt = grind (arith, common_steps, get_or-map index_of GRANDFATHERED k d 0 lt, indices, get_or-range_with_len 0 26 k 0 lt, zero-add k)
 
 -- each variant stands in `GRANDFATHERED` at its index
 pub listed : (tag : GrandfatheredLangTag) → slice_get GRANDFATHERED (index_of tag) ≡ Some tag
-listed EnGbOed = refl
-listed tag = refl
+listed tag = grind (arith, common_steps)
 
 -- ---- the look-up
 
 past_end : (n m : ℕ) → cond (ltb n m) (Some n) None ≡ None → m ≤ n
-past_end n m none = elim (cases_lt n m) [
-  | inl lt ↦ let found = rw (lt-ltb n m lt) at none in absurd cc
-  | inr le ↦ le
-]
+past_end n m none = grind (arith, common_steps, cases_lt n m, lt-ltb n m)
 
 -- the first tag that is alike is the one at its index
 pub first_alike_found : (t : List ℕ) (k : ℕ) → position (λ tag. are_alike (text_of tag) t) GRANDFATHERED ≡ Some k → IsGrandfatheredAt k t
@@ -138,11 +128,8 @@ spelling_tag tag =
 -- each language of the table is a primary subtag
 primary_registered : (tag : GrandfatheredLangTag) → option_map_or is_primary (language_of tag) true ≡ true
 unfolding grandfathered_tags is_primary is_letter
-primary_registered EnGbOed = refl
-primary_registered tag = refl
+primary_registered tag = grind (arith, common_steps)
 
 -- so it is a language
 pub language_registered : (tag : GrandfatheredLangTag) (text : List ℕ) → language_of tag ≡ Some text → IsLanguage text
-language_registered tag text same =
-    let primary : IsTrue (is_primary text) = sym (ap (λ o. option_map_or is_primary o true) same) ∙ primary_registered tag in
-    (text, [], record { first = primary; others = tt; few = omega arith; short = inr refl; joined = refl })
+language_registered tag text same = grind (arith, common_steps, primary_registered tag)

@@ -1,11 +1,11 @@
 -- What is known of the first repeat when the first so many members were looked at.
-use Rattle.std.proofs.Common.{◌≡◌, ℕ, ◌+◌, ◌<◌, Bool, true, false, cond, ◌||◌, ◌==◌, List, [], ◌∷◌, ◌++◌, length, get_or, set, take, drop, map, slice_get, slice_index, Option, None, Some, inl, inr, refl, ap, sym, subst, ◌∙◌, arith, append-nil, append_assoc}
+use Rattle.std.proofs.Common.{◌≡◌, ℕ, ◌+◌, ◌<◌, Bool, true, false, cond, ◌==◌, List, [], ◌∷◌, ◌++◌, length, get_or, set, take, drop, map, slice_get, slice_index, Option, None, Some, refl, ap, sym, subst, ◌∙◌, arith, append-nil, append_assoc}
 use Rattle.std.specs.List.{list_any, AllPairs}
-use Rattle.std.specs.Option.{option_and_then, option_map}
+use Rattle.std.specs.Option.{option_map}
 use Rattle.std.proofs.Math.Bool.{or-false}
 use Rattle.std.proofs.lemmas.Bool.Decides.{eqb_tells}
 use Rattle.std.proofs.lemmas.Bool.{or_right}
-use Rattle.std.proofs.lemmas.Grind.{get_or-set_at}
+use Rattle.std.proofs.lemmas.Grind.{get_or-set_at, common_steps}
 use Rattle.std.proofs.lemmas.List.{at_drop_more, take_more, length-take, length-drop, get_or-set_other, drop-map}
 use Rattle.std.proofs.lemmas.List.Folds.{list_any_more, list_any_at, Any-from_list_any}
 use Rattle.std.proofs.lemmas.List.Quantifiers.{all_pairs_push}
@@ -42,26 +42,21 @@ module _ {A : Type 0} (alike : A → A → Bool) where
       repeat_index_after alike (take n xs) (drop n xs)
       ≡ cond (list_any (alike x) (take n xs)) (Some (length (take n xs))) (repeat_index_after alike (take (n + 1) xs) (drop (n + 1) xs))
   repeat_index_after-turn xs n x rest at =
-      at_drop_more (repeat_index_after alike (take n xs)) xs n x at.below
-      ∙ ap (λ z. repeat_index_after alike (take n xs) (z ∷ drop (n + 1) xs)) (sym at.member)
-      ∙ ap (λ seen. cond (list_any (alike x) (take n xs)) (Some (length (take n xs))) (repeat_index_after alike seen (drop (n + 1) xs)))
-      (ap (λ z. take n xs ++ z ∷ []) at.member ∙ sym (take_more xs n x at.below))
+      grind (arith, common_steps, at_drop_more (repeat_index_after alike (take n xs)) xs n x at.below, take_more xs n x at.below)
 
   turn-by :
       (xs : List A) (n : ℕ) (x : A) (rest : List A) (seen : Bool) → repeat_index alike xs ≡ repeat_index_after alike (take n xs) (drop n xs) →
       drop n xs ≡ x ∷ rest → list_any (alike x) (take n xs) ≡ seen →
       repeat_index alike xs ≡ cond seen (Some (length (take n xs))) (repeat_index_after alike (take (n + 1) xs) (drop (n + 1) xs))
   turn-by xs n x rest seen so_far left is =
-      so_far ∙ repeat_index_after-turn xs n x rest (IsAt-drop xs n x rest left)
-      ∙ ap (λ b. cond b (Some (length (take n xs))) (repeat_index_after alike (take (n + 1) xs) (drop (n + 1) xs))) is
+      grind (arith, common_steps, repeat_index_after-turn xs n x rest (IsAt-drop xs n x rest left), IsAt-drop xs n x rest left)
 
   -- the member is alike an earlier one
   pub repeat-found :
       (xs : List A) (n : ℕ) (x : A) (rest : List A) → repeat_index alike xs ≡ repeat_index_after alike (take n xs) (drop n xs) →
       drop n xs ≡ x ∷ rest → list_any (alike x) (take n xs) ≡ true → repeat_index alike xs ≡ Some n
   repeat-found xs n x rest so_far left seen =
-      let below = (IsAt-drop xs n x rest left).below in
-      turn-by xs n x rest true so_far left seen ∙ ap Some (omega (arith, length-take n xs, below))
+      grind (arith, common_steps, IsAt-drop xs n x rest left, turn-by xs n x rest true so_far left seen, length-take n xs)
 
   -- it is not, and the walk goes on
   pub repeat-later :
@@ -80,8 +75,7 @@ module _ {A : Type 0} (alike : A → A → Bool) where
   HasNoRepeat-push :
       (seen : List A) (x : A) → AllPairs (λ y z. alike z y ≡ false) seen → list_any (alike x) seen ≡ false →
       AllPairs (λ y z. alike z y ≡ false) (seen ++ x ∷ [])
-  HasNoRepeat-push seen x none new =
-      all_pairs_push (λ y z. alike z y ≡ false) seen x none (λ k d inside. false_from_ne_true (alike x (get_or seen k d)) (λ yes. let seen_it = list_any_at (alike x) seen k d inside yes in absurd cc))
+  HasNoRepeat-push seen x none new = grind (arith, common_steps, all_pairs_push, false_from_ne_true, list_any_at (alike x) seen)
 
   repeat_index_after-first :
       (xs seen : List A) → AllPairs (λ y z. alike z y ≡ false) seen → IsFirstRepeatAt alike (seen ++ xs) (repeat_index_after alike seen xs)
@@ -105,13 +99,7 @@ module _ {A : Type 0} (alike : A → A → Bool) where
 
   -- `repeat` is what it is called
   pub repeat-first : (xs : List A) → IsFirstRepeat alike xs (repeat alike xs)
-  repeat-first xs = by_index (repeat_index alike xs) (repeat_index-first xs)
-    where
-      by_index : (o : Option ℕ) → IsFirstRepeatAt alike xs o → IsFirstRepeat alike xs (option_and_then (slice_get xs) o)
-      by_index None none = none
-      by_index (Some k) (x, is, at) =
-          let here : slice_get xs k ≡ Some x = ap (slice_get xs) at ∙ ap (λ ys. slice_get ys (length is.0)) is.2 ∙ slice_get-seam is.0 is.1 x in
-          subst (IsFirstRepeat alike xs) (sym here) is
+  repeat-first xs = grind (arith, common_steps, repeat_index-first, slice_get-seam)
 
 -- ---- singletons
 
@@ -152,12 +140,7 @@ next_singleton es n text texts b is opens =
 pub singleton_at :
     (es : List Extension) (k : ℕ) (text : Option (List ℕ)) → text ≡ slice_get (map extension_spelling es) k →
     option_map (λ (t : List ℕ). slice_index t 0) text ≡ slice_get (singletons es) k
-singleton_at es k text is =
-    ap (option_map (λ (t : List ℕ). slice_index t 0)) (is ∙ slice_get-map extension_spelling es k) ∙ by_member (slice_get es k) ∙ sym (slice_get-map (λ e. e.singleton) es k)
-  where
-    by_member : (o : Option Extension) → option_map (λ (t : List ℕ). slice_index t 0) (option_map extension_spelling o) ≡ option_map (λ e. e.singleton) o
-    by_member None = refl
-    by_member (Some e) = ap Some (first_byte-spelling e)
+singleton_at es k text is = grind (arith, common_steps, slice_get-map, first_byte-spelling)
 
 -- the fold of a singleton is ASCII
 pub fold_singleton-below : (b fold : ℕ) → is_singleton b ≡ true → fold ≡ fold_byte b → fold < 128
@@ -173,12 +156,4 @@ pub AreFlagsOf-set :
     (flags : List Bool) (bytes : List ℕ) (n b fold : ℕ) (rest : List ℕ) → IsAt bytes n b rest → length flags ≡ 128 →
     fold ≡ fold_byte b → fold < 128 → AreFlagsOf flags (take n bytes) → AreFlagsOf (set flags fold true) (take (n + 1) bytes)
 AreFlagsOf-set flags bytes n b fold rest at all is below before c inside =
-    let more = list_any_more (λ a. c == fold_byte a) bytes n b at.below ∙ ap (λ a. list_any (λ a. c == fold_byte a) (take n bytes) || (c == fold_byte a)) (sym at.member) in
-    elim (eqb_tells c (fold_byte b)) [
-      | inl same ↦
-          get_or-set_at flags fold c true false (same.1 ∙ sym is) (omega arith)
-          ∙ sym (more ∙ or_right (list_any (λ a. c == fold_byte a) (take n bytes)) (c == fold_byte b) same.0)
-      | inr other ↦
-          get_or-set_other flags fold c true false (λ e. other.1 (e ∙ is))
-          ∙ before c inside ∙ sym (more ∙ ap (λ t. list_any (λ a. c == fold_byte a) (take n bytes) || t) other.0 ∙ or-false (list_any (λ a. c == fold_byte a) (take n bytes)))
-    ]
+    grind (arith, common_steps, list_any_more, eqb_tells, get_or-set_at, or_right, get_or-set_other, or-false)

@@ -1,11 +1,11 @@
 -- What is known of the first repeat when the variants are gone over a block at a time.
-use Rattle.std.proofs.Common.{◌≡◌, ℕ, zero, suc, ◌+◌, ◌-◌, ◌<◌, ◌≤◌, Bool, true, false, ◌||◌, ◌&&◌, ◌==◌, List, [], ◌∷◌, ◌++◌, length, get_or, set, take, drop, map, Some, None, IsTrue, inl, inr, refl, ap, sym, subst, ◌∙◌, arith, add-one}
+use Rattle.std.proofs.Common.{◌≡◌, ℕ, zero, suc, ◌+◌, ◌-◌, ◌<◌, ◌≤◌, Bool, true, false, ◌&&◌, ◌==◌, List, [], ◌∷◌, ◌++◌, length, get_or, set, take, drop, map, Some, None, IsTrue, inl, inr, refl, ap, sym, ◌∙◌, arith, add-one}
 use Rattle.std.specs.List.{list_any, list_all}
 use Rattle.std.specs.List.Sorted.{IsNonDecreasing}
 use Rattle.std.proofs.Math.Bool.{or-true, or-false}
 use Rattle.std.proofs.lemmas.Bool.{and_parts, cases_lt}
 use Rattle.std.proofs.lemmas.Bool.Decides.{eqb_tells}
-use Rattle.std.proofs.lemmas.Grind.{get_or-set_at}
+use Rattle.std.proofs.lemmas.Grind.{get_or-set_at, common_steps}
 use Rattle.std.proofs.lemmas.List.{get_or-set_other, get_or_default, get_or-map, get_or-take, get_or-drop, take-append-drop, take_more, at_drop_more, drop_all, length-take, length-drop, length-map, map_push}
 use Rattle.std.proofs.lemmas.List.Folds.{list_any_at, list_any_none, list_any-append, list_all-append}
 use Rattle.std.proofs.lemmas.List.Sorted.{list_any-IsPermutation}
@@ -40,52 +40,25 @@ IsAbsent-place block number place rises at apart =
     }
 
 pub list_any-absent : (block : List ℕ) (number : ℕ) → IsAbsent block number → list_any (λ other. other == number) block ≡ false
-list_any-absent block number absent =
-    list_any_none (λ other. other == number) block (λ k d inside. elim (eqb_tells (get_or block k d) number) [
-      | inl same ↦ absurd (absent.differs k d inside same.1)
-      | inr other ↦ other.0
-    ])
+list_any-absent block number absent = grind (arith, common_steps, list_any_none, eqb_tells)
 
 -- ---- one more number is met
 
 push-same : (numbers : List ℕ) (number x : ℕ) → number ≡ x → list_any (λ other. other == x) (numbers ++ number ∷ []) ≡ true
-push-same numbers number x same =
-    let is_it : (number == x) ≡ true = elim (eqb_tells number x) [ inl h ↦ h.0 | inr h ↦ absurd (h.1 same) ] in
-    list_any-append (λ other. other == x) numbers (number ∷ [])
-    ∙ ap (λ b. list_any (λ other. other == x) numbers || (b || false)) is_it
-    ∙ or-true (list_any (λ other. other == x) numbers)
+push-same numbers number x same = grind (arith, common_steps, eqb_tells number x, list_any-append, or-true)
 
 push-other : (numbers : List ℕ) (number x : ℕ) → (number ≡ x → ⊥) → list_any (λ other. other == x) (numbers ++ number ∷ []) ≡ list_any (λ other. other == x) numbers
-push-other numbers number x differs =
-    let not_it : (number == x) ≡ false = elim (eqb_tells number x) [ inl h ↦ absurd (differs h.1) | inr h ↦ h.0 ] in
-    list_any-append (λ other. other == x) numbers (number ∷ [])
-    ∙ ap (λ b. list_any (λ other. other == x) numbers || (b || false)) not_it
-    ∙ or-false (list_any (λ other. other == x) numbers)
+push-other numbers number x differs = grind (arith, common_steps, eqb_tells number x, list_any-append, or-false)
 
 pub AreMet-absent :
     (block : List ℕ) (met : List Bool) (numbers : List ℕ) (number : ℕ) → IsAbsent block number → AreMet block met numbers → AreMet block met (numbers ++ number ∷ [])
-AreMet-absent block met numbers number absent before place first =
-    before place first ∙ sym (push-other numbers number (get_or block place 0) (λ same. absent.differs place 0 first.0 (sym same)))
+AreMet-absent block met numbers number absent before place first = grind (arith, common_steps, push-other numbers number (get_or block place 0))
 
 pub AreMet-present :
     (block : List ℕ) (met after : List Bool) (numbers : List ℕ) (number place : ℕ) → length block ≤ length met → IsPlaceOf block number place →
     place < length block → get_or block place 0 ≡ number → after ≡ set met place true → AreMet block met numbers → AreMet block after (numbers ++ number ∷ [])
 AreMet-present block met after numbers number place room at inside same is before other first =
-    elim (cases_lt other place) [
-      | inl less ↦ unchanged (λ e. let below = at.below other less in omega (arith, below, e)) (λ e. omega (arith, e, less))
-      | inr more ↦ elim (cases_lt place other) [
-        | inl less ↦ let below = first.1 place less in unchanged (λ e. omega (arith, below, same, e)) (λ e. omega (arith, e, less))
-        | inr least ↦
-            let here : other ≡ place = omega (arith, more, least) in
-            ap (λ flags. get_or flags other false) is ∙ get_or-set_at met place other true false here (omega (arith, inside, room))
-            ∙ sym (push-same numbers number (get_or block other 0) (sym same ∙ ap (λ k. get_or block k 0) (sym here)))
-      ]
-    ]
-  where
-    unchanged : (get_or block other 0 ≡ number → ⊥) → (place ≡ other → ⊥) → get_or after other false ≡ list_any (λ n. n == get_or block other 0) (numbers ++ number ∷ [])
-    unchanged differs elsewhere =
-        ap (λ flags. get_or flags other false) is ∙ get_or-set_other met place other true false (λ e. elsewhere (sym e))
-        ∙ before other first ∙ sym (push-other numbers number (get_or block other 0) (λ e. differs (sym e)))
+    grind (arith, common_steps, cases_lt, get_or-set_at met, push-same numbers, get_or-set_other met, push-other numbers)
 
 pub again-absent :
     (block numbers : List ℕ) (number : ℕ) → IsAbsent block number →
@@ -99,9 +72,7 @@ pub repeat-so_far :
     (texts : List (List ℕ)) (n : ℕ) → n ≤ length texts → HasNoRepeatBefore n texts → repeat_index are_alike texts ≡ repeat_index_after are_alike (take n texts) (drop n texts)
 repeat-so_far texts zero within none = refl
 repeat-so_far texts (suc n) within none =
-    subst (λ m. repeat_index are_alike texts ≡ repeat_index_after are_alike (take m texts) (drop m texts)) (add-one n)
-    (repeat-later are_alike texts n (get_or texts n []) (drop (n + 1) texts) (repeat-so_far texts n (omega arith) (λ i below. none i (omega arith)))
-    (at_drop_more (λ ts. ts) texts n [] (omega arith)) (none n (omega arith)))
+    grind (arith, common_steps, add-one n, repeat-later are_alike texts n (get_or texts n []) (drop (n + 1) texts), repeat-so_far texts n, at_drop_more)
 
 pub repeat-past : (texts : List (List ℕ)) (n : ℕ) → n ≡ length texts → HasNoRepeatBefore n texts → repeat_index are_alike texts ≡ None
 repeat-past texts n is none = repeat-none are_alike texts n (repeat-so_far texts n (omega (arith, is)) none) (drop_all n texts (omega (arith, is)))
@@ -109,16 +80,11 @@ repeat-past texts n is none = repeat-none are_alike texts n (repeat-so_far texts
 pub repeat-at :
     (texts : List (List ℕ)) (n : ℕ) (text : List ℕ) (rest : List (List ℕ)) → HasNoRepeatBefore n texts → IsAt texts n text rest → drop n texts ≡ text ∷ rest →
     list_any (are_alike text) (take n texts) ≡ true → repeat_index are_alike texts ≡ Some n
-repeat-at texts n text rest none at left seen =
-    repeat-found are_alike texts n text rest (let below = at.below in repeat-so_far texts n (omega (arith, below)) none) left seen
+repeat-at texts n text rest none at left seen = grind (arith, common_steps, repeat-found are_alike texts n text rest, repeat-so_far texts n)
 
 pub HasNoRepeatBefore-more :
     (texts : List (List ℕ)) (n : ℕ) → HasNoRepeatBefore n texts → list_any (are_alike (get_or texts n [])) (take n texts) ≡ false → HasNoRepeatBefore (n + 1) texts
-HasNoRepeatBefore-more texts n none new i below =
-    elim (cases_lt i n) [
-      | inl before ↦ none i before
-      | inr after ↦ subst (λ j. list_any (are_alike (get_or texts j [])) (take j texts) ≡ false) (let is : n ≡ i = omega arith in is) new
-    ]
+HasNoRepeatBefore-more texts n none new i below = grind (arith, common_steps, cases_lt i n)
 
 -- ---- their numbers
 
@@ -126,9 +92,7 @@ HasNoRepeatBefore-more texts n none new i below =
 pub numbers-more :
     (texts : List (List ℕ)) (n : ℕ) (text : List ℕ) (rest : List (List ℕ)) → IsAt texts n text rest →
     map folded_number (take (n + 1) texts) ≡ map folded_number (take n texts) ++ folded_number text ∷ []
-numbers-more texts n text rest at =
-    ap (map folded_number) (take_more texts n text at.below) ∙ map_push folded_number (take n texts) (get_or texts n text)
-    ∙ ap (λ t. map folded_number (take n texts) ++ folded_number t ∷ []) (sym at.member)
+numbers-more texts n text rest at = grind (arith, common_steps, take_more texts n text at.below, map_push folded_number (take n texts) (get_or texts n text))
 
 -- the number of a variant tells it from others but for case
 variant_tells : (a b : List ℕ) → is_variant a ≡ true → is_variant b ≡ true → (folded_number b == folded_number a) ≡ are_alike a b
@@ -181,6 +145,4 @@ pub met-again :
     (texts : List (List ℕ)) (n : ℕ) (text : List ℕ) (block : List ℕ) → list_all is_variant texts ≡ true → IsTrue (is_variant text) →
     true ≡ (list_any (λ other. other == folded_number text) block && list_any (λ other. other == folded_number text) (map folded_number (take n texts))) →
     list_any (are_alike text) (take n texts) ≡ true
-met-again texts n text block all variant again =
-    sym (among-earlier texts n text all variant)
-    ∙ (and_parts (list_any (λ other. other == folded_number text) block) (list_any (λ other. other == folded_number text) (map folded_number (take n texts))) (sym again)).1
+met-again texts n text block all variant again = grind (arith, common_steps, among-earlier texts n text all variant, and_parts)

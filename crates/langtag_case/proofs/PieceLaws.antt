@@ -1,5 +1,6 @@
 -- The walk from piece to piece.
-use Rattle.std.proofs.Common.{◌≡◌, ◌≢◌, ℕ, ◌+◌, ◌-◌, ◌<◌, ◌≤◌, ◌==◌, Bool, true, false, cond, ◌⊎◌, inl, inr, List, [], ◌∷◌, ◌++◌, length, map, take, drop, set, get_or, refl, sym, ap, subst, ◌∙◌, arith, append-nil, append_assoc, length-take, length-drop, length-append}
+use Rattle.std.proofs.Common.{◌≡◌, ◌≢◌, ℕ, ◌+◌, ◌-◌, ◌<◌, ◌≤◌, true, false, ◌⊎◌, inl, inr, List, [], ◌∷◌, ◌++◌, length, map, take, drop, set, get_or, refl, sym, ap, subst, ◌∙◌, arith, append-nil, append_assoc, length-take, length-drop, length-append}
+use Rattle.std.proofs.lemmas.Grind.{common_steps}
 use Prim.Native.Nat.{zero, suc}
 use Rattle.std.specs.Char.{to_ascii_uppercase}
 use Rattle.std.proofs.lemmas.Bool.{ne_eqb, eq-eqb}
@@ -12,7 +13,7 @@ use Rattle.langtag_scan.specs.Case.{fold_byte, fold_text}
 use Rattle.langtag_scan.specs.Class.{is_single}
 use Rattle.langtag_scan.specs.Subtags.{is_hyphen, IsHyphenFree, NoHyphenWithin, join, segments}
 use Rattle.langtag_scan.proofs.CaseLaw.{join-fold}
-use Rattle.langtag_case.specs.RecommendedCase.{capital_text, title_text, by_length, recommended_after, recommended_text}
+use Rattle.langtag_case.specs.RecommendedCase.{capital_text, by_length, recommended_text}
 use Rattle.langtag_case.specs.Walk.{BeginsWith, after_piece, cased, later, later_text}
 use Rattle.langtag_case.proofs.RecommendedLaws.{after_first}
 
@@ -32,8 +33,7 @@ cased-two (a ∷ b ∷ c ∷ s) two = absurd (omega (arith, two))
 
 -- four bytes
 cased-four : (s : List ℕ) → length s ≡ 4 → by_length s ≡ cased 1 s
-cased-four [] four = absurd (omega arith)
-cased-four (b ∷ s) four = rw four (ap (λ t. to_ascii_uppercase b ∷ t) (sym (cased-none s)))
+cased-four s four = grind (arith, common_steps, cased-none s)
 
 -- ---- a piece
 
@@ -44,16 +44,11 @@ IsRest rest = (rest ≡ []) ⊎ ((others : List ℕ) × (rest ≡ 45 ∷ others)
 -- later subtags are as many
 later-some : (ss : List (List ℕ)) → 0 < length ss → 0 < length (later ss)
 later-some [] some = absurd (omega (arith, some))
-later-some (s ∷ ss) some = by (is_single s)
-  where
-    by : (v : Bool) → 0 < length (cond v (map fold_text (s ∷ ss)) (by_length s ∷ later ss))
-    by true = omega arith
-    by false = omega arith
+later-some (s ∷ ss) some = grind (arith, common_steps)
 
 -- a subtag and some others are joined by a hyphen
 join-cons : (x : List ℕ) (ss : List (List ℕ)) → 0 < length ss → join (x ∷ ss) ≡ x ++ 45 ∷ join ss
-join-cons x [] some = absurd (omega (arith, some))
-join-cons x (s ∷ ss) some = refl
+join-cons x ss some = grind (arith, common_steps)
 
 -- a text begins with a subtag
 record Cut (s rest : List ℕ) : Type 0 where
@@ -91,18 +86,7 @@ module _ (text : List ℕ) (end : ℕ) (within : end ≤ length text) (free : No
 
   -- and what stands after it
   first : Cut s (drop end text)
-  first = cut s (drop end text) kept (by (drop end text) refl)
-    where
-      kept : IsHyphenFree s
-      kept = All-from_get_or (λ b. is_hyphen b ≡ false) s 0 (λ i below.
-          let lower : i < end = omega (arith, below, size) in
-          ap is_hyphen (get_or-take end text i 0 lower) ∙ free i 0 (omega arith) lower)
-
-      by : (r : List ℕ) → drop end text ≡ r → IsRest (drop end text)
-      by [] at = inl at
-      by (b ∷ q) at =
-          let longer : end < length text = omega (arith, ap length at, length-drop end text) in
-          inr (drop (end + 1) text, at_drop_more (λ ys. ys) text end 0 longer ∙ ap (λ c. c ∷ drop (end + 1) text) (hyphen longer))
+  first = grind (arith, common_steps, cut s, All-from_get_or, size, get_or-take, length-drop, at_drop_more)
 
   -- the subtags of the text
   are : segments text ≡ s ∷ first.others
@@ -110,72 +94,42 @@ module _ (text : List ℕ) (end : ℕ) (within : end ≤ length text) (free : No
 
   -- after a first subtag of a single byte all is small
   first-single : is_single s ≡ true → recommended_text text ≡ fold_text text
-  first-single single =
-      ap (λ ss. join (recommended_after [] ss)) are ∙ ap (λ ss. join (fold_text s ∷ ss)) (after_first s first.others true single)
-      ∙ sym (ap (λ ss. join (map fold_text ss)) are) ∙ fold-segments text
+  first-single single = grind (arith, common_steps, are, after_first s first.others true single, fold-segments text)
 
   -- and so it is after a later one
   later-single : is_single s ≡ true → later_text text ≡ fold_text text
-  later-single single =
-      ap (λ ss. join (later ss)) are ∙ ap (λ v. join (cond v (map fold_text (s ∷ first.others)) (by_length s ∷ later first.others))) single
-      ∙ sym (ap (λ ss. join (map fold_text ss)) are) ∙ fold-segments text
+  later-single single = grind (arith, common_steps, are, fold-segments text)
 
   -- a longer first subtag is small alone
   first-many : is_single s ≡ false → recommended_text text ≡ fold_text s ++ after_piece (drop end text)
-  first-many many =
-      ap (λ ss. join (recommended_after [] ss)) are ∙ ap (λ ss. join (fold_text s ∷ ss)) (after_first s first.others false many)
-      ∙ first.joined (fold_text s)
+  first-many many = grind (arith, common_steps, are, after_first s first.others false many)
 
   -- and a later one goes by its length
   later-many : is_single s ≡ false → later_text text ≡ by_length s ++ after_piece (drop end text)
-  later-many many =
-      ap (λ ss. join (later ss)) are ∙ ap (λ v. join (cond v (map fold_text (s ∷ first.others)) (by_length s ∷ later first.others))) many
-      ∙ first.joined (by_length s)
+  later-many many = grind (arith, common_steps, are, first)
 
   -- a subtag of a single byte begins a piece that goes to the end
   pub piece-single :
       end ≡ 1 → BeginsWith text (length text) 0 (later_text text) × BeginsWith text (length text) 0 (recommended_text text)
-  piece-single one = (whole (later_text text) (later-single single), whole (recommended_text text) (first-single single))
-    where
-      single : is_single s ≡ true
-      single = eq-eqb (length s) 1 (size ∙ one)
-
-      whole : (t : List ℕ) → t ≡ fold_text text → BeginsWith text (length text) 0 t
-      whole t small = record {
-        order = omega arith;
-        within = omega arith;
-        case =
-            small ∙ sym (cased-none text) ∙ sym (append-nil (cased 0 text))
-            ∙ sym (ap (λ u. cased 0 u ++ []) (take_all (length text) text (omega arith)))
-            ∙ sym (ap (λ u. cased 0 (take (length text) text) ++ after_piece u) (drop_all (length text) text (omega arith)));
-      }
+  piece-single one = grind (arith, common_steps, later-single, first-single, eq-eqb, size, cased-none, append-nil, take_all, drop_all)
 
   -- a subtag of another length is a piece
   piece-many :
       (n : ℕ) → end ≢ 1 → n ≤ end → by_length s ≡ cased n s →
       BeginsWith text end n (later_text text) × BeginsWith text end 0 (recommended_text text)
-  piece-many n more order case =
-      let many = ne_eqb (length s) 1 (λ one. more (sym size ∙ one)) in (
-        record { order = order; within = within; case = later-many many ∙ ap (λ t. t ++ after_piece (drop end text)) case },
-        record { order = omega arith; within = within; case = first-many many ∙ ap (λ t. t ++ after_piece (drop end text)) (sym (cased-none s)) },
-      )
+  piece-many n more order case = grind (arith, common_steps, ne_eqb (length s) 1, size, later-many, first-many, cased-none s)
 
   -- of two bytes
   pub piece-two : end ≡ 2 → BeginsWith text 2 2 (later_text text) × BeginsWith text 2 0 (recommended_text text)
-  piece-two two = subst (λ n. BeginsWith text n 2 (later_text text) × BeginsWith text n 0 (recommended_text text)) two
-      (piece-many 2 (λ one. omega arith) (omega arith) (cased-two s (size ∙ two)))
+  piece-two two = grind (arith, common_steps, piece-many 2, cased-two s (size ∙ two), size)
 
   -- of four bytes
   pub piece-four : end ≡ 4 → BeginsWith text 4 1 (later_text text) × BeginsWith text 4 0 (recommended_text text)
-  piece-four four = subst (λ n. BeginsWith text n 1 (later_text text) × BeginsWith text n 0 (recommended_text text)) four
-      (piece-many 1 (λ one. omega arith) (omega arith) (cased-four s (size ∙ four)))
+  piece-four four = grind (arith, common_steps, piece-many 1, cased-four s (size ∙ four), size)
 
   -- of others
   pub piece-other : end ≢ 1 → end ≢ 2 → end ≢ 4 → BeginsWith text end 0 (later_text text) × BeginsWith text end 0 (recommended_text text)
-  piece-other many other longer = piece-many 0 many (omega arith) (
-      ap (λ (v : Bool). cond v (capital_text s) (cond (length s == 4) (title_text s) (fold_text s))) (ne_eqb (length s) 2 (λ two. other (sym size ∙ two)))
-      ∙ ap (λ (v : Bool). cond v (title_text s) (fold_text s)) (ne_eqb (length s) 4 (λ four. longer (sym size ∙ four)))
-      ∙ sym (cased-none s))
+  piece-other many other longer = grind (arith, common_steps, piece-many 0 many, ne_eqb (length s) 2, size, ne_eqb (length s) 4, cased-none s)
 
 -- ---- in place
 
@@ -195,18 +149,11 @@ length-cased n (b ∷ s) = ap suc (length-cased (n - 1) s)
 pub capitals-put : (n : ℕ) (s : List ℕ) → n ≤ length s → fold_text s ≡ s → capital_text (take n s) ++ drop n s ≡ cased n s
 capitals-put zero s within small = sym small ∙ sym (cased-none s)
 capitals-put (suc n) [] within small = absurd (omega arith)
-capitals-put (suc n) (b ∷ s) within small =
-    let both : fold_byte b ∷ fold_text s ≡ b ∷ s = small in
-    let others : fold_text s ≡ s = cc in
-    let some : (suc n == 0) ≡ false = ne_eqb (suc n) 0 (λ e. omega (arith, e)) in
-    let fewer : suc n - 1 ≡ n = omega arith in
-    ap (λ t. to_ascii_uppercase b ∷ t) (capitals-put n s (omega arith) others)
-    ∙ sym (ap (λ (v : Bool). cond v (fold_byte b) (to_ascii_uppercase b) ∷ cased (suc n - 1) s) some ∙ ap (λ m. to_ascii_uppercase b ∷ cased m s) fewer)
+capitals-put (suc n) (b ∷ s) within small = grind (arith, common_steps, ne_eqb (suc n) 0, capitals-put n s)
 
 -- and one alone
 pub capital-put : (s : List ℕ) → 1 ≤ length s → fold_text s ≡ s → set s 0 (to_ascii_uppercase (get_or s 0 0)) ≡ cased 1 s
-capital-put [] within small = absurd (omega arith)
-capital-put (b ∷ s) within small = capitals-put 1 (b ∷ s) within small
+capital-put s within small = grind (arith, common_steps, capitals-put 1)
 
 -- what is known at the end of a piece
 pub record IsAtEnd (old text : List ℕ) (end : ℕ) : Type 0 where
@@ -217,12 +164,7 @@ pub record IsAtEnd (old text : List ℕ) (end : ℕ) : Type 0 where
 
 -- at the end of the first one
 pub first-end : (text : List ℕ) (len : ℕ) → fold_text text ≡ text → BeginsWith text len 0 (recommended_text text) → IsAtEnd text text len
-first-end text len small begins = record {
-  as_long = refl;
-  within = begins.within;
-  small = small-drop len text small;
-  same = sym (begins.case ∙ ap (λ t. t ++ after_piece (drop len text)) (cased-none (take len text) ∙ small-take len text small));
-}
+first-end text len small begins = grind (arith, common_steps, small-drop len text small, cased-none (take len text), small-take len text small)
 
 -- a piece that is not the first
 abbrev BeginsLater : ℕ → ℕ → List ℕ → Type 0
@@ -255,9 +197,7 @@ module _ (old text : List ℕ) (end len n : ℕ) (at : IsAtEnd old text end) (lo
   here = at_drop_more (λ ys. ys) text end 0 longer
 
   small-rest : fold_text rest ≡ rest
-  small-rest =
-      let both : fold_byte (get_or text end 0) ∷ fold_text rest ≡ get_or text end 0 ∷ rest = sym (ap fold_text here) ∙ at.small ∙ here in
-      cc
+  small-rest = grind (arith, common_steps, here)
 
   len-piece : length piece ≡ len
   len-piece = omega (arith, begins.within, length-take len rest)
@@ -272,45 +212,23 @@ module _ (old text : List ℕ) (end len n : ℕ) (at : IsAtEnd old text end) (lo
   after = ap (drop (end + 1 + len)) split ∙ ap (λ k. drop k (done ++ drop len rest)) (sym done-size) ∙ drop-append_seam done (drop len rest)
 
   joined : done ++ after_piece (drop len rest) ≡ recommended_text old
-  joined =
-      append_assoc (take (end + 1) text) (cased n piece) (after_piece (drop len rest))
-      ∙ ap (λ t. take (end + 1) text ++ t) (sym begins.case)
-      ∙ ap (λ t. t ++ later_text rest) (take_more text end 0 longer)
-      ∙ append_assoc (take end text) (get_or text end 0 ∷ []) (later_text rest)
-      ∙ sym (ap (λ t. take end text ++ after_piece t) here) ∙ at.same
+  joined = grind (arith, common_steps, append_assoc, begins, take_more, here)
 
   sizes : length changed ≡ length text
-  sizes =
-      omega (arith, ap length split, length-append done (drop len rest), done-size, length-drop len rest, length-drop (end + 1) text, begins.within)
+  sizes = grind (arith, common_steps, split, length-append done (drop len rest), done-size, length-drop len rest, length-drop (end + 1) text)
 
   -- the piece is small, and as long as its capitals
   pub piece-small :
       let k = end + 1 + len - (end + 1) in
       (fold_text (take k rest) ≡ take k rest) × (n ≤ length (take k rest))
-  piece-small =
-      subst (λ k. (fold_text (take k rest) ≡ take k rest) × (n ≤ length (take k rest))) (sym width)
-      (small-take len rest small-rest, omega (arith, begins.order, len-piece))
+  piece-small = grind (arith, common_steps, width, small-take len rest small-rest, small-rest, len-piece)
 
   -- once they are put, the same is known at the end of the piece
   pub next-end :
       let k = end + 1 + len - (end + 1) in
       IsAtEnd old (put_mid (end + 1) k text (cased n (take k rest))) (end + 1 + len)
-  next-end = subst (λ k. IsAtEnd old (put_mid (end + 1) k text (cased n (take k rest))) (end + 1 + len)) (sym width) put
-    where
-      put : IsAtEnd old changed (end + 1 + len)
-      put = record {
-        as_long = sizes ∙ at.as_long;
-        within = omega (arith, sizes, length-drop (end + 1) text, begins.within);
-        small = ap fold_text after ∙ small-drop len rest small-rest ∙ sym after;
-        same =
-            ap (λ t. t ++ after_piece (drop (end + 1 + len) changed))
-            (ap (take (end + 1 + len)) split ∙ ap (λ k. take k (done ++ drop len rest)) (sym done-size) ∙ take-append_seam done (drop len rest))
-            ∙ ap (λ t. done ++ after_piece t) after ∙ joined;
-      }
+  next-end = grind (arith, common_steps, width, sizes, length-drop, begins, after, small-drop, small-rest, split, done-size, take-append_seam, joined)
 
 -- and at the end of the text it is in its recommended case
 pub last-end : (old text : List ℕ) (end : ℕ) → IsAtEnd old text end → length text ≤ end → text ≡ recommended_text old
-last-end old text end at whole =
-    sym (
-    sym at.same ∙ ap (λ t. take end text ++ after_piece t) (drop_all end text whole) ∙ append-nil (take end text)
-    ∙ take_all end text whole)
+last-end old text end at whole = grind (arith, common_steps, drop_all end text whole, append-nil (take end text), take_all end text whole)

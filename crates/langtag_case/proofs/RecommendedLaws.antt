@@ -1,6 +1,7 @@
 -- The recommended case of a text: it is alike the text, alike texts have the same one, and how it is had from subtag to
 -- subtag.
-use Rattle.std.proofs.Common.{◌≡◌, ℕ, ◌<◌, ◌==◌, Bool, true, false, cond, ◌||◌, Some, All, subst, List, [], ◌∷◌, ◌++◌, length, map, take, get_or, refl, sym, ap, ◌∙◌, arith, append_assoc, append-nil}
+use Rattle.std.proofs.Common.{◌≡◌, ℕ, ◌<◌, ◌==◌, Bool, true, false, cond, ◌||◌, Some, All, subst, List, [], ◌∷◌, ◌++◌, length, map, take, get_or, refl, sym, ap, ◌∙◌, arith, append_assoc, append-nil, rules}
+use Rattle.std.proofs.lemmas.Grind.{common_steps}
 use Prim.Native.Nat.{zero, suc}
 use Rattle.std.specs.Char.{to_ascii_uppercase}
 use Rattle.std.specs.List.{list_any, slice_get}
@@ -44,13 +45,11 @@ map-same f g h same (b ∷ s) = rw (same b, map-same f g h same s) refl
 
 -- titlecase is that of the fold
 title-fold : (s : List ℕ) → title_text (fold_text s) ≡ title_text s
-title-fold [] = refl
-title-fold (b ∷ s) = rw (upper-fold b, fold_text-twice s) refl
+title-fold s = grind (arith, common_steps, upper-fold, fold_text-twice s)
 
 -- and folds as the subtag does
 fold-title : (s : List ℕ) → fold_text (title_text s) ≡ fold_text s
-fold-title [] = refl
-fold-title (b ∷ s) = rw (fold-upper b, fold_text-twice s) refl
+fold-title s = grind (arith, common_steps, fold-upper, fold_text-twice s)
 
 -- the case of a subtag is that of its fold, and its fold is that of the subtag
 pub by_length-fold : (s : List ℕ) → by_length (fold_text s) ≡ by_length s
@@ -58,14 +57,11 @@ by_length-fold s = rw (length-fold s, map-same to_ascii_uppercase fold_byte to_a
 
 -- so does a choice of two that do
 fold-cond : (v : Bool) (a b s : List ℕ) → fold_text a ≡ fold_text s → fold_text b ≡ fold_text s → fold_text (cond v a b) ≡ fold_text s
-fold-cond true a b s h k = h
-fold-cond false a b s h k = k
+fold-cond v a b s h k = grind (arith, common_steps)
 
 -- so does the case by length
 fold-by_length : (s : List ℕ) → fold_text (by_length s) ≡ fold_text s
-fold-by_length s =
-    fold-cond (length s == 2) _ _ s (map-same fold_byte to_ascii_uppercase fold_byte fold-upper s)
-    (fold-cond (length s == 4) _ _ s (fold-title s) (fold_text-twice s))
+fold-by_length s = grind (arith, common_steps, fold-cond, map-same, fold-upper, fold-title, fold_text-twice)
 
 -- the fold is as long
 single-fold : (s : List ℕ) → is_single (fold_text s) ≡ is_single s
@@ -78,10 +74,7 @@ any_single-fold (s ∷ ss) = rw (single-fold s, any_single-fold ss) refl
 
 -- a subtag has the case of its fold, among folded ones
 recommended_subtag-fold : (before : List (List ℕ)) (s : List ℕ) → recommended_subtag (map fold_text before) (fold_text s) ≡ recommended_subtag before s
-recommended_subtag-fold before s =
-    ap (λ (v : Bool). cond v (fold_text (fold_text s)) (by_length (fold_text s))) (rw (length-map before fold_text, any_single-fold before) refl)
-    ∙ ap (λ t. cond ((length before == 0) || list_any is_single before) t (by_length (fold_text s))) (fold_text-twice s)
-    ∙ ap (λ t. cond ((length before == 0) || list_any is_single before) (fold_text s) t) (by_length-fold s)
+recommended_subtag-fold before s = grind (arith, common_steps, length-map before fold_text, any_single-fold before, fold_text-twice s, by_length-fold s)
 
 -- and folds as it did
 fold-recommended_subtag : (before : List (List ℕ)) (s : List ℕ) → fold_text (recommended_subtag before s) ≡ fold_text s
@@ -149,9 +142,7 @@ after_single before (s ∷ ss) some =
 
 -- a singleton is small
 by_length-single : (s : List ℕ) → is_single s ≡ true → by_length s ≡ fold_text s
-by_length-single s single =
-    let one : length s ≡ 1 = eqb-true (length s) 1 single in
-    rw one refl
+by_length-single s single = grind (arith, common_steps, eqb-true (length s) 1 single)
 
 -- where none stood before, those that are not first have the case of later ones
 after_none : (before ss : List (List ℕ)) → list_any is_single before ≡ false → (length before == 0) ≡ false → recommended_after before ss ≡ later ss
@@ -168,27 +159,18 @@ after_none before (s ∷ ss) none some =
     by_single :
         (v : Bool) → is_single s ≡ v → (is_single s ≡ false → recommended_after (before ++ s ∷ []) ss ≡ later ss) →
         recommended_after before (s ∷ ss) ≡ later (s ∷ ss)
-    by_single true single more =
-        ap (λ t. t ∷ recommended_after (before ++ s ∷ []) ss) (here ∙ by_length-single s single)
-        ∙ ap (λ ts. fold_text s ∷ ts) (after_single (before ++ s ∷ []) ss (any_push before s false none ∙ single))
-        ∙ sym (ap (λ v. cond v (map fold_text (s ∷ ss)) (by_length s ∷ later ss)) single)
-    by_single false many more =
-        ap (λ t. t ∷ recommended_after (before ++ s ∷ []) ss) here ∙ ap (λ ts. by_length s ∷ ts) (more many)
-        ∙ sym (ap (λ v. cond v (map fold_text (s ∷ ss)) (by_length s ∷ later ss)) many)
+    by_single v many more = grind (arith, common_steps, by_length-single s, after_single (before ++ s ∷ []) ss, any_push before s)
 
 -- what follows the first subtag
 pub after_first : (s : List ℕ) (ss : List (List ℕ)) (v : Bool) → is_single s ≡ v → recommended_after (s ∷ []) ss ≡ cond v (map fold_text ss) (later ss)
-after_first s ss true single = after_single (s ∷ []) ss (any_push [] s false refl ∙ single)
-after_first s ss false many = after_none (s ∷ []) ss (any_push [] s false refl ∙ many) refl
+after_first s ss v many = grind (arith, common_steps, after_single (s ∷ []) ss, any_push, after_none (s ∷ []) ss)
 
 -- ---- each subtag
 
 -- a fold has no hyphen where its text has none
 hyphen_free-folded : (s : List ℕ) → IsHyphenFree s → IsHyphenFree (fold_text s)
 hyphen_free-folded [] free = All-nil (λ b. is_hyphen b ≡ false)
-hyphen_free-folded (b ∷ s) free =
-    All-cons (λ b. is_hyphen b ≡ false) (fold_byte b) (fold_text s) (hyphen-fold b ∙ All-head (λ b. is_hyphen b ≡ false) b s free)
-    (hyphen_free-folded s (All-tail (λ b. is_hyphen b ≡ false) b s free))
+hyphen_free-folded (b ∷ s) free = search (rules, arith, All-cons, hyphen-fold, All-head, hyphen_free-folded s, All-tail)
 
 -- and the other way round
 hyphen_free-fold : (s : List ℕ) → IsHyphenFree (fold_text s) → IsHyphenFree s
@@ -215,11 +197,8 @@ recommended-at :
     (before ss : List (List ℕ)) (k : ℕ) (s : List ℕ) → slice_get ss k ≡ Some s →
     slice_get (recommended_after before ss) k ≡ Some (recommended_subtag (before ++ take k ss) s)
 recommended-at before [] k s there = absurd cc
-recommended-at before (u ∷ ss) zero s there =
-    let same : u ≡ s = cc in
-    ap (λ t. Some (recommended_subtag before t)) same ∙ ap (λ bs. Some (recommended_subtag bs s)) (sym (append-nil before))
-recommended-at before (u ∷ ss) (suc k) s there =
-    recommended-at (before ++ u ∷ []) ss k s there ∙ ap (λ bs. Some (recommended_subtag bs s)) (append_assoc before (u ∷ []) (take k ss))
+recommended-at before (u ∷ ss) zero s there = grind (arith, common_steps, append-nil before)
+recommended-at before (u ∷ ss) (suc k) s there = cc (recommended-at (before ++ u ∷ []) ss k s there, append_assoc before (u ∷ []) (take k ss))
 
 -- the subtag at an index has its case by those before it
 pub recommended_each :

@@ -1,5 +1,5 @@
 -- The recommended case of a normal tag by its parts.
-use Rattle.std.proofs.Common.{◌≡◌, ℕ, ◌&&◌, ◌≤◌, ◌==◌, Bool, true, false, cond, List, [], ◌∷◌, ◌++◌, length, map, Option, Some, None, inl, inr, refl, sym, ap, ◌∙◌, arith}
+use Rattle.std.proofs.Common.{◌≡◌, ℕ, ◌≤◌, ◌==◌, Bool, true, false, List, [], ◌∷◌, ◌++◌, length, map, Option, Some, None, refl, sym, ap, ◌∙◌, arith}
 use Rattle.std.specs.Prelude.{IsTrue, IfSome}
 use Rattle.std.specs.Char.{to_ascii_uppercase}
 use Rattle.std.specs.List.{AllByRecursion, flat_map}
@@ -7,9 +7,10 @@ use Rattle.std.specs.Option.{option_map}
 use Rattle.std.proofs.lemmas.Bool.{eqb-true, ne_eqb, and_parts, or_cases}
 use Rattle.std.proofs.lemmas.Bool.Decides.{nat_tests}
 use Rattle.std.proofs.lemmas.List.{map-append}
+use Rattle.std.proofs.lemmas.Grind.{common_steps}
 use Rattle.langtag_scan.specs.AlikeRecords.{fold_extension, fold_private_use}
 use Rattle.langtag_scan.specs.Case.{fold_byte, fold_text}
-use Rattle.langtag_scan.specs.Class.{is_digit, are_letters, are_digits, are_alphanumeric, has_length, starts_with_digit, is_single, is_primary, is_extended, is_script, is_region, is_variant}
+use Rattle.langtag_scan.specs.Class.{is_digit, are_letters, are_digits, starts_with_digit, is_single, is_primary, is_extended, is_script, is_region, is_variant}
 use Rattle.langtag_scan.specs.Record.{EachRecord, Extension, PrivateUse, Record, IsWellFormed, extension_flat, one_flat, private_part_flat, spell}
 use Rattle.langtag_scan.specs.Subtags.{join}
 use Rattle.langtag_scan.proofs.BoolFacts.{between_true}
@@ -33,8 +34,7 @@ digits-case (b ∷ s) digits = let k = and_parts (is_digit b) (are_digits s) dig
 
 -- a subtag that begins with one
 first_digit-case : (s : List ℕ) → starts_with_digit s ≡ true → title_text s ≡ fold_text s
-first_digit-case [] digit = refl
-first_digit-case (b ∷ s) digit = ap (λ c. c ∷ fold_text s) (digit-case b digit)
+first_digit-case s digit = grind (arith, common_steps, digit-case)
 
 -- ---- the case of a subtag by its class
 
@@ -48,9 +48,7 @@ three s size = (ap (λ n. n == 1) size, rw size refl)
 
 -- of five bytes or more
 long : (s : List ℕ) → 5 ≤ length s → IsCased fold_text s
-long s size =
-    let none : is_single s ≡ false = ne_eqb (length s) 1 (λ e. omega (arith, e, size)) in
-    (none, rw (ne_eqb (length s) 2 (λ e. omega (arith, e, size)), ne_eqb (length s) 4 (λ e. omega (arith, e, size))) refl)
+long s size = grind (arith, common_steps, ne_eqb (length s) 1, ne_eqb (length s) 2, ne_eqb (length s) 4)
 
 -- an extended subtag is small
 extended-cased : (s : List ℕ) → is_extended s ≡ true → IsCased fold_text s
@@ -65,35 +63,17 @@ script-cased s is = let size : length s ≡ 4 = eqb-true (length s) 4 (and_parts
 -- a region in capitals, where it has letters
 region-cased : (s : List ℕ) → is_region s ≡ true → IsCased capital_text s
 unfolding is_region
-region-cased s is =
-    elim (or_cases ((length s == 2) && are_letters s) ((length s == 3) && are_digits s) is) [
-      | inl letters ↦
-          let size : length s ≡ 2 = eqb-true (length s) 2 (and_parts (length s == 2) (are_letters s) letters).0 in
-          (ap (λ n. n == 1) size, rw size refl)
-      | inr digits ↦
-          let k = and_parts (length s == 3) (are_digits s) digits in
-          let small = three s (eqb-true (length s) 3 k.0) in
-          (small.0, small.1 ∙ sym (digits-case s k.1))
-    ]
+region-cased s is = grind (arith, common_steps, or_cases, eqb-true, and_parts, three, digits-case)
 
 -- a variant small
 variant-cased : (s : List ℕ) → is_variant s ≡ true → IsCased fold_text s
 unfolding is_variant
-variant-cased s is =
-    elim (or_cases (has_length 5 8 s && are_alphanumeric s) ((length s == 4) && are_alphanumeric s && starts_with_digit s) is) [
-      | inl more ↦ long s (between_true 5 8 (length s) (and_parts (has_length 5 8 s) (are_alphanumeric s) more).0).0
-      | inr four ↦
-          let k = and_parts ((length s == 4) && are_alphanumeric s) (starts_with_digit s) four in
-          let size : length s ≡ 4 = eqb-true (length s) 4 (and_parts (length s == 4) (are_alphanumeric s) k.0).0 in
-          (ap (λ n. n == 1) size, rw size (first_digit-case s k.1))
-    ]
+variant-cased s is = grind (arith, common_steps, or_cases, long, between_true, and_parts, eqb-true, first_digit-case)
 
 -- a primary subtag is no singleton
 primary-many : (s : List ℕ) → is_primary s ≡ true → is_single s ≡ false
 unfolding is_primary
-primary-many s is =
-    let size = between_true 2 8 (length s) (and_parts (has_length 2 8 s) (are_letters s) is).0 in
-    ne_eqb (length s) 1 (λ e. omega (arith, e, size.0))
+primary-many s is = grind (arith, common_steps, between_true, and_parts, ne_eqb)
 
 -- ---- the parts, one after the other
 
@@ -102,15 +82,11 @@ module _ (test : List ℕ → Bool) (put : List ℕ → List ℕ) (cases : (s : 
   -- of several subtags
   part-cased : (ss us : List (List ℕ)) → AllByRecursion (λ s. IsTrue (test s)) ss → later (ss ++ us) ≡ map put ss ++ later us
   part-cased [] us fits = refl
-  part-cased (s ∷ ss) us fits =
-      let case = cases s fits.0 in
-      ap (λ v. cond v (map fold_text (s ∷ (ss ++ us))) (by_length s ∷ later (ss ++ us))) case.0
-      ∙ ap (λ t. t ∷ later (ss ++ us)) case.1 ∙ ap (λ ts. put s ∷ ts) (part-cased ss us fits.1)
+  part-cased (s ∷ ss) us fits = grind (arith, common_steps, part-cased ss us fits.1)
 
   -- of one that may be there
   one-cased : (o : Option (List ℕ)) (us : List (List ℕ)) → IfSome o (λ s. IsTrue (test s)) → later (one_flat o ++ us) ≡ one_flat (option_map put o) ++ later us
-  one-cased None us fits = refl
-  one-cased (Some s) us fits = part-cased (s ∷ []) us (fits, tt)
+  one-cased o us fits = grind (arith, common_steps, part-cased)
 
 -- extensions and the private use part, folded
 tail-fold :

@@ -1,18 +1,14 @@
 -- A text has no more extensions than subtags, and so few that `count` can answer them.
-use Rattle.std.proofs.Common.{ℕ, ◌≤◌, ◌+◌, Bool, true, false, cond, List, [], ◌∷◌, length, arith}
+use Rattle.std.proofs.Common.{ℕ, ◌≤◌, ◌+◌, List, [], ◌∷◌, length, arith}
 use Rattle.std.proofs.lemmas.List.{length-map}
+use Rattle.std.proofs.lemmas.Grind.{common_steps}
 use Rattle.langtag_scan.specs.Subtags.{join, subtags}
 use Rattle.langtag_scan.proofs.SubtagLists.{length-subtags}
-use Rattle.langtag_extension.specs.ExtensionTexts.{opens, put_first, groups, extension_texts}
+use Rattle.langtag_extension.specs.ExtensionTexts.{put_first, groups, extension_texts}
 
 -- one more subtag is at most one more group
 length-put_first : (s : List ℕ) (gs : List (List (List ℕ))) → length (put_first s gs) ≤ length gs + 1
-length-put_first s [] = omega arith
-length-put_first s (g ∷ gs) = by_opening (opens g)
-  where
-    by_opening : (b : Bool) → length (cond b ((s ∷ []) ∷ g ∷ gs) ((s ∷ g) ∷ gs)) ≤ length (g ∷ gs) + 1
-    by_opening true = omega arith
-    by_opening false = omega arith
+length-put_first s gs = grind (arith, common_steps)
 
 length-groups : (ss : List (List ℕ)) → length (groups ss) ≤ length ss
 length-groups [] = omega arith

@@ -1,28 +1,23 @@
 -- The first extension of a singleton, among extensions and among their texts.
-use Rattle.std.proofs.Common.{◌≡◌, ℕ, Bool, true, false, List, [], ◌∷◌, refl, ap, ◌∙◌, Option, None, Some, map, cond, slice_index, find, ◌==◌, inl, inr, subst}
+use Rattle.std.proofs.Common.{◌≡◌, ℕ, Bool, List, [], ◌∷◌, refl, ap, ◌∙◌, Option, None, Some, map, cond, slice_index, find, ◌==◌, arith}
 use Rattle.std.specs.Option.{option_map, option_map_or}
 use Rattle.std.specs.List.{AllByRecursion}
+use Rattle.std.proofs.lemmas.Grind.{common_steps}
 use Rattle.langtag_scan.specs.Case.{fold_byte}
 use Rattle.langtag_scan.specs.Record.{Extension, IsWellFormedExtension}
-use Rattle.langtag_scan.specs.Subtags.{join}
 use Rattle.langtag_scan.proofs.BoolFacts.{chosen}
 use Rattle.langtag_extension.specs.Decided.{opens_alike}
 use Rattle.langtag_extension.specs.Spelling.{extension_spelling, SpellsExtension, find_extension}
 
 -- the text of an extension begins with the singleton
 pub first_byte-spelling : (e : Extension) → slice_index (extension_spelling e) 0 ≡ e.singleton
-first_byte-spelling e = by_subtags e.subtags
-  where
-    by_subtags : (ss : List (List ℕ)) → slice_index (join ((e.singleton ∷ []) ∷ ss)) 0 ≡ e.singleton
-    by_subtags [] = refl
-    by_subtags (s ∷ ss) = refl
+first_byte-spelling e = grind (arith, common_steps)
 
 -- a choice, after a function
 cond-map :
     {A B : Type 0} (f : A → B) (b : Bool) (x : A) (o : Option A) (p : Option B) → p ≡ option_map f o →
     cond b (Some (f x)) p ≡ option_map f (cond b (Some x) o)
-cond-map f true x o p same = refl
-cond-map f false x o p same = same
+cond-map f b x o p same = grind (arith, common_steps)
 
 -- the first text that opens with the byte is that of the first such extension
 pub find_spellings :
@@ -37,25 +32,15 @@ find_spellings b (e ∷ es) =
 pub extension_found : (b : ℕ) (es : List Extension) → AllByRecursion IsWellFormedExtension es → (e : Extension) → find_extension b es ≡ Some e → IsWellFormedExtension e
 extension_found b [] fits e found = absurd cc
 extension_found b (x ∷ es) fits e found =
-    elim (chosen (fold_byte x.singleton == fold_byte b) (Some x) (find_extension b es) (Some e) found) [
-      | inl here ↦ let same : x ≡ e = cc in subst IsWellFormedExtension same fits.0
-      | inr later ↦ extension_found b es fits.1 e later.1
-    ]
+    grind (arith, common_steps, chosen (fold_byte x.singleton == fold_byte b) (Some x) (find_extension b es) (Some e) found, extension_found b es fits.1 e)
 
 -- the subtags of the extension that is found
 pub subtags_found :
     (b : ℕ) (es : List Extension) → AllByRecursion IsWellFormedExtension es → (text : List ℕ) (left : List (List ℕ)) →
     Some text ≡ option_map extension_spelling (find_extension b es) →
     ((e : Extension) → SpellsExtension e text → left ≡ e.subtags) → left ≡ option_map_or (λ e. e.subtags) (find_extension b es) []
-subtags_found b es fits text left found spelled = by_found (find_extension b es) refl found
-  where
-    by_found :
-        (o : Option Extension) → find_extension b es ≡ o → Some text ≡ option_map extension_spelling o →
-        left ≡ option_map_or (λ e. e.subtags) o []
-    by_found None is none = absurd cc
-    by_found (Some e) is same = spelled e (record { member = extension_found b es fits e is; joined = cc })
+subtags_found b es fits text left found spelled = grind (arith, common_steps, extension_found b es fits)
 
 -- none where none is found
 pub subtags_not_found : (o : Option Extension) → None ≡ option_map extension_spelling o → [] ≡ option_map_or (λ e. e.subtags) o []
-subtags_not_found None none = refl
-subtags_not_found (Some e) none = absurd cc
+subtags_not_found o none = grind (arith, common_steps)

@@ -1,6 +1,7 @@
 -- The texts of a text's groups of subtags, joined, are the text again.
-use Rattle.std.proofs.Common.{◌≡◌, ℕ, true, false, List, [], ◌∷◌, ◌++◌, refl, ap, sym, ◌∙◌, map, cond, append-nil, append_assoc}
+use Rattle.std.proofs.Common.{◌≡◌, ℕ, true, false, List, [], ◌∷◌, ◌++◌, refl, ap, sym, map, cond, append-nil, append_assoc, arith}
 use Rattle.std.specs.List.{flat_map}
+use Rattle.std.proofs.lemmas.Grind.{common_steps}
 use Rattle.langtag_scan.specs.Record.{Extension, extension_flat}
 use Rattle.langtag_scan.specs.Subtags.{join}
 use Rattle.langtag_scan.proofs.Joins.{join-hyphenated, join-append}
@@ -25,30 +26,17 @@ groups-cons s ss = by_groups (groups ss)
 join-put_first :
     (s x : List ℕ) (prefix : List (List ℕ)) (others : List (List (List ℕ))) →
     join (map join (put_first s ((x ∷ prefix) ∷ others))) ≡ s ++ 45 ∷ join (map join ((x ∷ prefix) ∷ others))
-join-put_first s x prefix others =
-    elim (opens (x ∷ prefix)) as (λ b. join (map join (cond b ((s ∷ []) ∷ (x ∷ prefix) ∷ others) ((s ∷ x ∷ prefix) ∷ others))) ≡ s ++ 45 ∷ join (map join ((x ∷ prefix) ∷ others))) [
-      | true ↦ refl
-      | false ↦ by_others others
-    ]
-  where
-    by_others : (gs : List (List (List ℕ))) → join (map join ((s ∷ x ∷ prefix) ∷ gs)) ≡ s ++ 45 ∷ join (map join ((x ∷ prefix) ∷ gs))
-    by_others [] = refl
-    by_others (g ∷ gs) = append_assoc s (45 ∷ join (x ∷ prefix)) (45 ∷ join (map join (g ∷ gs)))
+join-put_first s x prefix others = grind (arith, common_steps, append_assoc)
 
 -- the texts of groups, joined, are the subtags joined
 pub join-group_texts : (ss : List (List ℕ)) → join (group_texts ss) ≡ join ss
 join-group_texts [] = refl
 join-group_texts (s ∷ []) = refl
-join-group_texts (s ∷ x ∷ ss) =
-    let first = groups-cons x ss in
-    ap (λ gs. join (map join (put_first s gs))) first.2 ∙ join-put_first s x first.0 first.1
-    ∙ ap (λ gs. s ++ 45 ∷ join (map join gs)) (sym first.2) ∙ ap (λ t. s ++ 45 ∷ t) (join-group_texts (x ∷ ss))
+join-group_texts (s ∷ x ∷ ss) = grind (arith, common_steps, groups-cons x ss, join-put_first s x, join-group_texts (x ∷ ss))
 
 -- the texts of extensions, joined, are the subtags joined
 pub join-spellings : (es : List Extension) → join (map extension_spelling es) ≡ join (flat_map extension_flat es)
 join-spellings [] = refl
 join-spellings (e ∷ []) = ap (λ ss. join ((e.singleton ∷ []) ∷ ss)) (sym (append-nil e.subtags))
 join-spellings (e ∷ f ∷ es) =
-    let others = f.subtags ++ flat_map extension_flat es in
-    ap (λ t. extension_spelling e ++ 45 ∷ t) (join-spellings (f ∷ es) ∙ join-hyphenated (f.singleton ∷ []) others)
-    ∙ sym (join-append (e.singleton ∷ []) e.subtags ((f.singleton ∷ []) ∷ others))
+    grind (arith, common_steps, join-spellings (f ∷ es), join-hyphenated (f.singleton ∷ []), join-append (e.singleton ∷ []) e.subtags)

@@ -1,5 +1,5 @@
 -- The one list that spells a text is found again in it, and the tests of its subtags say whether there is one.
-use Rattle.std.proofs.Common.{◌≡◌, ◌↔◌, ℕ, ◌≤◌, Bool, true, IsTrue, List, [], ◌∷◌, ◌++◌, length, drop, refl, ap, sym, ◌∙◌, arith, map}
+use Rattle.std.proofs.Common.{◌≡◌, ◌↔◌, ℕ, ◌≤◌, Bool, true, IsTrue, List, [], ◌∷◌, length, drop, refl, ap, ◌∙◌, arith, map, rules}
 use Rattle.std.specs.List.{list_all, AllByRecursion, flat_map}
 use Rattle.std.proofs.lemmas.Bool.{and_parts}
 use Rattle.std.proofs.lemmas.Grind.{common_steps}
@@ -9,7 +9,7 @@ use Rattle.langtag_scan.specs.Subtags.{join, subtags}
 use Rattle.langtag_scan.proofs.BoolFacts.{between_true}
 use Rattle.langtag_scan.proofs.SubtagFacts.{IsSubtag, of_one, of_extension_subtag, singleton_alphanumeric}
 use Rattle.langtag_scan.proofs.SubtagLists.{each_from_test, test_from_each, each_subtag, subtags-joined, join-subtags, length-after_first, each-append}
-use Rattle.langtag_extension.specs.ExtensionTexts.{goes_on, opens, groups, group_texts, extension_texts}
+use Rattle.langtag_extension.specs.ExtensionTexts.{goes_on, opens, groups, extension_texts}
 use Rattle.langtag_extension.specs.Decided.{is_extension_list, is_extension_text, are_extension_texts, is_extensions_text, are_extension_subtags}
 use Rattle.langtag_extension.specs.Spelling.{extension_spelling, SpellsExtension, IsExtension, SpellsExtensions, IsExtensions}
 use Rattle.langtag_extension.proofs.WalkLemmas.{groups-first}
@@ -19,10 +19,7 @@ use Rattle.langtag_extension.proofs.Joins.{join-group_texts, join-spellings}
 
 extension_subtag_long : (s : List ℕ) → is_extension_subtag s ≡ true → (2 ≤ length s) × (length s ≤ 8) × (are_alphanumeric s ≡ true)
 unfolding is_extension_subtag
-extension_subtag_long s h =
-    let k = and_parts (has_length 2 8 s) (are_alphanumeric s) h in
-    let m = between_true 2 8 (length s) k.0 in
-    (m.0, m.1, k.1)
+extension_subtag_long s h = grind (arith, common_steps, and_parts (has_length 2 8 s) (are_alphanumeric s) h, between_true 2 8 (length s))
 
 -- no subtag after the singleton opens an extension
 goes_on-extension_subtag : (s : List ℕ) → is_extension_subtag s ≡ true → goes_on s ≡ true
@@ -38,21 +35,11 @@ subtags-flat e fits = (of_one e.singleton (singleton_alphanumeric e.singleton fi
 
 -- the subtags of an extension's text
 pub subtags_spelled : (e : Extension) (text : List ℕ) → SpellsExtension e text → subtags text ≡ extension_flat e
-subtags_spelled e text spells =
-    ap subtags (sym spells.joined) ∙ subtags-joined (extension_flat e) (subtags-flat e spells.member)
-
--- the test passes a singleton and subtags
-is_extension_list-flat :
-    (b : ℕ) (ss : List (List ℕ)) → is_singleton b ≡ true → 1 ≤ length ss → are_extension_subtags ss ≡ true →
-    is_extension_list ((b ∷ []) ∷ ss) ≡ true
-is_extension_list-flat b [] one some pass = absurd (omega arith)
-is_extension_list-flat b (s ∷ ss) one some pass = rw one pass
+subtags_spelled e text spells = grind (arith, common_steps, subtags-joined (extension_flat e) (subtags-flat e spells.member), subtags-flat e spells.member)
 
 -- from the rule to the test
 pub is_extension_text-from_rule : (text : List ℕ) → IsExtension text → IsTrue (is_extension_text text)
-is_extension_text-from_rule text (e, spells) =
-    ap is_extension_list (subtags_spelled e text spells)
-    ∙ is_extension_list-flat e.singleton e.subtags spells.member.singleton spells.member.some (test_from_each is_extension_subtag e.subtags spells.member.subtags)
+is_extension_text-from_rule text (e, spells) = search (rules, subtags_spelled, test_from_each)
 
 -- the extension that the subtags are
 extension_of_list : (ss : List (List ℕ)) → is_extension_list ss ≡ true → (e : Extension) × IsWellFormedExtension e × (extension_flat e ≡ ss)
@@ -66,25 +53,18 @@ extension_of_list ((b ∷ []) ∷ s ∷ ss) pass =
 
 -- from the test to the rule
 pub IsExtension-from_test : (text : List ℕ) → IsTrue (is_extension_text text) → IsExtension text
-IsExtension-from_test text pass =
-    let found = extension_of_list (subtags text) pass in
-    (found.0, record { member = found.1; joined = ap join found.2 ∙ join-subtags text })
+IsExtension-from_test text pass = grind (arith, common_steps, extension_of_list (subtags text) pass, join-subtags text)
 
 -- an answer that is the test decides the rule
 pub IsExtension-decided : (text : List ℕ) (answer : Bool) → answer ≡ is_extension_text text → IsTrue answer ↔ IsExtension text
-IsExtension-decided text answer tested =
-    (λ pass. IsExtension-from_test text (sym tested ∙ pass), λ spelled. tested ∙ is_extension_text-from_rule text spelled)
+IsExtension-decided text answer tested = grind (arith, common_steps, IsExtension-from_test text, is_extension_text-from_rule text)
 
 -- the steps from the one to the other
 pub ruleset extension_rules = (IsExtension-from_test, is_extension_text-from_rule, IsExtension-decided)
 
 -- the subtags after the singleton
 are_extension_subtags-after : (ss : List (List ℕ)) → is_extension_list ss ≡ true → are_extension_subtags (drop 1 ss) ≡ true
-are_extension_subtags-after [] pass = absurd cc
-are_extension_subtags-after ([] ∷ ss) pass = absurd cc
-are_extension_subtags-after ((b ∷ c ∷ s) ∷ ss) pass = absurd cc
-are_extension_subtags-after ((b ∷ []) ∷ []) pass = absurd cc
-are_extension_subtags-after ((b ∷ []) ∷ s ∷ ss) pass = (and_parts (is_singleton b) (are_extension_subtags (s ∷ ss)) pass).1
+are_extension_subtags-after ss pass = grind (arith, common_steps, and_parts)
 
 -- they are subtags of an extension
 pub are_extension_subtags-from_test : (text : List ℕ) → IsTrue (is_extension_text text) → IsTrue (are_extension_subtags (drop 1 (subtags text)))
@@ -113,20 +93,13 @@ pub all_subtags-flat : (es : List Extension) → AllByRecursion IsWellFormedExte
 all_subtags-flat [] fits = tt
 all_subtags-flat (e ∷ es) fits = each-append IsSubtag (extension_flat e) (flat_map extension_flat es) (subtags-flat e fits.0) (all_subtags-flat es fits.1)
 
--- they are the subtags of their join
-pub subtags-flat_map : (es : List Extension) → AllByRecursion IsWellFormedExtension es → subtags (join (flat_map extension_flat es)) ≡ flat_map extension_flat es
-subtags-flat_map [] fits = refl
-subtags-flat_map (e ∷ es) fits = subtags-joined ((e.singleton ∷ []) ∷ (e.subtags ++ flat_map extension_flat es)) (all_subtags-flat (e ∷ es) fits)
-
 map-spelling : (es : List Extension) → map join (map extension_flat es) ≡ map extension_spelling es
 map-spelling [] = refl
 map-spelling (e ∷ es) = ap (λ ts. extension_spelling e ∷ ts) (map-spelling es)
 
 -- the texts into which a text is cut are those of the extensions that spell it
 pub extension_texts_spelled : (es : List Extension) (text : List ℕ) → SpellsExtensions es text → extension_texts text ≡ map extension_spelling es
-extension_texts_spelled es text spells =
-    ap extension_texts (sym spells.joined) ∙ ap group_texts (subtags-flat_map es spells.members)
-    ∙ ap (map join) (groups-flat es spells.members) ∙ map-spelling es
+extension_texts_spelled es text spells = grind (arith, common_steps, groups-flat es spells.members, map-spelling es, subtags-joined, all_subtags-flat)
 
 are_extension_texts_spelled : (es : List Extension) → AllByRecursion IsWellFormedExtension es → are_extension_texts (map extension_spelling es) ≡ true
 are_extension_texts_spelled [] fits = refl
@@ -152,13 +125,11 @@ extensions_of_texts (t ∷ ts) pass =
 -- from the test to the rule
 pub IsExtensions-from_test : (text : List ℕ) → IsTrue (is_extensions_text text) → IsExtensions text
 IsExtensions-from_test text pass =
-    let found = extensions_of_texts (extension_texts text) pass in
-    (found.0, record { members = found.1; joined = sym (join-spellings found.0) ∙ ap join found.2 ∙ join-group_texts (subtags text) ∙ join-subtags text })
+    grind (arith, common_steps, extensions_of_texts (extension_texts text) pass, join-spellings, join-group_texts (subtags text), join-subtags text)
 
 -- an answer that is the test decides the rule
 pub IsExtensions-decided : (text : List ℕ) (answer : Bool) → answer ≡ is_extensions_text text → IsTrue answer ↔ IsExtensions text
-IsExtensions-decided text answer tested =
-    (λ pass. IsExtensions-from_test text (sym tested ∙ pass), λ spelled. tested ∙ is_extensions_text-from_rule text spelled)
+IsExtensions-decided text answer tested = grind (arith, common_steps, IsExtensions-from_test text, is_extensions_text-from_rule text)
 
 -- the steps from the one to the other
 pub ruleset extensions_rules = (IsExtensions-from_test, is_extensions_text-from_rule, IsExtensions-decided)

@@ -1,30 +1,18 @@
 -- The subtags of a text in groups: those of the first extension, and those of the others.
-use Rattle.std.proofs.Common.{◌≡◌, ◌≢◌, ℕ, ◌<◌, ◌≤◌, suc, ◌+◌, ◌-◌, true, false, List, [], ◌∷◌, ◌++◌, length, get_or, take, drop, refl, ap, sym, ◌∙◌, arith, cond, Option, None, Some, Bor, MatchOption, map, append-nil}
+use Rattle.std.proofs.Common.{◌≡◌, ◌≢◌, ℕ, ◌<◌, ◌≤◌, suc, ◌+◌, ◌-◌, true, false, List, [], ◌∷◌, ◌++◌, length, get_or, take, drop, ap, ◌∙◌, arith, Option, None, Some, Bor, MatchOption, append-nil}
 use Rattle.std.specs.List.{list_all}
 use Rattle.std.proofs.lemmas.List.{get_or-take, get_or-drop, drop-append-le, length-take, length-drop}
 use Rattle.std.proofs.lemmas.List.Folds.{list_all-append}
 use Rattle.std.proofs.Math.Seq.{drop-cons, take-add}
-use Rattle.std.proofs.lemmas.List.Splits.{length-slice_split, join_with_byte-slice_split, slice_split-cons_yes, slice_split-cons_no, slice_split_none}
+use Rattle.std.proofs.lemmas.List.Splits.{length-slice_split, join_with_byte-slice_split, slice_split-cons_yes, slice_split-cons_no}
 use Rattle.std.proofs.lemmas.Grind.{common_steps}
-use Rattle.langtag_scan.specs.Subtags.{is_hyphen, join, segments, segments_left, NoHyphenWithin, IsHyphenFree}
+use Rattle.langtag_scan.specs.Subtags.{is_hyphen, segments, segments_left, NoHyphenWithin, IsHyphenFree}
 use Rattle.langtag_scan.proofs.SubtagLists.{slice_split-push, slice_split-append}
 use Rattle.langtag_extension.specs.ExtensionTexts.{goes_on, opens, groups, put_first, group_texts, texts_left}
 
 -- a first subtag of one byte opens an extension
 pub opens-one : (t : List ℕ) → 0 < length t → is_hyphen (get_or t 0 0) ≡ false → (1 < length t → get_or t 1 0 ≡ 45) → opens (segments t) ≡ true
-opens-one [] some first second = absurd (omega (arith, some))
-opens-one (b ∷ []) some first second = rw (slice_split-cons_no is_hyphen b [] first) refl
-opens-one (b ∷ c ∷ t) some first second =
-    let hyphen : is_hyphen c ≡ true = rw (second (grind (arith, common_steps))) refl in
-    rw (slice_split-cons_no is_hyphen b (c ∷ t) first, slice_split-cons_yes is_hyphen c t hyphen) refl
-
--- up to the first hyphen there is one subtag
-pub list_all-first_subtag :
-    (text : List ℕ) (end : ℕ) → end ≤ length text → NoHyphenWithin text 0 end →
-    list_all goes_on (drop 1 (segments (take end text))) ≡ true
-list_all-first_subtag text end within free =
-    let kept : IsHyphenFree (take end text) = grind (arith, common_steps) in
-    rw (slice_split_none is_hyphen (take end text) kept) refl
+opens-one t some first second = grind (arith, common_steps, slice_split-cons_no is_hyphen, slice_split-cons_yes is_hyphen)
 
 -- one more subtag, which is not of one byte
 pub list_all-next_subtag :
@@ -48,29 +36,14 @@ list_all-next_subtag text end next below hyphen after within free long before =
 
 -- before an opening subtag a group ends
 put_first-opened : (parts : List (List ℕ)) → opens parts ≡ true → (p : List ℕ) → put_first p (groups parts) ≡ (p ∷ []) ∷ groups parts
-put_first-opened [] opened p = refl
-put_first-opened (part ∷ more) opened p = by_groups (groups more)
-  where
-    by_groups : (gs : List (List (List ℕ))) → put_first p (put_first part gs) ≡ (p ∷ []) ∷ put_first part gs
-    by_groups [] = ap (λ b. cond b ((p ∷ []) ∷ (part ∷ []) ∷ []) ((p ∷ part ∷ []) ∷ [])) opened
-    by_groups (g ∷ gs) = grind (arith, common_steps)
+put_first-opened parts opened p = grind (arith, common_steps)
 
 -- a subtag, those that go on with it, and others from one that opens
 pub groups-first :
     (p : List ℕ) (prefix rest : List (List ℕ)) → list_all goes_on prefix ≡ true → opens rest ≡ true →
     groups (p ∷ prefix ++ rest) ≡ (p ∷ prefix) ∷ groups rest
 groups-first p [] rest long opened = put_first-opened rest opened p
-groups-first p (f ∷ prefix) rest long opened =
-    let tail = groups-first f prefix rest (grind (arith, common_steps)) opened in
-    let not_one : opens (f ∷ prefix) ≡ false = grind (arith, common_steps) in
-    ap (put_first p) tail ∙ ap (λ b. cond b ((p ∷ []) ∷ (f ∷ prefix) ∷ groups rest) ((p ∷ f ∷ prefix) ∷ groups rest)) not_one
-
--- the groups of two lists, of which the second begins with an opening subtag
-groups-append :
-    (first rest : List (List ℕ)) → 0 < length first → list_all goes_on (drop 1 first) ≡ true → opens rest ≡ true →
-    groups (first ++ rest) ≡ first ∷ groups rest
-groups-append [] rest some long opened = absurd (omega (arith, some))
-groups-append (p ∷ prefix) rest some long opened = groups-first p prefix rest long opened
+groups-first p (f ∷ prefix) rest long opened = grind (arith, common_steps, groups-first f prefix rest)
 
 -- the groups of a text that is cut before an opening subtag
 groups-split :
@@ -78,16 +51,13 @@ groups-split :
     list_all goes_on (drop 1 (segments first)) ≡ true → opens (segments_left rest) ≡ true →
     groups (segments text) ≡ segments first ∷ groups (segments_left rest)
 groups-split text first None whole long opened =
-    ap (λ t. groups (segments t)) whole ∙ ap groups (sym (append-nil (segments first)))
-    ∙ groups-append (segments first) [] (omega (arith, length-slice_split is_hyphen first)) long opened
+    grind (arith, common_steps, append-nil (segments first), length-slice_split is_hyphen first, groups-first)
 groups-split text first (Some rest) joined long opened =
-    ap (λ t. groups (segments t)) joined ∙ ap groups (slice_split-append first rest.now)
-    ∙ groups-append (segments first) (segments rest.now) (omega (arith, length-slice_split is_hyphen first)) long opened
+    grind (arith, common_steps, slice_split-append first rest.now, length-slice_split is_hyphen first, groups-first)
 
 -- the text of the first extension, and those of the others
 pub group_texts-split :
     (text first : List ℕ) (rest : Option (Bor (List ℕ))) → MatchOption rest (text ≡ first) (λ r. text ≡ first ++ 45 ∷ r.now) →
     list_all goes_on (drop 1 (segments first)) ≡ true → opens (segments_left rest) ≡ true →
     group_texts (segments text) ≡ first ∷ texts_left rest
-group_texts-split text first rest joined long opened =
-    ap (map join) (groups-split text first rest joined long opened) ∙ ap (λ t. t ∷ texts_left rest) (join_with_byte-slice_split 45 first)
+group_texts-split text first rest joined long opened = cc (groups-split text first rest joined long opened, join_with_byte-slice_split 45 first)

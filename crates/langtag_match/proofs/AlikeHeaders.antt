@@ -1,10 +1,11 @@
 -- Headers that are equal but for the case of letters have elements that are equal but for case.
-use Rattle.std.proofs.Common.{◌≡◌, ℕ, ◌-◌, ◌==◌, Bool, true, false, cond, List, [], ◌∷◌, length, map, take, get_or, Option, None, Some, option_map, refl, sym, ap, ◌∙◌, arith}
-use Rattle.std.specs.List.{list_any, slice_split, before_first, after_first, cons_option}
+use Rattle.std.proofs.Common.{◌≡◌, ℕ, Bool, true, cond, List, [], ◌∷◌, map, Option, None, Some, option_map, refl, sym, ap, ◌∙◌, arith}
+use Rattle.std.specs.List.{list_any, slice_split, before_first, after_first}
 use Rattle.std.proofs.Math.ListN.{get_or-map}
 use Rattle.std.proofs.lemmas.Bool.{and_parts}
 use Rattle.std.proofs.lemmas.List.{length-map, take-map}
 use Rattle.std.proofs.lemmas.Bool.Decides.{nat_tests}
+use Rattle.std.proofs.lemmas.Grind.{common_steps}
 use Rattle.langtag_scan.specs.Case.{fold_byte, fold_text}
 use Rattle.langtag_scan.specs.Class.{are_digits, is_digit}
 use Rattle.langtag_scan.proofs.CaseLaw.{all-fold, is_digit-fold}
@@ -35,13 +36,7 @@ is_hash-fold = mark-fold 35 (omega arith)
 
 without_mark-fold : (text : List ℕ) → without_mark (fold_text text) ≡ fold_text (without_mark text)
 unfolding fold_byte
-without_mark-fold text =
-    rw (length-map text fold_byte, get_or-map fold_byte text (length text - 1) 0, underscore-fold (get_or text (length text - 1) 0), take-map fold_byte (length text - 1) text)
-    (by_test (get_or text (length text - 1) 0 == 95))
-  where
-    by_test : (marked : Bool) → cond marked (fold_text (take (length text - 1) text)) (fold_text text) ≡ fold_text (cond marked (take (length text - 1) text) text)
-    by_test true = refl
-    by_test false = refl
+without_mark-fold text = grind (arith, common_steps, length-map, get_or-map, underscore-fold, take-map)
 
 place_before-fold : (front : List ℕ) → place_before (fold_text front) ≡ fold_text (place_before front)
 place_before-fold front =
@@ -55,8 +50,7 @@ place_before-fold front =
     by_test :
         (marked : Bool) →
         cond marked (fold_text (without_mark (without_mark (before_first is_hash front)))) (fold_text front) ≡ fold_text (cond marked (without_mark (without_mark (before_first is_hash front))) front)
-    by_test true = refl
-    by_test false = refl
+    by_test marked = grind (arith, common_steps)
 
 locale_place-fold : (name : List ℕ) → locale_place (fold_text name) ≡ fold_text (locale_place name)
 locale_place-fold name = ap place_before (before_first-changed fold_byte ends_locale ends_locale ends_locale-fold name) ∙ place_before-fold (front_of name)
@@ -82,31 +76,19 @@ digit_stays b digit = grind (arith, nat_tests)
 
 digits_stay : (text : List ℕ) → are_digits text ≡ true → fold_text text ≡ text
 digits_stay [] digits = refl
-digits_stay (b ∷ text) digits =
-    let k = and_parts (is_digit b) (are_digits text) digits in
-    ap (λ c. c ∷ fold_text text) (digit_stays b k.0) ∙ ap (λ t. b ∷ t) (digits_stay text k.1)
+digits_stay (b ∷ text) digits = grind (arith, common_steps, and_parts (is_digit b) (are_digits text) digits, digit_stays b, digits_stay text)
 
 are_digits-fold : (text : List ℕ) → are_digits (fold_text text) ≡ are_digits text
 are_digits-fold = all-fold is_digit is_digit-fold
 
 number_weight-fold : (whole fraction : List ℕ) → number_weight (fold_text whole) (fold_text fraction) ≡ number_weight whole fraction
-number_weight-fold whole fraction = by_tests (are_digits whole) (are_digits fraction) refl refl
-  where
-    by_tests : (s t : Bool) → are_digits whole ≡ s → are_digits fraction ≡ t → number_weight (fold_text whole) (fold_text fraction) ≡ number_weight whole fraction
-    by_tests true true s t = rw (digits_stay whole s, digits_stay fraction t) refl
-    by_tests true false s t = rw (are_digits-fold whole, are_digits-fold fraction, s, t) refl
-    by_tests false t s is = rw (are_digits-fold whole, s) refl
+number_weight-fold whole fraction = grind (arith, common_steps, digits_stay whole, digits_stay fraction, are_digits-fold whole, are_digits-fold fraction)
 
 -- the fraction of a value: what stands after its point, or behind a comma
 fraction_of-fold :
     (value behind : List ℕ) →
     cond (list_any is_point (fold_text value)) (after_first is_point (fold_text value)) (fold_text behind) ≡ fold_text (cond (list_any is_point value) (after_first is_point value) behind)
-fraction_of-fold value behind =
-    rw (list_any-changed fold_byte is_point is_point is_point-fold value, after_first-changed fold_byte is_point is_point is_point-fold value) (by_test (list_any is_point value))
-  where
-    by_test : (point : Bool) → cond point (fold_text (after_first is_point value)) (fold_text behind) ≡ fold_text (cond point (after_first is_point value) behind)
-    by_test true = refl
-    by_test false = refl
+fraction_of-fold value behind = grind (arith, common_steps, list_any-changed, is_point-fold, after_first-changed)
 
 value_weight-fold : (value behind : List ℕ) → value_weight (fold_text value) (fold_text behind) ≡ value_weight value behind
 value_weight-fold value behind =
@@ -122,9 +104,7 @@ unfolding fold_byte
 is_q-fold b = grind (arith, nat_tests)
 
 is_q_name-fold : (name : List ℕ) → is_q_name (fold_text name) ≡ is_q_name name
-is_q_name-fold [] = refl
-is_q_name-fold (b ∷ []) = is_q-fold b
-is_q_name-fold (b ∷ c ∷ name) = refl
+is_q_name-fold name = grind (arith, common_steps, is_q-fold)
 
 is_q_parameter-fold : (parameter : List ℕ) → is_q_parameter (fold_text parameter) ≡ is_q_parameter parameter
 is_q_parameter-fold parameter =
@@ -154,37 +134,15 @@ abbrev element_of : List ℕ → ℕ → Option Element
 element_of range weight = cond (is_basic_range range) (Some (record { range = range; weight = weight })) None
 
 element_of-fold : (range : List ℕ) (weight : ℕ) → element_of (fold_text range) weight ≡ option_map folded (element_of range weight)
-element_of-fold range weight = rw (is_basic_range-fold range) (by_test (is_basic_range range))
-  where
-    by_test :
-        (basic : Bool) → cond basic (Some (record { range = fold_text range; weight = weight })) None ≡ option_map folded (cond basic (Some (record { range = range; weight = weight })) None)
-    by_test true = refl
-    by_test false = refl
+element_of-fold range weight = grind (arith, common_steps, is_basic_range-fold)
 
 wanted-fold : (item behind : List ℕ) → wanted (fold_text item) (fold_text behind) ≡ option_map folded (wanted item behind)
 unfolding wanted
-wanted-fold item behind =
-    ap (λ r. element_of r (wanted_weight (parameters (fold_text item)) (fold_text behind))) (wanted_range-fold item)
-    ∙ ap (λ ps. element_of (fold_text (hyphened (wanted_text item))) (wanted_weight ps (fold_text behind))) (parameters-fold item)
-    ∙ ap (element_of (fold_text (hyphened (wanted_text item)))) (wanted_weight-fold (parameters item) behind)
-    ∙ element_of-fold (hyphened (wanted_text item)) (wanted_weight (parameters item) behind)
-
-digits_behind-fold : (items : List (List ℕ)) → digits_behind (map fold_text items) ≡ fold_text (digits_behind items)
-digits_behind-fold [] = refl
-digits_behind-fold (item ∷ items) = rw (are_digits-fold item) (by_test (are_digits item))
-  where
-    by_test : (digits : Bool) → cond digits (fold_text item) [] ≡ fold_text (cond digits item [])
-    by_test true = refl
-    by_test false = refl
+wanted-fold item behind = grind (arith, common_steps, wanted_range-fold, parameters-fold, wanted_weight-fold, element_of-fold)
 
 wanted_items-fold : (items : List (List ℕ)) → wanted_items (map fold_text items) ≡ map folded (wanted_items items)
 wanted_items-fold [] = refl
-wanted_items-fold (item ∷ items) =
-    rw (digits_behind-fold items, wanted-fold item (digits_behind items), wanted_items-fold items) (by_first (wanted item (digits_behind items)))
-  where
-    by_first : (here : Option Element) → cons_option (option_map folded here) (map folded (wanted_items items)) ≡ map folded (cons_option here (wanted_items items))
-    by_first None = refl
-    by_first (Some element) = refl
+wanted_items-fold (item ∷ items) = grind (arith, common_steps, wanted-fold item (digits_behind items), wanted_items-fold items, are_digits-fold)
 
 -- those of a header in small letters are those of the header, in small letters
 wanted_elements-fold : (header : List ℕ) → wanted_elements (fold_text header) ≡ map folded (wanted_elements header)

@@ -1,13 +1,14 @@
 -- The case of letters changes no mark and no digit of a text, nor whether it is a range.
-use Rattle.std.proofs.Common.{◌≡◌, ℕ, ◌<◌, eqb, Bool, true, false, cond, ◌||◌, List, [], ◌∷◌, map, reverse, inl, inr, refl, ap, ◌∙◌, arith}
+use Rattle.std.proofs.Common.{◌≡◌, ℕ, ◌<◌, eqb, List, [], ◌∷◌, map, refl, ap, arith}
 use Rattle.std.specs.List.{list_all}
 use Rattle.std.proofs.lemmas.Bool.Decides.{nat_tests, eqb_tells}
+use Rattle.std.proofs.lemmas.Grind.{common_steps}
 use Rattle.langtag_scan.specs.Case.{fold_byte, fold_text}
 use Rattle.langtag_scan.proofs.CaseLaw.{all-fold, is_letter-fold, length-fold, segments-fold, classes-fold}
 use Rattle.langtag.specs.Class.{is_letter, is_private_subtag}
 use Rattle.langtag.specs.Subtags.{subtags}
 use Rattle.langtag_match.specs.AcceptLanguage.{is_space, from_first, trimmed}
-use Rattle.langtag_match.specs.Range.{is_star, is_first_subtag, are_basic_range, is_basic_range}
+use Rattle.langtag_match.specs.Range.{is_star, is_first_subtag, is_basic_range}
 use Rattle.langtag_match.specs.Wanted.{hyphened_byte, hyphened}
 use Rattle.langtag_match.proofs.ChangedTexts.{reverse-changed}
 use Rattle.langtag_scan.specs.Stage.{Classes}
@@ -28,34 +29,20 @@ underscore-fold b = grind (arith, nat_tests)
 
 hyphened_byte-fold : (b : ℕ) → hyphened_byte (fold_byte b) ≡ fold_byte (hyphened_byte b)
 unfolding fold_byte
-hyphened_byte-fold b = elim (eqb_tells b 95) [
-  | inl same ↦ rw (same.1) refl
-  | inr other ↦ let none = underscore-fold b ∙ other.0 in rw (none, other.0) refl
-]
+hyphened_byte-fold b = grind (arith, common_steps, eqb_tells b 95, underscore-fold b)
 
 -- ---- texts
 
 pub hyphened-fold : (text : List ℕ) → hyphened (fold_text text) ≡ fold_text (hyphened text)
 hyphened-fold [] = refl
-hyphened-fold (b ∷ text) =
-    let first = hyphened_byte-fold b in
-    let rest = hyphened-fold text in
-    cc
+hyphened-fold (b ∷ text) = grind (arith, common_steps, hyphened_byte-fold b, hyphened-fold text)
 
 from_first-fold : (text : List ℕ) → from_first (fold_text text) ≡ fold_text (from_first text)
 from_first-fold [] = refl
-from_first-fold (b ∷ text) = rw (is_space-fold b, from_first-fold text) (by_test (is_space b))
-  where
-    by_test : (space : Bool) → cond space (fold_text (from_first text)) (fold_text (b ∷ text)) ≡ fold_text (cond space (from_first text) (b ∷ text))
-    by_test true = refl
-    by_test false = refl
+from_first-fold (b ∷ text) = grind (arith, common_steps, is_space-fold b, from_first-fold text)
 
 pub trimmed-fold : (text : List ℕ) → trimmed (fold_text text) ≡ fold_text (trimmed text)
-trimmed-fold text =
-    ap (λ t. reverse (from_first (reverse t))) (from_first-fold text)
-    ∙ ap (λ t. reverse (from_first t)) (reverse-changed fold_byte (from_first text))
-    ∙ ap reverse (from_first-fold (reverse (from_first text)))
-    ∙ reverse-changed fold_byte (from_first (reverse (from_first text)))
+trimmed-fold text = grind (arith, common_steps, from_first-fold, reverse-changed)
 
 -- ---- ranges
 
@@ -74,15 +61,9 @@ are_private-fold : (subtags : List (List ℕ)) → list_all is_private_subtag (m
 are_private-fold [] = refl
 are_private-fold (subtag ∷ subtags) = rw (is_private_subtag-fold subtag, are_private-fold subtags) refl
 
-are_basic_range-fold : (subtags : List (List ℕ)) → are_basic_range (map fold_text subtags) ≡ are_basic_range subtags
-are_basic_range-fold [] = refl
-are_basic_range-fold (first ∷ others) = rw (is_first_subtag-fold first, are_private-fold others) refl
-
 pub subtags-fold : (text : List ℕ) → subtags (fold_text text) ≡ map fold_text (subtags text)
 subtags-fold [] = refl
 subtags-fold (b ∷ text) = segments-fold (b ∷ text)
 
 pub is_basic_range-fold : (text : List ℕ) → is_basic_range (fold_text text) ≡ is_basic_range text
-is_basic_range-fold text =
-    ap (λ b. b || are_basic_range (subtags (fold_text text))) (is_star-fold text)
-    ∙ ap (λ b. is_star text || b) (ap are_basic_range (subtags-fold text) ∙ are_basic_range-fold (subtags text))
+is_basic_range-fold text = grind (arith, common_steps, is_star-fold text, subtags-fold text, is_first_subtag-fold, are_private-fold)

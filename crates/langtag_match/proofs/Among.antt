@@ -1,26 +1,22 @@
 -- What one subtag of a tag says of the subtags of a range that stand among it and those after it: the steps of
 -- RFC 4647 section 3.3.2.
-use Rattle.std.proofs.Common.{◌≡◌, ◌↔◌, ℕ, Bool, true, false, not, ◌==◌, subst, IsTrue, List, [], ◌∷◌, ◌++◌, length, refl, sym, ap, ◌∙◌, append_assoc}
+use Rattle.std.proofs.Common.{◌≡◌, ◌↔◌, ℕ, Bool, true, false, not, subst, IsTrue, List, [], ◌∷◌, ◌++◌, refl, sym, ap, ◌∙◌, append_assoc, arith}
 use Rattle.std.proofs.lemmas.Bool.{and_parts, both_ways, not-true}
 use Rattle.std.proofs.lemmas.List.{length-map}
-use Rattle.langtag_scan.specs.Case.{fold_byte, Alike, are_alike}
-use Rattle.langtag_scan.specs.CaseLaws.{are_alike-decides}
+use Rattle.std.proofs.lemmas.Grind.{common_steps}
+use Rattle.langtag_scan.specs.Case.{fold_byte, are_alike}
 use Rattle.langtag_scan.specs.Subtags.{subtags}
-use Rattle.langtag_match.specs.Extended.{matches_subtag, have_no_single, StandAmong, without_stars, MatchSubtags, MatchesExtended, stand_among, match_subtags, test_extended}
+use Rattle.langtag_match.specs.Extended.{have_no_single, StandAmong, without_stars, MatchSubtags, MatchesExtended, stand_among, match_subtags, test_extended}
 use Rattle.langtag.specs.Class.{is_single}
 use Rattle.langtag_match.specs.Range.{is_star}
 
 -- texts that are alike are as long
 alike_single : (w t : List ℕ) → are_alike w t ≡ true → is_single t ≡ is_single w
-alike_single w t alike =
-    let same : Alike w t = (are_alike-decides w t).0 alike in
-    ap (λ n. n == 1) (sym (length-map t fold_byte) ∙ ap length (sym same) ∙ length-map w fold_byte)
+alike_single w t alike = grind (arith, common_steps, length-map t fold_byte, length-map w fold_byte)
 
 have_no_single-append : (a b : List (List ℕ)) → IsTrue (have_no_single a) → IsTrue (have_no_single b) → IsTrue (have_no_single (a ++ b))
 have_no_single-append [] b ha hb = hb
-have_no_single-append (s ∷ a) b ha hb =
-    let k = and_parts (not (is_single s)) (have_no_single a) ha in
-    rw (k.0, have_no_single-append a b k.1 hb) refl
+have_no_single-append (s ∷ a) b ha hb = grind (arith, common_steps, and_parts (not (is_single s)) (have_no_single a) ha, have_no_single-append a b)
 
 -- subtags that are not singletons may stand before
 StandAmong-after : (extra : List (List ℕ)) → IsTrue (have_no_single extra) → (more rest : List (List ℕ)) → StandAmong more rest → StandAmong more (extra ++ rest)
@@ -30,9 +26,7 @@ StandAmong-after extra none (w ∷ more) rest (left_out, found, later, cut, free
 
 -- a subtag that is the wanted one may be taken for it: what another choice leaves out after it has no singleton either
 among_found-from : (w t : List ℕ) (more ts : List (List ℕ)) → are_alike w t ≡ true → StandAmong (w ∷ more) (t ∷ ts) → StandAmong more ts
-among_found-from w t more ts alike ([], found, rest, cut, free, same, h) =
-    let at : ts ≡ rest = cc in
-    rw at h
+among_found-from w t more ts alike ([], found, rest, cut, free, same, h) = grind (arith, common_steps)
 among_found-from w t more ts alike (s ∷ left_out, found, rest, cut, free, same, h) =
     let here : t ≡ s = cc in
     let at : ts ≡ left_out ++ found ∷ rest = cc in
@@ -46,14 +40,9 @@ pub among_found : (w t : List ℕ) (more ts : List (List ℕ)) → are_alike w t
 among_found w t more ts alike = (λ h. ([], t, ts, refl, refl, alike, h), among_found-from w t more ts alike)
 
 among_left-from : (w t : List ℕ) (more ts : List (List ℕ)) → are_alike w t ≡ false → StandAmong (w ∷ more) (t ∷ ts) → StandAmong (w ∷ more) ts × (is_single t ≡ false)
-among_left-from w t more ts other ([], found, rest, cut, free, same, h) =
-    let here : t ≡ found = cc in
-    absurd (both_ways (are_alike w t) other (ap (are_alike w) here ∙ same))
+among_left-from w t more ts other ([], found, rest, cut, free, same, h) = grind (arith, common_steps, both_ways (are_alike w t) other)
 among_left-from w t more ts other (s ∷ left_out, found, rest, cut, free, same, h) =
-    let here : t ≡ s = cc in
-    let at : ts ≡ left_out ++ found ∷ rest = cc in
-    let k = and_parts (not (is_single s)) (have_no_single left_out) free in
-    ((left_out, found, rest, at, k.1, same, h), ap is_single here ∙ not-true (is_single s) k.0)
+    grind (arith, common_steps, and_parts (not (is_single s)) (have_no_single left_out) free, not-true (is_single s))
 
 -- any other subtag is left out
 pub among_left : (w t : List ℕ) (more ts : List (List ℕ)) → are_alike w t ≡ false → is_single t ≡ false → StandAmong (w ∷ more) ts ↔ StandAmong (w ∷ more) (t ∷ ts)
@@ -74,14 +63,10 @@ among_none w more (s ∷ left_out, found, rest, cut, free, same, h) = absurd cc
 
 module _ (w t : List ℕ) (left ts all more : List (List ℕ)) (cut : left ≡ t ∷ ts) (same : StandAmong (w ∷ more) left ↔ StandAmong (w ∷ more) all) where
   pub walk_found : are_alike w t ≡ true → StandAmong more ts ↔ StandAmong (w ∷ more) all
-  walk_found alike =
-      let step = among_found w t more ts alike in
-      (λ h. same.0 (subst (StandAmong (w ∷ more)) (sym cut) (step.0 h)), λ h. step.1 (subst (StandAmong (w ∷ more)) cut (same.1 h)))
+  walk_found alike = grind (arith, common_steps, among_found w t more ts alike)
 
   pub walk_left : are_alike w t ≡ false → is_single t ≡ false → StandAmong (w ∷ more) ts ↔ StandAmong (w ∷ more) all
-  walk_left other many =
-      let step = among_left w t more ts other many in
-      (λ h. same.0 (subst (StandAmong (w ∷ more)) (sym cut) (step.0 h)), λ h. step.1 (subst (StandAmong (w ∷ more)) cut (same.1 h)))
+  walk_left other many = grind (arith, common_steps, among_left w t more ts other many)
 
   pub walk_blocked : are_alike w t ≡ false → is_single t ≡ true → StandAmong (w ∷ more) all → ⊥
   walk_blocked other single h = among_blocked w t more ts other single (subst (StandAmong (w ∷ more)) cut (same.1 h))
@@ -111,28 +96,16 @@ stand_among-decides (w ∷ more) (t ∷ ts) =
         (alike single : Bool) → are_alike w t ≡ alike → is_single t ≡ single →
         (IsTrue (stand_among more ts) ↔ StandAmong more ts) → (IsTrue (stand_among (w ∷ more) ts) ↔ StandAmong (w ∷ more) ts) →
         IsTrue (stand_among (w ∷ more) (t ∷ ts)) ↔ StandAmong (w ∷ more) (t ∷ ts)
-    by_subtag true single is one here later =
-        let step = among_found w t more ts is in
-        rw is (λ yes. step.0 (here.0 yes), λ stands. here.1 (step.1 stands))
+    by_subtag true single is one here later = grind (arith, common_steps, among_found w t more ts is)
     by_subtag false true is one here later = rw (is, one) (λ no. absurd cc, λ stands. absurd (among_blocked w t more ts is one stands))
-    by_subtag false false is one here later =
-        let step = among_left w t more ts is one in
-        rw (is, one) (λ yes. step.0 (later.0 yes), λ stands. later.1 (step.1 stands))
+    by_subtag false false is one here later = grind (arith, common_steps, among_left w t more ts is one)
 
 match_subtags-decides : (range tag : List (List ℕ)) → IsTrue (match_subtags range tag) ↔ MatchSubtags range tag
-match_subtags-decides [] tag = (λ no. absurd cc, λ no. absurd no)
-match_subtags-decides (first ∷ others) [] = (λ no. absurd cc, λ no. absurd no)
-match_subtags-decides (first ∷ others) (subtag ∷ subtags) =
-    let rest = stand_among-decides (without_stars others) subtags in (
-      λ yes. let k = and_parts (matches_subtag first subtag) (stand_among (without_stars others) subtags) yes in (k.0, rest.0 k.1),
-      λ both. rw (both.0, rest.1 both.1) refl,
-    )
+match_subtags-decides range tag = grind (arith, common_steps, stand_among-decides, and_parts)
 
 pub test_extended-decides : (range tag : List ℕ) → IsTrue (test_extended range tag) ↔ MatchesExtended range tag
 test_extended-decides range tag = match_subtags-decides (subtags range) (subtags tag)
 
 -- two tests of one statement are equal
 pub same_test : (a b : Bool) (P : Type 0) → IsTrue a ↔ P → IsTrue b ↔ P → a ≡ b
-same_test true b P first second = sym (second.1 (first.0 refl))
-same_test false true P first second = first.1 (second.0 refl)
-same_test false false P first second = refl
+same_test a b P first second = grind (arith, common_steps)

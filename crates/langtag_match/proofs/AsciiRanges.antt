@@ -1,5 +1,5 @@
 -- A language range is ASCII, so bytes that are not UTF-8 are not one.
-use Rattle.std.proofs.Common.{◌≡◌, ℕ, ◌<◌, true, List, [], ◌∷◌, ◌||◌, inl, inr, sym, subst, arith}
+use Rattle.std.proofs.Common.{◌≡◌, ℕ, ◌<◌, true, List, [], ◌∷◌, ◌||◌, sym, subst, arith}
 use Rattle.std.specs.List.{AllByRecursion}
 use Rattle.std.specs.Str.{IsAscii, IsUtf8}
 use Rattle.std.proofs.lemmas.Bool.{and_parts, or_cases}
@@ -7,7 +7,8 @@ use Rattle.std.proofs.lemmas.Bool.Decides.{nat_tests}
 use Rattle.std.proofs.lemmas.Slice.Eq.{bytes_eq-Decides}
 use Rattle.std.proofs.lemmas.Str.{IsUtf8-from_ascii}
 use Rattle.std.proofs.lemmas.Str.Ascii.{IsAscii-nil, IsAscii-cons}
-use Rattle.langtag_scan.specs.Class.{has_length, is_letter, are_letters, is_alphanumeric, are_alphanumeric, is_private_subtag}
+use Rattle.std.proofs.lemmas.Grind.{common_steps}
+use Rattle.langtag_scan.specs.Class.{is_letter, is_private_subtag}
 use Rattle.langtag_scan.specs.Subtags.{join, subtags}
 use Rattle.langtag_scan.proofs.Ascii.{IsAscii-each, alphanumeric_below, IsAscii-join}
 use Rattle.langtag_scan.proofs.SubtagLists.{join-subtags}
@@ -24,27 +25,18 @@ IsAscii-star : (s : List ℕ) → is_star s ≡ true → IsAscii s
 IsAscii-star s star = subst IsAscii (sym ((bytes_eq-Decides s (42 ∷ [])).0 star)) (IsAscii-cons 42 [] (omega arith) IsAscii-nil)
 
 IsAscii-first : (s : List ℕ) → (is_star s || is_first_subtag s) ≡ true → IsAscii s
-IsAscii-first s is = elim (or_cases (is_star s) (is_first_subtag s) is) [
-  | inl star ↦ IsAscii-star s star
-  | inr first ↦ IsAscii-each is_letter letter_below s (and_parts (has_length 1 8 s) (are_letters s) first).1
-]
+IsAscii-first s is = grind (arith, common_steps, or_cases, IsAscii-star, IsAscii-each, letter_below, and_parts)
 
 IsAscii-subtag : (s : List ℕ) → is_range_subtag s ≡ true → IsAscii s
 unfolding is_private_subtag
-IsAscii-subtag s is = elim (or_cases (is_star s) (is_private_subtag s) is) [
-  | inl star ↦ IsAscii-star s star
-  | inr plain ↦ IsAscii-each is_alphanumeric alphanumeric_below s (and_parts (has_length 1 8 s) (are_alphanumeric s) plain).1
-]
+IsAscii-subtag s is = grind (arith, common_steps, or_cases, IsAscii-star, IsAscii-each, alphanumeric_below, and_parts)
 
 IsAscii-subtags : (ss : List (List ℕ)) → are_range_subtags ss ≡ true → AllByRecursion IsAscii ss
 IsAscii-subtags [] each = tt
 IsAscii-subtags (s ∷ ss) each = let k = and_parts (is_range_subtag s) (are_range_subtags ss) each in (IsAscii-subtag s k.0, IsAscii-subtags ss k.1)
 
 IsAscii-range : (ss : List (List ℕ)) → are_extended_range ss ≡ true → IsAscii (join ss)
-IsAscii-range [] is = absurd cc
-IsAscii-range (s ∷ ss) is =
-    let k = and_parts (is_star s || is_first_subtag s) (are_range_subtags ss) is in
-    IsAscii-join (s ∷ ss) (IsAscii-first s k.0, IsAscii-subtags ss k.1)
+IsAscii-range ss is = grind (arith, common_steps, and_parts, IsAscii-join, IsAscii-first, IsAscii-subtags)
 
 pub IsAscii-language_range : (text : List ℕ) → is_language_range text ≡ true → IsAscii text
 IsAscii-language_range text is = subst IsAscii (join-subtags text) (IsAscii-range (subtags text) is)

@@ -1,13 +1,14 @@
 -- A range without its "*": what stays, and what becomes of a range that has none.
-use Rattle.std.proofs.Common.{◌≡◌, ℕ, ◌<◌, ◌≤◌, Bool, true, false, not, eqb, cond, ◌||◌, List, [], ◌∷◌, ◌++◌, length, filter, inl, inr, refl, sym, subst, ap, ◌∙◌, arith}
+use Rattle.std.proofs.Common.{◌≡◌, ℕ, ◌<◌, ◌≤◌, Bool, true, false, not, eqb, ◌||◌, List, [], ◌∷◌, ◌++◌, length, filter, inl, inr, refl, ◌∙◌, arith}
 use Rattle.std.specs.List.{AllByRecursion}
 use Rattle.std.proofs.lemmas.Bool.{and_parts, or_cases}
 use Rattle.std.proofs.lemmas.Bool.Decides.{nat_tests}
 use Rattle.std.proofs.lemmas.List.Elements.{All-from_recursion}
 use Rattle.std.proofs.lemmas.Slice.Eq.{bytes_eq-Decides}
-use Rattle.langtag_scan.specs.Case.{Alike, fold_byte, fold_text}
+use Rattle.std.proofs.lemmas.Grind.{common_steps}
+use Rattle.langtag_scan.specs.Case.{Alike, fold_text}
 use Rattle.langtag_scan.specs.Class.{has_length, is_alphanumeric, is_letter, is_digit, are_alphanumeric, is_private_subtag}
-use Rattle.langtag_scan.specs.Subtags.{IsHyphenFree, is_hyphen, join, subtags}
+use Rattle.langtag_scan.specs.Subtags.{IsHyphenFree, join, subtags}
 use Rattle.langtag_scan.proofs.Joins.{hyphenated, join-hyphenated, length-join}
 use Rattle.langtag_scan.proofs.SubtagFacts.{no_hyphen_each, of_private_subtag}
 use Rattle.langtag_scan.proofs.SubtagLists.{join-subtags, segments-join, subtags-segments}
@@ -22,39 +23,21 @@ use Rattle.langtag_match.specs.Wanted.{hyphened}
 
 -- ---- the case of letters
 
-wildcard-fold : (text : List ℕ) → begins_with_wildcard (fold_text text) ≡ begins_with_wildcard text
-wildcard-fold [] = refl
-wildcard-fold (a ∷ []) = refl
-wildcard-fold (a ∷ b ∷ text) = rw (mark-fold 45 (omega arith) a, mark-fold 42 (omega arith) b) refl
-
 basic_form-fold : (text : List ℕ) → basic_form (fold_text text) ≡ fold_text (basic_form text)
 basic_form-fold [] = refl
 basic_form-fold (a ∷ []) = refl
-basic_form-fold (a ∷ b ∷ text) =
-    ap (λ t. cond t (basic_form (fold_text text)) (fold_byte a ∷ basic_form (fold_text (b ∷ text)))) (wildcard-fold (a ∷ b ∷ text))
-    ∙ by_test (begins_with_wildcard (a ∷ b ∷ text)) (basic_form-fold text) (basic_form-fold (b ∷ text))
-  where
-    by_test :
-        (test : Bool) → basic_form (fold_text text) ≡ fold_text (basic_form text) → basic_form (fold_text (b ∷ text)) ≡ fold_text (basic_form (b ∷ text)) →
-        cond test (basic_form (fold_text text)) (fold_byte a ∷ basic_form (fold_text (b ∷ text))) ≡ fold_text (cond test (basic_form text) (a ∷ basic_form (b ∷ text)))
-    by_test true one two = one
-    by_test false one two = ap (λ t. fold_byte a ∷ t) two
+basic_form-fold (a ∷ b ∷ text) = grind (arith, common_steps, basic_form-fold text, basic_form-fold (b ∷ text), mark-fold)
 
 pub basic_text-alike : (a b : List ℕ) → Alike a b → Alike (basic_text a) (basic_text b)
 unfolding basic_text
-basic_text-alike a b alike =
-    sym (basic_form-fold (hyphened a)) ∙ ap basic_form (sym (hyphened-fold a) ∙ ap hyphened alike ∙ hyphened-fold b) ∙ basic_form-fold (hyphened b)
+basic_text-alike a b alike = grind (arith, common_steps, basic_form-fold (hyphened a), hyphened-fold a, hyphened-fold b, basic_form-fold (hyphened b))
 
 -- ---- subtags without "*"
 
 -- a text with no hyphen before another stays
 basic_form-free : (s t : List ℕ) → AllByRecursion (λ b. eqb b 45 ≡ false) s → basic_form (s ++ t) ≡ s ++ basic_form t
 basic_form-free [] t free = refl
-basic_form-free (b ∷ s) t free = basic_form-byte b (s ++ t) (no_wildcard (s ++ t)) ∙ ap (λ rest. b ∷ rest) (basic_form-free s t free.1)
-  where
-    no_wildcard : (rest : List ℕ) → begins_with_wildcard (b ∷ rest) ≡ false
-    no_wildcard [] = refl
-    no_wildcard (c ∷ rest) = rw free.0 refl
+basic_form-free (b ∷ s) t free = grind (arith, common_steps, basic_form-byte b (s ++ t), basic_form-free s t free.1)
 
 abbrev pub is_plain : List ℕ → Bool
 is_plain subtag = not (is_star subtag)
@@ -89,24 +72,16 @@ basic_form-hyphenated (s ∷ ss) each =
     by_star u is rest = rw is rest
 
     by_other : basic_form (hyphenated ss) ≡ hyphenated (filter is_plain ss) → is_private_subtag s ≡ true → basic_form (hyphenated (s ∷ ss)) ≡ hyphenated (filter is_plain (s ∷ ss))
-    by_other rest other =
-        let apart = starless s (hyphenated ss) other in
-        basic_form-byte 45 (s ++ hyphenated ss) apart.1
-        ∙ ap (λ t. 45 ∷ t) (basic_form-free s (hyphenated ss) (subtag_free s other) ∙ ap (λ t. s ++ t) rest)
-        ∙ rw apart.0 refl
+    by_other rest other = grind (arith, common_steps, starless, hyphenated, basic_form-byte, basic_form-free, subtag_free)
 
 -- a subtag of a range is not empty, and has no hyphen
 range_free : (s : List ℕ) → is_range_subtag s ≡ true → AllByRecursion (λ b. eqb b 45 ≡ false) s × (0 < length s)
-range_free s is = elim (or_cases (is_star s) (is_private_subtag s) is) [
-  | inl star ↦ subst (λ t. AllByRecursion (λ b. eqb b 45 ≡ false) t × (0 < length t)) (sym ((bytes_eq-Decides s (42 ∷ [])).0 star)) ((refl, tt), omega arith)
-  | inr other ↦ (subtag_free s other, (of_private_subtag s other).some)
-]
+range_free s is = grind (arith, common_steps, or_cases (is_star s) (is_private_subtag s) is, bytes_eq-Decides s (42 ∷ []), subtag_free s, of_private_subtag s)
 
 each_free : (ss : List (List ℕ)) → are_range_subtags ss ≡ true → AllByRecursion IsHyphenFree ss
 each_free [] each = tt
 each_free (s ∷ ss) each =
-    let k = and_parts (is_range_subtag s) (are_range_subtags ss) each in
-    (All-from_recursion (λ b. is_hyphen b ≡ false) s (range_free s k.0).0, each_free ss k.1)
+    grind (arith, common_steps, and_parts (is_range_subtag s) (are_range_subtags ss) each, All-from_recursion, range_free s, each_free ss)
 
 module _ (first : List ℕ) (others : List (List ℕ)) (is : are_extended_range (first ∷ others) ≡ true) where
   others_in_range : are_range_subtags others ≡ true
@@ -117,11 +92,7 @@ module _ (first : List ℕ) (others : List (List ℕ)) (is : are_extended_range 
 
   -- the first subtag stays, and of the others those that are not "*"
   basic_form-join : basic_form (join (first ∷ others)) ≡ join (first ∷ filter is_plain others)
-  basic_form-join =
-      ap basic_form (join-hyphenated first others)
-      ∙ basic_form-free first (hyphenated others) (range_free first first_range).0
-      ∙ ap (λ t. first ++ t) (basic_form-hyphenated others others_in_range)
-      ∙ sym (join-hyphenated first (filter is_plain others))
+  basic_form-join = grind (arith, common_steps, join-hyphenated, basic_form-free, hyphenated, range_free, first_range, basic_form-hyphenated, others_in_range)
 
   -- the subtags of a range are found again in their join
   subtags-range : subtags (join (first ∷ others)) ≡ first ∷ others
@@ -131,25 +102,11 @@ module _ (first : List ℕ) (others : List (List ℕ)) (is : are_extended_range 
 
 filter_range : (ss : List (List ℕ)) → are_range_subtags ss ≡ true → are_range_subtags (filter is_plain ss) ≡ true
 filter_range [] each = refl
-filter_range (s ∷ ss) each =
-    let k = and_parts (is_range_subtag s) (are_range_subtags ss) each in by_test (is_plain s) (filter_range ss k.1) k.0
-  where
-    by_test : (test : Bool) → are_range_subtags (filter is_plain ss) ≡ true → is_range_subtag s ≡ true → are_range_subtags (cond test (s ∷ filter is_plain ss) (filter is_plain ss)) ≡ true
-    by_test true rest here = rw (here, rest) refl
-    by_test false rest here = rest
+filter_range (s ∷ ss) each = grind (arith, common_steps, and_parts (is_range_subtag s) (are_range_subtags ss) each, filter_range ss)
 
 filter_twice : (ss : List (List ℕ)) → filter is_plain (filter is_plain ss) ≡ filter is_plain ss
 filter_twice [] = refl
-filter_twice (s ∷ ss) = by_test (is_plain s) refl (filter_twice ss)
-  where
-    by_test : (test : Bool) → is_plain s ≡ test → filter is_plain (filter is_plain ss) ≡ filter is_plain ss → filter is_plain (cond test (s ∷ filter is_plain ss) (filter is_plain ss)) ≡ cond test (s ∷ filter is_plain ss) (filter is_plain ss)
-    by_test true is rest = rw (is, rest) refl
-    by_test false is rest = rest
-
--- the first of some subtags, and the others that are not "*"
-abbrev pub plain_others : List (List ℕ) → List (List ℕ)
-plain_others [] = []
-plain_others (first ∷ others) = first ∷ filter is_plain others
+filter_twice (s ∷ ss) = grind (arith, common_steps, filter_twice ss)
 
 -- the basic form of a range is one with these subtags, and its own basic form
 pub record IsBasicOf (text basic : List ℕ) : Type 0 where
@@ -161,17 +118,8 @@ pub basic_of : (text : List ℕ) → is_language_range text ≡ true → IsBasic
 basic_of text is = by_subtags (subtags text) refl is
   where
     by_subtags : (ss : List (List ℕ)) → subtags text ≡ ss → are_extended_range ss ≡ true → IsBasicOf text (basic_form text)
-    by_subtags [] are range = absurd cc
-    by_subtags (first ∷ others) are range =
-        let first_is = (and_parts (is_star first || is_first_subtag first) (are_range_subtags others) range).0 in
-        let kept : are_extended_range (first ∷ filter is_plain others) ≡ true = rw (first_is, filter_range others (others_in_range first others range)) refl in
-        let joined = ap basic_form (sym (join-subtags text) ∙ ap join are) ∙ basic_form-join first others range in
-        let again = subtags-range first (filter is_plain others) kept in
-        record {
-          range = ap (λ t. are_extended_range (subtags t)) joined ∙ ap are_extended_range again ∙ kept;
-          subtags = λ f o same. let found : first ∷ others ≡ f ∷ o = sym are ∙ same in ap subtags joined ∙ again ∙ ap plain_others found;
-          settled = ap basic_form joined ∙ basic_form-join first (filter is_plain others) kept ∙ ap (λ o. join (first ∷ o)) (filter_twice others) ∙ sym joined;
-        }
+    by_subtags ss are range =
+        grind (arith, common_steps, and_parts, filter_range, others_in_range, join-subtags text, basic_form-join, subtags-range, filter_twice)
 
 -- ---- a range without "*" is its own basic form
 
@@ -187,20 +135,11 @@ basic_form-basic text is = elim (or_cases (is_star text) (are_basic_range (subta
 ]
   where
     by_subtags : (ss : List (List ℕ)) → subtags text ≡ ss → are_basic_range ss ≡ true → basic_form text ≡ text
-    by_subtags [] are range = absurd cc
-    by_subtags (first ∷ others) are range =
-        let k = and_parts (is_first_subtag first) (are_basic_subtags others) range in
-        let whole = sym (join-subtags text) ∙ ap join are in
-        let extended = sym (ap are_extended_range are) ∙ is_language_range-from_basic text is in
-        ap basic_form whole ∙ basic_form-join first others extended ∙ ap (λ o. join (first ∷ o)) (plain_subtags others k.1) ∙ sym whole
+    by_subtags ss are range = grind (arith, common_steps, and_parts, join-subtags text, is_language_range-from_basic text is, basic_form-join, plain_subtags)
 
 -- ---- how long it is
 
 pub length-basic : (text : List ℕ) → length (basic_form text) ≤ length text
 length-basic [] = omega arith
 length-basic (a ∷ []) = omega arith
-length-basic (a ∷ b ∷ text) = by_test (begins_with_wildcard (a ∷ b ∷ text)) (length-basic text) (length-basic (b ∷ text))
-  where
-    by_test : (test : Bool) → length (basic_form text) ≤ length text → length (basic_form (b ∷ text)) ≤ length (b ∷ text) → length (cond test (basic_form text) (a ∷ basic_form (b ∷ text))) ≤ length (a ∷ b ∷ text)
-    by_test true one two = omega (arith, one)
-    by_test false one two = omega (arith, two)
+length-basic (a ∷ b ∷ text) = grind (arith, common_steps, length-basic text, length-basic (b ∷ text))

@@ -1,7 +1,8 @@
 -- A text with each byte changed is cut and tested as the text is, where the one test says of a changed byte what the other says of the byte.
-use Rattle.std.proofs.Common.{◌≡◌, ℕ, ◌+◌, Bool, true, false, cond, List, [], ◌∷◌, ◌++◌, map, take, drop, reverse, refl, sym, ap, ◌∙◌}
-use Rattle.std.specs.List.{list_any, slice_split, onto_first, before_first, after_first, position_or_len}
+use Rattle.std.proofs.Common.{◌≡◌, ℕ, ◌+◌, Bool, List, [], ◌∷◌, ◌++◌, map, take, drop, reverse, refl, sym, ap, ◌∙◌, arith}
+use Rattle.std.specs.List.{list_any, slice_split, before_first, after_first, position_or_len}
 use Rattle.std.proofs.lemmas.List.{take-map, drop-map, map-append, reverse-append}
+use Rattle.std.proofs.lemmas.Grind.{common_steps}
 
 module _ (change : ℕ → ℕ) (p q : ℕ → Bool) (same : (b : ℕ) → p (change b) ≡ q b) where
   pub list_any-changed : (text : List ℕ) → list_any p (map change text) ≡ list_any q text
@@ -20,14 +21,7 @@ module _ (change : ℕ → ℕ) (p q : ℕ → Bool) (same : (b : ℕ) → p (ch
 
   pub slice_split-changed : (text : List ℕ) → slice_split p (map change text) ≡ map (map change) (slice_split q text)
   slice_split-changed [] = refl
-  slice_split-changed (b ∷ text) = rw (same b, slice_split-changed text) (one_more (q b) (slice_split q text))
-    where
-      one_more :
-          (cut : Bool) (parts : List (List ℕ)) →
-          cond cut ([] ∷ map (map change) parts) (onto_first (change b) (map (map change) parts)) ≡ map (map change) (cond cut ([] ∷ parts) (onto_first b parts))
-      one_more true parts = refl
-      one_more false [] = refl
-      one_more false (part ∷ parts) = refl
+  slice_split-changed (b ∷ text) = grind (arith, common_steps, slice_split-changed text)
 
 pub reverse-changed : (change : ℕ → ℕ) (text : List ℕ) → reverse (map change text) ≡ map change (reverse text)
 reverse-changed change [] = refl

@@ -6,6 +6,7 @@ use Rattle.std.proofs.lemmas.List.{take_more, map-append, append-nil}
 use Rattle.std.proofs.lemmas.List.Elements.{filter_map-append}
 use Rattle.std.proofs.lemmas.List.Folds.{list_all-append}
 use Rattle.std.proofs.lemmas.List.FromFn.{length-enumerate_from, get_or-enumerate_from}
+use Rattle.std.proofs.lemmas.Grind.{common_steps}
 use Rattle.langtag_match.specs.AcceptLanguage.{is_ows, is_good, are_good, element, elements, reading}
 use Rattle.langtag_match.specs.declared.weighted_range.WeightedRange.{WeightedRange}
 
@@ -13,16 +14,12 @@ pub turn_at :
     (all : List (List ℕ)) (n index : ℕ) (item : List ℕ) →
     (n < length (enumerate_from 0 all)) × ((index, item) ≡ get_or (enumerate_from 0 all) n (index, item)) →
     (n < length all) × (index ≡ n) × (item ≡ get_or all n item)
-turn_at all n index item (within, at) =
-    let below : n < length all = omega (arith, within, length-enumerate_from 0 all) in
-    let here = at ∙ get_or-enumerate_from 0 all n (index, item) below in
-    (below, omega (arith, ap (λ p. p.0) here), ap (λ p. p.1) here)
+turn_at all n index item h = grind (arith, common_steps, length-enumerate_from 0 all, get_or-enumerate_from 0 all n (index, item))
 
 -- ---- what one more item adds
 
 elements-push : (items : List (List ℕ)) (read : List WeightedRange) (item : List ℕ) (weighted : WeightedRange) → map reading read ≡ elements items → element item ≡ Some (reading weighted) → map reading (read ++ weighted ∷ []) ≡ elements (items ++ item ∷ [])
-elements-push items read item weighted so_far is =
-    map-append reading read (weighted ∷ []) ∙ ap (λ es. es ++ reading weighted ∷ []) so_far ∙ sym (filter_map-append element items (item ∷ []) ∙ rw is refl)
+elements-push items read item weighted so_far is = grind (arith, common_steps, map-append, filter_map-append)
 
 elements-pass : (items : List (List ℕ)) (item : List ℕ) → element item ≡ None → elements items ≡ elements (items ++ item ∷ [])
 elements-pass items item none = sym (filter_map-append element items (item ∷ []) ∙ rw none (append-nil (elements items)))
@@ -36,8 +33,7 @@ pub record IsRead (items : List (List ℕ)) (read : List WeightedRange) : Type 0
 
 module _ {X : Type 0} (all : List (List ℕ)) (yielded : List X) (x : X) (item : List ℕ) (below : length yielded < length all) (at : item ≡ get_or all (length yielded) item) (read : List WeightedRange) where
   take_next : take (length (yielded ++ x ∷ [])) all ≡ take (length yielded) all ++ item ∷ []
-  take_next =
-      ap (λ n. take n all) (length-append yielded (x ∷ [])) ∙ take_more all (length yielded) item below ∙ ap (λ i. take (length yielded) all ++ i ∷ []) (sym at)
+  take_next = grind (arith, common_steps, length-append yielded (x ∷ []), take_more all (length yielded) item below)
 
   more_good : IsTrue (are_good (take (length yielded) all)) → is_good item ≡ true → IsTrue (are_good (take (length (yielded ++ x ∷ [])) all))
   more_good so_far good = ap are_good take_next ∙ list_all-append is_good (take (length yielded) all) (item ∷ []) ∙ rw (so_far, good) refl
@@ -47,17 +43,11 @@ module _ {X : Type 0} (all : List (List ℕ)) (yielded : List X) (x : X) (item :
   elements-more weighted so_far is = elements-push (take (length yielded) all) read item weighted so_far is ∙ ap elements (sym take_next)
 
   pub after_element : (weighted : WeightedRange) → IsRead (take (length yielded) all) read → element item ≡ Some (reading weighted) → IsRead (take (length (yielded ++ x ∷ [])) all) (read ++ weighted ∷ [])
-  after_element weighted so_far is = record {
-    good = more_good so_far.good (rw (is, or-true (is_ows item)) refl);
-    elements = elements-more weighted so_far.elements is;
-  }
+  after_element weighted so_far is = grind (arith, common_steps, more_good so_far.good, or-true (is_ows item), elements-more weighted so_far.elements is)
 
   -- or none
   pub elements-same : map reading read ≡ elements (take (length yielded) all) → element item ≡ None → map reading read ≡ elements (take (length (yielded ++ x ∷ [])) all)
   elements-same so_far none = so_far ∙ elements-pass (take (length yielded) all) item none ∙ ap elements (sym take_next)
 
   pub after_empty : IsRead (take (length yielded) all) read → element item ≡ None → is_ows item ≡ true → IsRead (take (length (yielded ++ x ∷ [])) all) read
-  after_empty so_far none empty = record {
-    good = more_good so_far.good (rw empty refl);
-    elements = elements-same so_far.elements none;
-  }
+  after_empty so_far none empty = grind (arith, common_steps, more_good so_far.good, elements-same so_far.elements none)

@@ -1,8 +1,9 @@
 -- Filtering of a list, a tag and a range at a time.
-use Rattle.std.proofs.Common.{◌≡◌, ℕ, ◌+◌, ◌<◌, ◌&&◌, Bool, true, not, List, [], ◌∷◌, ◌++◌, Some, length, take, drop, get_or, refl, sym, ap, ◌∙◌}
+use Rattle.std.proofs.Common.{◌≡◌, ℕ, ◌+◌, ◌<◌, ◌&&◌, Bool, true, not, List, [], ◌∷◌, ◌++◌, Some, length, take, drop, get_or, arith}
 use Rattle.std.specs.List.{list_any, slice_get}
 use Rattle.std.proofs.lemmas.List.{at_drop_more, take_more}
 use Rattle.std.proofs.lemmas.Option.{get_or_from_slice_get}
+use Rattle.std.proofs.lemmas.Grind.{common_steps}
 use Rattle.langtag.specs.declared.lang_tag.LangTag.{LangTag}
 use Rattle.langtag_match.specs.Filter.{finds, newly_found, found_after, found_from}
 use Rattle.langtag_match.specs.declared.language_range.LanguageRange.{LanguageRange}
@@ -17,18 +18,11 @@ module _ (matches : List ℕ → List ℕ → Bool) (before : List LanguageRange
       is_new tag ≡ true → slice_get tags index ≡ Some next →
       newly_found matches before range (drop index tags) ≡ next ∷ newly_found matches before range (drop (index + 1) tags)
   newly_found-here tags index tag next below at new is =
-      at_drop_more (newly_found matches before range) tags index tag below
-      ∙ ap (λ t. newly_found matches before range (t ∷ drop (index + 1) tags)) (sym at)
-      ∙ kept
-      ∙ ap (λ t. t ∷ newly_found matches before range (drop (index + 1) tags)) (at ∙ get_or_from_slice_get tags index next tag is)
-    where
-      kept : newly_found matches before range (tag ∷ drop (index + 1) tags) ≡ tag ∷ newly_found matches before range (drop (index + 1) tags)
-      kept = rw new refl
+      grind (arith, common_steps, at_drop_more (newly_found matches before range) tags index tag below, get_or_from_slice_get tags index next tag is)
 
 module _ (matches : List ℕ → List ℕ → Bool) (tags : List LangTag) where
   pub found_from-start : (before ranges : List LanguageRange) → found_from matches before ranges tags tags ≡ found_after matches before ranges tags
-  found_from-start before [] = refl
-  found_from-start before (range ∷ ranges) = refl
+  found_from-start before ranges = grind (arith, common_steps)
 
   module _ (ranges : List LanguageRange) (index : ℕ) (range : LanguageRange) (below : index < length ranges) (at : range ≡ get_or ranges index range) where
     -- at the range of an index
@@ -36,9 +30,7 @@ module _ (matches : List ℕ → List ℕ → Bool) (tags : List LangTag) where
         (left : List LangTag) →
         found_from matches (take index ranges) (drop index ranges) left tags
         ≡ newly_found matches (take index ranges) range left ++ found_after matches (take index ranges ++ range ∷ []) (drop (index + 1) ranges) tags
-    found_from-at left =
-        at_drop_more (λ rs. found_from matches (take index ranges) rs left tags) ranges index range below
-        ∙ ap (λ r. found_from matches (take index ranges) (r ∷ drop (index + 1) ranges) left tags) (sym at)
+    found_from-at left = grind (arith, common_steps, at_drop_more)
 
     -- which finds a tag
     pub found_from-next :
@@ -46,10 +38,7 @@ module _ (matches : List ℕ → List ℕ → Bool) (tags : List LangTag) where
         newly_found matches (take index ranges) range left ≡ next ∷ newly_found matches (take index ranges) range rest →
         found_from matches (take index ranges) (drop index ranges) left tags
         ≡ next ∷ found_from matches (take index ranges) (drop index ranges) rest tags
-    found_from-next left rest next found =
-        found_from-at left
-        ∙ ap (λ l. l ++ found_after matches (take index ranges ++ range ∷ []) (drop (index + 1) ranges) tags) found
-        ∙ ap (λ l. next ∷ l) (sym (found_from-at rest))
+    found_from-next left rest next found = grind (arith, common_steps)
 
     -- and finds no more
     pub found_from-on :
@@ -57,9 +46,4 @@ module _ (matches : List ℕ → List ℕ → Bool) (tags : List LangTag) where
         found_from matches (take index ranges) (drop index ranges) left tags
         ≡ found_from matches (take (index + 1) ranges) (drop (index + 1) ranges) tags tags
     found_from-on left none =
-        let more : take (index + 1) ranges ≡ take index ranges ++ range ∷ [] =
-        take_more ranges index range below ∙ ap (λ r. take index ranges ++ r ∷ []) (sym at) in
-        found_from-at left
-        ∙ ap (λ l. l ++ found_after matches (take index ranges ++ range ∷ []) (drop (index + 1) ranges) tags) none
-        ∙ ap (λ b. found_after matches b (drop (index + 1) ranges) tags) (sym more)
-        ∙ sym (found_from-start (take (index + 1) ranges) (drop (index + 1) ranges))
+        grind (arith, common_steps, take_more ranges index range below, found_from-start (take (index + 1) ranges) (drop (index + 1) ranges))

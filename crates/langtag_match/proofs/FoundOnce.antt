@@ -1,11 +1,12 @@
 -- The tags that a filter finds are those that some range matches, in another order.
-use Rattle.std.proofs.Common.{◌≡◌, ℕ, ◌≤◌, ◌&&◌, ◌||◌, Bool, true, false, not, List, [], ◌∷◌, ◌++◌, length, refl, sym, ap, ◌∙◌, subst, arith}
+use Rattle.std.proofs.Common.{◌≡◌, ℕ, ◌≤◌, ◌&&◌, ◌||◌, Bool, false, not, List, [], ◌∷◌, ◌++◌, length, refl, sym, ap, ◌∙◌, subst, arith}
 use Rattle.std.specs.List.{filter}
 use Rattle.std.specs.List.Sorted.{IsPermutation}
 use Rattle.std.proofs.Math.Bool.{and-true}
 use Rattle.std.proofs.lemmas.List.Folds.{list_any-append}
 use Rattle.std.proofs.lemmas.List.Sorted.{IsPermutation-refl, IsPermutation-trans, IsPermutation-append_right, IsPermutation-filter_both, length_permutation}
 use Rattle.std.proofs.lemmas.List.Sums.{length-filter, count_by-le-length}
+use Rattle.std.proofs.lemmas.Grind.{common_steps}
 use Rattle.langtag.specs.declared.lang_tag.LangTag.{LangTag}
 use Rattle.langtag_match.specs.Filter.{finds, is_found, newly_found, found_after, filtered, AreFoundOnce}
 use Rattle.langtag_match.specs.declared.language_range.LanguageRange.{LanguageRange}
@@ -17,31 +18,14 @@ filter-none (tag ∷ tags) = filter-none tags
 
 filter-filter : (p q : LangTag → Bool) (tags : List LangTag) → filter p (filter q tags) ≡ filter (λ tag. q tag && p tag) tags
 filter-filter p q [] = refl
-filter-filter p q (tag ∷ tags) = by_tests (q tag) (p tag) refl refl (filter-filter p q tags)
-  where
-    by_tests :
-        (first second : Bool) → q tag ≡ first → p tag ≡ second → filter p (filter q tags) ≡ filter (λ tag. q tag && p tag) tags →
-        filter p (filter q (tag ∷ tags)) ≡ filter (λ tag. q tag && p tag) (tag ∷ tags)
-    by_tests true true is also others = rw (is, also) (ap (λ ts. tag ∷ ts) others)
-    by_tests true false is also others = rw (is, also) others
-    by_tests false second is also others = rw is others
+filter-filter p q (tag ∷ tags) = grind (arith, common_steps, filter-filter p q tags)
 
 -- f says that a range matches a tag, l that a later one does, and b that one before does
 first_found : (f l b : Bool) → (((f || l) && not b) && (f && not b)) ≡ (f && not b)
-first_found true l true = refl
-first_found true l false = refl
-first_found false true true = refl
-first_found false true false = refl
-first_found false false b = refl
+first_found f l b = grind (arith, common_steps)
 
 later_found : (f l b : Bool) → (((f || l) && not b) && not (f && not b)) ≡ (l && not (b || (f || false)))
-later_found true true true = refl
-later_found true true false = refl
-later_found true false true = refl
-later_found true false false = refl
-later_found false true true = refl
-later_found false true false = refl
-later_found false false b = refl
+later_found f l b = grind (arith, common_steps)
 
 module _ (matches : List ℕ → List ℕ → Bool) where
   -- some of the ranges matches a tag, and none before them does
@@ -68,9 +52,7 @@ module _ (matches : List ℕ → List ℕ → Bool) where
       (IsPermutation-append_right (newly_found matches before range tags) _ _ (found_after-permutation (before ++ range ∷ []) ranges tags))))
 
   pub found_once : (ranges : List LanguageRange) (tags : List LangTag) → AreFoundOnce matches ranges tags (filtered matches ranges tags)
-  found_once ranges tags =
-      let same = filter-same (is_new [] ranges) (is_found matches ranges) (λ tag. and-true (is_found matches ranges tag)) tags in
-      subst (λ found. IsPermutation found (filtered matches ranges tags)) same (found_after-permutation [] ranges tags)
+  found_once ranges tags = grind (arith, common_steps, filter-same (is_new [] ranges) (is_found matches ranges), and-true, found_after-permutation)
 
   -- so no more are found than there are
   pub few_found : (ranges : List LanguageRange) (tags : List LangTag) → length (filtered matches ranges tags) ≤ length tags

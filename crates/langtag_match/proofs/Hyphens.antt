@@ -1,14 +1,15 @@
 -- What stands before each hyphen of a text, by what stands before the last of them.
-use Rattle.std.proofs.Common.{◌≡◌, ℕ, suc, Bool, true, ◌||◌, ◌+◌, ◌-◌, ◌<◌, ◌≤◌, false, cond, List, [], ◌∷◌, ◌++◌, map, not, take, drop, length, length-drop, get_or, refl, sym, ap, ◌∙◌, subst, arith}
+use Rattle.std.proofs.Common.{◌≡◌, ℕ, suc, Bool, true, ◌+◌, ◌-◌, ◌<◌, ◌≤◌, false, cond, List, [], ◌∷◌, ◌++◌, map, take, drop, length, length-drop, get_or, refl, ap, ◌∙◌, subst, arith}
 use Rattle.std.proofs.lemmas.Bool.{and_parts}
 use Rattle.std.proofs.lemmas.List.Folds.{list_all-append}
 use Rattle.std.proofs.lemmas.List.{length-map, length-append, get_or-drop, at_drop_more, take-append-drop}
 use Rattle.std.proofs.lemmas.List.Sums.{length-filter, count_by-le-length}
 use Rattle.std.proofs.lemmas.List.Splits.{length-slice_split}
+use Rattle.std.proofs.lemmas.Grind.{common_steps}
 use Rattle.langtag.specs.Subtags.{is_hyphen, IsHyphenFree, NoHyphenWithin, segments}
 use Rattle.langtag_scan.proofs.SubtagLists.{slice_split-push}
-use Rattle.langtag_match.specs.Range.{is_star, is_first_subtag, is_range_subtag, are_range_subtags, are_extended_range, is_language_range}
-use Rattle.langtag_match.specs.Fallback.{before_hyphens, ends_in_single, fallbacks}
+use Rattle.langtag_match.specs.Range.{is_range_subtag, are_extended_range, is_language_range}
+use Rattle.langtag_match.specs.Fallback.{before_hyphens, fallbacks}
 
 -- a text without one
 before_hyphens-none : (text : List ℕ) → IsHyphenFree text → before_hyphens text ≡ []
@@ -26,42 +27,24 @@ before_hyphens-last : (front last : List ℕ) → IsHyphenFree last → before_h
 before_hyphens-last [] last free = rw (before_hyphens-none last free) refl
 before_hyphens-last (b ∷ front) last free = rw (before_hyphens-last front last free) refl
 
--- a range is not empty
-to_segments : (text : List ℕ) → is_language_range text ≡ true → are_extended_range (segments text) ≡ true
-to_segments [] is = absurd cc
-to_segments (b ∷ text) is = is
-
 from_segments : (text : List ℕ) → are_extended_range (segments text) ≡ true → is_language_range text ≡ true
-from_segments [] is = absurd cc
-from_segments (b ∷ text) is = is
+from_segments text is = grind (arith, common_steps)
 
 -- the subtags of a range but for the last one
 are_extended_range-front : (front : List (List ℕ)) (last : List ℕ) → 0 < length front → are_extended_range (front ++ last ∷ []) ≡ true → are_extended_range front ≡ true
-are_extended_range-front [] last some is = absurd (omega (arith, some))
-are_extended_range-front (first ∷ others) last some is =
-    let k = and_parts (is_star first || is_first_subtag first) (are_range_subtags (others ++ last ∷ [])) is in
-    let each = and_parts (are_range_subtags others) (are_range_subtags (last ∷ [])) (sym (list_all-append is_range_subtag others (last ∷ [])) ∙ k.1) in
-    rw (k.0, each.0) refl
+are_extended_range-front front last some is = grind (arith, common_steps, and_parts, list_all-append is_range_subtag)
 
 -- ---- where the last subtag of a text begins, as `segment_start` returns it
 
 module _ (text bytes : List ℕ) (start : ℕ) (same : bytes ≡ text) (within : start ≤ length text) (free : NoHyphenWithin bytes start (length text)) where
   last_free : IsHyphenFree (drop start text)
-  last_free =
-      let clear : NoHyphenWithin text start (length text) = subst (λ t. NoHyphenWithin t start (length text)) same free in
-      λ k d below. ap is_hyphen (get_or-drop start text k d) ∙ clear (start + k) d (omega arith) (omega (arith, length-drop start text))
+  last_free = grind (arith, common_steps, get_or-drop start text, length-drop start text)
 
   pub before_hyphens-whole : start ≡ 0 → before_hyphens text ≡ []
   before_hyphens-whole none = before_hyphens-none text (subst (λ n. IsHyphenFree (drop n text)) none last_free)
 
   last_cut : 0 < start → get_or bytes (start - 1) 0 ≡ 45 → text ≡ take (start - 1) text ++ 45 ∷ drop start text
-  last_cut some hyphen =
-      let one : start - 1 + 1 ≡ start = omega arith in
-      let there : get_or text (start - 1) 0 ≡ 45 = ap (λ t. get_or t (start - 1) 0) (sym same) ∙ hyphen in
-      let inside : start - 1 < length text = omega arith in
-      let rest : drop (start - 1) text ≡ 45 ∷ drop start text =
-      at_drop_more (λ ys. ys) text (start - 1) 0 inside ∙ ap (λ b. b ∷ drop (start - 1 + 1) text) there ∙ ap (λ n. 45 ∷ drop n text) one in
-      sym (take-append-drop (start - 1) text) ∙ ap (λ t. take (start - 1) text ++ t) rest
+  last_cut some hyphen = grind (arith, common_steps, at_drop_more, take-append-drop (start - 1) text)
 
   pub before_hyphens-cut : 0 < start → get_or bytes (start - 1) 0 ≡ 45 → before_hyphens text ≡ take (start - 1) text ∷ before_hyphens (take (start - 1) text)
   before_hyphens-cut some hyphen = ap before_hyphens (last_cut some hyphen) ∙ before_hyphens-last (take (start - 1) text) (drop start text) last_free
@@ -69,9 +52,7 @@ module _ (text bytes : List ℕ) (start : ℕ) (same : bytes ≡ text) (within :
   -- and it is a range where the whole is
   pub is_language_range-cut : 0 < start → get_or bytes (start - 1) 0 ≡ 45 → is_language_range text ≡ true → is_language_range (take (start - 1) text) ≡ true
   is_language_range-cut some hyphen is =
-      let front = take (start - 1) text in
-      let cut : segments text ≡ segments front ++ drop start text ∷ [] = ap segments (last_cut some hyphen) ∙ slice_split-push front (drop start text) last_free in
-      from_segments front (are_extended_range-front (segments front) (drop start text) (omega (arith, length-slice_split is_hyphen front)) (ap are_extended_range (sym cut) ∙ to_segments text is))
+      grind (arith, common_steps, last_cut, slice_split-push, last_free, from_segments, are_extended_range-front, length-slice_split)
 
 -- ---- no more than bytes
 
@@ -84,10 +65,7 @@ length-before_hyphens (b ∷ text) =
     omega (arith, both, length-map (before_hyphens text) (λ before. b ∷ before))
   where
     at_most_one : (hyphen : Bool) (before : List ℕ) → length (cond hyphen (before ∷ []) []) ≤ 1
-    at_most_one true before = omega arith
-    at_most_one false before = omega arith
+    at_most_one hyphen before = grind (arith, common_steps)
 
 pub few_fallbacks : (text : List ℕ) → length (fallbacks text) ≤ length text + 1
-few_fallbacks text =
-    let kept : List ℕ → Bool = λ t. not (ends_in_single t) in
-    omega (arith, length-filter kept (before_hyphens text), count_by-le-length kept (before_hyphens text), length-before_hyphens text)
+few_fallbacks text = grind (arith, common_steps, length-filter, count_by-le-length, length-before_hyphens text)

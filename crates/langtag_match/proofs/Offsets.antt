@@ -1,9 +1,10 @@
 -- The items of a header and their commas: how long they are, and where each stands.
-use Rattle.std.proofs.Common.{◌≡◌, ℕ, zero, suc, ◌+◌, ◌<◌, Bool, true, false, List, [], ◌∷◌, ◌++◌, Some, length, take, refl, sym, ap, ◌∙◌, subst, cond, arith}
+use Rattle.std.proofs.Common.{◌≡◌, ℕ, zero, suc, ◌+◌, ◌<◌, Bool, true, false, List, [], ◌∷◌, ◌++◌, Some, length, take, refl, ap, ◌∙◌, cond, arith}
 use Rattle.std.specs.List.{onto_first, slice_get, slice_split, sum_by, count_by}
 use Rattle.std.proofs.lemmas.List.{nil_from_length}
 use Rattle.std.proofs.lemmas.List.Splits.{slice_split-cons_yes, slice_split-cons_no, length-slice_split}
 use Rattle.std.proofs.lemmas.List.Sums.{sum_by-append}
+use Rattle.std.proofs.lemmas.Grind.{common_steps}
 use Rattle.langtag_match.specs.AcceptLanguage.{is_comma, items, StandsAt}
 
 abbrev pub width : List ℕ → ℕ
@@ -12,10 +13,6 @@ width item = length item + 1
 sum_by-cons : {X : Type 0} (f : X → ℕ) (x : X) (xs : List X) → sum_by f (x ∷ xs) ≡ f x + sum_by f xs
 sum_by-cons f x xs = omega (arith, sum_by-append f (x ∷ []) xs)
 
-sum_by-onto_first : (b : ℕ) (items : List (List ℕ)) → 0 < length items → sum_by width (onto_first b items) ≡ sum_by width items + 1
-sum_by-onto_first b [] some = absurd (omega (arith, some))
-sum_by-onto_first b (item ∷ items) some = omega (arith, sum_by-cons width (b ∷ item) items, sum_by-cons width item items)
-
 pub sum_by-slice_split : (cuts : ℕ → Bool) (text : List ℕ) → sum_by width (slice_split cuts text) ≡ length text + 1
 sum_by-slice_split cuts [] = refl
 sum_by-slice_split cuts (b ∷ text) = by_first (cuts b) refl (sum_by-slice_split cuts text)
@@ -23,10 +20,7 @@ sum_by-slice_split cuts (b ∷ text) = by_first (cuts b) refl (sum_by-slice_spli
     by_first :
         (cut : Bool) → cuts b ≡ cut → sum_by width (slice_split cuts text) ≡ length text + 1 →
         sum_by width (slice_split cuts (b ∷ text)) ≡ length (b ∷ text) + 1
-    by_first true cut others = rw (slice_split-cons_yes cuts b text cut) (omega (arith, others, sum_by-cons width [] (slice_split cuts text)))
-    by_first false kept others =
-        rw (slice_split-cons_no cuts b text kept)
-        (omega (arith, others, sum_by-onto_first b (slice_split cuts text) (omega (arith, length-slice_split cuts text))))
+    by_first cut kept others = grind (arith, common_steps, slice_split-cons_yes, sum_by-cons, slice_split-cons_no, length-slice_split)
 
 -- ---- where an item stands: after those before it and their commas
 
@@ -71,10 +65,6 @@ item_stands (b ∷ text) index item is = by_first (is_comma b) refl (item_stands
     by_first :
         (cut : Bool) → is_comma b ≡ cut → Stands text (items text) →
         StandsAt (b ∷ text) item index (sum_by width (take index (items (b ∷ text))))
-    by_first true cut others =
-        let first = slice_split-cons_yes is_comma b text cut in
-        subst (λ all. Stands (b ∷ text) all) (sym first) (stands_after_comma b text (items text) cut others) index item is
+    by_first true cut others = grind (arith, common_steps, slice_split-cons_yes is_comma b text cut, stands_after_comma b text (items text) cut others)
     by_first false kept others =
-        let first = slice_split-cons_no is_comma b text kept in
-        let some : 0 < length (items text) = omega (arith, length-slice_split is_comma text) in
-        subst (λ all. Stands (b ∷ text) all) (sym first) (stands_after_byte b text (items text) some kept others) index item is
+        grind (arith, common_steps, slice_split-cons_no is_comma b text kept, length-slice_split is_comma text, stands_after_byte b text (items text))

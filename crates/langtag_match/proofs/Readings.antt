@@ -1,5 +1,5 @@
 -- A header has one reading: its elements have one order by falling weight, which is the one that a sort makes.
-use Rattle.std.proofs.Common.{◌≡◌, ℕ, ◌+◌, ◌≤◌, Bool, true, false, not, ◌&&◌, eqb, nat_lt, suc, List, [], ◌∷◌, filter, map, get_or, ap, refl, sym, ◌∙◌, subst, arith}
+use Rattle.std.proofs.Common.{◌≡◌, ℕ, ◌+◌, ◌≤◌, Bool, false, not, ◌&&◌, eqb, nat_lt, suc, List, [], ◌∷◌, filter, map, get_or, ap, refl, sym, ◌∙◌, subst, arith}
 use Rattle.std.specs.List.{AllByRecursion}
 use Rattle.std.specs.List.Sorted.{ties, IsSorted, IsStable, IsPermutation}
 use Rattle.std.specs.Ordering.{is_lt, nat_cmp}
@@ -7,14 +7,14 @@ use Rattle.std.specs.declared.cmp.Ordering.{Ordering}
 use Rattle.std.proofs.lemmas.Bool.Decides.{nat_tests}
 use Rattle.std.proofs.lemmas.List.{nil_from_length}
 use Rattle.std.proofs.lemmas.List.Sorted.{length_permutation}
-use Rattle.langtag_match.specs.AcceptLanguage.{Element, FallsTo, HasOneReading, IsByWeight, acceptable, elements, items, reading, weight_in}
+use Rattle.std.proofs.lemmas.Grind.{common_steps}
+use Rattle.langtag_match.specs.AcceptLanguage.{Element, FallsTo, HasOneReading, IsByWeight, acceptable, elements, reading, weight_in}
 use Rattle.langtag_match.specs.Stable.{IsOrderedBy, with_key}
 use Rattle.langtag_match.proofs.Stable.{stable_once}
 use Rattle.langtag_match.specs.declared.weighted_range.WeightedRange.{WeightedRange}
 
 pub one_reading : (header : List ℕ) → HasOneReading header
-one_reading header first second (good, by) (also, order) =
-    stable_once weight_in FallsTo (λ j k above below. omega arith) (acceptable (elements (items header))) (map reading first) (map reading second) by order
+one_reading header first second h h4 = grind (arith, common_steps, stable_once weight_in FallsTo)
 
 -- ---- a stable sort makes a list that falls, with those of each weight in their order
 
@@ -48,13 +48,7 @@ IsFalling-from_sorted (w ∷ v ∷ vs) sorted =
 -- a test of the weights passes the same before and after reading
 filter-reading : (test : ℕ → Bool) (ws : List WeightedRange) → filter (λ element. test element.weight) (map reading ws) ≡ map reading (filter (λ w. test w.weight) ws)
 filter-reading test [] = refl
-filter-reading test (w ∷ ws) = by_first (test w.weight) refl (filter-reading test ws)
-  where
-    by_first :
-        (kept : Bool) → test w.weight ≡ kept → filter (λ element. test element.weight) (map reading ws) ≡ map reading (filter (λ w. test w.weight) ws) →
-        filter (λ element. test element.weight) (map reading (w ∷ ws)) ≡ map reading (filter (λ w. test w.weight) (w ∷ ws))
-    by_first true is others = rw is (ap (λ es. reading w ∷ es) others)
-    by_first false is others = rw is others
+filter-reading test (w ∷ ws) = grind (arith, common_steps, filter-reading test ws)
 
 pub filter-same : {X : Type 0} (p q : X → Bool) → ((x : X) → p x ≡ q x) → (xs : List X) → filter p xs ≡ filter q xs
 filter-same p q same [] = refl

@@ -2,13 +2,13 @@
 use Rattle.std.proofs.Common.{◌≡◌, ℕ, ◌+◌, ◌-◌, ◌<◌, ◌≤◌, true, false, IsTrue, List, [], ◌∷◌, length, take, drop, reverse, get_or, refl, ap, sym, ◌∙◌, arith}
 use Rattle.std.proofs.lemmas.List.{take_more, drop_more, drop_all, reverse-append, reverse-reverse}
 use Rattle.std.proofs.lemmas.List.Folds.{list_all-append}
+use Rattle.std.proofs.lemmas.Grind.{common_steps}
 use Rattle.langtag_match.specs.AcceptLanguage.{from_first, is_ows, is_space}
 
 module _ (text : List ℕ) (start : ℕ) (within : start < length text) where
   -- one more byte of it
   pub ows_more : is_space (get_or text start 0) ≡ true → IsTrue (is_ows (take start text)) → IsTrue (is_ows (take (start + 1) text))
-  ows_more space before =
-      ap is_ows (take_more text start 0 within) ∙ list_all-append is_space (take start text) (get_or text start 0 ∷ []) ∙ rw (before, space) refl
+  ows_more space before = grind (arith, common_steps, take_more text start 0 within, list_all-append is_space (take start text) (get_or text start 0 ∷ []))
 
   pub from_first_more : is_space (get_or text start 0) ≡ true → from_first (drop start text) ≡ from_first (drop (start + 1) text)
   from_first_more space = ap from_first (drop_more text start 0 within) ∙ rw space refl
@@ -24,9 +24,7 @@ from_first_ends text start past = let none = drop_all start text past in rw none
 
 module _ (text : List ℕ) (len : ℕ) (some : 0 < len) (within : len ≤ length text) where
   last_first : reverse (take len text) ≡ get_or text (len - 1) 0 ∷ reverse (take (len - 1) text)
-  last_first =
-      let on : len ≡ len - 1 + 1 = omega arith in
-      ap (λ n. reverse (take n text)) on ∙ ap reverse (take_more text (len - 1) 0 (omega arith)) ∙ reverse-append (take (len - 1) text) (get_or text (len - 1) 0 ∷ [])
+  last_first = grind (arith, common_steps, take_more text (len - 1) 0, reverse-append (take (len - 1) text) (get_or text (len - 1) 0 ∷ []))
 
   pub last_space : is_space (get_or text (len - 1) 0) ≡ true → from_first (reverse (take len text)) ≡ from_first (reverse (take (len - 1) text))
   last_space space = ap from_first last_first ∙ rw space refl

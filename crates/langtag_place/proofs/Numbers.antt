@@ -1,8 +1,9 @@
 -- The classes of subtags by the numbers of their bytes.
-use Rattle.std.proofs.Common.{◌≡◌, ◌==◌, ◌&&◌, ◌||◌, ℕ, List, [], ◌∷◌, length, slice_index, refl}
+use Rattle.std.proofs.Common.{◌≡◌, ◌==◌, ◌&&◌, ◌||◌, ℕ, List, length, slice_index, refl, arith}
 use Rattle.std.specs.Char.{is_ascii_alphabetic, is_ascii_digit}
 use Rattle.std.specs.Int.{is_in_range}
 use Rattle.std.specs.List.{list_all}
+use Rattle.std.proofs.lemmas.Grind.{common_steps}
 use Rattle.langtag_scan.specs.Class.{is_letter, is_digit, is_script, is_region, is_variant}
 
 -- four letters
@@ -24,5 +25,4 @@ pub variant_numbers :
     ((is_in_range 5 8 (length s) && list_all (λ b. is_ascii_alphabetic b || is_ascii_digit b) s)
     || ((length s == 4) && list_all (λ b. is_ascii_alphabetic b || is_ascii_digit b) s && is_ascii_digit (slice_index s 0)))
 unfolding is_letter is_digit is_variant
-variant_numbers [] = refl
-variant_numbers (b ∷ s) = refl
+variant_numbers s = grind (arith, common_steps)

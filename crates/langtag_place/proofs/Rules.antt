@@ -1,10 +1,11 @@
 -- The one list of variants that spells a text is the list of its subtags, and the test says whether there is one.
-use Rattle.std.proofs.Common.{◌≡◌, ◌↔◌, ℕ, Bool, IsTrue, List, sym, ◌∙◌, ap}
+use Rattle.std.proofs.Common.{◌≡◌, ◌↔◌, ℕ, Bool, IsTrue, List, sym, ◌∙◌, ap, arith}
+use Rattle.std.proofs.lemmas.Grind.{common_steps}
 use Rattle.langtag_scan.specs.Class.{is_variant}
 use Rattle.langtag_scan.specs.Subtags.{subtags}
 use Rattle.langtag_scan.proofs.SubtagFacts.{of_variant}
 use Rattle.langtag_scan.proofs.SubtagLists.{each_from_test, test_from_each, each_subtag, subtags-joined, join-subtags, length-subtags}
-use Rattle.langtag_place.specs.Decided.{are_variants, is_variants}
+use Rattle.langtag_place.specs.Decided.{is_variants}
 use Rattle.langtag_place.specs.Variants.{IsVariants, SpellsVariants}
 
 -- one text, one list
@@ -21,13 +22,11 @@ IsVariants-from_test text pass = (subtags text, SpellsVariants-subtags text pass
 
 -- from the rule to the test
 pub is_variants-from_rule : (text : List ℕ) → IsVariants text → IsTrue (is_variants text)
-is_variants-from_rule text spelled =
-    ap are_variants (subtags-spelled spelled.0 text spelled.1) ∙ test_from_each is_variant spelled.0 spelled.1.members
+is_variants-from_rule text spelled = grind (arith, common_steps, subtags-spelled, test_from_each)
 
 -- an answer that is the test decides the rule
 pub IsVariants-decided : (text : List ℕ) (answer : Bool) → answer ≡ is_variants text → IsTrue answer ↔ IsVariants text
-IsVariants-decided text answer tested =
-    (λ pass. IsVariants-from_test text (sym tested ∙ pass), λ spelled. tested ∙ is_variants-from_rule text spelled)
+IsVariants-decided text answer tested = grind (arith, common_steps, IsVariants-from_test text, is_variants-from_rule text)
 
 -- the steps from the one to the other
 pub ruleset variants_rules = (SpellsVariants-subtags, IsVariants-from_test, is_variants-from_rule, IsVariants-decided)

@@ -1,6 +1,7 @@
 -- The rule and its test say the same: one private list spells a text, and it is what stands between the hyphens.
-use Rattle.std.proofs.Common.{◌≡◌, ◌↔◌, ℕ, true, Bool, IsTrue, List, [], ◌∷◌, drop, refl, sym, ap, ◌∙◌, arith}
+use Rattle.std.proofs.Common.{◌≡◌, ◌↔◌, ℕ, true, Bool, IsTrue, List, [], ◌∷◌, drop, sym, ap, ◌∙◌, arith}
 use Rattle.std.proofs.lemmas.Bool.{and_parts}
+use Rattle.std.proofs.lemmas.Grind.{common_steps}
 use Rattle.langtag_scan.specs.Class.{is_mark, is_private_subtag}
 use Rattle.langtag_scan.specs.Record.{PrivateUse, IsWellFormedPrivateUse, private_use_flat}
 use Rattle.langtag_scan.specs.Subtags.{join, subtags}
@@ -8,7 +9,7 @@ use Rattle.langtag_scan.specs.Tag.{IsPrivate}
 use Rattle.langtag_scan.proofs.SubtagFacts.{of_one, of_private_subtag, mark_alphanumeric}
 use Rattle.langtag_scan.proofs.SubtagLists.{each_from_test, test_from_each, each_subtag, subtags-joined, join-subtags, length-after_first}
 use Rattle.langtag_private.specs.PrivateUse.{EachPrivateUseSpelling}
-use Rattle.langtag_private.specs.Decided.{are_private, are_private_use, is_mark_alone, is_private_use_text}
+use Rattle.langtag_private.specs.Decided.{are_private, are_private_use, is_private_use_text}
 
 -- one text, one list
 pub subtags-private : (text : List ℕ) (p : PrivateUse) → IsWellFormedPrivateUse p → join (private_use_flat p) ≡ text → subtags text ≡ private_use_flat p
@@ -21,8 +22,7 @@ others_spelled text others list p fits joined = list ∙ ap (drop 1) (subtags-pr
 are_private_use-from_rule :
     (mark : ℕ) (ss : List (List ℕ)) → IsWellFormedPrivateUse (record { mark = mark; subtags = ss }) →
     are_private_use ((mark ∷ []) ∷ ss) ≡ true
-are_private_use-from_rule mark [] fits = absurd (omega (arith, fits.some))
-are_private_use-from_rule mark (s ∷ ss) fits = rw (fits.mark, test_from_each is_private_subtag (s ∷ ss) fits.subtags) refl
+are_private_use-from_rule mark ss fits = grind (arith, common_steps, test_from_each is_private_subtag)
 
 IsPrivate-from_list : (ss : List (List ℕ)) (text : List ℕ) → join ss ≡ text → are_private_use ss ≡ true → IsPrivate text
 unfolding IsPrivate
@@ -53,9 +53,7 @@ pub ruleset private_rules = (IsPrivate-from_test, is_private_use-from_rule, IsPr
 -- ---- the subtags after the mark
 
 are_private-after : (ss : List (List ℕ)) → are_private_use ss ≡ true → are_private (drop 1 ss) ≡ true
-are_private-after [] h = absurd cc
-are_private-after (mark ∷ []) h = absurd cc
-are_private-after (mark ∷ first ∷ others) h = (and_parts (is_mark_alone mark) (are_private (first ∷ others)) h).1
+are_private-after ss h = grind (arith, common_steps, and_parts)
 
 -- they are private use subtags
 pub are_private-from_test : (text : List ℕ) → IsTrue (is_private_use_text text) → IsTrue (are_private (drop 1 (subtags text)))

@@ -1,7 +1,8 @@
 -- The canonical forms of alike texts are alike.
-use Rattle.std.proofs.Common.{◌≡◌, ℕ, ◌==◌, true, false, Bool, cond, List, [], ◌∷◌, ◌++◌, map, Option, None, Some, option_map, unwrap_or, inl, inr, ◌⊎◌, refl, sym, ap, ◌∙◌}
+use Rattle.std.proofs.Common.{◌≡◌, ℕ, ◌==◌, Bool, cond, List, [], ◌∷◌, ◌++◌, map, Option, option_map, ◌⊎◌, refl, sym, ap, ◌∙◌, arith, rules}
 use Rattle.std.specs.List.{flat_map}
 use Rattle.std.proofs.lemmas.List.{map-append}
+use Rattle.std.proofs.lemmas.Grind.{common_steps}
 use Rattle.langtag_scan.specs.AlikeRecords.{fold_extension, fold_private_use, fold_record, AlikeRecords}
 use Rattle.langtag_scan.specs.Case.{fold_byte, fold_text, Alike}
 use Rattle.langtag_scan.specs.Record.{Extension, PrivateUse, Record, spell}
@@ -9,9 +10,8 @@ use Rattle.langtag_scan.specs.Tag.{IsNormal}
 use Rattle.langtag_scan.proofs.CaseLaw.{alike_normal, alike_parts, fold_byte-twice, fold_text-twice, map-twice, spelled_alike}
 use Rattle.langtag.specs.Registered.{IsGrandfathered, IsGrandfatheredAt}
 use Rattle.langtag.specs.Repeat.{are_alike_bytes}
-use Rattle.langtag_registry.specs.Canonical.{singletons, in_order, preferred_extlang, canonical_primary, canonical_extended, canonical_region, canonical_variants, canonical_record, IsCanonicalForm}
-use Rattle.langtag_registry.specs.Fields.{preferred_language, preferred_region, preferred_variant, preferred_tag}
-use Rattle.langtag_registry.specs.Registered.{is_registered_extlang}
+use Rattle.langtag_registry.specs.Canonical.{singletons, in_order, canonical_primary, canonical_extended, canonical_region, canonical_variants, canonical_record, IsCanonicalForm}
+use Rattle.langtag_registry.specs.Fields.{preferred_region, preferred_variant, preferred_tag}
 use Rattle.langtag_registry.specs.Subtags.{tag_preferred}
 use Rattle.langtag_registry.proofs.ReplacedSubtags.{replaced, replaced-alike, IgnoresCase, value_for-alike, language-alike, region-alike, variant-alike, extlang-alike, registered_extlang-alike}
 use Rattle.langtag_registry.proofs.TwiceLaws.{Way, as_whole, as_it_is, by_parts, way_of}
@@ -19,48 +19,19 @@ use Rattle.langtag_registry.proofs.ExtensionOrder.{those_of}
 
 -- ---- what is folded once is folded
 
-module _ {X : Type 0} (f : X → X) (twice : (x : X) → f (f x) ≡ f x) where
-  option_map-twice : (o : Option X) → option_map f (option_map f o) ≡ option_map f o
-  option_map-twice None = refl
-  option_map-twice (Some x) = ap Some (twice x)
-
-fold_extension-twice : (e : Extension) → fold_extension (fold_extension e) ≡ fold_extension e
-fold_extension-twice e =
-    ap (λ b. record { singleton = b; subtags = map fold_text (map fold_text e.subtags) }) (fold_byte-twice e.singleton)
-    ∙ ap (λ ss. record { singleton = fold_byte e.singleton; subtags = ss }) (map-twice fold_text fold_text-twice e.subtags)
-
 fold_private_use-twice : (p : PrivateUse) → fold_private_use (fold_private_use p) ≡ fold_private_use p
-fold_private_use-twice p =
-    ap (λ b. record { mark = b; subtags = map fold_text (map fold_text p.subtags) }) (fold_byte-twice p.mark)
-    ∙ ap (λ ss. record { mark = fold_byte p.mark; subtags = ss }) (map-twice fold_text fold_text-twice p.subtags)
+fold_private_use-twice p = grind (arith, common_steps, fold_byte-twice, map-twice, fold_text-twice)
 
 -- ---- the canonical record of a folded record
 
 primary-fold : (p : List ℕ) (es : List (List ℕ)) → Alike (canonical_primary (fold_text p) (map fold_text es)) (canonical_primary p es)
-primary-fold p [] = replaced-alike preferred_language language-alike (fold_text p) p (fold_text-twice p)
-primary-fold p (e ∷ []) =
-    ap (λ o. fold_text (replaced preferred_language (unwrap_or o (fold_text p)))) (extlang-alike (fold_text e) e (fold_text-twice e))
-    ∙ replaced-alike preferred_language language-alike _ _ (by_option (preferred_extlang e))
-  where
-    by_option : (o : Option (List ℕ)) → Alike (unwrap_or o (fold_text p)) (unwrap_or o p)
-    by_option None = fold_text-twice p
-    by_option (Some new) = refl
-primary-fold p (e ∷ f ∷ es) = fold_text-twice p
+primary-fold p es = grind (arith, common_steps, replaced-alike, language-alike, fold_text-twice, replaced, extlang-alike)
 
 extended-fold : (es : List (List ℕ)) → map fold_text (canonical_extended (map fold_text es)) ≡ map fold_text (canonical_extended es)
-extended-fold [] = refl
-extended-fold (e ∷ []) =
-    ap (λ b. map fold_text (cond b [] (fold_text e ∷ []))) (registered_extlang-alike (fold_text e) e (fold_text-twice e))
-    ∙ by_test (is_registered_extlang e)
-  where
-    by_test : (b : Bool) → map fold_text (cond b [] (fold_text e ∷ [])) ≡ map fold_text (cond b [] (e ∷ []))
-    by_test true = refl
-    by_test false = ap (λ s. s ∷ []) (fold_text-twice e)
-extended-fold (e ∷ f ∷ es) = map-twice fold_text fold_text-twice (e ∷ f ∷ es)
+extended-fold es = grind (arith, common_steps, registered_extlang-alike, fold_text-twice, map-twice fold_text fold_text-twice)
 
 region-fold : (o : Option (List ℕ)) → option_map fold_text (canonical_region (option_map fold_text o)) ≡ option_map fold_text (canonical_region o)
-region-fold None = refl
-region-fold (Some g) = ap Some (replaced-alike preferred_region region-alike (fold_text g) g (fold_text-twice g))
+region-fold o = grind (arith, common_steps, replaced-alike preferred_region region-alike, region-alike, fold_text-twice)
 
 variants-fold : (vs : List (List ℕ)) → map fold_text (canonical_variants (map fold_text vs)) ≡ map fold_text (canonical_variants vs)
 variants-fold [] = refl
@@ -79,9 +50,7 @@ of_singleton-fold b (e ∷ es) =
     by_test :
         (t : Bool) (folded others : List Extension) → map fold_extension folded ≡ map fold_extension others →
         map fold_extension (cond t (fold_extension e ∷ folded) folded) ≡ map fold_extension (cond t (e ∷ others) others)
-    by_test true folded others later =
-        ap (λ z. z ∷ map fold_extension folded) (fold_extension-twice e) ∙ ap (λ zs. fold_extension e ∷ zs) later
-    by_test false folded others later = later
+    by_test t folded others later = grind (arith, common_steps, fold_byte-twice, map-twice, fold_text-twice)
 
 of_singletons-fold :
     (bs : List ℕ) (es : List Extension) →
@@ -100,9 +69,7 @@ in_order-fold es = of_singletons-fold singletons es
 canonical_record-fold : (r : Record) → AlikeRecords (canonical_record (fold_record r)) (canonical_record r)
 unfolding canonical_record
 canonical_record-fold r =
-    let script = option_map-twice fold_text fold_text-twice in
-    let private_use = option_map-twice fold_private_use fold_private_use-twice in
-    simp (primary-fold, extended-fold, script, region-fold, variants-fold, in_order-fold, private_use)
+    search (rules, fold_text-twice, fold_private_use-twice, primary-fold, extended-fold, region-fold, variants-fold, in_order-fold)
 
 -- alike records have alike canonical records
 canonical_record-alike : (r q : Record) → AlikeRecords r q → AlikeRecords (canonical_record r) (canonical_record q)
@@ -125,8 +92,7 @@ alike_forms old other new newer alike p q = by_way (way_of old)
     same = sym (preferred_tag-alike old other alike)
 
     why_other : IsGrandfathered old ⊎ (IsNormal old → ⊥) → IsGrandfathered other ⊎ (IsNormal other → ⊥)
-    why_other (inl is) = inl (grandfathered_alike old other alike is)
-    why_other (inr no_normal) = inr (λ normal. no_normal (alike_normal other old (sym alike) normal))
+    why_other h = grind (arith, common_steps, grandfathered_alike old other alike, alike_normal other old (sym alike))
 
     by_way : Way old → Alike new newer
     by_way (as_whole w is) = ap fold_text (p.whole w is ∙ sym (q.whole w (same ∙ is)))

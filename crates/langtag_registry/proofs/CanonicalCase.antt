@@ -1,12 +1,13 @@
 -- The case of letters changes nothing in whether a tag is its own canonical form.
-use Rattle.std.proofs.Common.{◌≡◌, ℕ, List, [], ◌∷◌, map, Option, None, Some, option_map, unwrap_or, inl, inr, refl, sym, ap, ◌∙◌}
+use Rattle.std.proofs.Common.{◌≡◌, ℕ, List, [], ◌∷◌, map, Option, None, Some, option_map, unwrap_or, refl, sym, ap, ◌∙◌, arith}
 use Rattle.std.specs.List.{AllByRecursion}
+use Rattle.std.proofs.lemmas.Grind.{common_steps}
 use Rattle.langtag_scan.specs.AlikeRecords.{fold_extension, AlikeRecords}
 use Rattle.langtag_scan.specs.Case.{fold_byte, fold_text, Alike}
 use Rattle.langtag_scan.specs.Record.{Extension, Record, IsWellFormed, IsWellFormedExtension}
 use Rattle.langtag_scan.proofs.CaseLaw.{alike_parts}
 use Rattle.langtag_registry.specs.Canonical.{canonical_primary, canonical_extended, canonical_region, canonical_variants, in_order, canonical_record, IsCanonicalForm}
-use Rattle.langtag_registry.specs.Fields.{preferred_language, preferred_region, preferred_variant, preferred_tag}
+use Rattle.langtag_registry.specs.Fields.{preferred_variant, preferred_tag}
 use Rattle.langtag_registry.proofs.AlikeForms.{preferred_tag-alike, grandfathered_alike}
 use Rattle.langtag_registry.proofs.OrderLaws.{keys_of, in_order-risen, rises_from_in_order}
 use Rattle.langtag_registry.proofs.CanonicalParts.{record_stays, parts_stay, own_record, kept_form}
@@ -19,11 +20,7 @@ use Rattle.langtag_registry.proofs.TwiceLaws.{itself, whole_settled, Way, as_who
 module _ (preferred : List ℕ → Option (List ℕ)) (settled : IsSettled preferred) (ignores : IgnoresCase preferred) where
   -- it has no Preferred-Value
   none_of_staying : (s : List ℕ) → replaced preferred s ≡ s → preferred s ≡ None
-  none_of_staying s stays = by_option (preferred s) refl stays
-    where
-      by_option : (o : Option (List ℕ)) → preferred s ≡ o → unwrap_or o s ≡ s → preferred s ≡ None
-      by_option None none same = none
-      by_option (Some new) is same = ap preferred (sym same) ∙ settled s new is
+  none_of_staying s stays = grind (arith, common_steps)
 
   alike_stays : (s t : List ℕ) → Alike s t → replaced preferred s ≡ s → replaced preferred t ≡ t
   alike_stays s t alike stays = ap (λ o. unwrap_or o t) (sym (ignores s t alike) ∙ none_of_staying s stays)
@@ -35,31 +32,11 @@ StaysLanguage primary extended = (canonical_primary primary extended ≡ primary
 
 language_stays :
     (p q : List ℕ) (es fs : List (List ℕ)) → Alike p q → map fold_text es ≡ map fold_text fs → StaysLanguage p es → StaysLanguage q fs
-language_stays p q [] [] alike same stays = (alike_stays preferred_language language_settled language-alike p q alike stays.0, refl)
-language_stays p q [] (f ∷ fs) alike same stays = absurd cc
-language_stays p q (e ∷ es) [] alike same stays = absurd cc
-language_stays p q (e ∷ []) (f ∷ []) alike same stays =
-    let one : Alike e f = cc in
-    elim (extlang_cases e) [
-      | inl (new, found, known) ↦ let gone = rw known at stays.1 in absurd cc
-      | inr (none, other) ↦
-          let first = rw none at stays.0 in
-          let no_value = sym (extlang-alike e f one) ∙ none in
-          let unknown = sym (registered_extlang-alike e f one) ∙ other in
-          (rw no_value (alike_stays preferred_language language_settled language-alike p q alike first), rw unknown refl)
-    ]
-language_stays p q (e ∷ []) (f ∷ g ∷ fs) alike same stays = absurd cc
-language_stays p q (e ∷ d ∷ es) (f ∷ []) alike same stays = absurd cc
-language_stays p q (e ∷ d ∷ es) (f ∷ g ∷ fs) alike same stays = (refl, refl)
+language_stays p q es fs alike same stays =
+    grind (arith, common_steps, alike_stays, language_settled, language-alike, extlang_cases, extlang-alike, registered_extlang-alike)
 
 region_stays : (o u : Option (List ℕ)) → option_map fold_text o ≡ option_map fold_text u → canonical_region o ≡ o → canonical_region u ≡ u
-region_stays None None same stays = refl
-region_stays None (Some h) same stays = absurd cc
-region_stays (Some g) None same stays = absurd cc
-region_stays (Some g) (Some h) same stays =
-    let alike : Alike g h = cc in
-    let first : replaced preferred_region g ≡ g = cc in
-    ap Some (alike_stays preferred_region region_settled region-alike g h alike first)
+region_stays o u same stays = grind (arith, common_steps, replaced, alike_stays, region_settled, region-alike)
 
 variants_stay : (vs ws : List (List ℕ)) → map fold_text vs ≡ map fold_text ws → canonical_variants vs ≡ vs → canonical_variants ws ≡ ws
 variants_stay [] [] same stays = refl
@@ -80,8 +57,7 @@ keys_folded (e ∷ es) = ap (λ ns. fold_byte e.singleton ∷ ns) (keys_folded e
 order_stays :
     (es fs : List Extension) → AllByRecursion IsWellFormedExtension fs → map fold_extension es ≡ map fold_extension fs → in_order es ≡ es → in_order fs ≡ fs
 order_stays es fs well same stays =
-    let keys : keys_of fs ≡ keys_of es = sym (keys_folded fs) ∙ ap (map (λ e. e.singleton)) (sym same) ∙ keys_folded es in
-    in_order-risen fs well (ap (rises_from 0) keys ∙ rises_from_in_order es stays)
+    grind (arith, common_steps, keys_of fs, keys_of es, keys_folded fs, keys_folded es, in_order-risen fs well, rises_from 0, rises_from_in_order es stays)
 
 -- ---- the record
 

@@ -1,5 +1,6 @@
 -- The canonical record, part by part, and what a tag becomes by it.
-use Rattle.std.proofs.Common.{◌≡◌, ℕ, List, Option, None, Some, unwrap_or, inl, inr, ◌⊎◌, refl, sym, ap, subst, ◌∙◌}
+use Rattle.std.proofs.Common.{◌≡◌, ℕ, List, Option, None, Some, unwrap_or, ◌⊎◌, refl, sym, ap, subst, ◌∙◌, arith}
+use Rattle.std.proofs.lemmas.Grind.{common_steps}
 use Rattle.langtag_scan.specs.Record.{Record, Spells, spell}
 use Rattle.langtag_scan.specs.Tag.{IsNormal, IsTag}
 use Rattle.langtag_scan.proofs.NormalTexts.{spelled_once}
@@ -20,40 +21,22 @@ pub record DoPartsStay (r : Record) : Type 0 where
 
 pub record_stays : (r : Record) → DoPartsStay r → canonical_record r ≡ r
 unfolding canonical_record
-record_stays r stay =
-    ap (λ p. record r { primary = p; extended = canonical_extended r.extended; region = canonical_region r.region; variants = canonical_variants r.variants; extensions = in_order r.extensions }) stay.language.0
-    ∙ ap (λ es. record r { extended = es; region = canonical_region r.region; variants = canonical_variants r.variants; extensions = in_order r.extensions }) stay.language.1
-    ∙ ap (λ g. record r { region = g; variants = canonical_variants r.variants; extensions = in_order r.extensions }) stay.region
-    ∙ ap (λ vs. record r { variants = vs; extensions = in_order r.extensions }) stay.variants
-    ∙ ap (λ es. record r { extensions = es }) stay.extensions
+record_stays r stay = grind (arith, common_steps)
 
 pub parts_stay : (r : Record) → canonical_record r ≡ r → DoPartsStay r
 unfolding canonical_record
-parts_stay r same = record {
-  language = (ap (λ q. q.primary) same, ap (λ q. q.extended) same);
-  region = ap (λ q. q.region) same;
-  variants = ap (λ q. q.variants) same;
-  extensions = ap (λ q. q.extensions) same;
-}
+parts_stay r same = grind (arith, common_steps)
 
 -- ---- what a tag becomes
 
 pub kept_form : (old new : List ℕ) → preferred_tag old ≡ None → IsGrandfathered old ⊎ (IsNormal old → ⊥) → new ≡ old → IsCanonicalForm old new
 unfolding IsNormal
-kept_form old new none why same = record {
-  whole = λ w is. absurd cc;
-  kept = λ _ _. same;
-  parts = λ _ other r spells. elim why [ inl is ↦ absurd (other is) | inr no_record ↦ absurd (no_record (r, spells)) ];
-}
+kept_form old new none why same = grind (arith, common_steps)
 
 pub record_form :
     (old new : List ℕ) (r : Record) → preferred_tag old ≡ None → (IsGrandfathered old → ⊥) → Spells r old → new ≡ canonical_text r → IsCanonicalForm old new
 unfolding IsNormal
-record_form old new r none other spells same = record {
-  whole = λ w is. absurd cc;
-  kept = λ _ why. elim why [ inl is ↦ absurd (other is) | inr no_record ↦ absurd (no_record (r, spells)) ];
-  parts = λ _ _ q also. same ∙ ap canonical_text (spelled_once r q spells.0 also.0 (spells.1 ∙ sym also.1));
-}
+record_form old new r none other spells same = grind (arith, common_steps, spelled_once r)
 
 -- it is a tag, as the text that it is of
 pub form_is_tag : (old new : List ℕ) → IsTag old → IsCanonicalForm old new → IsTag new
@@ -61,8 +44,7 @@ unfolding IsTag IsNormal preferred_tag
 form_is_tag old new is p = by_way (way_of old)
   where
     by_record : (r : Record) → Spells r old → (o : Option (List ℕ)) → preferred_tag (spell (canonical_record r)) ≡ o → new ≡ unwrap_or o (spell (canonical_record r)) → IsTag new
-    by_record r spells None none same = inl (canonical_record r, (canonical_record_well_formed r spells.0, sym same))
-    by_record r spells (Some w) found same = preferred_is_tag (spell (canonical_record r)) new (found ∙ ap Some (sym same))
+    by_record r spells o found same = grind (arith, common_steps, canonical_record_well_formed r spells.0, preferred_is_tag (spell (canonical_record r)) new)
 
     by_way : Way old → IsTag new
     by_way (as_whole w found) = preferred_is_tag old new (found ∙ ap Some (sym (p.whole w found)))

@@ -1,10 +1,9 @@
 -- A language that is registered as an extended one, too, after its Prefix.
-use Rattle.std.proofs.Common.{◌≡◌, ℕ, ◌≤◌, true, false, ◌==◌, ltb, Bool, List, [], ◌∷◌, ◌++◌, length, map, cond, Some, inl, refl, sym, ap, ◌∙◌, arith, eqb-true, eq-eqb}
+use Rattle.std.proofs.Common.{◌≡◌, ℕ, ◌≤◌, true, false, ◌==◌, ltb, List, [], ◌∷◌, ◌++◌, length, map, Some, refl, arith, eqb-true, eq-eqb}
 use Rattle.std.specs.List.{list_all}
 use Rattle.std.proofs.lemmas.Bool.{and_parts, ltb-true}
 use Rattle.std.proofs.lemmas.Bool.Decides.{nat_tests}
-use Rattle.langtag_scan.specs.Case.{are_alike}
-use Rattle.langtag_scan.specs.CaseLaws.{are_alike-decides}
+use Rattle.std.proofs.lemmas.Grind.{common_steps}
 use Rattle.langtag_scan.specs.Class.{is_primary, is_extended}
 use Rattle.langtag_scan.specs.Tag.{IsNormal}
 use Rattle.langtag_scan.proofs.CaseLaw.{length-fold}
@@ -31,26 +30,15 @@ prefixes_short = refl
 length_of_found :
     (list : List Entry) (text value : List ℕ) → list_all (λ e. length e.subtag == 3) list ≡ true → value_for list text ≡ Some value → length text ≡ 3
 length_of_found [] text value all is = absurd cc
-length_of_found (e ∷ list) text value all is =
-    let k = and_parts (length e.subtag == 3) (list_all (λ q. length q.subtag == 3) list) all in
-    by_test (are_alike e.subtag text) refl k.0 is (λ later. length_of_found list text value k.1 later)
-  where
-    by_test :
-        (b : Bool) → are_alike e.subtag text ≡ b → (length e.subtag == 3) ≡ true → cond b (Some e.value) (value_for list text) ≡ Some value →
-        (value_for list text ≡ Some value → length text ≡ 3) → length text ≡ 3
-    by_test true alike three first later =
-        sym (length-fold text) ∙ ap length (sym ((are_alike-decides e.subtag text).0 alike)) ∙ length-fold e.subtag ∙ eqb-true (length e.subtag) 3 three
-    by_test false alike three first later = later first
+length_of_found (e ∷ list) text value all is = grind (arith, common_steps, and_parts, length_of_found list, length-fold, eqb-true)
 
 prefixed_extended : (text value : List ℕ) → is_primary text ≡ true → extlang_prefix text ≡ Some value → is_extended text ≡ true
 unfolding extlang_prefix is_extended
-prefixed_extended text value class is =
-    rw (eq-eqb (length text) 3 (length_of_found extlang_prefixes text value subtags_three is)) (primary_letters text class)
+prefixed_extended text value class is = grind (arith, common_steps, eq-eqb, length_of_found, subtags_three, primary_letters)
 
 prefix_at_most : (text value : List ℕ) → extlang_prefix text ≡ Some value → length value ≤ 3
 unfolding extlang_prefix
-prefix_at_most text value is =
-    let short = ltb-true (length value) 4 (value_good (λ v. ltb (length v) 4) extlang_prefixes text value prefixes_short is) in omega (arith, short)
+prefix_at_most text value is = grind (arith, common_steps, ltb-true, value_good, prefixes_short)
 
 -- ---- the language
 
@@ -58,14 +46,7 @@ after_prefix :
     (primary value old new : List ℕ) (extended : List (List ℕ)) → SpellsLanguage primary extended old → is_full extended ≡ false →
     extlang_prefix primary ≡ Some value → new ≡ value ++ 45 ∷ old → SpellsLanguage value (primary ∷ extended) new
 after_prefix primary value old new extended spells room is same =
-    let few = spells.few in
-    record {
-      first = prefix_good primary value is;
-      others = (prefixed_extended primary value spells.first is, spells.others);
-      few = grind (arith, nat_tests);
-      short = inl (prefix_at_most primary value is);
-      joined = ap (λ t. value ++ 45 ∷ t) spells.joined ∙ sym same;
-    }
+    grind (arith, common_steps, prefix_good primary value is, prefixed_extended primary value spells.first is, nat_tests, prefix_at_most primary value is)
 
 pub prefixed_becomes :
     (primary value old new : List ℕ) (extended : List (List ℕ)) → SpellsLanguage primary extended old → is_full extended ≡ false →
@@ -76,8 +57,7 @@ pub prefixed_language :
     (value old new : List ℕ) → IsLanguage old →
     ((primary : List ℕ) (extended : List (List ℕ)) → SpellsLanguage primary extended old → (is_full extended ≡ false) × (extlang_prefix primary ≡ Some value)) →
     new ≡ value ++ 45 ∷ old → IsLanguage new
-prefixed_language value old new (primary, extended, spells) known same =
-    let k = known primary extended spells in (value, primary ∷ extended, after_prefix primary value old new extended spells k.0 k.1 same)
+prefixed_language value old new (primary, extended, spells) known same = grind (arith, common_steps, after_prefix primary value old new extended spells)
 
 -- ---- a canonical form that is not normal
 

@@ -1,14 +1,14 @@
 -- A tag that is registered as a whole has at most one variant.
-use Rattle.std.proofs.Common.{◌≡◌, ℕ, ◌≤◌, true, false, Bool, leb, cond, List, [], ◌∷◌, ◌++◌, length, map, filter, None, Some, slice_get, IsTrue, refl, sym, ap, ◌∙◌, arith, zero, suc, length-append}
-use Rattle.std.specs.List.{list_all, AllByRecursion, flat_map}
+use Rattle.std.proofs.Common.{◌≡◌, ℕ, ◌≤◌, true, Bool, leb, cond, List, [], ◌∷◌, length, map, filter, None, Some, slice_get, IsTrue, refl, sym, ap, ◌∙◌, arith, zero, suc, length-append, rules}
+use Rattle.std.specs.List.{list_all, AllByRecursion}
 use Rattle.std.proofs.lemmas.Bool.{and_parts, leb-true}
 use Rattle.std.proofs.lemmas.List.{length-map}
 use Rattle.std.proofs.lemmas.List.Elements.{filter-append}
+use Rattle.std.proofs.lemmas.Grind.{common_steps}
 use Rattle.langtag_scan.specs.Case.{fold_text, Alike, are_alike}
-use Rattle.langtag_scan.specs.CaseLaws.{are_alike-decides}
 use Rattle.langtag_scan.specs.Class.{is_letter, is_digit, is_variant}
 use Rattle.langtag_scan.specs.Grandfathered.{Grandfathered, grandfathered_tags}
-use Rattle.langtag_scan.specs.Record.{Record, EachRecord, extension_flat, one_flat, private_part_flat, flat}
+use Rattle.langtag_scan.specs.Record.{Record, EachRecord, flat}
 use Rattle.langtag_scan.specs.Subtags.{segments}
 use Rattle.langtag_scan.proofs.CaseLaw.{alike_parts}
 use Rattle.langtag_scan.proofs.NormalTexts.{spelled_segments}
@@ -49,16 +49,13 @@ alike_subtag is_good (e ∷ list) text value all is =
     by_test :
         (b : Bool) → are_alike e.subtag text ≡ b → cond b (Some e.value) (value_for list text) ≡ Some value → is_good e.subtag ≡ true →
         (value_for list text ≡ Some value → IsAlikeOne is_good text) → IsAlikeOne is_good text
-    by_test true alike is first later = (e.subtag, first, (are_alike-decides e.subtag text).0 alike)
-    by_test false other is first later = later is
+    by_test b other is first later = search rules
 
 entry_good :
     (is_good : List ℕ → Bool) (list : List Grandfathered) (k : ℕ) (entry : Grandfathered) → list_all is_good (map (λ e. e.text) list) ≡ true →
     slice_get list k ≡ Some entry → is_good entry.text ≡ true
 entry_good is_good [] k entry all at = absurd cc
-entry_good is_good (e ∷ list) zero entry all at =
-    let same : e ≡ entry = cc in
-    rw (← same) (and_parts (is_good e.text) (list_all is_good (map (λ q. q.text) list)) all).0
+entry_good is_good (e ∷ list) zero entry all at = grind (arith, common_steps, and_parts (is_good e.text))
 entry_good is_good (e ∷ list) (suc k) entry all at = entry_good is_good list k entry (and_parts (is_good e.text) (list_all is_good (map (λ q. q.text) list)) all).1 at
 
 -- ---- its variants
@@ -67,24 +64,9 @@ filter-all : (vs : List (List ℕ)) → AllByRecursion (λ s. IsTrue (is_variant
 filter-all [] all = refl
 filter-all (v ∷ vs) all = rw all.0 (ap (λ ws. v ∷ ws) (filter-all vs all.1))
 
-later_count : (before after : List (List ℕ)) → length (filter is_variant after) ≤ length (filter is_variant (before ++ after))
-later_count before after =
-    let sum = ap length (filter-append is_variant before after) ∙ length-append (filter is_variant before) (filter is_variant after) in
-    omega (arith, sum)
-
 -- they are among the subtags of the class
 variants_counted : (r : Record) → AllByRecursion (λ s. IsTrue (is_variant s)) r.variants → length r.variants ≤ length (filter is_variant (flat r))
-variants_counted r all =
-    let last = flat_map extension_flat r.extensions ++ private_part_flat r.private_use in
-    let from_variants = r.variants ++ last in
-    let from_region = one_flat r.region ++ from_variants in
-    let from_script = one_flat r.script ++ from_region in
-    let a = later_count (r.primary ∷ r.extended) from_script in
-    let b = later_count (one_flat r.script) from_region in
-    let c = later_count (one_flat r.region) from_variants in
-    let d = ap length (filter-append is_variant r.variants last) ∙ length-append (filter is_variant r.variants) (filter is_variant last) in
-    let e = ap length (filter-all r.variants all) in
-    omega (arith, a, b, c, d, e)
+variants_counted r all = grind (arith, common_steps, filter-append, length-append, filter-all)
 
 few_variants : (text : List ℕ) → IsAlikeOne has_few text → EachRecord text (λ r. length r.variants ≤ 1)
 few_variants text (one, few, alike) = λ r spells.

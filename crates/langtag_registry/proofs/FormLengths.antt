@@ -1,9 +1,10 @@
 -- How long the canonical form of a tag may be.
-use Rattle.std.proofs.Common.{◌≡◌, ℕ, ◌+◌, ◌*◌, ◌≤◌, true, leb, List, [], ◌∷◌, length, map, Option, None, Some, unwrap_or, IfSome, IsTrue, inl, inr, refl, sym, ap, ◌∙◌, arith, length-append}
+use Rattle.std.proofs.Common.{◌≡◌, ℕ, ◌+◌, ◌*◌, ◌≤◌, true, leb, List, [], ◌∷◌, length, map, Option, Some, unwrap_or, IfSome, IsTrue, refl, ap, arith, length-append}
 use Rattle.std.specs.List.{list_all, AllByRecursion, flat_map, sum_by}
 use Rattle.std.proofs.lemmas.Bool.{leb-true}
 use Rattle.std.proofs.lemmas.Bool.Decides.{nat_tests}
 use Rattle.std.proofs.lemmas.List.Sums.{sum_by-cons}
+use Rattle.std.proofs.lemmas.Grind.{common_steps}
 use Rattle.langtag_scan.specs.Class.{is_region, is_variant}
 use Rattle.langtag_scan.specs.Record.{Extension, Record, IsWellFormed, Spells, extension_flat, one_flat, spell}
 use Rattle.langtag_scan.proofs.Joins.{hyphenated, length-hyphenated}
@@ -27,17 +28,10 @@ size-cons : (s : List ℕ) (ss : List (List ℕ)) → size (s ∷ ss) ≡ 1 + le
 size-cons s ss = let all = length-append (45 ∷ s) (hyphenated ss) in omega (arith, all)
 
 extended_size : (es : List (List ℕ)) → size (canonical_extended es) ≤ size es
-extended_size [] = omega arith
-extended_size (e ∷ []) =
-    elim (extlang_cases e) [
-      | inl (new, found, known) ↦ rw known (omega arith)
-      | inr (none, other) ↦ rw other (omega arith)
-    ]
-extended_size (e ∷ f ∷ es) = omega arith
+extended_size es = grind (arith, common_steps, extlang_cases)
 
 region_size : (o : Option (List ℕ)) → IfSome o (λ s. IsTrue (is_region s)) → size (one_flat o) ≤ 5
-region_size None is = omega arith
-region_size (Some g) is = let short = region_short g is in let all = size-cons g [] in omega (arith, short, all)
+region_size o is = grind (arith, common_steps, region_short, size-cons)
 
 variant_long : (s : List ℕ) → is_variant s ≡ true → 4 ≤ length s
 unfolding is_variant
@@ -51,12 +45,7 @@ variants_size [] [] old new same = omega arith
 variants_size [] (w ∷ ws) old new same = absurd (omega (arith, same))
 variants_size (v ∷ vs) [] old new same = absurd (omega (arith, same))
 variants_size (v ∷ vs) (w ∷ ws) old new same =
-    let later = variants_size vs ws old.1 new.1 (omega (arith, same)) in
-    let long = variant_long v old.0 in
-    let short = (of_variant w new.0).short in
-    let all = size-cons v vs in
-    let all_new = size-cons w ws in
-    omega (arith, later, long, short, all, all_new)
+    grind (arith, common_steps, variants_size vs ws old.1 new.1, variant_long v old.0, of_variant w new.0, size-cons v vs, size-cons w ws)
 
 variants_as_many : (vs : List (List ℕ)) → length (canonical_variants vs) ≡ length vs
 variants_as_many [] = refl
@@ -67,8 +56,7 @@ extension_size e = size (extension_flat e)
 
 size-extensions : (es : List Extension) → size (flat_map extension_flat es) ≡ sum_by extension_size es
 size-extensions [] = refl
-size-extensions (e ∷ es) =
-    length-hyphenated (extension_flat e) (flat_map extension_flat es) ∙ ap (λ n. extension_size e + n) (size-extensions es) ∙ sym (sum_by-cons extension_size e es)
+size-extensions (e ∷ es) = cc (length-hyphenated (extension_flat e) (flat_map extension_flat es), size-extensions es, sum_by-cons extension_size e es)
 
 -- variants grow most: by less than their own length
 pub form_length : (r : Record) → IsWellFormed r → 5 * length (spell (canonical_record r)) ≤ 9 * length (spell r) + 70
@@ -102,8 +90,7 @@ form_bounded old new p = by_way (way_of old)
     by_text :
         (r : Record) → Spells r old → (o : Option (List ℕ)) → preferred_tag (spell (canonical_record r)) ≡ o →
         new ≡ unwrap_or o (spell (canonical_record r)) → length new ≤ 2 * length old + 14
-    by_text r spells None none same = let long = form_length r spells.0 in omega (arith, long, ap length same, ap length spells.1)
-    by_text r spells (Some w) found same = let short = preferred_short (spell (canonical_record r)) w found in omega (arith, short, ap length same)
+    by_text r spells o found same = grind (arith, common_steps, form_length r spells.0, preferred_short (spell (canonical_record r)))
 
     by_way : Way old → length new ≤ 2 * length old + 14
     by_way (as_whole w is) = let short = preferred_short old w is in omega (arith, short, ap length (p.whole w is))

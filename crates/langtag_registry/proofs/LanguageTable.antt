@@ -1,5 +1,6 @@
 -- The table of languages has a bit for each registered language, and no other.
 use Rattle.std.proofs.Common.{◌≡◌, ℕ, zero, suc, ◌+◌, ◌*◌, ◌-◌, ◌/◌, ◌%◌, ◌<◌, ◌≤◌, true, false, ◌==◌, leb, Bool, List, [], ◌∷◌, length, get_or, map, flat_map, refl, ap, sym, ◌∙◌, arith}
+use Rattle.std.proofs.lemmas.Grind.{common_steps}
 use Prim.Native.Nat.{◌^◌}
 use Rattle.std.specs.List.{list_any, list_all}
 use Rattle.std.proofs.lemmas.Bool.{and_parts, eq-eqb, ne_eqb, leb-true, false_from_ne_true}
@@ -47,14 +48,9 @@ bit_of_word word k below = get_or-map-range_with_len (λ k. word / 2 ^ k % 2 == 
 bit_of_words : (words : List ℕ) (q k : ℕ) → q < length words → k < 64 → get_or (flat_map bits words) (q * 64 + k) false ≡ (get_or words q 0 / 2 ^ k % 2 == 1)
 bit_of_words [] q k inside below = absurd (omega arith)
 bit_of_words (word ∷ words) zero k inside below =
-    let here : k < length (bits word) = omega (arith, length-bits word, below) in
-    ap (λ i. get_or (flat_map bits (word ∷ words)) i false) (let e : 0 * 64 + k ≡ k = omega arith in e)
-    ∙ get_or_append_left (bits word) (flat_map bits words) false k here ∙ bit_of_word word k below
+    grind (arith, common_steps, length-bits word, get_or_append_left (bits word) (flat_map bits words) false k, bit_of_word word k below)
 bit_of_words (word ∷ words) (suc q) k inside below =
-    let at : suc q * 64 + k ≡ length (bits word) + (q * 64 + k) = omega (arith, length-bits word) in
-    ap (λ i. get_or (flat_map bits (word ∷ words)) i false) at
-    ∙ get_or-append-add (bits word) (flat_map bits words) (q * 64 + k) false
-    ∙ bit_of_words words q k (omega (arith, inside)) below
+    grind (arith, common_steps, length-bits word, get_or-append-add (bits word) (flat_map bits words) (q * 64 + k) false, bit_of_words words q k)
 
 pub language_bit_at : (index : ℕ) → index < 18304 → language_bit index ≡ (get_or LANGUAGE_BITS (index / 64) 0 / 2 ^ (index % 64) % 2 == 1)
 unfolding language_bit
@@ -76,12 +72,8 @@ unfolding places
 place_at n i [] = refl
 place_at n zero (true ∷ list) = rw (eq-eqb n (n + 0) (omega arith)) refl
 place_at n zero (false ∷ list) = place_before (n + 0) (n + 1) list (omega arith)
-place_at n (suc i) (true ∷ list) =
-    let on : n + suc i ≡ n + 1 + i = omega arith in
-    rw (ne_eqb n (n + suc i) (λ same. absurd (omega (arith, same)))) (ap (λ m. list_any (λ k. k == m) (places (n + 1) list)) on ∙ place_at (n + 1) i list)
-place_at n (suc i) (false ∷ list) =
-    let on : n + suc i ≡ n + 1 + i = omega arith in
-    ap (λ m. list_any (λ k. k == m) (places (n + 1) list)) on ∙ place_at (n + 1) i list
+place_at n (suc i) (true ∷ list) = grind (arith, common_steps, ne_eqb n (n + suc i), place_at (n + 1) i list)
+place_at n (suc i) (false ∷ list) = grind (arith, common_steps, place_at (n + 1) i list)
 
 -- ---- the look-up
 

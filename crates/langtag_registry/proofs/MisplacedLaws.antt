@@ -1,7 +1,8 @@
 -- The walk over the variants of a tag, and what stands before each.
-use Rattle.std.proofs.Common.{◌≡◌, ℕ, ◌+◌, ◌-◌, ◌≤◌, true, false, cond, List, [], ◌∷◌, ◌++◌, length, take, None, Some, ap, sym, ◌∙◌, append_assoc, arith}
+use Rattle.std.proofs.Common.{◌≡◌, ℕ, ◌+◌, ◌≤◌, true, false, cond, List, [], ◌∷◌, ◌++◌, length, take, None, Some, ap, sym, ◌∙◌, append_assoc, arith}
 use Rattle.std.specs.List.{flat_map, slice_range}
 use Rattle.std.proofs.lemmas.List.{append-nil}
+use Rattle.std.proofs.lemmas.Grind.{common_steps}
 use Rattle.langtag_scan.specs.Ends.{ends_of}
 use Rattle.langtag_scan.specs.Record.{Record, Spells, spell, one_flat, extension_flat, private_part_flat}
 use Rattle.langtag_scan.specs.Subtags.{join}
@@ -21,10 +22,7 @@ abbrev rest_of : Record → List (List ℕ) → List (List ℕ)
 rest_of r left = left ++ (flat_map extension_flat r.extensions ++ private_part_flat r.private_use)
 
 spell-cut : (r : Record) (before left : List (List ℕ)) → r.variants ≡ before ++ left → spell r ≡ join (r.primary ∷ (others r before ++ rest_of r left))
-spell-cut r before left cut =
-    let tail = flat_map extension_flat r.extensions ++ private_part_flat r.private_use in
-    let whole : r.extended ++ (one_flat r.script ++ (one_flat r.region ++ ((before ++ left) ++ tail))) ≡ others r before ++ (left ++ tail) = simp append_assoc in
-    rw cut (ap (λ ss. join (r.primary ∷ ss)) whole)
+spell-cut r before left cut = grind (arith, common_steps, append_assoc)
 
 -- ---- the texts before variants
 
@@ -34,23 +32,10 @@ module _ (r : Record) (before left : List (List ℕ)) (cut : r.variants ≡ befo
 
   pub up_to-within : length (spell (up_to r before)) ≤ length (spell r)
   up_to-within =
-      let long = length-join-append r.primary (others r before) (rest_of r left) in
-      let short = ap length (spell-up_to r before) in
-      let whole = ap length (spell-cut r before left cut) in
-      omega (arith, long, short, whole)
-
-pub region_end : (r : Record) → (ends_of r).region ≡ length (spell (up_to r []))
-region_end r = ap (λ ss. length (join (r.primary ∷ (r.extended ++ (one_flat r.script ++ ss))))) (sym (append-nil (one_flat r.region)))
-    ∙ sym (ap length (spell-up_to r []))
+      grind (arith, common_steps, length-join-append r.primary (others r before) (rest_of r left), spell-up_to r before, spell-cut r before left cut)
 
 pub variant_end : (r : Record) (before : List (List ℕ)) (v : List ℕ) → length (spell (up_to r before)) + (1 + length v) ≡ length (spell (up_to r (before ++ v ∷ [])))
-variant_end r before v =
-    let long = length-join-append r.primary (others r before) (v ∷ []) in
-    let grouped : others r before ++ v ∷ [] ≡ others r (before ++ v ∷ []) = simp append_assoc in
-    let next = ap length (spell-up_to r (before ++ v ∷ [])) ∙ ap (λ ss. length (join (r.primary ∷ ss))) (sym grouped) in
-    let here = ap length (spell-up_to r before) in
-    let one = ap length (append-nil v) in
-    omega (arith, long, next, here, one)
+variant_end r before v = grind (arith, common_steps, length-join-append, append_assoc, spell-up_to, append-nil)
 
 -- ---- the walk
 
@@ -62,8 +47,7 @@ pub record IsWalked (r : Record) (end : ℕ) (left : List (List ℕ)) : Type 0 w
   pub so_far : misplaced r ≡ misplaced_after r before left
 
 pub walk_first : (r : Record) (end : ℕ) (left : List (List ℕ)) → end ≡ (ends_of r).region → left ≡ r.variants → IsWalked r end left
-walk_first r end left at all =
-    record { before = []; cut = sym all; end_at = at ∙ region_end r; so_far = ap (misplaced_after r []) (sym all) }
+walk_first r end left at all = grind (arith, common_steps, append-nil, spell-up_to)
 
 module _ (r : Record) (end : ℕ) (left : List (List ℕ)) (walked : IsWalked r end left) where
   pub text_here : take end (spell r) ≡ spell (up_to r walked.before)
@@ -77,8 +61,7 @@ module _ (r : Record) (end : ℕ) (left : List (List ℕ)) (walked : IsWalked r 
 
   module _ (v : List ℕ) (rest : List (List ℕ)) (next : left ≡ v ∷ rest) where
     turn : misplaced r ≡ cond (fits_after (take end (spell r)) v) (misplaced_after r (walked.before ++ v ∷ []) rest) (Some v)
-    turn = walked.so_far ∙ ap (misplaced_after r walked.before) next
-        ∙ ap (λ text. cond (fits_after text v) (misplaced_after r (walked.before ++ v ∷ []) rest) (Some v)) (sym text_here)
+    turn = grind (arith, common_steps, text_here)
 
     pub walk_stopped : fits_after (take end (spell r)) v ≡ false → Some v ≡ misplaced r
     walk_stopped is = sym (turn ∙ ap (λ b. cond b (misplaced_after r (walked.before ++ v ∷ []) rest) (Some v)) is)
@@ -98,6 +81,4 @@ unfolding IsNormal
 some_record text normal = normal
 
 pub take_spelled : (r : Record) (text cut : List ℕ) (end : ℕ) → spell r ≡ text → cut ≡ slice_range text 0 end → take end (spell r) ≡ cut
-take_spelled r text cut end spelled is =
-    let size : end ≡ end - 0 = omega arith in
-    ap (take end) spelled ∙ ap (λ n. take n text) size ∙ sym is
+take_spelled r text cut end spelled is = grind (arith, common_steps)

@@ -1,7 +1,8 @@
 -- The canonical form of a valid tag has no extended language, but for the grandfathered `zh-min`.
-use Rattle.std.proofs.Common.{◌≡◌, ℕ, zero, suc, true, false, Bool, not, ◌||◌, List, [], ◌∷◌, map, codes, Option, None, Some, is_some, slice_get, unwrap_or, IsTrue, inl, inr, refl, sym, ap, subst, ◌∙◌}
-use Rattle.std.specs.List.{list_all, AllByRecursion}
+use Rattle.std.proofs.Common.{◌≡◌, ℕ, zero, suc, true, false, Bool, not, ◌||◌, List, [], ◌∷◌, map, codes, Option, None, Some, is_some, slice_get, unwrap_or, inl, inr, refl, sym, ap, subst, ◌∙◌, arith}
+use Rattle.std.specs.List.{list_all}
 use Rattle.std.proofs.lemmas.Bool.{and_parts, or_cases, both_ways, not-true}
+use Rattle.std.proofs.lemmas.Grind.{common_steps}
 use Rattle.langtag_scan.specs.Case.{fold_byte, fold_text, Alike, are_alike}
 use Rattle.langtag_scan.specs.CaseLaws.{are_alike-decides}
 use Rattle.langtag_scan.specs.Class.{is_letter, is_extended}
@@ -44,9 +45,7 @@ all_fit = refl
 
 entry_fit : (list : List Grandfathered) (k : ℕ) (entry : Grandfathered) → list_all is_fit list ≡ true → slice_get list k ≡ Some entry → is_fit entry ≡ true
 entry_fit [] k entry all at = absurd cc
-entry_fit (e ∷ list) zero entry all at =
-    let same : e ≡ entry = cc in
-    rw (← same) (and_parts (is_fit e) (list_all is_fit list) all).0
+entry_fit (e ∷ list) zero entry all at = grind (arith, common_steps, and_parts (is_fit e) (list_all is_fit list) all)
 entry_fit (e ∷ list) (suc k) entry all at = entry_fit list k entry (and_parts (is_fit e) (list_all is_fit list) all).1 at
 
 second_of_flat : (r : Record) (e : List ℕ) (es : List (List ℕ)) → r.extended ≡ e ∷ es → second_is_extended (flat r) ≡ is_extended e
@@ -59,10 +58,7 @@ none_extended r text spells other = by_extended r.extended refl
     by_extended : (es : List (List ℕ)) → r.extended ≡ es → r.extended ≡ []
     by_extended [] is = is
     by_extended (e ∷ es) is =
-        let class = (subst (AllByRecursion (λ s. IsTrue (is_extended s))) is spells.0.extended).0 in
-        let second : second_is_extended (segments text) ≡ is_extended e =
-        ap (λ t. second_is_extended (segments t)) (sym spells.1) ∙ ap second_is_extended (spelled_segments r spells.0) ∙ second_of_flat r e es is in
-        absurd (both_ways (second_is_extended (segments text)) other (second ∙ class))
+        grind (arith, common_steps, spelled_segments r spells.0, second_of_flat r e es is, both_ways (second_is_extended (segments text)) other)
 
 none_folded : (ss : List (List ℕ)) → map fold_text ss ≡ [] → ss ≡ []
 none_folded [] none = refl
@@ -107,9 +103,7 @@ no_extlang_form old new valid other p = by_way (way_of old)
 
     by_way : Way old → EachRecord new HasNone
     by_way (as_whole w is) = subst (λ z. EachRecord z HasNone) (sym (p.whole w is)) (preferred_none old w is)
-    by_way (as_it_is none (inl old_one)) =
-        let same = p.kept none (inl old_one) in
-        subst (λ z. EachRecord z HasNone) (sym same) (grandfathered_none old none (λ alike. other (alike ∙ ap fold_text (sym same))) old_one)
+    by_way (as_it_is none (inl old_one)) = grind (arith, common_steps, grandfathered_none old none)
     by_way (as_it_is none (inr no_normal)) = λ r spells. absurd (no_normal (r, (spells.0, spells.1 ∙ p.kept none (inr no_normal))))
     by_way (by_parts none new_one r spells) =
         elim valid.1 [

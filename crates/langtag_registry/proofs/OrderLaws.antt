@@ -1,11 +1,12 @@
 -- Extensions in the order of their singletons: they are the same ones, in order, and those that stand in order stay.
-use Rattle.std.proofs.Common.{◌≡◌, ◌≢◌, ℕ, ◌+◌, ◌<◌, ◌≤◌, true, false, ◌==◌, ◌||◌, not, Bool, leb, ltb, cond, List, [], ◌∷◌, ◌++◌, map, filter, append-nil, refl, sym, ap, ◌∙◌, arith, inl, inr, IsTrue}
+use Rattle.std.proofs.Common.{◌≡◌, ◌≢◌, ℕ, ◌+◌, ◌<◌, ◌≤◌, true, false, ◌==◌, ◌||◌, not, Bool, leb, ltb, List, [], ◌∷◌, ◌++◌, map, filter, append-nil, refl, sym, ap, ◌∙◌, arith, inl, inr, IsTrue}
 use Rattle.std.specs.List.{list_any, list_all, flat_map, sum_by, AllByRecursion}
 use Rattle.std.proofs.lemmas.Bool.{and_parts, leb-true, le-leb, ltb-true, eqb-true, eq-eqb, ne_eqb, or_parts, both_ways, agree_below_at}
 use Rattle.std.proofs.lemmas.Bool.Decides.{eqb_tells}
 use Rattle.std.proofs.lemmas.List.Elements.{filter-append}
 use Rattle.std.proofs.lemmas.List.Folds.{flat_map-map}
 use Rattle.std.proofs.lemmas.List.Sums.{sum_by-append, sum_by-cons}
+use Rattle.std.proofs.lemmas.Grind.{common_steps}
 use Rattle.langtag_scan.specs.Case.{fold_byte}
 use Rattle.langtag_scan.specs.Class.{is_letter, is_digit, is_mark, is_singleton}
 use Rattle.langtag_scan.specs.Record.{Extension, IsWellFormedExtension}
@@ -29,34 +30,17 @@ module _ {A : Type 0} (key : A → ℕ) where
 
   filter-same : (k : ℕ) (xs : List A) → filter (has k) (filter (has k) xs) ≡ filter (has k) xs
   filter-same k [] = refl
-  filter-same k (x ∷ xs) = by_test (has k x) refl (filter-same k xs)
-    where
-      by_test :
-          (b : Bool) → has k x ≡ b → filter (has k) (filter (has k) xs) ≡ filter (has k) xs →
-          filter (has k) (cond b (x ∷ filter (has k) xs) (filter (has k) xs)) ≡ cond b (x ∷ filter (has k) xs) (filter (has k) xs)
-      by_test true is later = rw is (ap (λ ys. x ∷ ys) later)
-      by_test false is later = later
+  filter-same k (x ∷ xs) = grind (arith, common_steps, filter-same k xs)
 
   filter-other : (j k : ℕ) → k ≢ j → (xs : List A) → filter (has k) (filter (has j) xs) ≡ []
   filter-other j k apart [] = refl
-  filter-other j k apart (x ∷ xs) = by_test (has j x) refl (filter-other j k apart xs)
-    where
-      by_test :
-          (b : Bool) → has j x ≡ b → filter (has k) (filter (has j) xs) ≡ [] →
-          filter (has k) (cond b (x ∷ filter (has j) xs) (filter (has j) xs)) ≡ []
-      by_test true is later = rw (ne_eqb k (key x) (λ same. apart (same ∙ sym (eqb-true j (key x) is)))) later
-      by_test false is later = later
+  filter-other j k apart (x ∷ xs) = grind (arith, common_steps, filter-other j k apart xs, ne_eqb k (key x), eqb-true j (key x))
 
   -- each key of a list that climbs is above what it climbs from
   below_climb : (low k : ℕ) (keys : List ℕ) → climbs_from low keys ≡ true → list_any (λ j. j == k) keys ≡ true → low < k
   below_climb low k [] climbs among = absurd cc
   below_climb low k (j ∷ keys) climbs among =
-      let parts = and_parts (ltb low j) (climbs_from j keys) climbs in
-      let above = ltb-true low j parts.0 in
-      elim (eqb_tells j k) [
-        | inl same ↦ omega (arith, above, same.1)
-        | inr other ↦ let later = below_climb j k keys parts.1 (rw other.0 at among) in omega (arith, above, later)
-      ]
+      grind (arith, common_steps, and_parts (ltb low j) (climbs_from j keys) climbs, ltb-true low j, eqb_tells j k, below_climb j k keys)
 
   -- none of a key that is not above that
   gather-none : (low k : ℕ) (keys : List ℕ) (xs : List A) → climbs_from low keys ≡ true → k ≤ low → filter (has k) (gather keys xs) ≡ []
@@ -102,9 +86,7 @@ module _ {A : Type 0} (key : A → ℕ) where
       gather js (gather keys xs) ≡ gather js xs
   gather-twice_of low keys [] xs climbs among = refl
   gather-twice_of low keys (k ∷ js) xs climbs among =
-      let parts = and_parts (list_any (λ j. j == k) keys) (list_all (λ i. list_any (λ j. j == i) keys) js) among in
-      ap (λ ys. ys ++ gather js (gather keys xs)) (gather-keeps low k keys xs climbs parts.0)
-      ∙ ap (λ ys. filter (has k) xs ++ ys) (gather-twice_of low keys js xs climbs parts.1)
+      grind (arith, common_steps, and_parts, gather-keeps low k keys xs climbs, gather-twice_of low keys js xs climbs)
 
   -- ---- a list whose keys rise stays
 
@@ -113,30 +95,19 @@ module _ {A : Type 0} (key : A → ℕ) where
 
   filter-absent : (k : ℕ) (keys : List ℕ) (xs : List A) → list_any (λ j. j == k) keys ≡ false → AllByRecursion (IsAmong keys) xs → filter (has k) xs ≡ []
   filter-absent k keys [] absent among = refl
-  filter-absent k keys (x ∷ xs) absent among =
-      elim (eqb_tells k (key x)) [
-        | inl same ↦ absurd (both_ways (list_any (λ j. j == k) keys) absent (rw (sym same.1) at among.0))
-        | inr other ↦ rw other.0 (filter-absent k keys xs absent among.1)
-      ]
+  filter-absent k keys (x ∷ xs) absent among = grind (arith, common_steps, eqb_tells k (key x), both_ways, filter-absent k keys xs absent among.1)
 
   -- where the keys of all are asked for, each key has the same ones, in the same order
   gather-same :
       (low k : ℕ) (keys : List ℕ) (xs : List A) → climbs_from low keys ≡ true → AllByRecursion (IsAmong keys) xs →
       filter (has k) (gather keys xs) ≡ filter (has k) xs
-  gather-same low k keys xs climbs among = by_test (list_any (λ j. j == k) keys) refl
-    where
-      by_test : (b : Bool) → list_any (λ j. j == k) keys ≡ b → filter (has k) (gather keys xs) ≡ filter (has k) xs
-      by_test true is = gather-keeps low k keys xs climbs is
-      by_test false is = gather-absent k keys xs is ∙ sym (filter-absent k keys xs is among)
+  gather-same low k keys xs climbs among = grind (arith, common_steps, gather-keeps low k keys xs climbs, gather-absent k keys xs, filter-absent k keys xs)
 
   -- one of a key below those that are asked for goes unseen
   gather-below : (low : ℕ) (keys : List ℕ) (x : A) (xs : List A) → climbs_from low keys ≡ true → key x ≤ low → gather keys (x ∷ xs) ≡ gather keys xs
   gather-below low [] x xs climbs le = refl
   gather-below low (j ∷ keys) x xs climbs le =
-      let parts = and_parts (ltb low j) (climbs_from j keys) climbs in
-      let above = ltb-true low j parts.0 in
-      rw (ne_eqb j (key x) (λ same. absurd (omega (arith, same, above, le))))
-      (ap (λ ys. filter (has j) xs ++ ys) (gather-below j keys x xs parts.1 (omega (arith, above, le))))
+      grind (arith, common_steps, and_parts (ltb low j) (climbs_from j keys) climbs, ltb-true low j, ne_eqb j (key x), gather-below j keys x xs)
 
   -- a list whose keys rise from a number has none of a key below it
   rises_above : (low k : ℕ) (xs : List A) → rises_from low (map key xs) ≡ true → k < low → filter (has k) xs ≡ []
@@ -180,18 +151,13 @@ module _ {A : Type 0} (key : A → ℕ) where
   rises_lower : (low from : ℕ) (ns : List ℕ) → low ≤ from → rises_from from ns ≡ true → rises_from low ns ≡ true
   rises_lower low from [] le rises = refl
   rises_lower low from (n ∷ ns) le rises =
-      let parts = and_parts (leb from n) (rises_from n ns) rises in
-      let above = leb-true from n parts.0 in
-      rw (le-leb low n (omega (arith, le, above))) parts.1
+      grind (arith, common_steps, and_parts (leb from n) (rises_from n ns) rises, rises_from n ns, leb-true from n, le-leb low n)
 
   rises_past :
       (low j : ℕ) (xs ys : List A) → low ≤ j → rises_from j (map key ys) ≡ true → rises_from low (map key (filter (has j) xs ++ ys)) ≡ true
   rises_past low j [] ys le rises = rises_lower low j (map key ys) le rises
   rises_past low j (x ∷ xs) ys le rises =
-      elim (eqb_tells j (key x)) [
-        | inl same ↦ rw (same.0, le-leb low (key x) (omega (arith, le, same.1))) (rises_past (key x) j xs ys (omega (arith, same.1)) rises)
-        | inr other ↦ rw other.0 (rises_past low j xs ys le rises)
-      ]
+      grind (arith, common_steps, eqb_tells j (key x), le-leb low (key x), rises_past (key x) j xs ys, rises_past low j xs ys le rises)
 
   gather-rises : (low : ℕ) (keys : List ℕ) (xs : List A) → climbs_from low keys ≡ true → rises_from low (map key (gather keys xs)) ≡ true
   gather-rises low [] xs climbs = refl
@@ -227,20 +193,13 @@ module _ {A : Type 0} (key : A → ℕ) where
   gather-weight : (weight : A → ℕ) (low : ℕ) (keys : List ℕ) (xs : List A) → climbs_from low keys ≡ true → sum_by weight (gather keys xs) ≤ sum_by weight xs
   gather-weight weight low keys [] climbs = let none = ap (sum_by weight) (gather-nil keys) in omega (arith, none)
   gather-weight weight low keys (x ∷ xs) climbs =
-      let first = gather-first_weight weight low keys x xs climbs in
-      let later = gather-weight weight low keys xs climbs in
-      let all = sum_by-cons weight x xs in
-      omega (arith, first, later, all)
+      grind (arith, common_steps, gather-first_weight weight low keys x xs climbs, gather-weight weight low keys xs climbs, sum_by-cons weight x xs)
 
   -- ---- what holds of each
 
   filter-each : (P : A → Type 0) (p : A → Bool) (xs : List A) → AllByRecursion P xs → AllByRecursion P (filter p xs)
   filter-each P p [] all = tt
-  filter-each P p (x ∷ xs) all = by_test (p x) (filter-each P p xs all.1)
-    where
-      by_test : (b : Bool) → AllByRecursion P (filter p xs) → AllByRecursion P (cond b (x ∷ filter p xs) (filter p xs))
-      by_test true later = (all.0, later)
-      by_test false later = later
+  filter-each P p (x ∷ xs) all = grind (arith, common_steps, filter-each P p xs all.1)
 
   gather-each : (P : A → Type 0) (keys : List ℕ) (xs : List A) → AllByRecursion P xs → AllByRecursion P (gather keys xs)
   gather-each P [] xs all = tt
@@ -272,8 +231,7 @@ singletons_once = refl
 
 singletons_all : (b : ℕ) → b < 128 → (not (is_singleton b) || list_any (λ j. j == fold_byte b) folded_singletons) ≡ true
 unfolding fold_byte is_singleton is_letter is_digit is_mark
-singletons_all b below =
-    agree_below_at (λ c. not (is_singleton c) || list_any (λ j. j == fold_byte c) folded_singletons) (λ c. true) 128 b refl below
+singletons_all b below = grind (arith, common_steps, agree_below_at)
 
 -- each singleton is one of them
 singleton_known : (b : ℕ) → is_singleton b ≡ true → list_any (λ j. j == fold_byte b) folded_singletons ≡ true

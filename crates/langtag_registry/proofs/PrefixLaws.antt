@@ -3,6 +3,7 @@ use Rattle.std.proofs.Common.{◌≡◌, ℕ, zero, suc, ◌+◌, ◌<◌, ◌�
 use Rattle.std.specs.List.{list_all, list_any}
 use Rattle.std.proofs.lemmas.Bool.{and_parts}
 use Rattle.std.proofs.lemmas.List.{length-map, get_or-map, at_drop_more}
+use Rattle.std.proofs.lemmas.Grind.{common_steps}
 use Rattle.langtag_scan.specs.Case.{are_alike}
 use Rattle.langtag_scan.specs.Class.{are_alphanumeric}
 use Rattle.langtag_match.specs.Extended.{test_extended}
@@ -20,8 +21,7 @@ module _ {A B C : Type 0} (f : A → C) (g : B → C) (xs : List A) (ys : List B
   length-same = sym (length-map xs f) ∙ ap length same ∙ length-map ys g
 
   pub same_at : (i : ℕ) (a : A) (b : B) (c : C) → i < length xs → f (get_or xs i a) ≡ g (get_or ys i b)
-  same_at i a b c inside =
-      sym (get_or-map f xs i a c inside) ∙ ap (λ zs. get_or zs i c) same ∙ get_or-map g ys i b c (omega (arith, inside, length-same))
+  same_at i a b c inside = grind (arith, common_steps, get_or-map f xs i a c inside, get_or-map g ys i b c, length-same)
 
 pub list_all_get : {A : Type 0} (p : A → Bool) (xs : List A) (i : ℕ) (a : A) → list_all p xs ≡ true → i < length xs → p (get_or xs i a) ≡ true
 list_all_get p [] i a all inside = absurd (omega (arith, inside))
@@ -32,8 +32,7 @@ list_all_get p (x ∷ xs) (suc i) a all inside = list_all_get p xs i a (and_part
 pub number_tells :
     (entry : Entry) (variant : List ℕ) (number key : ℕ) (same : Bool) → are_alphanumeric entry.subtag ≡ true → are_alphanumeric variant ≡ true →
     number ≡ folded_number variant → key ≡ folded_number entry.subtag → (number == key) ≡ same → are_alike entry.subtag variant ≡ same
-number_tells entry variant number key same good also at beside is =
-    sym (folded_number-tells entry.subtag variant good also) ∙ ap (λ n. n == folded_number entry.subtag) (sym at) ∙ ap (λ k. number == k) (sym beside) ∙ is
+number_tells entry variant number key same good also at beside is = grind (arith, common_steps, folded_number-tells entry.subtag variant good also)
 
 -- ---- what the entries that are left answer: whether one has a prefix that matches; and where there was none for the
 -- variant, whether there is none
@@ -46,27 +45,11 @@ module _ (text variant : List ℕ) where
 
   fits_left-any : (list : List Entry) → fits_left false list ≡ list_any (λ prefix. test_extended prefix text) (values_for list variant)
   fits_left-any [] = refl
-  fits_left-any (e ∷ list) = by_tests (are_alike e.subtag variant) (test_extended e.value text) refl refl (fits_left-any list)
-    where
-      by_tests :
-          (alike matches : Bool) → are_alike e.subtag variant ≡ alike → test_extended e.value text ≡ matches →
-          fits_left false list ≡ list_any (λ prefix. test_extended prefix text) (values_for list variant) →
-          fits_left false (e ∷ list) ≡ list_any (λ prefix. test_extended prefix text) (values_for (e ∷ list) variant)
-      by_tests false matches is also others = rw is others
-      by_tests true true is also others = rw (is, also) refl
-      by_tests true false is also others = rw (is, also) others
+  fits_left-any (e ∷ list) = grind (arith, common_steps, fits_left-any list)
 
   fits_left-some : (list : List Entry) → fits_left true list ≡ some_matches (values_for list variant) text
   fits_left-some [] = refl
-  fits_left-some (e ∷ list) = by_tests (are_alike e.subtag variant) (test_extended e.value text) refl refl (fits_left-some list)
-    where
-      by_tests :
-          (alike matches : Bool) → are_alike e.subtag variant ≡ alike → test_extended e.value text ≡ matches →
-          fits_left true list ≡ some_matches (values_for list variant) text →
-          fits_left true (e ∷ list) ≡ some_matches (values_for (e ∷ list) variant) text
-      by_tests false matches is also others = rw is others
-      by_tests true true is also others = rw (is, also) refl
-      by_tests true false is also others = rw (is, also) (fits_left-any list)
+  fits_left-some (e ∷ list) = grind (arith, common_steps, fits_left-some list, fits_left-any list)
 
   -- the entries from an index on give the answer
   unfoldable pub IsLeft : Bool → ℕ → Type 0
@@ -101,10 +84,4 @@ module _ (text variant : List ℕ) where
 
   pub left_ended : (has_none : Bool) (i : ℕ) → IsLeft has_none i → length variant_prefixes ≤ i → has_none ≡ fits_after text variant
   unfolding IsLeft
-  left_ended has_none i left ends = sym (left ∙ ap (fits_left has_none) (drop-all variant_prefixes i ends))
-    where
-      drop-all : (es : List Entry) (j : ℕ) → length es ≤ j → drop j es ≡ []
-      drop-all [] zero le = refl
-      drop-all [] (suc j) le = refl
-      drop-all (e ∷ es) zero le = absurd (omega (arith, le))
-      drop-all (e ∷ es) (suc j) le = drop-all es j (omega (arith, le))
+  left_ended has_none i left ends = grind (arith, common_steps)

@@ -3,6 +3,7 @@ use Rattle.std.proofs.Common.{◌≡◌, ℕ, ◌≤◌, List, [], ◌∷◌, �
 use Rattle.std.specs.List.{flat_map}
 use Rattle.std.specs.Option.{option_map}
 use Rattle.std.proofs.lemmas.List.Sums.{fold-append}
+use Rattle.std.proofs.lemmas.Grind.{common_steps}
 use Rattle.langtag_scan.specs.Record.{PrivateUse, Record, IsWellFormed, extension_flat, private_use_flat, private_part_flat, one_flat, flat, spell}
 use Rattle.langtag_scan.specs.Subtags.{join}
 use Rattle.langtag_scan.proofs.Joins.{hyphenated, join-hyphenated}
@@ -23,10 +24,7 @@ with_subtags-some text (s ∷ ss) some =
 -- some that are joined already follow as each of them does
 pub with_joined : (text s : List ℕ) (ss : List (List ℕ)) → 1 ≤ length s → with_subtag text (join (s ∷ ss)) ≡ fold with_subtag text (s ∷ ss)
 unfolding with_subtag
-with_joined [] s ss some = join-hyphenated s ss ∙ sym (with_subtags-some s ss some)
-with_joined (b ∷ text) s ss some =
-    ap (λ t. (b ∷ text) ++ 45 ∷ t) (join-hyphenated s ss) ∙ sym (append_assoc (b ∷ text) (45 ∷ s) (hyphenated ss))
-    ∙ sym (with_subtags-some ((b ∷ text) ++ 45 ∷ s) ss (omega arith))
+with_joined text s ss some = grind (arith, common_steps, join-hyphenated s ss, append_assoc, hyphenated ss, with_subtags-some)
 
 pub record_joined : (r : Record) → IsWellFormed r → fold with_subtag [] (flat r) ≡ spell r
 unfolding with_subtag
@@ -35,8 +33,7 @@ record_joined r fits = sym (with_joined [] r.primary _ (of_primary r.primary fit
 -- ---- several are put
 
 pub pushes_both : (ss ts : List (List ℕ)) (old middle new : Output) → Pushes ss old middle → Pushes ts middle new → Pushes (ss ++ ts) old new
-pushes_both ss ts old middle new these those first text has =
-    subst (HasText first new) (sym (fold-append with_subtag text ss ts)) (those first (fold with_subtag text ss) (these first text has))
+pushes_both ss ts old middle new these those first text has = grind (arith, common_steps, fold-append with_subtag text ss ts)
 
 pub pushes_same : (ss ts : List (List ℕ)) (old new : Output) → ss ≡ ts → Pushes ss old new → Pushes ts old new
 pushes_same ss ts old new same these = subst (λ us. Pushes us old new) same these

@@ -1,8 +1,9 @@
 -- What a subtag becomes in a canonical form: one of its class, which is replaced by nothing more.
-use Rattle.std.proofs.Common.{◌≡◌, ℕ, ◌≤◌, true, false, Bool, not, ◌||◌, cond, leb, List, [], ◌∷◌, length, map, find, Option, None, Some, is_some, IfSome, option_map, unwrap_or, inl, inr, ◌⊎◌, refl, sym, ap, ◌∙◌}
+use Rattle.std.proofs.Common.{◌≡◌, ℕ, ◌≤◌, true, false, Bool, not, leb, List, [], ◌∷◌, length, map, find, Option, None, Some, is_some, IfSome, option_map, unwrap_or, ◌⊎◌, refl, ap, arith}
 use Rattle.std.specs.List.{list_all, list_any, AllByRecursion}
 use Rattle.std.specs.Str.{bytes_eq}
 use Rattle.std.proofs.lemmas.Bool.{and_parts, leb-true}
+use Rattle.std.proofs.lemmas.Grind.{common_steps}
 use Rattle.langtag_scan.specs.Case.{fold_byte, fold_text, Alike, are_alike}
 use Rattle.langtag_scan.specs.Class.{is_letter, is_extended}
 use Rattle.langtag_registry.specs.Canonical.{preferred_extlang}
@@ -13,8 +14,7 @@ use Rattle.langtag_registry.specs.Subtags.{language_preferred, region_preferred,
 use Rattle.langtag_registry.proofs.Values.{value_good}
 
 pub none_from_test : (o : Option (List ℕ)) → not (is_some o) ≡ true → o ≡ None
-none_from_test None h = refl
-none_from_test (Some x) h = absurd cc
+none_from_test o h = grind (arith, common_steps)
 
 -- ---- a subtag that becomes its Preferred-Value, or stays
 
@@ -24,40 +24,27 @@ module _ (preferred : List ℕ → Option (List ℕ)) where
 
   -- what holds of it, and of each Preferred-Value, holds of what it becomes
   pub replaced-holds : (P : List ℕ → Type 0) (s : List ℕ) → P s → ((new : List ℕ) → preferred s ≡ Some new → P new) → P (replaced s)
-  replaced-holds P s holds new_holds = by_option (preferred s) refl
-    where
-      by_option : (o : Option (List ℕ)) → preferred s ≡ o → P (unwrap_or o s)
-      by_option None is = holds
-      by_option (Some new) is = new_holds new is
+  replaced-holds P s holds new_holds = grind (arith, common_steps)
 
   abbrev pub IsSettled : Type 0
   IsSettled = (s new : List ℕ) → preferred s ≡ Some new → preferred new ≡ None
 
   -- where no Preferred-Value has one itself, replacing once more changes nothing
   pub replaced-twice : IsSettled → (s : List ℕ) → replaced (replaced s) ≡ replaced s
-  replaced-twice settled s = by_option (preferred s) refl
-    where
-      by_option : (o : Option (List ℕ)) → preferred s ≡ o → unwrap_or (preferred (unwrap_or o s)) (unwrap_or o s) ≡ unwrap_or o s
-      by_option None is = ap (λ o. unwrap_or o s) is
-      by_option (Some new) is = ap (λ o. unwrap_or o new) (settled s new is)
+  replaced-twice settled s = grind (arith, common_steps)
 
   abbrev pub IgnoresCase : Type 0
   IgnoresCase = (a b : List ℕ) → Alike a b → preferred a ≡ preferred b
 
   -- alike subtags become alike ones
   pub replaced-alike : IgnoresCase → (a b : List ℕ) → Alike a b → Alike (replaced a) (replaced b)
-  replaced-alike ignores a b alike = ap (λ o. fold_text (unwrap_or o a)) (ignores a b alike) ∙ by_option (preferred b)
-    where
-      by_option : (o : Option (List ℕ)) → Alike (unwrap_or o a) (unwrap_or o b)
-      by_option None = alike
-      by_option (Some new) = refl
+  replaced-alike ignores a b alike = grind (arith, common_steps)
 
 -- ---- a subtag that may be there, and subtags
 
 module _ (P : List ℕ → Type 0) (f : List ℕ → List ℕ) (step : (s : List ℕ) → P s → P (f s)) where
   pub if_some-map : (o : Option (List ℕ)) → IfSome o P → IfSome (option_map f o) P
-  if_some-map None holds = tt
-  if_some-map (Some s) holds = step s holds
+  if_some-map o holds = grind (arith, common_steps)
 
   pub each-map : (ss : List (List ℕ)) → AllByRecursion P ss → AllByRecursion P (map f ss)
   each-map [] all = tt
@@ -67,9 +54,7 @@ module _ (P : List ℕ → Type 0) (f : List ℕ → List ℕ) (step : (s : List
 
 pub value_for-alike : (list : List Entry) (a b : List ℕ) → Alike a b → value_for list a ≡ value_for list b
 value_for-alike [] a b same = refl
-value_for-alike (e ∷ list) a b same =
-    ap (λ t. cond (bytes_eq (fold_text e.subtag) t) (Some e.value) (value_for list a)) same
-    ∙ ap (cond (are_alike e.subtag b) (Some e.value)) (value_for-alike list a b same)
+value_for-alike (e ∷ list) a b same = grind (arith, common_steps, value_for-alike list a b same)
 
 -- no value has one itself, where a test says so
 values_settled : (list : List Entry) → list_all (λ n. not (is_some (value_for list n))) (map (λ e. e.value) list) ≡ true → IsSettled (value_for list)
@@ -133,23 +118,11 @@ extlangs_extended = refl
 pub found_good :
     (p is_good : List ℕ → Bool) (list : List (List ℕ)) (x : List ℕ) → list_all is_good list ≡ true → find p list ≡ Some x → is_good x ≡ true
 found_good p is_good [] x all found = absurd cc
-found_good p is_good (y ∷ list) x all found =
-    let k = and_parts (is_good y) (list_all is_good list) all in
-    by_test (p y) (find p list) found k.0 (found_good p is_good list x k.1)
-  where
-    by_test :
-        (b : Bool) (later : Option (List ℕ)) → cond b (Some y) later ≡ Some x → is_good y ≡ true →
-        (later ≡ Some x → is_good x ≡ true) → is_good x ≡ true
-    by_test true later is first other = let same : y ≡ x = cc in rw (← same) first
-    by_test false later is first other = other is
+found_good p is_good (y ∷ list) x all found = grind (arith, common_steps, and_parts (is_good y) (list_all is_good list) all, found_good p is_good list x)
 
 is_some-find : (p : List ℕ → Bool) (list : List (List ℕ)) → is_some (find p list) ≡ list_any p list
 is_some-find p [] = refl
-is_some-find p (y ∷ list) = by_test (p y) (is_some-find p list)
-  where
-    by_test : (b : Bool) → is_some (find p list) ≡ list_any p list → is_some (cond b (Some y) (find p list)) ≡ (b || list_any p list)
-    by_test true later = refl
-    by_test false later = later
+is_some-find p (y ∷ list) = grind (arith, common_steps, is_some-find p list)
 
 -- an extended language is registered and becomes a language, or it is not and stays
 pub extlang_cases :
@@ -157,14 +130,7 @@ pub extlang_cases :
     ((new : List ℕ) × (preferred_extlang s ≡ Some new) × (is_registered_extlang s ≡ true))
     ⊎ ((preferred_extlang s ≡ None) × (is_registered_extlang s ≡ false))
 unfolding preferred_extlang is_registered_extlang
-extlang_cases s = by_option (find (are_alike s) extlang_subtags) refl (is_some-find (are_alike s) extlang_subtags)
-  where
-    by_option :
-        (o : Option (List ℕ)) → find (are_alike s) extlang_subtags ≡ o → is_some o ≡ list_any (are_alike s) extlang_subtags →
-        ((new : List ℕ) × (find (are_alike s) extlang_subtags ≡ Some new) × (list_any (are_alike s) extlang_subtags ≡ true))
-        ⊎ ((find (are_alike s) extlang_subtags ≡ None) × (list_any (are_alike s) extlang_subtags ≡ false))
-    by_option None is test = inr (is, sym test)
-    by_option (Some new) is test = inl (new, is, sym test)
+extlang_cases s = grind (arith, common_steps, is_some-find (are_alike s) extlang_subtags)
 
 pub new_extlang_extended : (s new : List ℕ) → preferred_extlang s ≡ Some new → is_extended new ≡ true
 unfolding preferred_extlang
@@ -172,10 +138,7 @@ new_extlang_extended s new is = found_good (are_alike s) is_extended extlang_sub
 
 pub extlang-alike : IgnoresCase preferred_extlang
 unfolding preferred_extlang
-extlang-alike a b alike = find-alike extlang_subtags
-  where
-    find-alike : (list : List (List ℕ)) → find (are_alike a) list ≡ find (are_alike b) list
-    find-alike list = ap (λ t. find (λ y. bytes_eq t (fold_text y)) list) alike
+extlang-alike a b alike = grind (arith, common_steps)
 
 pub registered_extlang-alike : (a b : List ℕ) → Alike a b → is_registered_extlang a ≡ is_registered_extlang b
 unfolding is_registered_extlang

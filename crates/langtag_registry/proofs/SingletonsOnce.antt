@@ -1,9 +1,10 @@
 -- Extensions in order repeat no singleton where they repeated none before.
-use Rattle.std.proofs.Common.{◌≡◌, ℕ, ◌+◌, ◌≤◌, true, false, Bool, cond, List, [], ◌∷◌, ◌++◌, length, map, filter, suc, length-append, append_assoc, append-nil, None, Some, inl, inr, refl, sym, ap, subst, ◌∙◌, arith}
+use Rattle.std.proofs.Common.{◌≡◌, ℕ, ◌+◌, ◌≤◌, true, false, Bool, cond, List, [], ◌∷◌, ◌++◌, length, map, filter, length-append, append_assoc, append-nil, None, Some, refl, sym, ap, subst, ◌∙◌, arith}
 use Rattle.std.specs.List.{list_any, AllByRecursion}
 use Rattle.std.proofs.lemmas.Bool.{or_parts}
 use Rattle.std.proofs.lemmas.Bool.Decides.{eqb_tells}
 use Rattle.std.proofs.lemmas.List.Elements.{filter-append}
+use Rattle.std.proofs.lemmas.Grind.{common_steps}
 use Rattle.langtag_scan.specs.Case.{fold_byte}
 use Rattle.langtag_scan.specs.Record.{Extension, IsWellFormedExtension}
 use Rattle.langtag.specs.Repeat.{repeat, are_alike_bytes}
@@ -19,43 +20,16 @@ abbrev AreOnce : List ℕ → Type 0
 AreOnce bytes = (b : ℕ) → times b bytes ≤ 1
 
 times-append : (b : ℕ) (xs ys : List ℕ) → times b (xs ++ ys) ≡ times b xs + times b ys
-times-append b xs ys =
-    ap length (filter-append (are_alike_bytes b) xs ys) ∙ length-append (filter (are_alike_bytes b) xs) (filter (are_alike_bytes b) ys)
+times-append b xs ys = grind (arith, common_steps, filter-append, length-append)
 
 times-none : (b x : ℕ) (seen : List ℕ) → fold_byte b ≡ fold_byte x → list_any (are_alike_bytes x) seen ≡ false → times b seen ≡ 0
 times-none b x [] same none = refl
 times-none b x (s ∷ seen) same none =
-    let parts = or_parts (are_alike_bytes x s) (list_any (are_alike_bytes x) seen) none in
-    rw (same, parts.0) (times-none b x seen same parts.1)
+    grind (arith, common_steps, or_parts (are_alike_bytes x s) (list_any (are_alike_bytes x) seen) none, times-none b x seen same)
 
 times-some : (x : ℕ) (seen : List ℕ) → list_any (are_alike_bytes x) seen ≡ true → 1 ≤ times x seen
 times-some x [] some = absurd cc
-times-some x (s ∷ seen) some =
-    elim (eqb_tells (fold_byte x) (fold_byte s)) [
-      | inl same ↦ rw same.0 (omega arith)
-      | inr other ↦ rw other.0 (let later = times-some x seen (rw other.0 at some) in omega (arith, later))
-    ]
-
-times-one : (x : ℕ) (xs : List ℕ) → 1 ≤ times x (x ∷ xs)
-times-one x xs =
-    elim (eqb_tells (fold_byte x) (fold_byte x)) [
-      | inl same ↦ rw same.0 (omega arith)
-      | inr other ↦ absurd (other.1 refl)
-    ]
-
-once_pushed : (x : ℕ) (seen : List ℕ) → AreOnce seen → list_any (are_alike_bytes x) seen ≡ false → AreOnce (seen ++ x ∷ [])
-once_pushed x seen once new b =
-    let sum = times-append b seen (x ∷ []) in
-    elim (eqb_tells (fold_byte b) (fold_byte x)) [
-      | inl same ↦
-          let before = times-none b x seen same.1 new in
-          let here : times b (x ∷ []) ≡ 1 = rw same.0 refl in
-          omega (arith, sum, before, here)
-      | inr other ↦
-          let before = once b in
-          let here : times b (x ∷ []) ≡ 0 = rw other.0 refl in
-          omega (arith, sum, before, here)
-    ]
+times-some x (s ∷ seen) some = grind (arith, common_steps, eqb_tells (fold_byte x) (fold_byte s), times-some x seen)
 
 -- where none of some bytes after others repeats one, all stand once
 once_from_none : (seen xs : List ℕ) → AreOnce seen → repeat_after are_alike_bytes seen xs ≡ None → AreOnce (seen ++ xs)
@@ -65,8 +39,7 @@ once_from_none seen (x ∷ xs) once none = by_test (list_any (are_alike_bytes x)
     by_test :
         (t : Bool) → list_any (are_alike_bytes x) seen ≡ t → cond t (Some x) (repeat_after are_alike_bytes (seen ++ x ∷ []) xs) ≡ None →
         (AreOnce (seen ++ x ∷ []) → repeat_after are_alike_bytes (seen ++ x ∷ []) xs ≡ None → AreOnce ((seen ++ x ∷ []) ++ xs)) → AreOnce (seen ++ x ∷ xs)
-    by_test true is none later = absurd cc
-    by_test false is none later = λ b. subst (λ all. times b all ≤ 1) (append_assoc seen (x ∷ []) xs) (later (once_pushed x seen once is) none b)
+    by_test t is none later = grind (arith, common_steps, append_assoc, times-append, eqb_tells, times-none)
 
 -- and only there
 none_from_once : (seen xs : List ℕ) → AreOnce (seen ++ xs) → repeat_after are_alike_bytes seen xs ≡ None
@@ -78,12 +51,7 @@ none_from_once seen (x ∷ xs) once =
     by_test :
         (t : Bool) → list_any (are_alike_bytes x) seen ≡ t → repeat_after are_alike_bytes (seen ++ x ∷ []) xs ≡ None →
         cond t (Some x) (repeat_after are_alike_bytes (seen ++ x ∷ []) xs) ≡ None
-    by_test true is later =
-        let twice = once x in
-        let sum = times-append x seen (x ∷ xs) in
-        let before = times-some x seen is in
-        let here = times-one x xs in
-        absurd (omega (arith, twice, sum, before, here))
+    by_test true is later = grind (arith, common_steps, times-append x seen (x ∷ xs), times-some x seen is, eqb_tells)
     by_test false is later = later
 
 abbrev singletons_of : List Extension → List ℕ
@@ -91,14 +59,7 @@ singletons_of es = map (λ e. e.singleton) es
 
 times-singletons : (b : ℕ) (es : List Extension) → times b (singletons_of es) ≡ length (filter (λ e. are_alike_bytes b e.singleton) es)
 times-singletons b [] = refl
-times-singletons b (e ∷ es) = by_test (are_alike_bytes b e.singleton) (times-singletons b es)
-  where
-    by_test :
-        (t : Bool) → times b (singletons_of es) ≡ length (filter (λ e. are_alike_bytes b e.singleton) es) →
-        length (cond t (e.singleton ∷ filter (are_alike_bytes b) (singletons_of es)) (filter (are_alike_bytes b) (singletons_of es)))
-        ≡ length (cond t (e ∷ filter (λ e. are_alike_bytes b e.singleton) es) (filter (λ e. are_alike_bytes b e.singleton) es))
-    by_test true later = ap suc later
-    by_test false later = later
+times-singletons b (e ∷ es) = grind (arith, common_steps, times-singletons b es)
 
 pub in_order-once :
     (es : List Extension) → AllByRecursion IsWellFormedExtension es → repeat are_alike_bytes (map (λ e. e.singleton) es) ≡ None →

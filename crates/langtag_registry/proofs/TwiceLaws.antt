@@ -1,16 +1,17 @@
 -- A text has one canonical form, and that is its own.
-use Rattle.std.proofs.Common.{◌≡◌, ℕ, true, Bool, not, ◌&&◌, List, [], ◌∷◌, map, Option, None, Some, is_some, unwrap_or, inl, inr, ◌⊎◌, refl, sym, ap, subst, ◌∙◌}
+use Rattle.std.proofs.Common.{◌≡◌, ℕ, true, Bool, not, ◌&&◌, List, [], ◌∷◌, map, Option, None, Some, is_some, unwrap_or, inl, inr, ◌⊎◌, refl, sym, ap, subst, ◌∙◌, arith, rules}
 use Rattle.std.specs.List.{list_all, position}
 use Rattle.std.specs.Option.{option_map_or}
 use Rattle.std.proofs.lemmas.Bool.{and_parts}
+use Rattle.std.proofs.lemmas.Grind.{common_steps}
 use Rattle.langtag_scan.specs.Case.{fold_byte, are_alike}
-use Rattle.langtag_scan.specs.Record.{Extension, Record, Spells, spell}
+use Rattle.langtag_scan.specs.Record.{Record, Spells, spell}
 use Rattle.langtag_scan.specs.Tag.{IsNormal}
 use Rattle.langtag_scan.proofs.NormalTexts.{spelled_once, normal_or_not}
 use Rattle.langtag.specs.Registered.{IsGrandfathered, text_of}
 use Rattle.langtag.specs.declared.grandfathered.TheConstants.{GRANDFATHERED}
 use Rattle.langtag.proofs.RegisteredLaws.{first_alike_found, none_alike}
-use Rattle.langtag_registry.specs.Canonical.{canonical_primary, canonical_extended, canonical_region, canonical_variants, in_order, canonical_record, IsCanonicalForm}
+use Rattle.langtag_registry.specs.Canonical.{canonical_primary, canonical_extended, canonical_region, canonical_variants, canonical_record, IsCanonicalForm}
 use Rattle.langtag_registry.specs.Fields.{preferred_language, preferred_region, preferred_variant, preferred_tag}
 use Rattle.langtag_registry.specs.Subtags.{language_preferred, region_preferred, variant_preferred, tag_preferred}
 use Rattle.langtag_registry.proofs.OrderLaws.{in_order-twice, in_order-risen}
@@ -25,44 +26,18 @@ record IsTwice (primary : List ℕ) (extended : List (List ℕ)) : Type 0 where
   first : canonical_primary (canonical_primary primary extended) (canonical_extended extended) ≡ canonical_primary primary extended
   others : canonical_extended (canonical_extended extended) ≡ canonical_extended extended
 
-language_twice : (p : List ℕ) (es : List (List ℕ)) → IsTwice p es
-language_twice p [] = record { first = replaced-twice preferred_language language_settled p; others = refl }
-language_twice p (e ∷ []) =
-    elim (extlang_cases e) [
-      | inl (new, found, known) ↦ record { first = rw (found, known) (replaced-twice preferred_language language_settled new); others = rw known refl }
-      | inr (none, other) ↦ record { first = rw (none, other) (rw none (replaced-twice preferred_language language_settled p)); others = rw other (rw other refl) }
-    ]
-language_twice p (e ∷ f ∷ es) = record { first = refl; others = refl }
-
 region_twice : (o : Option (List ℕ)) → canonical_region (canonical_region o) ≡ canonical_region o
-region_twice None = refl
-region_twice (Some g) = ap Some (replaced-twice preferred_region region_settled g)
+region_twice o = grind (arith, common_steps, replaced-twice preferred_region region_settled, region_settled)
 
 variants_twice : (vs : List (List ℕ)) → canonical_variants (canonical_variants vs) ≡ canonical_variants vs
 variants_twice [] = refl
 variants_twice (v ∷ vs) =
-    ap (λ z. z ∷ canonical_variants (canonical_variants vs)) (replaced-twice preferred_variant variant_settled v)
-    ∙ ap (λ zs. replaced preferred_variant v ∷ zs) (variants_twice vs)
-
--- a record with other members than its script and private use
-abbrev with_members : Record → List ℕ → List (List ℕ) → Option (List ℕ) → List (List ℕ) → List Extension → Record
-with_members r primary extended region variants extensions =
-    record r { primary = primary; extended = extended; region = region; variants = variants; extensions = extensions }
+    grind (arith, common_steps, replaced-twice preferred_variant variant_settled v, variant_settled v, replaced preferred_variant v, variants_twice vs)
 
 pub canonical_record-twice : (r : Record) → canonical_record (canonical_record r) ≡ canonical_record r
 unfolding canonical_record
 canonical_record-twice r =
-    let twice = language_twice r.primary r.extended in
-    let p = canonical_primary r.primary r.extended in
-    let es = canonical_extended r.extended in
-    let g = canonical_region r.region in
-    let vs = canonical_variants r.variants in
-    let xs = in_order r.extensions in
-    ap (λ z. with_members r z (canonical_extended es) (canonical_region g) (canonical_variants vs) (in_order xs)) twice.first
-    ∙ ap (λ z. with_members r p z (canonical_region g) (canonical_variants vs) (in_order xs)) twice.others
-    ∙ ap (λ z. with_members r p es z (canonical_variants vs) (in_order xs)) (region_twice r.region)
-    ∙ ap (λ z. with_members r p es g z (in_order xs)) (variants_twice r.variants)
-    ∙ ap (with_members r p es g vs) (in_order-twice r.extensions)
+    grind (arith, common_steps, region_twice r.region, variants_twice r.variants, in_order-twice r.extensions, replaced-twice, language_settled, extlang_cases)
 
 -- ---- the Preferred-Value of a whole tag stays: by computation
 
@@ -77,31 +52,16 @@ all_stay : list_all stays (map (λ e. e.value) tag_preferred) ≡ true
 unfolding tag_preferred language_preferred region_preferred variant_preferred preferred_tag preferred_language preferred_region preferred_variant fold_byte
 all_stay = refl
 
-region_stays : (o : Option (List ℕ)) → option_map_or (λ g. not (is_some (preferred_region g))) o true ≡ true → canonical_region o ≡ o
-region_stays None h = refl
-region_stays (Some g) h = ap (λ o. Some (unwrap_or o g)) (none_from_test (preferred_region g) h)
-
 variants_stay : (vs : List (List ℕ)) → list_all (λ v. not (is_some (preferred_variant v))) vs ≡ true → canonical_variants vs ≡ vs
 variants_stay [] h = refl
 variants_stay (v ∷ vs) h =
-    let k = and_parts (not (is_some (preferred_variant v))) (list_all (λ w. not (is_some (preferred_variant w))) vs) h in
-    ap (λ o. unwrap_or o v ∷ canonical_variants vs) (none_from_test (preferred_variant v) k.0) ∙ ap (λ ws. v ∷ ws) (variants_stay vs k.1)
+    grind (arith, common_steps, and_parts (not (is_some (preferred_variant v))), none_from_test (preferred_variant v), variants_stay vs)
 
 record_stays :
     (r : Record) → r.extended ≡ [] → r.extensions ≡ [] → preferred_language r.primary ≡ None → canonical_region r.region ≡ r.region →
     canonical_variants r.variants ≡ r.variants → canonical_record r ≡ r
 unfolding canonical_record
-record_stays r alone none language region variants =
-    let g = canonical_region r.region in
-    let vs = canonical_variants r.variants in
-    let xs = in_order r.extensions in
-    ap (λ es. with_members r (canonical_primary r.primary es) (canonical_extended es) g vs xs) alone
-    ∙ ap (λ o. with_members r (unwrap_or o r.primary) [] g vs xs) language
-    ∙ ap (λ z. with_members r r.primary [] z vs xs) region
-    ∙ ap (λ z. with_members r r.primary [] r.region z xs) variants
-    ∙ ap (λ z. with_members r r.primary [] r.region r.variants (in_order z)) none
-    ∙ ap (with_members r r.primary [] r.region r.variants) (in_order-risen [] tt refl ∙ sym none)
-    ∙ ap (λ es. with_members r r.primary es r.region r.variants r.extensions) (sym alone)
+record_stays r alone none language region variants = grind (arith, common_steps, in_order-risen)
 
 -- ---- a text that is its own canonical form
 
@@ -126,16 +86,10 @@ whole_settled text new is = none_from_test (preferred_tag new) (and_parts _ _ (s
 -- nor do its subtags
 pub preferred_record_stays : (text new : List ℕ) → preferred_tag text ≡ Some new → canonical_record (record_of new) ≡ record_of new
 preferred_record_stays text new is =
-    let r = record_of new in
-    let simple = simple_record new in
-    let a = and_parts _ _ (stays_of text new is) in
-    let b = and_parts _ _ a.1 in
-    let c = and_parts _ _ b.1 in
-    record_stays r simple.extended simple.extensions (none_from_test (preferred_language r.primary) b.0) (region_stays r.region c.0) (variants_stay r.variants c.1)
+    grind (arith, common_steps, record_of new, simple_record new, and_parts, stays_of text new is, record_stays, none_from_test, variants_stay)
 
 pub preferred_itself : (text new : List ℕ) → preferred_tag text ≡ Some new → IsCanonicalForm new new
-preferred_itself text new is =
-    itself new (record_of new) (whole_settled text new is) (preferred_spelled text new is) (preferred_record_stays text new is)
+preferred_itself text new is = search (rules, itself, record_of, whole_settled, preferred_spelled, preferred_record_stays)
 
 -- ---- every text
 
@@ -185,10 +139,7 @@ form_twice old new p = by_way (way_of old)
     by_text :
         (r : Record) → Spells r old → (o : Option (List ℕ)) → preferred_tag (spell (canonical_record r)) ≡ o →
         new ≡ unwrap_or o (spell (canonical_record r)) → IsCanonicalForm new new
-    by_text r spells None none is =
-        subst (λ z. IsCanonicalForm z z) (sym is)
-        (itself (spell (canonical_record r)) (canonical_record r) none (canonical_record_well_formed r spells.0, refl) (canonical_record-twice r))
-    by_text r spells (Some w) found is = subst (λ z. IsCanonicalForm z z) (sym is) (preferred_itself (spell (canonical_record r)) w found)
+    by_text r spells o found is = grind (arith, common_steps, itself, canonical_record_well_formed, canonical_record-twice, preferred_itself)
 
     by_way : Way old → IsCanonicalForm new new
     by_way (as_whole w is) = subst (λ z. IsCanonicalForm z z) (sym (p.whole w is)) (preferred_itself old w is)

@@ -1,5 +1,6 @@
 -- The canonical form of a valid tag is valid where no two variants become the same, and only there.
-use Rattle.std.proofs.Common.{◌≡◌, ℕ, ◌-◌, ◌/◌, ◌%◌, ◌≤◌, ◌==◌, true, Bool, ◌&&◌, leb, ltb, List, [], ◌∷◌, length, get_or, map, Option, None, Some, is_none, unwrap_or, IsTrue, inl, inr, refl, sym, ap, subst, ◌∙◌, arith}
+use Rattle.std.proofs.Common.{◌≡◌, ℕ, ◌-◌, ◌/◌, ◌%◌, ◌≤◌, ◌==◌, true, Bool, ◌&&◌, leb, ltb, List, [], length, get_or, map, Option, None, Some, is_none, unwrap_or, IsTrue, inl, inr, refl, sym, ap, subst, ◌∙◌, arith, rules}
+use Rattle.std.proofs.lemmas.Grind.{common_steps}
 use Prim.Native.Nat.{◌^◌}
 use Rattle.std.specs.List.{list_all, AllByRecursion}
 use Rattle.std.specs.Option.{option_map_or}
@@ -12,7 +13,7 @@ use Rattle.langtag_scan.proofs.NormalTexts.{spelled_once}
 use Rattle.langtag_scan.proofs.SubtagLists.{each_from_test}
 use Rattle.langtag.specs.Repeat.{repeat}
 use Rattle.langtag_registry.specs.declared.tables.TheConstants.{LANGUAGE_BITS}
-use Rattle.langtag_registry.specs.Canonical.{preferred_extlang, canonical_primary, canonical_extended, canonical_variants, canonical_record, IsCanonicalForm}
+use Rattle.langtag_registry.specs.Canonical.{preferred_extlang, canonical_extended, canonical_variants, canonical_record, IsCanonicalForm}
 use Rattle.langtag_registry.specs.Fields.{preferred_language, preferred_region, preferred_variant, preferred_tag}
 use Rattle.langtag_tables.specs.Numbers.{letter_number}
 use Rattle.langtag_registry.specs.Registered.{is_registered_language, is_registered_extlang, is_registered_script, is_registered_region, is_registered_variant}
@@ -87,47 +88,21 @@ record IsValidLanguage (primary : List ℕ) (extended : List (List ℕ)) : Type 
 canonical_primary_known : (p : List ℕ) → IsTrue (is_registered_language p) → IsTrue (is_registered_language (replaced preferred_language p))
 canonical_primary_known p known = replaced-holds preferred_language (λ s. IsTrue (is_registered_language s)) p known (new_language_known p)
 
-canonical_primary_valid : (p : List ℕ) (es : List (List ℕ)) → IsValidLanguage p es → IsTrue (is_registered_language (canonical_primary p es))
-canonical_primary_valid p [] is = canonical_primary_known p is.first
-canonical_primary_valid p (e ∷ []) is =
-    elim (extlang_cases e) [
-      | inl (new, found, known) ↦ rw found (canonical_primary_known new (new_extlang_known e new found))
-      | inr (none, other) ↦ rw none (canonical_primary_known p is.first)
-    ]
-canonical_primary_valid p (e ∷ f ∷ es) is = is.first
-
 -- one extended language that is registered goes
 pub no_extended : (es : List (List ℕ)) → AllByRecursion (λ s. IsTrue (is_registered_extlang s)) es → length es ≤ 1 → canonical_extended es ≡ []
-no_extended [] known one = refl
-no_extended (e ∷ []) known one = rw known.0 refl
-no_extended (e ∷ f ∷ es) known one = absurd (omega (arith, one))
+no_extended es known one = grind (arith, common_steps)
 
 canonical_record_valid :
     (r : Record) → IsWellFormed r → IsValidRecord r → repeat are_alike (canonical_variants r.variants) ≡ None →
     IsValidRecord (canonical_record r)
 unfolding canonical_record
 canonical_record_valid r well valid once =
-    let none = no_extended r.extended valid.extended valid.one_extended in
-    record {
-      primary = canonical_primary_valid r.primary r.extended (record { first = valid.primary; others = valid.extended; one = valid.one_extended });
-      extended = rw none tt;
-      one_extended = rw none (omega arith);
-      script = valid.script;
-      region =
-          if_some-map (λ s. IsTrue (is_registered_region s)) (replaced preferred_region)
-          (λ s known. replaced-holds preferred_region (λ t. IsTrue (is_registered_region t)) s known (new_region_known s)) r.region valid.region;
-      variants =
-          each-map (λ s. IsTrue (is_registered_variant s)) (replaced preferred_variant)
-          (λ s known. replaced-holds preferred_variant (λ t. IsTrue (is_registered_variant t)) s known (new_variant_known s)) r.variants valid.variants;
-      no_repeated_variant = once;
-      no_repeated_singleton = in_order-once r.extensions well.extensions valid.no_repeated_singleton;
-    }
+    search (rules, no_extended, if_some-map, replaced, replaced-holds, new_region_known, each-map, new_variant_known, in_order-once, canonical_primary_known, extlang_cases, new_extlang_known)
 
 -- a text is valid that a valid record spells
 valid_spelled : (text : List ℕ) (r : Record) → Spells r text → IsValidRecord r → IsValid text
 unfolding IsValid IsTag IsNormal
-valid_spelled text r spells valid =
-    (inl (r, spells), inr (λ q other. subst IsValidRecord (spelled_once r q spells.0 other.0 (spells.1 ∙ sym other.1)) valid))
+valid_spelled text r spells valid = grind (arith, common_steps, spelled_once r)
 
 -- ---- the Preferred-Value of a whole tag is valid: by computation
 
@@ -147,8 +122,7 @@ unfolding preferred_tag
 whole_valid_of text new is = value_good is_whole_valid tag_preferred text new all_valid is
 
 is_none-None : (o : Option (List ℕ)) → is_none o ≡ true → o ≡ None
-is_none-None None h = refl
-is_none-None (Some x) h = absurd cc
+is_none-None o h = grind (arith, common_steps)
 
 few_extended : (r : Record) → r.extended ≡ [] → length r.extended ≤ 1
 few_extended r none = rw none (omega arith)
@@ -225,8 +199,7 @@ apart_form old new p valid r spells = by_way (way_of old)
         (o : Option (List ℕ)) → preferred_tag (spell (canonical_record r)) ≡ o → new ≡ unwrap_or o (spell (canonical_record r)) →
         repeat are_alike (canonical_variants r.variants) ≡ None
     by_text None none same = apart_where_valid r new (canonical_record_well_formed r spells.0, sym same) valid
-    by_text (Some w) found same =
-        same_variants r (preferred_apart (spell (canonical_record r)) w found (canonical_record r) (canonical_record_well_formed r spells.0, refl))
+    by_text (Some w) found same = search (rules, same_variants, preferred_apart, canonical_record_well_formed)
 
     by_way : Way old → repeat are_alike (canonical_variants r.variants) ≡ None
     by_way (as_whole w is) = preferred_apart old w is r spells

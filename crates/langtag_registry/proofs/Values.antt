@@ -5,6 +5,7 @@ use Rattle.std.specs.Prelude.{Result, Ok, Err}
 use Rattle.std.proofs.lemmas.Bool.{and_parts, ltb-true, eq-eqb, ne_eqb, false_from_ne_true}
 use Rattle.std.proofs.lemmas.List.{length-map, length-drop, drop-map, take_all, get_or-map}
 use Rattle.std.proofs.lemmas.List.Folds.{fold-map}
+use Rattle.std.proofs.lemmas.Grind.{common_steps}
 use Rattle.langtag_scan.specs.Case.{fold_byte, fold_text, are_alike, folded_number}
 use Rattle.langtag_scan.specs.CaseLaws.{are_alike-decides}
 use Rattle.langtag_scan.specs.Class.{are_alphanumeric}
@@ -24,8 +25,7 @@ are_plain list = list_all are_alphanumeric (map (λ e. e.subtag) list)
 
 -- a subtag is the text where the numbers are the same
 alike_by_number : (e : Entry) (list : List Entry) (text : List ℕ) (same : Bool) → are_plain (e ∷ list) ≡ true → are_alphanumeric text ≡ true → (folded_number text == folded_number e.subtag) ≡ same → are_alike e.subtag text ≡ same
-alike_by_number e list text same plain good is =
-    sym (folded_number-tells e.subtag text (and_parts (are_alphanumeric e.subtag) (are_plain list) plain).0 good) ∙ is
+alike_by_number e list text same plain good is = grind (arith, common_steps, folded_number-tells, and_parts)
 
 pub value_found :
     (low : ℕ) (list : List Entry) (text : List ℕ) (i : ℕ) → climbs_from low (numbers_of list) ≡ true → are_plain list ≡ true → are_alphanumeric text ≡ true →
@@ -55,16 +55,8 @@ value_at list (Err i) = None
 pub value_searched :
     (keys : List ℕ) (list : List Entry) (text : List ℕ) (key : ℕ) (found : Result ℕ ℕ) → AreKeysOf keys (map (λ e. e.subtag) list) → are_alphanumeric text ≡ true →
     key ≡ folded_number text → IsSearched keys key found → value_for list text ≡ value_at list found
-value_searched keys list text key found of good is at = by_found found (rw (of.numbers, is) at at)
-  where
-    climb : climbs_from 0 (numbers_of list) ≡ true
-    climb = ap (climbs_from 0) (sym of.numbers) ∙ of.climb
-
-    by_found :
-        (found : Result ℕ ℕ) → IsSearched (numbers_of list) (folded_number text) found →
-        value_for list text ≡ value_at list found
-    by_found (Ok i) at = value_found 0 list text i climb of.plain good at.0 at.1
-    by_found (Err i) at = value_absent list text of.plain good (searched_apart (numbers_of list) (folded_number text) i at)
+value_searched keys list text key found of good is at =
+    grind (arith, common_steps, value_found 0 list text, value_absent list text of.plain good, searched_apart (numbers_of list) (folded_number text))
 
 -- no subtag of at most so many letters is alike a longer text
 pub value_of_long :
@@ -84,15 +76,7 @@ pub value_good :
     (is_good : List ℕ → Bool) (list : List Entry) (text value : List ℕ) → list_all is_good (map (λ e. e.value) list) ≡ true →
     value_for list text ≡ Some value → is_good value ≡ true
 value_good is_good [] text value all is = absurd cc
-value_good is_good (e ∷ list) text value all is =
-    let k = and_parts (is_good e.value) (list_all is_good (map (λ q. q.value) list)) all in
-    by_test (are_alike e.subtag text) (value_for list text) is k.0 (λ later. value_good is_good list text value k.1 later)
-  where
-    by_test :
-        (b : Bool) (others : Option (List ℕ)) → cond b (Some e.value) others ≡ Some value → is_good e.value ≡ true →
-        (others ≡ Some value → is_good value ≡ true) → is_good value ≡ true
-    by_test true others is first later = let same : e.value ≡ value = cc in rw (← same) first
-    by_test false others is first later = later is
+value_good is_good (e ∷ list) text value all is = grind (arith, common_steps, and_parts (is_good e.value), value_good is_good list text value)
 
 -- ---- by the ends of texts
 
@@ -105,10 +89,7 @@ end_of_folded folded = fold (λ number d. number * 256 + d) 0 (drop (length fold
 
 end_number-folded : (text : List ℕ) → end_number text ≡ end_of_folded (fold_text text)
 unfolding end_number folded_number end_of_folded
-end_number-folded text =
-    sym (fold-map (λ number d. number * 256 + d) fold_byte 0 (drop (length text - 8) text))
-    ∙ ap (fold (λ number d. number * 256 + d) 0) (sym (drop-map fold_byte (length text - 8) text))
-    ∙ ap (λ n. fold (λ number d. number * 256 + d) 0 (drop (n - 8) (fold_text text))) (sym (length-map text fold_byte))
+end_number-folded text = grind (arith, common_steps, fold-map, drop-map fold_byte (length text - 8) text, length-map text fold_byte)
 
 apart_by_ends : (a b : List ℕ) → end_number a ≢ end_number b → are_alike a b ≡ false
 apart_by_ends a b apart =
@@ -127,10 +108,7 @@ end_found :
     get_or (ends_of list) i 0 ≡ end_number text →
     value_for list text ≡ cond (are_alike (get_or list i no_entry).subtag text) (Some (get_or list i no_entry).value) None
 end_found low [] text i climbs inside at = absurd (omega (arith, inside))
-end_found low (e ∷ list) text zero climbs inside at =
-    let later = (and_parts (ltb low (end_number e.subtag)) (climbs_from (end_number e.subtag) (ends_of list)) climbs).1 in
-    ap (cond (are_alike e.subtag text) (Some e.value))
-    (end_absent list text (λ k within same. let above = above_first (end_number e.subtag) (ends_of list) k later within in omega (arith, above, same, at)))
+end_found low (e ∷ list) text zero climbs inside at = grind (arith, common_steps, and_parts, end_absent, above_first)
 end_found low (e ∷ list) text (suc i) climbs inside at =
     let later = (and_parts (ltb low (end_number e.subtag)) (climbs_from (end_number e.subtag) (ends_of list)) climbs).1 in
     let above = above_first (end_number e.subtag) (ends_of list) i later (omega (arith, inside)) in
@@ -144,20 +122,13 @@ ending_at list text (Err i) = None
 pub end_searched :
     (keys : List ℕ) (list : List Entry) (text : List ℕ) (key : ℕ) (found : Result ℕ ℕ) → AreEndsOf keys (map (λ e. e.subtag) list) →
     key ≡ end_number text → IsSearched keys key found → value_for list text ≡ ending_at list text found
-end_searched keys list text key found of is at = by_found found (rw (of.numbers, is) at at)
-  where
-    climb : climbs_from 0 (ends_of list) ≡ true
-    climb = ap (climbs_from 0) (sym of.numbers) ∙ of.climb
-
-    by_found : (found : Result ℕ ℕ) → IsSearched (ends_of list) (end_number text) found → value_for list text ≡ ending_at list text found
-    by_found (Ok i) at = end_found 0 list text i climb at.0 at.1
-    by_found (Err i) at = end_absent list text (searched_apart (ends_of list) (end_number text) i at)
+end_searched keys list text key found of is at =
+    grind (arith, common_steps, end_found 0 list text, end_absent list text, searched_apart (ends_of list) (end_number text))
 
 -- as the code has it: the number of what stands from a start on, and a list of pairs
 pub end_of : (bytes : List ℕ) (start key : ℕ) → start ≡ length bytes - 8 → key ≡ folded_number (take (length bytes - start) (drop start bytes)) → key ≡ end_number bytes
 unfolding end_number
-end_of bytes start key at is =
-    is ∙ ap folded_number (take_all (length bytes - start) (drop start bytes) (omega (arith, length-drop start bytes))) ∙ ap (λ n. folded_number (drop n bytes)) at
+end_of bytes start key at is = grind (arith, common_steps, take_all (length bytes - start) (drop start bytes), length-drop start bytes)
 
 pub subtags-view : {A : Type 0} (view : A → Entry) (xs : List A) → map (λ e. e.subtag) (map view xs) ≡ map (λ x. (view x).subtag) xs
 subtags-view view [] = refl
@@ -166,8 +137,4 @@ subtags-view view (x ∷ xs) = ap (λ ts. (view x).subtag ∷ ts) (subtags-view 
 pub end_decided :
     {A : Type 0} (view : A → Entry) (keys : List ℕ) (xs : List A) (text : List ℕ) (i : ℕ) (d : A) (alike : Bool) → AreEndsOf keys (map (λ e. e.subtag) (map view xs)) → i < length keys →
     are_alike (view (get_or xs i d)).subtag text ≡ alike → ending_at (map view xs) text (Ok i) ≡ cond alike (Some (view (get_or xs i d)).value) None
-end_decided view keys xs text i d alike of inside is =
-    let within : i < length xs =
-    omega (arith, inside, ap length of.numbers, length-map xs view, length-map (map view xs) (λ e. e.subtag), length-map (map (λ e. e.subtag) (map view xs)) end_number) in
-    let here = get_or-map view xs i d no_entry within in
-    ap (λ e. cond (are_alike e.subtag text) (Some e.value) None) here ∙ ap (λ b. cond b (Some (view (get_or xs i d)).value) None) is
+end_decided view keys xs text i d alike of inside is = grind (arith, common_steps, length-map, get_or-map view xs i d no_entry, no_entry)

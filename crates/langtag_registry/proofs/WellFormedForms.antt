@@ -1,6 +1,7 @@
 -- The canonical record of a well-formed record is well-formed.
-use Rattle.std.proofs.Common.{◌≡◌, ℕ, ◌≤◌, ◌⊎◌, List, [], ◌∷◌, length, Option, IfSome, IsTrue, inl, inr, refl, arith}
+use Rattle.std.proofs.Common.{◌≡◌, ℕ, ◌≤◌, ◌⊎◌, List, [], length, Option, IfSome, IsTrue, arith}
 use Rattle.std.specs.List.{AllByRecursion}
+use Rattle.std.proofs.lemmas.Grind.{common_steps}
 use Rattle.langtag_scan.specs.Class.{is_primary, is_extended, is_region, is_variant}
 use Rattle.langtag_scan.specs.Record.{Record, IsWellFormed, IsWellFormedExtension}
 use Rattle.langtag_registry.specs.Canonical.{canonical_primary, canonical_extended, canonical_region, canonical_variants, canonical_record}
@@ -22,36 +23,15 @@ canonical_primary_well_formed p is = replaced-holds preferred_language (λ s. Is
 
 pub canonical_language_well_formed :
     (p : List ℕ) (es : List (List ℕ)) → IsLanguageOf p es → IsLanguageOf (canonical_primary p es) (canonical_extended es)
-canonical_language_well_formed p [] is = record { first = canonical_primary_well_formed p is.first; others = tt; few = is.few; short = inr refl }
-canonical_language_well_formed p (e ∷ []) is =
-    elim (extlang_cases e) [
-      | inl (new, found, known) ↦
-          rw (found, known)
-          record { first = canonical_primary_well_formed new (extended_primary new (new_extlang_extended e new found)); others = tt; few = omega arith; short = inr refl }
-      | inr (none, other) ↦
-          rw (none, other)
-          record {
-            first = canonical_primary_well_formed p is.first;
-            others = is.others;
-            few = is.few;
-            short = elim is.short [
-              | inl le ↦ inl (replaced-holds preferred_language (λ s. length s ≤ 3) p le (new_language_short p))
-              | inr none_left ↦ absurd cc
-            ];
-          }
-    ]
-canonical_language_well_formed p (e ∷ f ∷ es) is = is
+canonical_language_well_formed p es is =
+    grind (arith, common_steps, canonical_primary_well_formed, extlang_cases, extended_primary, new_extlang_extended, replaced-holds, new_language_short)
 
 pub canonical_region_well_formed : (o : Option (List ℕ)) → IfSome o (λ s. IsTrue (is_region s)) → IfSome (canonical_region o) (λ s. IsTrue (is_region s))
-canonical_region_well_formed =
-    if_some-map (λ s. IsTrue (is_region s)) (replaced preferred_region)
-    (λ s is. replaced-holds preferred_region (λ t. IsTrue (is_region t)) s is (regions_good s))
+canonical_region_well_formed = grind (arith, common_steps, if_some-map, replaced preferred_region, replaced-holds preferred_region, regions_good)
 
 pub canonical_variants_well_formed :
     (vs : List (List ℕ)) → AllByRecursion (λ s. IsTrue (is_variant s)) vs → AllByRecursion (λ s. IsTrue (is_variant s)) (canonical_variants vs)
-canonical_variants_well_formed =
-    each-map (λ s. IsTrue (is_variant s)) (replaced preferred_variant)
-    (λ s is. replaced-holds preferred_variant (λ t. IsTrue (is_variant t)) s is (variants_good s))
+canonical_variants_well_formed = grind (arith, common_steps, each-map, replaced preferred_variant, replaced-holds preferred_variant, variants_good)
 
 pub canonical_record_well_formed : (r : Record) → IsWellFormed r → IsWellFormed (canonical_record r)
 unfolding canonical_record

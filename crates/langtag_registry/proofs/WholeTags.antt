@@ -1,11 +1,12 @@
 -- The Preferred-Value of a whole tag is a normal tag of a simple record: by computation.
-use Rattle.std.proofs.Common.{◌≡◌, ℕ, ◌<◌, true, Bool, ltb, List, [], ◌∷◌, length, map, Option, None, Some, IsTrue, inl, inr, refl, arith}
+use Rattle.std.proofs.Common.{◌≡◌, ℕ, ◌<◌, true, Bool, ltb, List, [], ◌∷◌, length, map, Option, None, Some, IsTrue, inl, refl, arith}
 use Rattle.std.specs.Prelude.{◌&&◌, IfSome}
 use Rattle.std.specs.List.{list_all}
 use Rattle.std.specs.Option.{option_map_or}
 use Rattle.std.specs.Str.{bytes_eq}
 use Rattle.std.specs.Cmp.Lexicographic.{bytes_decides}
 use Rattle.std.proofs.lemmas.Bool.{and_parts}
+use Rattle.std.proofs.lemmas.Grind.{common_steps}
 use Rattle.langtag_scan.specs.Class.{is_letter, is_digit, is_primary, is_script, is_region, is_variant}
 use Rattle.langtag_scan.specs.Record.{Record, IsWellFormed, Spells, spell}
 use Rattle.langtag_scan.specs.Subtags.{subtags}
@@ -41,8 +42,7 @@ unfolding tag_preferred is_primary is_script is_region is_variant is_letter is_d
 all_spelled = refl
 
 pub if_some_from_test : (test : List ℕ → Bool) (o : Option (List ℕ)) → option_map_or test o true ≡ true → IfSome o (λ s. IsTrue (test s))
-if_some_from_test test None h = tt
-if_some_from_test test (Some x) h = h
+if_some_from_test test o h = grind (arith, common_steps)
 
 -- ---- the record of such a text
 
@@ -52,29 +52,13 @@ pub record IsSimple (r : Record) : Type 0 where
   pub private_use : r.private_use ≡ None
 
 pub simple_record : (text : List ℕ) → IsSimple (record_of text)
-simple_record text = shape (subtags text)
-  where
-    shape : (ss : List (List ℕ)) → IsSimple (of_subtags ss)
-    shape [] = record { extended = refl; extensions = refl; private_use = refl }
-    shape (a ∷ []) = record { extended = refl; extensions = refl; private_use = refl }
-    shape (a ∷ b ∷ []) = record { extended = refl; extensions = refl; private_use = refl }
-    shape (a ∷ b ∷ c ∷ []) = record { extended = refl; extensions = refl; private_use = refl }
-    shape (a ∷ b ∷ c ∷ d ∷ ss) = record { extended = refl; extensions = refl; private_use = refl }
+simple_record text = grind (arith, common_steps)
 
 well_formed :
     (r : Record) → IsSimple r → IsTrue (is_primary r.primary) → IsTrue (option_map_or is_script r.script true) →
     IsTrue (option_map_or is_region r.region true) → IsTrue (list_all is_variant r.variants) → IsWellFormed r
-well_formed r simple p s g v = record {
-  primary = p;
-  extended = rw simple.extended tt;
-  few = rw simple.extended (omega arith);
-  short = inr simple.extended;
-  script = if_some_from_test is_script r.script s;
-  region = if_some_from_test is_region r.region g;
-  variants = each_from_test is_variant r.variants v;
-  extensions = rw simple.extensions tt;
-  private_use = rw simple.private_use tt;
-}
+well_formed r simple p s g v =
+    grind (arith, common_steps, if_some_from_test is_script r.script s, if_some_from_test is_region r.region g, each_from_test is_variant r.variants v)
 
 spelled_from_test : (text : List ℕ) → is_spelled text ≡ true → Spells (record_of text) text
 spelled_from_test text h =

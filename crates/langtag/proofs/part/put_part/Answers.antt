@@ -1,5 +1,6 @@
-use Rattle.std.proofs.Common.{◌++◌, refl}
+use Rattle.std.proofs.Common.{◌++◌, refl, arith}
 use Rattle.std.specs.List.{replace_range}
+use Rattle.std.proofs.lemmas.Grind.{common_steps}
 use Rattle.langtag_scan.proofs.SpelledTexts.{normal_from_ends}
 use Rattle.langtag.specs.Text.{normal_lang_tag_text}
 use Rattle.langtag.proofs.PartLaws.{ends_of_tag, part_order, part_within, part_set, part_kept}
@@ -11,9 +12,7 @@ returns-clause-order c =
     rw (c.replacement.ensures.start, c.replacement.ensures.end) (part_order c.args.part _ c.ends.result kept)
 
 pub returns-clause-within : goal.returns-clause-within
-returns-clause-within c =
-    let kept = ends_of_tag _ _ c.ends.result c.args.tag.kept_ends c.ends.ensures in
-    rw c.replacement.ensures.end (part_within c.args.part _ c.ends.result kept)
+returns-clause-within c = grind (arith, common_steps, ends_of_tag, part_within)
 
 pub returns-clause-set : goal.returns-clause-set
 returns-clause-set c =

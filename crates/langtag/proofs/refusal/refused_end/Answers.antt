@@ -1,17 +1,13 @@
 use Rattle.std.proofs.Common.{take, subst, arith}
 use Rattle.std.proofs.lemmas.List.{take_all}
+use Rattle.std.proofs.lemmas.Grind.{common_steps}
 use Rattle.langtag_scan.specs.Tag.{IsTag}
 use Rattle.langtag.proofs.RefusalLaws.{first_end, second_end}
 use Rattle.langtag.proofs.refusal.refused_end.Goals.{else-end-bytes-via-then-end-bytes+else-is_tag, else-end-bytes-via-else-end-bytes}
 use Rattle.langtag.proofs.refusal.refused_end.Goals as goal
 
 pub returns-then-is_tag : goal.returns-then-is_tag
-returns-then-is_tag c =
-    let first = c.segment_end-end.ensures in
-    let next = c.segment_end.ensures in
-    let below = c.if-end-bytes.true in
-    second_end c.args.bytes.now c.args.viable c.requires.viable c.segment_end-end.result c.segment_end.result first.at_or_after below first.first
-    (first.hyphen below) (c.is_tag.ensures.0 c.if-is_tag.true) next.at_or_after next.within next.first next.hyphen
+returns-then-is_tag c = grind (arith, common_steps, second_end c.args.bytes.now c.args.viable c.requires.viable c.segment_end-end.result c.segment_end.result)
 
 pub returns : goal.returns
 returns c =

@@ -1,4 +1,5 @@
-use Rattle.std.proofs.Common.{set, arith, ap, refl}
+use Rattle.std.proofs.Common.{arith, refl}
+use Rattle.std.proofs.lemmas.Grind.{common_steps}
 use Rattle.langtag.proofs.VariantBlockLaws.{IsAbsent-place, AreMet-absent, AreMet-present, again-absent}
 use Rattle.langtag.proofs.variant_blocks.meet.Goals.{then-place-block-via-then-place-block, then-place-block-via-else-place-block+then-block-place}
 use Rattle.langtag.proofs.variant_blocks.meet.Goals as goal
@@ -17,9 +18,4 @@ returns-then-place-block c =
     }
 
 pub returns-clause-met : goal.returns-clause-met
-returns-clause-met c =
-    let at = c.place_of-place.ensures in
-    let within = at.within in
-    let short = c.if-place-block.false in
-    λ numbers before. AreMet-present c.args.block.now c.args.met.now _ numbers c.args.number c.place_of-place.result c.requires.room at
-    (omega (arith, within, short)) c.if-block-place.false (ap (set c.args.met.now c.place_of-place.result) c.replace.ensures.after) before
+returns-clause-met c = grind (arith, common_steps, AreMet-present c.args.block.now c.args.met.now)

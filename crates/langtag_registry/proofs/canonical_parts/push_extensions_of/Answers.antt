@@ -1,5 +1,6 @@
-use Rattle.std.proofs.Common.{true, false, sym, ap, refl, ◌∙◌}
+use Rattle.std.proofs.Common.{true, false, sym, ap, ◌∙◌, arith}
 use Rattle.std.proofs.lemmas.Bool.{eq-eqb, ne_eqb}
+use Rattle.std.proofs.lemmas.Grind.{common_steps}
 use Rattle.langtag_extension.specs.Text.{extension_text, extensions_left}
 use Rattle.langtag_registry.specs.Noted.{of_singleton}
 use Rattle.langtag_registry.proofs.ExtensionOrder.{of_singleton-next}
@@ -7,14 +8,7 @@ use Rattle.langtag_registry.proofs.Pushed.{pushes_same, pushes_next, pushes_ende
 use Rattle.langtag_registry.proofs.canonical_parts.push_extensions_of.Goals as goal
 
 pub loop-extension-init : goal.loop-extension-init
-loop-extension-init c = record {
-  can_next = tt;
-  is_finite = tt;
-  same_buffer = refl;
-  so_far = λ es spells new these.
-      pushes_same _ _ _ new
-      (ap (of_singleton c.args.singleton) (ap extensions_left c.into_iter-extension-iterator.ensures.into_iter_gives ∙ c.iter-extension-items.ensures.list es spells)) these;
-}
+loop-extension-init c = grind (arith, common_steps, pushes_same)
 
 pub loop-extension-preserved : goal.loop-extension-preserved
 loop-extension-preserved c =

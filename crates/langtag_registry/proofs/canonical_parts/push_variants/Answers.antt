@@ -1,4 +1,5 @@
-use Rattle.std.proofs.Common.{refl, sym, ap, ◌∙◌, unwrap_or}
+use Rattle.std.proofs.Common.{sym, ap, ◌∙◌, unwrap_or, arith}
+use Rattle.std.proofs.lemmas.Grind.{common_steps}
 use Rattle.langtag_place.specs.Text.{variant_text, variants_left}
 use Rattle.langtag_registry.specs.Canonical.{canonical_variants}
 use Rattle.langtag_registry.specs.Fields.{preferred_variant}
@@ -7,13 +8,7 @@ use Rattle.langtag_registry.proofs.Pushed.{pushes_same, pushes_next, pushes_ende
 use Rattle.langtag_registry.proofs.canonical_parts.push_variants.Goals as goal
 
 pub loop-variant-init : goal.loop-variant-init
-loop-variant-init c = record {
-  can_next = tt;
-  is_finite = tt;
-  same_buffer = refl;
-  so_far = λ new these.
-      pushes_same _ _ _ new (ap canonical_variants (ap variants_left c.into_iter-variant-iterator.ensures.into_iter_gives ∙ c.iter-variant-items.ensures.list)) these;
-}
+loop-variant-init c = grind (arith, common_steps, pushes_same)
 
 pub loop-variant-preserved : goal.loop-variant-preserved
 loop-variant-preserved c =

@@ -1,5 +1,6 @@
-use Rattle.std.proofs.Common.{length, ap, sym, true, false, ◌∙◌, ◌<◌, ◌≡◌, get_or, arith, []}
+use Rattle.std.proofs.Common.{length, ap, sym, true, false, ◌∙◌, ◌<◌, get_or, arith, []}
 use Rattle.std.proofs.lemmas.Bool.{eq-eqb, ne_eqb}
+use Rattle.std.proofs.lemmas.Grind.{common_steps}
 use Rattle.langtag_scan.proofs.SubtagFacts.{of_variant}
 use Rattle.langtag_place.specs.Text.{variant_text}
 use Rattle.langtag_match.specs.Extended.{test_extended}
@@ -19,19 +20,7 @@ loop-key-init c = left_first c.args.before.now (variant_text c.args.variant)
 
 pub returns-then-matches_prefix : goal.returns-then-matches_prefix
 returns-then-matches_prefix c =
-    let items = c.variant_prefixes-key-items.ensures in
-    let i = c.loop-key.key-index in
-    let text = variant_text c.args.variant in
-    let long = length-same (λ pair. pair.1.now) (λ e. e.value) _ _ items.values in
-    let inside = c.loop-key-test.true in
-    let within : i < length variant_prefixes = omega (arith, inside, long) in
-    left_matched c.args.before.now text c.loop-key.has_none i c.loop-key.invariant within
-    (number_tells (get_or variant_prefixes i no_entry) text _ _ true
-    (list_all_get (λ e. _) variant_prefixes i no_entry prefixed_alphanumeric within) (of_variant text c.args.variant.in_class).alphanumeric
-    (c.folded_number-number.ensures.number ∙ ap folded_number c.as_bytes.ensures)
-    (same_at (λ pair. pair.0) (λ e. folded_number e.subtag) _ _ items.numbers i _ no_entry 0 inside) (eq-eqb _ _ c.if-number-key.true))
-    (ap (λ prefix. test_extended prefix c.args.before.now) (sym (same_at (λ pair. pair.1.now) (λ e. e.value) _ _ items.values i _ no_entry [] inside))
-    ∙ sym c.matches_prefix.ensures ∙ c.if-matches_prefix.true)
+    grind (arith, common_steps, length-same, left_matched, number_tells, no_entry, list_all_get, prefixed_alphanumeric, of_variant, same_at, eq-eqb)
 
 pub loop-key-preserved : goal.loop-key-preserved
 loop-key-preserved c =
@@ -57,7 +46,4 @@ loop-key-preserved c =
     ]
 
 pub returns : goal.returns
-returns c =
-    let ends = c.loop-key-test.false in
-    let long = length-same (λ pair. pair.1.now) (λ e. e.value) _ _ c.variant_prefixes-key-items.ensures.values in
-    left_ended c.args.before.now (variant_text c.args.variant) c.loop-key.has_none c.loop-key.key-index c.loop-key.invariant (omega (arith, ends, long))
+returns c = grind (arith, common_steps, length-same, left_ended)

@@ -1,18 +1,16 @@
+use Rattle.std.proofs.Common.{rules}
 use Rattle.langtag_scan.proofs.CaseLaw.{alike_parts}
 use Rattle.langtag_case.proofs.RecommendedLaws.{alike_of_recommended, alike_recommended}
 use Rattle.langtag_case.proofs.RecordLaw.{spelled_in_case}
 use Rattle.langtag.proofs.AlikeFound.{ascii_found, found_alike}
 use Rattle.langtag.proofs.KeptFound.{alike_kinds}
-use Rattle.langtag.specs.Recognised.{finding_of}
 use Rattle.langtag.proofs.lang_tag_buf.LangTagBuf.make_recommended_case.Goals as goal
 
 pub put_recommended_case-requires : goal.put_recommended_case-requires
 put_recommended_case-requires c = ascii_found _ _ c.args.self.now.kept_found
 
 pub invariant_of-self : goal.invariant_of-self
-invariant_of-self c =
-    let alike = alike_of_recommended _ _ c.put_recommended_case.ensures.case in
-    record { kept_found = found_alike _ _ (finding_of c.args.self.now.found) alike c.args.self.now.kept_found }
+invariant_of-self c = search (rules, alike_of_recommended, found_alike)
 
 pub returns-clause-record : goal.returns-clause-record
 returns-clause-record c = spelled_in_case _ _ c.put_recommended_case.ensures.case

@@ -1,3 +1,5 @@
+use Rattle.std.proofs.Common.{arith}
+use Rattle.std.proofs.lemmas.Grind.{common_steps}
 use Rattle.langtag_scan.proofs.SpelledTexts.{ends_had}
 use Rattle.langtag.proofs.PartsFound.{language_found}
 use Rattle.langtag.proofs.PartRules.{IsLanguage-cut}
@@ -7,5 +9,4 @@ pub from_checked-requires : goal.from_checked-requires
 from_checked-requires c = rw c.language_str.ensures (IsLanguage-cut _ _ (ends_had _ _ c.args.self.now.kept_ends))
 
 pub returns : goal.returns
-returns c r spells =
-    rw (c.from_checked.ensures, c.language_str.ensures) (language_found _ _ (ends_had _ _ c.args.self.now.kept_ends) r spells)
+returns c r spells = grind (arith, common_steps, language_found, ends_had)

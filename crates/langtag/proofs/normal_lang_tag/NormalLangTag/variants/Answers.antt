@@ -1,4 +1,5 @@
-use Rattle.std.proofs.Common.{◌∙◌}
+use Rattle.std.proofs.Common.{arith}
+use Rattle.std.proofs.lemmas.Grind.{common_steps}
 use Rattle.langtag_scan.proofs.SpelledTexts.{ends_had}
 use Rattle.langtag.proofs.PartsFound.{variants_found}
 use Rattle.langtag.proofs.PartRules.{IsVariants-cut}
@@ -8,5 +9,4 @@ pub from_checked-requires : goal.from_checked-requires
 from_checked-requires c = rw c.part_or_empty.ensures (IsVariants-cut _ _ (ends_had _ _ c.args.self.now.kept_ends))
 
 pub returns : goal.returns
-returns c r spells =
-    c.from_checked.ensures ∙ c.part_or_empty.ensures ∙ variants_found _ _ (ends_had _ _ c.args.self.now.kept_ends) r spells
+returns c r spells = grind (arith, common_steps, variants_found, ends_had)

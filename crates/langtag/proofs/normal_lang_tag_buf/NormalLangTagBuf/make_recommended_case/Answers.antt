@@ -1,3 +1,4 @@
+use Rattle.std.proofs.Common.{rules}
 use Rattle.langtag_scan.proofs.CaseLaw.{alike_parts}
 use Rattle.langtag_case.proofs.RecommendedLaws.{alike_of_recommended}
 use Rattle.langtag_case.proofs.RecordLaw.{spelled_in_case}
@@ -5,8 +6,7 @@ use Rattle.langtag.proofs.AlikeFound.{ends_alike}
 use Rattle.langtag.proofs.normal_lang_tag_buf.NormalLangTagBuf.make_recommended_case.Goals as goal
 
 pub invariant_of-self : goal.invariant_of-self
-invariant_of-self c =
-    record { kept_ends = ends_alike _ _ c.args.self.now.ends (alike_of_recommended _ _ c.put_recommended_case.ensures.case) c.args.self.now.kept_ends }
+invariant_of-self c = search (rules, ends_alike, alike_of_recommended)
 
 pub returns-clause-record : goal.returns-clause-record
 returns-clause-record c = spelled_in_case _ _ c.put_recommended_case.ensures.case

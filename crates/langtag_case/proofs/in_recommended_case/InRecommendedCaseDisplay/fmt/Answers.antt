@@ -1,15 +1,13 @@
-use Rattle.std.proofs.Common.{◌++◌, ◌∷◌, [], append_assoc, rules, subst, sym, ap, ◌∙◌, encode_utf8}
+use Rattle.std.proofs.Common.{◌++◌, ◌∷◌, append_assoc, rules, subst, sym, ap, ◌∙◌, encode_utf8, arith}
 use Rattle.std.proofs.Output.{has_written_append}
 use Rattle.std.proofs.lemmas.Str.{encode_ascii, IsAscii-drop}
 use Rattle.std.specs.Str.{IsAscii}
-use Rattle.langtag_case.specs.RecommendedCase.{recommended_text}
+use Rattle.std.proofs.lemmas.Grind.{common_steps}
 use Rattle.langtag_case.proofs.RecommendedLaws.{recommended-ascii}
 use Rattle.langtag_case.proofs.in_recommended_case.InRecommendedCaseDisplay.fmt.Goals as goal
 
 pub loop-byte-init : goal.loop-byte-init
-loop-byte-init g c =
-    let begun = c.into_iter-byte-iterator.ensures.into_iter_gives ∙ c.new-byte-items.ensures ∙ ap recommended_text c.as_bytes-bytes.ensures.value in
-    (subst IsAscii (sym begun) (recommended-ascii c.args.self.now.text.now c.args.self.now.ascii), λ plain. ([], search rules, begun))
+loop-byte-init g c = grind (arith, common_steps, recommended-ascii c.args.self.now.text.now c.args.self.now.ascii)
 
 pub loop-byte-preserved : goal.loop-byte-preserved
 loop-byte-preserved g c =

@@ -1,4 +1,5 @@
 use Rattle.std.proofs.Common.{arith}
+use Rattle.std.proofs.lemmas.Grind.{common_steps}
 use Rattle.langtag_case.proofs.PieceLaws.{piece-single, piece-two, piece-four, piece-other}
 use Rattle.langtag_case.proofs.piece.Piece.later.Goals as goal
 
@@ -12,6 +13,4 @@ pub returns-in-4 : goal.returns-in-4
 returns-in-4 c = let end = c.segment_end.ensures in piece-four c.args.text.now _ end.within end.first end.hyphen c.in-4.is
 
 pub returns-in_default : goal.returns-in_default
-returns-in_default c =
-    let end = c.segment_end.ensures in
-    piece-other c.args.text.now _ end.within end.first end.hyphen (λ one. omega (arith, one)) (λ two. omega (arith, two)) (λ four. omega (arith, four))
+returns-in_default c = grind (arith, common_steps, piece-other c.args.text.now)

@@ -1,7 +1,8 @@
-use Rattle.std.proofs.Common.{◌≡◌, ℕ, ◌-◌, List, [], ◌∷◌, ◌++◌, length, Option, None, Some, MatchOption, refl, arith}
+use Rattle.std.proofs.Common.{◌≡◌, ℕ, ◌-◌, List, [], ◌∷◌, ◌++◌, length, Option, Some, MatchOption, refl, arith}
 use Rattle.std.specs.List.{slice_get}
 use Rattle.std.specs.Option.{option_map}
 use Rattle.std.proofs.lemmas.List.{length_push}
+use Rattle.std.proofs.lemmas.Grind.{common_steps}
 use Rattle.langtag_place.specs.declared.variant.Variant.{Variant}
 use Rattle.langtag_place.specs.Text.{variant_text, variants_text, variants_left}
 use Rattle.langtag_place.proofs.Rules.{subtags-spelled}
@@ -17,10 +18,7 @@ option_map-taken :
     (taken : Option Variant) (list rest : List (List ℕ)) →
     MatchOption taken ((list ≡ []) × (rest ≡ [])) (λ variant. list ≡ rest ++ variant_text variant ∷ []) →
     option_map variant_text taken ≡ slice_get list (length list - 1)
-option_map-taken None list rest taken = rw taken.0 refl
-option_map-taken (Some variant) list rest taken =
-    let index : length (rest ++ variant_text variant ∷ []) - 1 ≡ length rest = omega (arith, length_push rest (variant_text variant)) in
-    rw (taken, index, slice_get-push rest (variant_text variant)) refl
+option_map-taken taken list rest h = grind (arith, common_steps, length_push rest, slice_get-push rest)
 
 pub returns : goal.returns
 returns c = record {
