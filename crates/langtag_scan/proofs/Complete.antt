@@ -25,8 +25,7 @@ more_decode :
     {ss : List (List ℕ)} {b : Read} (stage after : Stage) (s : List ℕ) → may_follow stage after ≡ true →
     leads_to after (classes_of s) ≡ true → Decodes after ss b → Decodes stage (s ∷ ss) (put after s b)
 unfolding runs decode
-more_decode {ss} {b} stage after s follows class others =
-    grind (arith, common_steps, reached stage after s follows class, decode-cons stage after s ss, put after s)
+more_decode {ss} {b} stage after s follows class others = grind (arith, common_steps, reached stage after s follows class, decode-cons stage after s ss)
 
 in_private : (ss : List (List ℕ)) → AllByRecursion (λ s. IsTrue (is_private_subtag s)) ss → Decodes InPrivate ss (pending ss [] None)
 in_private [] fits = none_decodes InPrivate refl
@@ -123,4 +122,4 @@ decode_complete r fits =
 
 -- no two well-formed records have the same subtags
 pub flat_once : (r q : Record) → IsWellFormed r → IsWellFormed q → flat r ≡ flat q → r ≡ q
-flat_once r q fits fit e = grind (arith, common_steps, decode_complete r fits, decode Start, decode_complete q fit)
+flat_once r q fits fit e = grind (arith, common_steps, decode_complete r fits, decode_complete q fit)

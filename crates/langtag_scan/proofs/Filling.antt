@@ -60,7 +60,7 @@ filled_letters : (s : List ℕ) → are_letters s ≡ true → are_letters (s ++
 filled_letters s h = list_all-append is_letter s (filling s) ∙ rw (h, letters_a (5 - length s)) refl
 
 finishes : (stage : Stage) (s : List ℕ) → IsBegun stage s → Finishes stage (classes_of (s ++ filling s))
-finishes stage s begun = grind (arith, common_steps, filled stage s begun, Finishes stage, full_classes, after_full stage, letters-kind_of, filled_letters s)
+finishes stage s begun = grind (arith, common_steps, filled stage s begun, full_classes, after_full stage, letters-kind_of, filled_letters s)
 
 -- where the last subtag is filled, something is found
 pub filled_found : (stage : Stage) (e : Ends) (s : List ℕ) → IsBegun stage s → (f : Finding) × (outcome stage e (segments (s ++ filling s)) ≡ Some f)

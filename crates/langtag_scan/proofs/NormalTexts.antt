@@ -56,8 +56,8 @@ normal_from_runs t run =
 -- and only there
 pub runs_from_normal : (t : List ℕ) → IsNormal t → runs Start (segments t) ≡ true
 unfolding IsNormal
-runs_from_normal t n = grind (arith, common_steps, spelled_segments n.0 n.1.0, runs Start, decode_complete n.0 n.1.0)
+runs_from_normal t n = grind (arith, common_steps, spelled_segments n.0 n.1.0, decode_complete n.0 n.1.0)
 
 -- so a text is normal or not
 pub normal_or_not : (t : List ℕ) → IsNormal t ⊎ (IsNormal t → ⊥)
-normal_or_not t = grind (arith, common_steps, runs Start (segments t), normal_from_runs t, both_ways, runs_from_normal t)
+normal_or_not t = grind (arith, common_steps, normal_from_runs t, both_ways, runs_from_normal t)

@@ -58,7 +58,7 @@ private_outcome : (ss : List (List ℕ)) (e : Ends) → outcome InPrivateTag e s
 unfolding outcome runs
 private_outcome [] e = refl
 private_outcome (s ∷ ss) e =
-    grind (arith, common_steps, by_private (is_private_subtag s), runs, private_outcome ss (end_at InPrivateTag (index_after InPrivateTag e s) e))
+    grind (arith, common_steps, by_private (is_private_subtag s), private_outcome ss (end_at InPrivateTag (index_after InPrivateTag e s) e))
 
 marked_outcome : (ss : List (List ℕ)) (e : Ends) → outcome AfterFirstMark e ss ≡ found_if (runs AfterMark ss) PrivateUse
 unfolding outcome runs
@@ -76,14 +76,14 @@ primary_outcome s ss e primary = rw primary (normal_outcome ss (Language (cond (
 other_outcome :
     (s : List ℕ) (ss : List (List ℕ)) (e : Ends) → is_primary s ≡ false → outcome Start e (s ∷ ss) ≡ found_if (runs_private (s ∷ ss)) PrivateUse
 unfolding outcome
-other_outcome s ss e other = grind (arith, common_steps, found_after, runs, marked_outcome)
+other_outcome s ss e other = grind (arith, common_steps, marked_outcome)
 
 -- ---- what the rules say of the text
 
 -- where a normal tag may end, the ends are those of the record
 found_with : (t : List ℕ) → IsNormal t → IsFoundOf t (Normal (ends_after Start (all_at 0) (segments t)))
 unfolding IsNormal HasEnds
-found_with t n = grind (arith, common_steps, spelled_segments n.0 n.1.0, ends_after Start (all_at 0), ends_after-flat n.0 n.1.0)
+found_with t n = grind (arith, common_steps, spelled_segments n.0 n.1.0, ends_after-flat n.0 n.1.0)
 
 primary_unmarked : (s : List ℕ) → is_primary s ≡ true → is_one is_mark s ≡ false
 primary_unmarked s h = grind (arith, common_steps, one_no_primary)
@@ -98,13 +98,12 @@ Decides t found = MatchOption found (IsRefused t) (λ f. IsFoundOf t f)
 
 by_rules : (t s : List ℕ) (ss : List (List ℕ)) → segments t ≡ s ∷ ss → outcome_of t ≡ found_of t (runs Start (segments t)) (runs_private (segments t))
 unfolding runs
-by_rules t s ss at = grind (arith, common_steps, runs, runs_private (segments t), primary_outcome, primary_unmarked, other_outcome)
+by_rules t s ss at = grind (arith, common_steps, primary_outcome, primary_unmarked, other_outcome)
 
 decides :
     (t : List ℕ) (normal private : Bool) → runs Start (segments t) ≡ normal → runs_private (segments t) ≡ private →
     Decides t (found_of t normal private)
-decides t normal private n p =
-    grind (arith, common_steps, found_with, normal_from_runs, private_from_runs, both_ways, runs, runs_from_normal, runs_private, runs_from_private)
+decides t normal private n p = grind (arith, common_steps, found_with, normal_from_runs, private_from_runs, both_ways, runs_from_normal, runs_from_private)
 
 -- ---- the law
 

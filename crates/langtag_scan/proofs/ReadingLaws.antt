@@ -76,8 +76,8 @@ module _ {p s q : List ℕ} {stage : Stage} {e : Ends} (k : IsPartRead p s q sta
 
   -- after which nothing follows
   pub refused_stops : after_stage stage s ≡ None → HasStopped (q ++ 45 ∷ [])
-  refused_stops next = grind (arith, common_steps, stopped_from (q ++ 45 ∷ []), after_hyphen, found_after e (length q))
+  refused_stops next = grind (arith, common_steps, stopped_from (q ++ 45 ∷ []), after_hyphen)
 
   -- after which a stage follows
   pub reads_after : (after : Stage) → after_stage stage s ≡ Some after → Reads (q ++ 45 ∷ []) after (end_at after (length q) e)
-  reads_after after next = grind (arith, common_steps, after_hyphen, found_after, index_after-end, length_push, after_not_start)
+  reads_after after next = grind (arith, common_steps, after_hyphen, index_after-end, length_push, after_not_start)

@@ -4,7 +4,7 @@ use Rattle.std.proofs.lemmas.Grind.{common_steps}
 use Rattle.langtag_scan.specs.Stage.{Stage, Start, AfterFirstMark, InPrivateTag, next_stage, after_stage}
 use Rattle.langtag_scan.specs.Machine.{end_at, index_after}
 use Rattle.langtag_scan.specs.declared.ends.Ends.{Ends}
-use Rattle.langtag_scan.proofs.Steps.{leads_to, may_follow, after_class, next_step}
+use Rattle.langtag_scan.proofs.Steps.{may_follow, after_class, next_step}
 
 -- ---- which stages follow
 
@@ -30,7 +30,7 @@ after-inside stage s inside = grind (arith, common_steps)
 
 -- no stage after a subtag is the first one
 pub after_not_start : (stage after : Stage) (s : List ℕ) → after_stage stage s ≡ Some after → after ≡ Start → ⊥
-after_not_start stage after s e first = grind (arith, common_steps, after_class stage after s e, leads_to)
+after_not_start stage after s e first = grind (arith, common_steps, after_class stage after s e)
 
 -- ---- where a subtag ends
 
