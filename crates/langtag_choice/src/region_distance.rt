@@ -89,6 +89,15 @@ fn on_one_side(set: SetName, a: TagFields<'_>, b: TagFields<'_>) -> bool
     (set.is_inside(a) && set.is_inside(b)) || (set.is_outside(a) && set.is_outside(b))
 }
 
+/// A set of regions, as numbers in ascending order.
+#[derive(Clone, Copy)]
+struct RegionSet {
+    /// The regions of the set, and the groups whose countries are all in it.
+    inside: &'static [u32],
+    /// The groups with some countries in the set, but not all.
+    partly: &'static [u32],
+}
+
 /// The sets of regions that the rules name.
 #[derive(Clone, Copy)]
 pub(crate) enum SetName {
@@ -99,31 +108,30 @@ pub(crate) enum SetName {
 }
 
 impl SetName {
-    /// Returns the regions of the set, and the groups whose countries are all in it.
-    #[tactic(auto, using(crate::proofs::MatchingTables::maghreb_inside_numbers, crate::proofs::MatchingTables::en_us_inside_numbers, crate::proofs::MatchingTables::americas_inside_numbers, crate::proofs::MatchingTables::cnsar_inside_numbers))]
-    fn inside(self) -> &'static [u32]
-        ensures numbers { result.now ≡ map folded_number (set_of self).inside }
-        ensures climbs { IsTrue (climbs_from 0 result.now) }
+    #[tactic(auto, using(crate::proofs::MatchingTables::maghreb_inside_numbers, crate::proofs::MatchingTables::en_us_inside_numbers, crate::proofs::MatchingTables::americas_inside_numbers, crate::proofs::MatchingTables::cnsar_inside_numbers, crate::proofs::MatchingTables::maghreb_partly_numbers, crate::proofs::MatchingTables::en_us_partly_numbers, crate::proofs::MatchingTables::americas_partly_numbers, crate::proofs::MatchingTables::cnsar_partly_numbers))]
+    fn regions(self) -> RegionSet
+        ensures inside { result.inside.now ≡ map folded_number (set_of self).inside }
+        ensures inside_climbs { IsTrue (climbs_from 0 result.inside.now) }
+        ensures partly { result.partly.now ≡ map folded_number (set_of self).partly }
+        ensures partly_climbs { IsTrue (climbs_from 0 result.partly.now) }
     {
         match self {
-            SetName::Maghreb => &tables::MAGHREB_INSIDE,
-            SetName::UnitedStates => &tables::EN_US_INSIDE,
-            SetName::Americas => &tables::AMERICAS_INSIDE,
-            SetName::HongKongAndMacao => &tables::CNSAR_INSIDE,
-        }
-    }
-
-    /// Returns the groups with some countries in the set, but not all.
-    #[tactic(auto, using(crate::proofs::MatchingTables::maghreb_partly_numbers, crate::proofs::MatchingTables::en_us_partly_numbers, crate::proofs::MatchingTables::americas_partly_numbers, crate::proofs::MatchingTables::cnsar_partly_numbers))]
-    fn partly(self) -> &'static [u32]
-        ensures numbers { result.now ≡ map folded_number (set_of self).partly }
-        ensures climbs { IsTrue (climbs_from 0 result.now) }
-    {
-        match self {
-            SetName::Maghreb => &tables::MAGHREB_PARTLY,
-            SetName::UnitedStates => &tables::EN_US_PARTLY,
-            SetName::Americas => &tables::AMERICAS_PARTLY,
-            SetName::HongKongAndMacao => &tables::CNSAR_PARTLY,
+            SetName::Maghreb => RegionSet {
+                inside: &tables::MAGHREB_INSIDE,
+                partly: &tables::MAGHREB_PARTLY,
+            },
+            SetName::UnitedStates => RegionSet {
+                inside: &tables::EN_US_INSIDE,
+                partly: &tables::EN_US_PARTLY,
+            },
+            SetName::Americas => RegionSet {
+                inside: &tables::AMERICAS_INSIDE,
+                partly: &tables::AMERICAS_PARTLY,
+            },
+            SetName::HongKongAndMacao => RegionSet {
+                inside: &tables::CNSAR_INSIDE,
+                partly: &tables::CNSAR_PARTLY,
+            },
         }
     }
 
@@ -131,14 +139,14 @@ impl SetName {
     fn is_inside(self, fields: TagFields<'_>) -> bool
         ensures { result ≡ spec.is_among (set_of self).inside fields.entry.region.now }
     {
-        index_of(self.inside(), fields.region).is_some()
+        index_of(self.regions().inside, fields.region).is_some()
     }
 
     #[tactic(auto, using(langtag_likely::proofs::FieldClasses::region_length, langtag_likely::proofs::FieldClasses::region_alphanumeric, crate::proofs::RulesFound::among_by_number, crate::proofs::SetLaws::partly_plain))]
     fn is_partly_inside(self, fields: TagFields<'_>) -> bool
         ensures { result ≡ spec.is_among (set_of self).partly fields.entry.region.now }
     {
-        index_of(self.partly(), fields.region).is_some()
+        index_of(self.regions().partly, fields.region).is_some()
     }
 
     fn is_outside(self, fields: TagFields<'_>) -> bool
