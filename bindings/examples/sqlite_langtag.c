@@ -26,6 +26,8 @@
  *   - langtag_set_keyword(tag, key, value), the tag with a value of a key of the extension u. If the value is NULL, the key is removed.
  *     An empty value means true. It is an error if the key or the value cannot be in a keyword, or if the tag is not a normal tag
  *   - langtag_extensions_form(tag), the tag with its extensions u and t in canonical form (UTS #35, part 1, Annex C)
+ *   - langtag_is_locale(tag), whether the tag is a Unicode locale identifier (UTS #35, part 1), and langtag_locale_form(tag), its
+ *     canonical form as such an identifier, also NULL if there is none
  *   - langtag_canonical(tag) and langtag_is_valid(tag) (RFC 5646 sections 4.5 and 2.2.9), by langtag_registry_date
  *   - langtag_suggestion(tag), the registered code that is probably meant by the invalid subtag, also NULL if there is none
  *   - langtag_maximize(tag), langtag_minimize(tag), langtag_is_right_to_left(tag), langtag_distance(desired, supported) (UTS #35)
@@ -152,6 +154,18 @@ static void set_keyword(sqlite3_context *context, int count, sqlite3_value **val
 static void extensions_form(sqlite3_context *context, int count, sqlite3_value **values) {
     (void)count;
     written(context, values, langtag_extensions_form);
+}
+
+static void is_locale(sqlite3_context *context, int count, sqlite3_value **values) {
+    (void)count;
+    const char *tag = (const char *)sqlite3_value_text(values[0]);
+    size_t len = (size_t)sqlite3_value_bytes(values[0]);
+    if (tag && langtag_kind(tag, len)) sqlite3_result_int(context, langtag_is_locale(tag, len)); /* else NULL */
+}
+
+static void locale_form(sqlite3_context *context, int count, sqlite3_value **values) {
+    (void)count;
+    written(context, values, langtag_locale_form);
 }
 
 static void canonical(sqlite3_context *context, int count, sqlite3_value **values) {
@@ -301,6 +315,8 @@ int sqlite3_sqlitelangtag_init(sqlite3 *db, char **message, const sqlite3_api_ro
         {"langtag_keyword", 2, keyword},
         {"langtag_set_keyword", 3, set_keyword},
         {"langtag_extensions_form", 1, extensions_form},
+        {"langtag_is_locale", 1, is_locale},
+        {"langtag_locale_form", 1, locale_form},
         {"langtag_canonical", 1, canonical},
         {"langtag_is_valid", 1, is_valid},
         {"langtag_suggestion", 1, suggestion},

@@ -36,6 +36,8 @@ QUERIES = {
     "with-keyword": lambda tag, key, value: "SELECT " + shown(
         f"langtag_set_keyword({text(tag)}, {text(key)}, {'NULL' if value == b'-' else text(value)})"),
     "extensions-form": lambda tag: f"SELECT {shown(f'langtag_extensions_form({text(tag)})')}",
+    "is-locale": lambda tag: f"SELECT langtag_is_locale({text(tag)})",
+    "locale-form": lambda tag: f"SELECT {shown(f'langtag_locale_form({text(tag)})')}",
     "canonical": lambda tag: f"SELECT {shown(f'langtag_canonical({text(tag)})')}",
     "maximized": lambda tag: f"SELECT {shown(f'langtag_maximize({text(tag)})')}",
     "minimized": lambda tag: f"SELECT {shown(f'langtag_minimize({text(tag)})')}",
@@ -87,6 +89,8 @@ ANSWERS = {
     "keyword": lambda said: "-" if said == "NULL" else bytes_of(said) or "''",
     "with-keyword": answer_with_keyword,
     "extensions-form": bytes_of,
+    "is-locale": {"1": "yes", "0": "no"}.get,
+    "locale-form": lambda said: bytes_of(said) or "-",
     "canonical": lambda said: bytes_of(said) or "-",
     "suggestion": lambda said: bytes_of(said) or "-",
     "maximized": lambda said: bytes_of(said) or "-",
@@ -114,7 +118,7 @@ def adapted(row):
 
 
 FLOORS = {"table.txt": 255, "likely.txt": 250, "distance.txt": 140, "direction.txt": 325, "posix.txt": 150, "choices.txt": 285,
-          "unicode.txt": 25, "keywords.txt": 380, "extensions.txt": 630}
+          "unicode.txt": 25, "keywords.txt": 380, "extensions.txt": 630, "locale.txt": 780, "cldr.txt": 1770}
 
 TABLE = "CREATE TABLE texts (tag TEXT PRIMARY KEY COLLATE langtag); INSERT INTO texts VALUES ('zh-Hant'), ('de'), ('zh'), ('');"
 # Statements, and SQLite's output for them.
@@ -126,6 +130,9 @@ STATEMENTS = [
     ("SELECT langtag_set_keyword('de-u-ca-roc', 'CA', NULL), langtag_set_keyword('de', 'kn', ''), langtag_set_keyword('de', 'ca', 1996);",
      "de|de-u-kn|de-u-ca-1996"),
     ("SELECT langtag_extensions_form(NULL) IS NULL, langtag_extensions_form('d_') IS NULL, langtag_extensions_form('x-a');", "1|1|x-a"),
+    ("SELECT langtag_is_locale(NULL) IS NULL, langtag_is_locale('d_') IS NULL, langtag_is_locale('de'), langtag_is_locale('x-a');", "1|1|1|0"),
+    ("SELECT langtag_locale_form(NULL) IS NULL, langtag_locale_form('d_') IS NULL, langtag_locale_form('x-a') IS NULL, langtag_locale_form('ger-UK');",
+     "1|1|1|de-GB"),
     ("SELECT langtag_matches_basic('de', NULL) IS NULL, langtag_matches_extended(NULL, 'de') IS NULL;", "1|1"),
     ("SELECT langtag_part('zh-Hant', 'script'), typeof(langtag_canonical('iw')), typeof(langtag_is_valid('iw'));",
      "Hant|text|integer"),
@@ -177,7 +184,8 @@ class Sqlite(unittest.TestCase):
         calls = ("langtag_best_for_header('de', 'en', 'de-x-a' || k)", "langtag_maximize('de-x-a' || k)",
                  "langtag_part('de-x-a' || k, 'private_use')", "langtag_canonical('iw-x-a' || k)", "langtag_is_valid('de' || k)",
                  "langtag_keyword('de-u-ca-a' || k, 'ca')", "langtag_set_keyword('de-u-ca-a', 'ca', 1000 + k)",
-                 "langtag_set_keyword('de-u-a' || k, 'ca', NULL)", "langtag_extensions_form('de-u-kn-ca-a' || k)", "langtag_from_posix('de_x@' || k)", "langtag_unknown_modifier('de@' || k)",
+                 "langtag_set_keyword('de-u-a' || k, 'ca', NULL)", "langtag_extensions_form('de-u-kn-ca-a' || k)", "langtag_is_locale('de-x-a' || k)",
+                 "langtag_locale_form('ger-x-a' || k)", "langtag_from_posix('de_x@' || k)", "langtag_unknown_modifier('de@' || k)",
                  "langtag_matches_basic('de', 'de-x-a' || k)", "langtag_matches_extended('de', 'de-x-a' || k)")
         asked = ", ".join(f"count({call})" for call in calls)
         statements = "".join(f"{numbers.format(count)} SELECT {asked} FROM n;\n" for count in (100, 20_000))

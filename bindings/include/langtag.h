@@ -26,8 +26,8 @@
  *   4. Memory that a call may write through one argument (an out struct, `rest`, `passed`, a buffer, the bytes of langtag_fold and
  *      langtag_recommend) does not overlap the memory of any other argument. Texts that are only read may overlap.
  *   5. An x86-64 processor has SSE4.2 (x86-64-v2). Any aarch64 processor is supported. Calls follow the C calling
- *      convention of the platform. 4 KiB of the stack is free for each call, and 96 KiB for
- *      langtag_repeats and langtag_is_locale and langtag_locale_form.
+ *      convention of the platform. 4 KiB of the stack is free for each call, and 96 KiB for langtag_repeats,
+ *      langtag_is_locale and langtag_locale_form.
  *
  * Offsets and lengths are in bytes, and offsets count from the start of the text. Case is that of ASCII letters only.
  */
@@ -372,7 +372,7 @@ LANGTAG_PURE bool langtag_is_locale(const char *bytes, size_t len);
  *
  * Time is quadratic in the number of variants, and of attributes. A size of len + 32 is always enough.
  *
- * Returns 0 and writes nothing if the tag has no form, as x-a, i-default and und-t-m0, or if the text is not a tag.
+ * Returns 0 and writes nothing if the tag has no form, such as x-a, i-default and und-t-m0, or if the text is not a tag.
  */
 size_t langtag_locale_form(const char *bytes, size_t len, char *buffer, size_t buffer_len);
 

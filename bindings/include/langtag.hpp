@@ -220,6 +220,17 @@ public:
     /* Returns the tag with its extensions u and t in canonical form (UTS #35, part 1, Annex C). */
     std::string extensions_form() const { return written(langtag_extensions_form); }
 
+    /* Returns whether the tag is a Unicode locale identifier (UTS #35, part 1): true for de-AT, false for zh-yue and x-a. */
+    bool is_locale() const noexcept { return langtag_is_locale(text_.data(), text_.size()); }
+
+    /* Returns the canonical form of the tag as a Unicode locale identifier (UTS #35, part 1, Annex C): ger-UK becomes de-GB, and zh-yue
+     * becomes yue. Returns std::nullopt if there is none, such as for x-a. */
+    std::optional<std::string> locale_form() const {
+        std::string made = written(langtag_locale_form);
+        if (made.empty()) return std::nullopt;
+        return made;
+    }
+
     /* Returns the first subtag that makes the tag invalid, by the registry of registry_date, or std::nullopt if it is valid. */
     std::optional<langtag::invalid_subtag> invalid_subtag() const noexcept {
         langtag_span invalid;
@@ -396,6 +407,8 @@ public:
     std::string maximized() const { return view().maximized(); }
     std::string minimized() const { return view().minimized(); }
     std::string extensions_form() const { return view().extensions_form(); }
+    bool is_locale() const noexcept { return view().is_locale(); }
+    std::optional<std::string> locale_form() const { return view().locale_form(); }
 
     /* Changes one part; an empty text removes it. Returns false and leaves the tag unchanged if it is not a normal tag, or the text
      * is not such a part. */

@@ -536,6 +536,19 @@ Datum pg_langtag_extensions_form(PG_FUNCTION_ARGS) {
     return form(fcinfo, langtag_extensions_form);
 }
 
+PG_FUNCTION_INFO_V1(pg_langtag_is_locale);
+Datum pg_langtag_is_locale(PG_FUNCTION_ARGS) {
+    struct varlena *tag = PG_GETARG_VARLENA_PP(0);
+    check_length("tag", tag);
+    PG_RETURN_BOOL(langtag_is_locale(BYTES(tag), LEN(tag)));
+}
+
+PG_FUNCTION_INFO_V1(pg_langtag_locale_form);
+Datum pg_langtag_locale_form(PG_FUNCTION_ARGS) {
+    check_length("tag", PG_GETARG_VARLENA_PP(0));
+    return form(fcinfo, langtag_locale_form);
+}
+
 PG_FUNCTION_INFO_V1(pg_langtag_from_posix);
 Datum pg_langtag_from_posix(PG_FUNCTION_ARGS) { return form(fcinfo, langtag_from_posix); }
 

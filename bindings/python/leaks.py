@@ -12,7 +12,7 @@ from langtag import Range, Tag
 
 LONG = "zh-yue-Hant-HK-rozaj-1994-u-co-pinyin-x-mine"
 PARTS = ("kind language primary_language extended_language script region variants extensions private_use grandfathered "
-         "repeated_variant repeated_singleton is_valid invalid_subtag is_canonical _data").split()
+         "repeated_variant repeated_singleton is_valid invalid_subtag is_canonical is_locale _data").split()
 
 
 class Named(Tag):
@@ -74,12 +74,12 @@ def extensions():
         refused(tag.keyword), refused(tag.keyword, 5), refused(tag._value_of, 0), refused(tag._pairs, "u"), refused(tag._before_keys, None)
     made = Tag.__new__(Tag)
     refused(made.keyword, "ca"), refused(made._pairs, 0), refused(made._before_keys, 1)
-    refused(made.extensions_form), refused(made._set_keyword, "ca", "roc")
+    refused(made.extensions_form), refused(made.locale_form), refused(lambda: made.is_locale), refused(made._set_keyword, "ca", "roc")
 
 
 def make():
     for tag in (Tag(LONG), Tag("iw"), Tag("de-" + "heploc-" * 60 + "1996"), Tag(b"DE")):
-        tag.recommended(), tag.canonical(), tag.folded(), tag.fnv1a(), hash(tag), str(tag), repr(tag), tag.maximized(), tag.minimized(), f"{tag:>9}", tag.key()
+        tag.recommended(), tag.canonical(), tag.folded(), tag.fnv1a(), hash(tag), str(tag), repr(tag), tag.maximized(), tag.minimized(), f"{tag:>9}", tag.key(), tag.locale_form()
         copy.deepcopy(tag), pickle.loads(pickle.dumps(tag)), weakref.ref(tag)()
 
 
@@ -92,6 +92,7 @@ def replace():
         refused(tag.replace, keywords={"c1": "roc"}), refused(tag.replace, keywords={"ca": "ab"}), refused(tag.replace, keywords=5)
         refused(tag._set_keyword, "ca"), refused(tag._set_keyword, 5, "roc"), refused(tag._set_keyword, "ca", 5)
     refused(Tag("x-a").replace, keywords={"ca": "roc"}), refused(Lying("de")._set_keyword, "ca", "roc"), refused(Lying("de").extensions_form)
+    refused(Lying("de").locale_form), Lying("x-a").locale_form()
 
 
 def compare():

@@ -113,7 +113,8 @@ class Values(unittest.TestCase):
         for length in (*range(180, 200), *range(500, 530), 5000):
             rest = ("-abcdefg" * length)[:length].rstrip("-")
             tag = Tag("iw-x" + rest)
-            self.assertEqual(str(tag.canonical()), "he-x" + rest)
+            self.assertEqual((str(tag.canonical()), str(tag.locale_form())), ("he-x" + rest, "he-x" + rest))
+            self.assertIsNone(Tag("x" + rest).locale_form())
             self.assertEqual((str(tag.replace(script="Hebr")), tag.folded()), ("iw-Hebr-x" + rest, str(tag)))
 
     def test_key(self):
@@ -465,7 +466,7 @@ class Memory(unittest.TestCase):
         tag = Tag(f"iw-BU-heploc-t-de-m0-u{number}-u-attr-co-a{number:02}-x-a{number}")
         tag.keyword("co"), tag.keyword("zz"), tag.keywords, tag.attributes, tag.transform
         tag.canonical(), tag.recommended(), tag.folded(), tag.replace(script="Latn"), hash(tag), repr(tag), tag.is_valid
-        tag.extensions_form(), tag.replace(keywords={"ca": f"a{number:02}", "co": None})
+        tag.extensions_form(), tag.locale_form(), Tag(f"x-a{number}").locale_form(), tag.replace(keywords={"ca": f"a{number:02}", "co": None})
         Tag.from_parts("de", private_use=f"x-a{number}"), Range(f"de-{number}").matches_extended(tag), tag == Tag("de")
         tag_for_header_lenient(f"de-x-a{number}, d!;q=2, fr;q=0.5", [tag, Tag("fr")], None)
         for wrong in (lambda: Tag(f"a_{number}"), lambda: tag.replace(script=f"a{number}"), lambda: Range(f"a_{number}"),
@@ -568,7 +569,7 @@ print(*sorted(name for base in (langtag._backend.TagBase, langtag._backend.Range
 class Help(unittest.TestCase):
     def test_that_it_shows_the_calls(self):
         said = pydoc.render_doc(langtag, renderer=pydoc.plaintext)
-        for name in ("matches_basic", "canonical", "extensions_form", "keywords", "key", "tag_for_header_lenient", "viable", "invalid_subtag", "private_use"):
+        for name in ("matches_basic", "canonical", "extensions_form", "locale_form", "is_locale", "keywords", "key", "tag_for_header_lenient", "viable", "invalid_subtag", "private_use"):
             self.assertIn(name, said)
         for name in ("with_traceback", "__getnewargs__", "_asdict", "add_note"):
             self.assertNotIn(f" {name}(", said)

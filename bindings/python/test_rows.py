@@ -246,6 +246,16 @@ def answer_extensions_form(text):
     return str(form)
 
 
+def answer_locale_form(text):
+    tag = Tag(text)
+    form = tag.locale_form()
+    if form is None:
+        assert not tag.is_locale
+        return "-"
+    assert form.is_locale and str(form.locale_form()) == str(form) and type(form) is Tag
+    return str(form)
+
+
 def likely(text, form):
     tag = made(Tag, text)
     return "-" if tag is None else str(form(tag))
@@ -337,6 +347,7 @@ def answer_best_match(header, tags):
 
 ANSWERS = {
     "with-keyword": answer_with_keyword, "extensions-form": answer_extensions_form,
+    "is-locale": lambda text: "yes" if Tag(text).is_locale else "no", "locale-form": answer_locale_form,
     "keyword": answer_keyword, "keywords": answer_keywords, "transform": answer_transform,
     "attributes": lambda text: " ".join(Tag(text).attributes) or "-",
     "refused": answer_refused, "distance": answer_distance, "right-to-left": answer_direction, "posix": answer_posix,
@@ -351,7 +362,7 @@ ANSWERS = {
 }
 FLOORS = {"table.txt": 360, "texts.txt": 710, "negotiation.txt": 102, "edits.txt": 125, "likely.txt": 250,
           "refused.txt": 60, "distance.txt": 140, "direction.txt": 325, "posix.txt": 150, "choices.txt": 285, "lists.txt": 15,
-          "unicode.txt": 400, "keywords.txt": 380, "extensions.txt": 630}
+          "unicode.txt": 400, "keywords.txt": 380, "extensions.txt": 630, "locale.txt": 780, "cldr.txt": 1770}
 
 
 class Rows(unittest.TestCase):

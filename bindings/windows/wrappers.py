@@ -17,8 +17,8 @@ sys.path.insert(0, str(HERE.parent))
 from check_declarations import of_header  # noqa: E402
 
 # Windows gives a thread one page of its stack after another, so code that uses more than a page has to touch each page in order.
-# The code of langtag_repeats does not, so its wrapper does it first. Other functions use less than a page, which .ci/stack tests.
-DEEP = {"langtag_repeats": 96 * 1024}
+# The code of these functions does not, so their wrappers do it first. Other functions use less than a page, which .ci/stack tests.
+DEEP = {name: 96 * 1024 for name in ("langtag_repeats", "langtag_is_locale", "langtag_locale_form")}
 
 HEAD = """\
 /* Written by wrappers.py. */

@@ -230,9 +230,27 @@ static void check_extensions_form(slice text, pages out) {
     char form[2 * ROOM], again[2 * ROOM];
     size_t len = check_room(text, langtag_extensions_form, form, out);
     tag old = read_tag(text), new = read_tag((slice){form, len});
-    SAME(new.kind == old.kind && (len == 0) == (old.kind == 0) && len <= 2 * text.len);
+    SAME(new.kind == old.kind && (len == 0) == (old.kind == 0) && len <= text.len + 20);
     for (int k = 0; k < 6; k++) SAME(k == 4 || has_same_bytes(new.parts[k], old.parts[k]));
     SAME(langtag_extensions_form(form, len, again, sizeof again) == len && memcmp(form, again, len) == 0);
+}
+
+/* langtag_is_locale and langtag_locale_form: a Unicode locale identifier has a form. A form is such an identifier in the recommended
+ * case, and its own form. It has as many subtags of private use as the tag, in lowercase. */
+static void check_locale(slice text, pages out) {
+    char form[2 * ROOM], again[2 * ROOM];
+    size_t len = check_room(text, langtag_locale_form, form, out);
+    tag old = read_tag(text), new = read_tag((slice){form, len});
+    bool is_locale = langtag_is_locale(text.at, text.len);
+    SAME(!is_locale || (old.kind == 1 && len > 0 && split(old.parts[0]).count == 1));
+    SAME(len == 0 || ((old.kind == 1 || old.kind == 3) && len <= text.len + 32));
+    if (len == 0) return;
+    langtag_repeated repeated;
+    SAME(new.kind == 1 && langtag_is_locale(form, len) && langtag_repeats(form, len, &repeated) == 0);
+    SAME(langtag_locale_form(form, len, again, sizeof again) == len && memcmp(form, again, len) == 0);
+    recommend(again, len);
+    SAME(memcmp(form, again, len) == 0);
+    SAME(old.kind == 3 || are_alike(new.parts[5], old.parts[5]));
 }
 
 /* Whether a text is empty, or has subtags of three to eight letters and digits. */
@@ -428,6 +446,7 @@ static unsigned check_one(pages here, pages there, pages out) {
     check_likely(placed, langtag_minimize, out);
     check_posix(placed, out);
     check_extensions_form(placed, out);
+    check_locale(placed, out);
     check_keyword(placed, neighbour, out);
     check_choice(placed, neighbour, neighbour);
     check_look_up(placed, neighbour);

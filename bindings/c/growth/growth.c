@@ -83,6 +83,11 @@ FUNCTION(with_keyword, result = langtag_with_keyword(text, len, "zz", 2, "bbb", 
                                 langtag_with_keyword("de", 2, "zz", 2, text + 3, len - 3, buffer, sizeof buffer))
 FUNCTION(without_keyword, result = langtag_without_keyword(text, len, "zz", 2, buffer, sizeof buffer))
 FUNCTION(extensions_form, result = langtag_extensions_form(text, len, buffer, sizeof buffer))
+FUNCTION(is_locale, result = langtag_is_locale(text, len))
+
+/* The call sorts the variants in quadratic time. Under callgrind it would take minutes for thousands of them. */
+FUNCTION(locale_form, langtag_parse(text, len, &parts);
+         if (parts.variants.len < 10000) result = langtag_locale_form(text, len, buffer, sizeof buffer))
 
 static const struct function functions[] = {
     {"parse", parse},
@@ -132,6 +137,8 @@ static const struct function functions[] = {
     {"with_keyword", with_keyword},
     {"without_keyword", without_keyword},
     {"extensions_form", extensions_form},
+    {"is_locale", is_locale},
+    {"locale_form", locale_form},
 };
 
 int main(void) { return count(functions, sizeof functions / sizeof *functions); }

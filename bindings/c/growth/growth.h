@@ -1,7 +1,7 @@
 /*
  * Measures how the instructions of functions grow with their text. Under callgrind, which counts instructions, each function is
  * called with texts of n and of 2n bytes, of each shape. growth.py runs the program and compares the counts. n is 20,000, or
- * 100,000 if more than 8192 variants or ranges are needed, or 4,000 if the function is known to be quadratic.
+ * 100,000 if more than 8192 variants or ranges are needed, or 2,000 or 4,000 if the function is known to be quadratic.
  */
 #include <stdint.h>
 #include <stdio.h>
@@ -39,6 +39,7 @@ static const struct {
     {"tags", "de", ",x-######", 0},
     {"refused", "de-DE;q=0", ",de;q=0.5", 4000},
     {"prefixed", "sl-rozaj", "-biske", 4000},
+    {"few_variants", "de", "-a######", 2000},
     {"attributes", "de-u", "-a######", 4000},
     {"transformed", "de-t-de", "-a######", 4000},
     {"many_variants", "de", "-a######", 100000},

@@ -13,7 +13,8 @@ import tempfile
 FEW = 5000  # instructions that a call may take for a text of any length
 MOST = 2.2
 # The cases that are known and documented to be quadratic. They have more than 8192 repeated variants, or variants with prefixes, or
-# attributes of u or variants of t, which are sorted. Or many ranges of a header would find a tag that a range of weight 0 excludes.
+# variants, attributes of u or variants of t, which are sorted. Or many ranges of a header would find a tag that a range of weight 0
+# excludes.
 SQUARES = {
     ("repeats", "many_variants"): 3,
     ("repeated_variant", "many_variants"): 3,
@@ -21,6 +22,11 @@ SQUARES = {
     ("best_for_header", "refused"): 4.4,
     ("extensions_form", "attributes"): 4.4,
     ("extensions_form", "transformed"): 4.4,
+    ("is_locale", "many_variants"): 3,
+    ("is_locale", "transformed"): 4.4,
+    ("locale_form", "few_variants"): 4.4,
+    ("locale_form", "attributes"): 4.4,
+    ("locale_form", "transformed"): 4.4,
 }
 # The functions that a header declares, and those that a Rattle source exports.
 DECLARED = re.compile(r'\blangtag_(\w+)\([^;{]*\);|extern "C" fn langtag_bench_(\w+)')

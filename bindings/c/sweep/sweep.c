@@ -1,7 +1,7 @@
 /*
- * Tests calls that write a form or a suggestion, measure a distance, choose a tag, or find a fault. The texts have each length up
- * to EACH bytes, and lengths in steps up to MOST. Each answer has to be the expected one, in a buffer of exactly its length, and
- * nothing may be written to a smaller buffer. All of this is proved; this program tests the built code.
+ * Tests calls that write a form or a suggestion, measure a distance, choose a tag, find a fault, or ask for a locale identifier. The
+ * texts have each length up to EACH bytes, and lengths in steps up to MOST. Each answer has to be the expected one, in a buffer of
+ * exactly its length, and nothing may be written to a smaller buffer. All of this is proved; this program tests the built code.
  */
 #include <langtag.h>
 #include <stdio.h>
@@ -125,6 +125,11 @@ static const struct {
     {"extensions_form", langtag_extensions_form, {"de-u-ca", "-ABC", "-kn-true"}, {"de-u-ca", "-abc", "-kn"}},
     {"extensions_form", langtag_extensions_form, {"de-u", "-tz-CATHU", ""}, {"de-u-tz-cator", "", ""}},
     {"extensions_form", langtag_extensions_form, {"x", "-A", ""}, {"x", "-A", ""}},
+    {"locale_form", langtag_locale_form, {"GER-uk-x", "-A", ""}, {"de-GB-x", "-a", ""}},
+    {"locale_form", langtag_locale_form, {"zh-YUE-b-CCC-a", "-AAA", ""}, {"yue-a", "-aaa", "-b-ccc"}},
+    {"locale_form", langtag_locale_form, {"en-t-ger-m0-din-u-ca", "-ABC", "-nu-true"}, {"en-t-de-m0-din-u-ca", "-abc", "-nu"}},
+    {"locale_form", langtag_locale_form, {"x", "-A", ""}, {"", "", ""}},
+    {"locale_form", langtag_locale_form, {"de-x", "-ab", "-"}, {"", "", ""}},
 };
 
 static void sweep_form(const char *name, write_call *call, const struct shape *given, const struct shape *other) {
@@ -176,6 +181,33 @@ static void sweep_tag(const struct shape *tag, uint32_t distance, uint32_t back,
         check("distance", len, langtag_distance(text, len, text, len) == 0);
         check("is_right_to_left", len, langtag_is_right_to_left(text, len) == is_right_to_left);
     }
+}
+
+/* Tags that are Unicode locale identifiers, and tags that are not. */
+static const struct {
+    struct shape tag;
+    bool is_locale;
+} locales[] = {
+    {{"de-x", "-a", ""}, true},          {{"de-a", "-bb", "-u-ca"}, true}, {{"en-u-ca", "-abc", "-x-u-c1"}, true},
+    {{"zh-yue-x", "-a", ""}, false},     {{"x", "-a", ""}, false},         {{"de-a", "-bb", "-u-c1"}, false},
+    {{"de-a", "-bb", "-A-bb"}, false},   {{"de-t-m0", "-abc", ""}, true},  {{"de-t-m0", "-abc", "-k0"}, false},
+    {{"de-a", "-bb", "-t-m0-"}, false},
+};
+
+static void sweep_locale(const struct shape *tag, bool is_locale) {
+    for (size_t times = 0, len = 0; grow(tag, &times, &len);) check("is_locale", len, langtag_is_locale(text, len) == is_locale);
+}
+
+/* 2 MB of variants without a repetition, and with one at the end. These two calls use much of the stack. */
+static void sweep_variants(void) {
+    langtag_repeated repeated;
+    size_t len = append(text, 0, "de");
+    for (unsigned number = 0; len + 8 <= MOST; number++) len += (size_t)sprintf(text + len, "-a%06u", number);
+    check("repeats", len, langtag_repeats(text, len, &repeated) == 0);
+    check("is_locale", len, langtag_is_locale(text, len));
+    len = append(text, len, "-A000000");
+    check("repeats", len, langtag_repeats(text, len, &repeated) == LANGTAG_REPEATED_VARIANT && repeated.variant.start == len - 7);
+    check("is_locale", len, !langtag_is_locale(text, len));
 }
 
 /* Texts that are not tags: the reason, the distances of the wrong subtag and of the offset from the end, and the length of the
@@ -270,6 +302,8 @@ int main(void) {
     sweep_names();
     sweep_modifiers();
     for (size_t row = 0; row < LENGTH(tags); row++) sweep_tag(&tags[row].tag, tags[row].distance, tags[row].back, tags[row].is_right_to_left);
+    for (size_t row = 0; row < LENGTH(locales); row++) sweep_locale(&locales[row].tag, locales[row].is_locale);
+    sweep_variants();
     for (size_t row = 0; row < LENGTH(refusals); row++)
         sweep_refusal(&refusals[row].text, refusals[row].answer, refusals[row].before, refusals[row].subtag_len, refusals[row].offset_before);
     sweep_choices();

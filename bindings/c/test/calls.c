@@ -167,6 +167,19 @@ static void answer_minimized(text *to, const text *arguments) { put_form(to, arg
 
 static void answer_extensions_form(text *to, const text *arguments) { put_form(to, arguments[0], langtag_extensions_form); }
 
+static void answer_is_locale(text *to, const text *arguments) {
+    put_word(to, langtag_is_locale(arguments[0].at, arguments[0].len) ? " yes" : " no");
+}
+
+/* The form, which has to be a Unicode locale identifier. Each such identifier has a form. */
+static void answer_locale_form(text *to, const text *arguments) {
+    text a = arguments[0];
+    put_form(to, a, langtag_locale_form);
+    bool has_form = to->len != 2 || to->at[1] != '-';
+    if (has_form != langtag_is_locale(to->at + 1, to->len - 1)) put_word(to, " which langtag_is_locale refuses");
+    if (!has_form && langtag_is_locale(a.at, a.len)) put_word(to, " but langtag_is_locale accepts the tag");
+}
+
 static void answer_posix(text *to, const text *arguments) { put_form(to, arguments[0], langtag_from_posix); }
 
 static void answer_unknown_modifier(text *to, const text *arguments) {
@@ -531,5 +544,7 @@ call calls[] = {
     {"best-match", answer_best_match, 0, 0},
     {"with-keyword", answer_with_keyword, 0, 0},
     {"extensions-form", answer_extensions_form, 0, 0},
+    {"is-locale", answer_is_locale, 0, 0},
+    {"locale-form", answer_locale_form, 0, 0},
     {NULL, NULL, 0, 0},
 };

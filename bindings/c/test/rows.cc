@@ -278,6 +278,18 @@ static std::string extensions_form_of(const strings &asked) {
     return one ? one->extensions_form() : "-";
 }
 
+static std::string is_locale_of(const strings &asked) {
+    const auto one = tag::parse(asked[0]);
+    return one && one->is_locale() ? "yes" : "no";
+}
+
+static std::string locale_form_of(const strings &asked) {
+    const auto one = tag::parse(asked[0]);
+    const auto form = one ? one->locale_form() : std::nullopt;
+    if (one && langtag::owned_tag(*one).locale_form() != form) return "an owned tag has another";
+    return !form ? "-" : form->empty() ? "''" : *form;
+}
+
 static std::string refused_of(const strings &asked) {
     const auto found = langtag::refused(asked[0]);
     const std::size_t len = asked[0].size();
@@ -419,6 +431,8 @@ static const std::map<std::string, answer> calls = {
     {"best-match", best_match_of},
     {"with-keyword", with_keyword_of},
     {"extensions-form", extensions_form_of},
+    {"is-locale", is_locale_of},
+    {"locale-form", locale_form_of},
 };
 
 /* Returns a line in which each {N:piece} is expanded. */

@@ -178,7 +178,8 @@ class TagBase(_Value):
         return self._cut(getattr(found, which))
 
     def _form(self, write: Callable[..., int]) -> Any:
-        return self._base(_written(write, self._data))
+        made = _written(write, self._data)
+        return self._base(made) if made else None
 
     language = property(lambda self: self._cut(self._parts.language))
     primary_language = property(lambda self: (self._subtags(self._parts.language) or (None,))[0])
@@ -191,10 +192,12 @@ class TagBase(_Value):
     repeated_singleton = property(lambda self: self._repeated("singleton"))
     is_valid = property(lambda self: self._validity()[0] == 1)
     is_canonical = property(lambda self: self._ask(_c.langtag_is_canonical))
+    is_locale = property(lambda self: self._ask(_c.langtag_is_locale))
     canonical = functools.partialmethod(_form, _c.langtag_canonical)
     maximized = functools.partialmethod(_form, _c.langtag_maximize)
     minimized = functools.partialmethod(_form, _c.langtag_minimize)
     extensions_form = functools.partialmethod(_form, _c.langtag_extensions_form)
+    locale_form = functools.partialmethod(_form, _c.langtag_locale_form)
     _grandfathered = functools.partialmethod(_Value._ask, _c.langtag_grandfathered)
 
     @property

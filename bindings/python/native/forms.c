@@ -51,19 +51,20 @@ static size_t write_form(const Value *self, Form *form, char *buffer, size_t roo
     return wanted;
 }
 
-/* Returns a form of a tag, as bytes. */
+/* Returns a form of a tag, as a Tag, or None if the library writes none. */
 static PyObject *form_of(const Value *self, Form *form) {
     char room[192];
     size_t wanted = write_form(self, form, room, sizeof room);
-    if (wanted <= sizeof room) return PyBytes_FromStringAndSize(room, (Py_ssize_t)wanted);
+    if (!wanted) return lt_none();
+    if (wanted <= sizeof room) return tag_of(self, PyBytes_FromStringAndSize(room, (Py_ssize_t)wanted), NULL);
     PyObject *made = PyBytes_FromStringAndSize(NULL, (Py_ssize_t)wanted);
     if (made) write_form(self, form, PyBytes_AsString(made), wanted);
-    return made;
+    return tag_of(self, made, NULL);
 }
 
 static PyObject *tag_by(PyObject *object, Form *form) {
     Value *self = (Value *)object;
-    return lt_lacks(self) ? NULL : tag_of(self, form_of(self, form), NULL);
+    return lt_lacks(self) ? NULL : form_of(self, form);
 }
 
 PyObject *lt_canonical(PyObject *self, PyObject *unused) {
@@ -86,14 +87,29 @@ PyObject *lt_extensions_form(PyObject *self, PyObject *unused) {
     return tag_by(self, langtag_extensions_form);
 }
 
-PyObject *lt_is_canonical(PyObject *object, void *unused) {
+PyObject *lt_locale_form(PyObject *self, PyObject *unused) {
     (void)unused;
+    return tag_by(self, langtag_locale_form);
+}
+
+/* Returns whether a tag has a property. */
+static PyObject *answer_of(PyObject *object, bool (*is)(const char *bytes, size_t len)) {
     Value *self = (Value *)object;
     if (lt_lacks(self)) return NULL;
     LET_GO(self->text.len);
-    bool answer = langtag_is_canonical(self->text.data, (size_t)self->text.len);
+    bool answer = is(self->text.data, (size_t)self->text.len);
     TAKE_BACK();
     return PyBool_FromLong(answer);
+}
+
+PyObject *lt_is_canonical(PyObject *self, void *unused) {
+    (void)unused;
+    return answer_of(self, langtag_is_canonical);
+}
+
+PyObject *lt_is_locale(PyObject *self, void *unused) {
+    (void)unused;
+    return answer_of(self, langtag_is_locale);
 }
 
 PyObject *lt_folded(PyObject *object, PyObject *unused) {

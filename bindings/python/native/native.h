@@ -77,6 +77,7 @@ PyObject *lt_canonical(PyObject *self, PyObject *unused);
 PyObject *lt_maximized(PyObject *self, PyObject *unused);
 PyObject *lt_minimized(PyObject *self, PyObject *unused);
 PyObject *lt_extensions_form(PyObject *self, PyObject *unused);
+PyObject *lt_locale_form(PyObject *self, PyObject *unused);
 PyObject *lt_folded(PyObject *self, PyObject *unused);
 PyObject *lt_fnv1a(PyObject *self, PyObject *unused);
 PyObject *lt_set(PyObject *self, PyObject *arguments);
@@ -85,4 +86,5 @@ PyObject *lt_value_of(PyObject *self, PyObject *arguments);
 PyObject *lt_pairs(PyObject *self, PyObject *number);
 PyObject *lt_before_keys(PyObject *self, PyObject *number);
 PyObject *lt_is_canonical(PyObject *self, void *unused);
+PyObject *lt_is_locale(PyObject *self, void *unused);
 #endif

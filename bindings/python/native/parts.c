@@ -142,6 +142,9 @@ PyGetSetDef lt_tag_members[] = {
      "grandfathered, or if its subtags are registered, it has at most one extended language, and no variant or singleton is\n"
      "repeated. Deprecated subtags are valid.", NULL},
     {"is_canonical", lt_is_canonical, NULL, "Whether the tag equals its canonical form, ignoring case.", NULL},
+    {"is_locale", lt_is_locale, NULL,
+     "Whether the tag is a Unicode locale identifier (UTS #35, part 1), as Intl of JavaScript requires: True for de-AT, False\n"
+     "for zh-yue and x-a.", NULL},
     {NULL, NULL, NULL, NULL, NULL}};
 
 PyMethodDef lt_tag_methods[] = {
@@ -165,6 +168,10 @@ PyMethodDef lt_tag_methods[] = {
      "extensions_form($self, /)\n--\n\n"
      "Returns the tag with its extensions u and t in canonical form (UTS #35, part 1, Annex C), by CLDR_VERSION: de-u-nu-thai-ca-roc\n"
      "becomes de-u-ca-roc-nu-thai. Each key stands once, with its first value. The rest of the tag stays."},
+    {"locale_form", lt_locale_form, METH_NOARGS,
+     "locale_form($self, /)\n--\n\n"
+     "Returns the canonical form of the tag as a Unicode locale identifier (UTS #35, part 1, Annex C), by CLDR_VERSION: ger-UK\n"
+     "becomes de-GB, and zh-yue becomes yue. Returns None if there is none, such as for x-a."},
     {"folded", lt_folded, METH_NOARGS,
      "folded($self, /)\n--\n\n"
      "Returns the text in lowercase, which is the same for all equal tags. It is a key for stores that compare bytes, and for\n"

@@ -64,12 +64,9 @@ module _ (t : List ℕ) (m : ℕ) (v : IsViableLength (t ++ 45 ∷ []) m) where
   pub goes_on_by_hyphen : (IsTag t → ⊥) → length t < m → EndsTooSoon t
   goes_on_by_hyphen no_tag less = grind (arith, common_steps, viable_whole, whole_hyphened)
 
-  pub hyphen_past : m ≤ length t → IsViable (t ++ 45 ∷ []) → ⊥
-  hyphen_past le viable = grind (arith, common_steps, length_push t 45, whole_hyphened)
-
   -- a text with which no hyphen goes on, and whose last subtag has a byte
   pub irregular_left : (IsTag t → ⊥) → length t ≡ m → (IsOpen t → ⊥) → IsIrregularPrefix t ↔ EndsTooSoon t
-  irregular_left no_tag all closed = grind (arith, common_steps, viable_whole, hyphen_past)
+  irregular_left no_tag all closed = grind (arith, common_steps, viable_whole, length_push, whole_hyphened)
 
   pub open_end : (IsTag t → ⊥) → length t ≡ m → IsOpen t → EndsTooSoon t
   open_end no_tag all ended = record { no_tag = no_tag; viable = viable_whole (omega (arith, all)); goes_on = inr (inl ended) }

@@ -36,20 +36,13 @@ IsAt-drop xs n x rest left =
     record { below = below; member = cc; later = cc }
 
 module _ {A : Type 0} (alike : A → A → Bool) where
-  -- one more member: it is the one, or is one of those that were seen
-  repeat_index_after-turn :
-      (xs : List A) (n : ℕ) (x : A) (rest : List A) → IsAt xs n x rest →
-      repeat_index_after alike (take n xs) (drop n xs)
-      ≡ cond (list_any (alike x) (take n xs)) (Some (length (take n xs))) (repeat_index_after alike (take (n + 1) xs) (drop (n + 1) xs))
-  repeat_index_after-turn xs n x rest at =
-      grind (arith, common_steps, at_drop_more (repeat_index_after alike (take n xs)) xs n x at.below, take_more xs n x at.below)
 
   turn-by :
       (xs : List A) (n : ℕ) (x : A) (rest : List A) (seen : Bool) → repeat_index alike xs ≡ repeat_index_after alike (take n xs) (drop n xs) →
       drop n xs ≡ x ∷ rest → list_any (alike x) (take n xs) ≡ seen →
       repeat_index alike xs ≡ cond seen (Some (length (take n xs))) (repeat_index_after alike (take (n + 1) xs) (drop (n + 1) xs))
   turn-by xs n x rest seen so_far left is =
-      grind (arith, common_steps, repeat_index_after-turn xs n x rest (IsAt-drop xs n x rest left), IsAt-drop xs n x rest left)
+      grind (arith, common_steps, IsAt-drop xs n x rest left, at_drop_more, take_more)
 
   -- the member is alike an earlier one
   pub repeat-found :

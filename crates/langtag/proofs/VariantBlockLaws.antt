@@ -44,9 +44,6 @@ list_any-absent block number absent = grind (arith, common_steps, list_any_none,
 
 -- ---- one more number is met
 
-push-same : (numbers : List ℕ) (number x : ℕ) → number ≡ x → list_any (λ other. other == x) (numbers ++ number ∷ []) ≡ true
-push-same numbers number x same = grind (arith, common_steps, eqb_tells number x, list_any-append, or-true)
-
 push-other : (numbers : List ℕ) (number x : ℕ) → (number ≡ x → ⊥) → list_any (λ other. other == x) (numbers ++ number ∷ []) ≡ list_any (λ other. other == x) numbers
 push-other numbers number x differs = grind (arith, common_steps, eqb_tells number x, list_any-append, or-false)
 
@@ -58,7 +55,7 @@ pub AreMet-present :
     (block : List ℕ) (met after : List Bool) (numbers : List ℕ) (number place : ℕ) → length block ≤ length met → IsPlaceOf block number place →
     place < length block → get_or block place 0 ≡ number → after ≡ set met place true → AreMet block met numbers → AreMet block after (numbers ++ number ∷ [])
 AreMet-present block met after numbers number place room at inside same is before other first =
-    grind (arith, common_steps, cases_lt, get_or-set_at met, push-same numbers, get_or-set_other met, push-other numbers)
+    grind (arith, common_steps, cases_lt, get_or-set_at met, get_or-set_other met, push-other numbers, eqb_tells, list_any-append, or-true)
 
 pub again-absent :
     (block numbers : List ℕ) (number : ℕ) → IsAbsent block number →

@@ -72,7 +72,7 @@ basic_form-hyphenated (s ∷ ss) each =
     by_star u is rest = rw is rest
 
     by_other : basic_form (hyphenated ss) ≡ hyphenated (filter is_plain ss) → is_private_subtag s ≡ true → basic_form (hyphenated (s ∷ ss)) ≡ hyphenated (filter is_plain (s ∷ ss))
-    by_other rest other = grind (arith, common_steps, starless, hyphenated, basic_form-byte, basic_form-free, subtag_free)
+    by_other rest other = grind (arith, common_steps, starless, basic_form-byte, basic_form-free, subtag_free)
 
 -- a subtag of a range is not empty, and has no hyphen
 range_free : (s : List ℕ) → is_range_subtag s ≡ true → AllByRecursion (λ b. eqb b 45 ≡ false) s × (0 < length s)
@@ -92,7 +92,7 @@ module _ (first : List ℕ) (others : List (List ℕ)) (is : are_extended_range 
 
   -- the first subtag stays, and of the others those that are not "*"
   basic_form-join : basic_form (join (first ∷ others)) ≡ join (first ∷ filter is_plain others)
-  basic_form-join = grind (arith, common_steps, join-hyphenated, basic_form-free, hyphenated, range_free, first_range, basic_form-hyphenated, others_in_range)
+  basic_form-join = grind (arith, common_steps, join-hyphenated, basic_form-free, range_free, first_range, basic_form-hyphenated, others_in_range)
 
   -- the subtags of a range are found again in their join
   subtags-range : subtags (join (first ∷ others)) ≡ first ∷ others

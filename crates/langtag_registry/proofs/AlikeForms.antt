@@ -25,7 +25,7 @@ fold_private_use-twice p = grind (arith, common_steps, fold_byte-twice, map-twic
 -- ---- the canonical record of a folded record
 
 primary-fold : (p : List ℕ) (es : List (List ℕ)) → Alike (canonical_primary (fold_text p) (map fold_text es)) (canonical_primary p es)
-primary-fold p es = grind (arith, common_steps, replaced-alike, language-alike, fold_text-twice, replaced, extlang-alike)
+primary-fold p es = grind (arith, common_steps, replaced-alike, language-alike, fold_text-twice, extlang-alike)
 
 extended-fold : (es : List (List ℕ)) → map fold_text (canonical_extended (map fold_text es)) ≡ map fold_text (canonical_extended es)
 extended-fold es = grind (arith, common_steps, registered_extlang-alike, fold_text-twice, map-twice fold_text fold_text-twice)
@@ -68,8 +68,7 @@ in_order-fold es = of_singletons-fold singletons es
 
 canonical_record-fold : (r : Record) → AlikeRecords (canonical_record (fold_record r)) (canonical_record r)
 unfolding canonical_record
-canonical_record-fold r =
-    search (rules, fold_text-twice, fold_private_use-twice, primary-fold, extended-fold, region-fold, variants-fold, in_order-fold)
+canonical_record-fold r = search (rules, fold_text-twice, fold_private_use-twice, primary-fold, extended-fold, region-fold, variants-fold, in_order-fold)
 
 -- alike records have alike canonical records
 canonical_record-alike : (r q : Record) → AlikeRecords r q → AlikeRecords (canonical_record r) (canonical_record q)

@@ -12,7 +12,6 @@ use Rattle.langtag_registry.proofs.AlikeForms.{preferred_tag-alike, grandfathere
 use Rattle.langtag_registry.proofs.OrderLaws.{keys_of, in_order-risen, rises_from_in_order}
 use Rattle.langtag_registry.proofs.CanonicalParts.{record_stays, parts_stay, own_record, kept_form}
 use Rattle.langtag_registry.proofs.ReplacedSubtags.{replaced, IsSettled, IgnoresCase, language_settled, language-alike, region_settled, region-alike, variant_settled, variant-alike, extlang_cases, extlang-alike, registered_extlang-alike}
-use Rattle.langtag_tables.proofs.Rising.{rises_from}
 use Rattle.langtag_registry.proofs.TwiceLaws.{itself, whole_settled, Way, as_whole, as_it_is, by_parts, way_of}
 
 -- ---- a subtag that stays, and one that is alike
@@ -36,7 +35,7 @@ language_stays p q es fs alike same stays =
     grind (arith, common_steps, alike_stays, language_settled, language-alike, extlang_cases, extlang-alike, registered_extlang-alike)
 
 region_stays : (o u : Option (List ℕ)) → option_map fold_text o ≡ option_map fold_text u → canonical_region o ≡ o → canonical_region u ≡ u
-region_stays o u same stays = grind (arith, common_steps, replaced, alike_stays, region_settled, region-alike)
+region_stays o u same stays = grind (arith, common_steps, alike_stays, region_settled, region-alike)
 
 variants_stay : (vs ws : List (List ℕ)) → map fold_text vs ≡ map fold_text ws → canonical_variants vs ≡ vs → canonical_variants ws ≡ ws
 variants_stay [] [] same stays = refl
@@ -56,8 +55,7 @@ keys_folded (e ∷ es) = ap (λ ns. fold_byte e.singleton ∷ ns) (keys_folded e
 
 order_stays :
     (es fs : List Extension) → AllByRecursion IsWellFormedExtension fs → map fold_extension es ≡ map fold_extension fs → in_order es ≡ es → in_order fs ≡ fs
-order_stays es fs well same stays =
-    grind (arith, common_steps, keys_of fs, keys_of es, keys_folded fs, keys_folded es, in_order-risen fs well, rises_from 0, rises_from_in_order es stays)
+order_stays es fs well same stays = grind (arith, common_steps, keys_folded fs, keys_folded es, in_order-risen fs well, rises_from_in_order es stays)
 
 -- ---- the record
 

@@ -85,7 +85,7 @@ of_singleton-next s texts rest x b first is = ap (of_singleton s) first ∙ ap (
 -- they stand in order where their singletons rise, and only there
 pub rise_in_order :
     (es : List Extension) → AllByRecursion IsWellFormedExtension es → (b : Bool) → rises_from 0 (keys (spellings es)) ≡ b → (b ≡ true) ↔ (in_order es ≡ es)
-rise_in_order es fits b is = grind (arith, common_steps, rises_from 0, keys-spelled es, in_order-risen es fits, rises_from_in_order es)
+rise_in_order es fits b is = grind (arith, common_steps, keys-spelled es, in_order-risen es fits, rises_from_in_order es)
 
 -- ---- which singletons there are
 

@@ -150,8 +150,7 @@ module _ {A : Type 0} (key : A → ℕ) where
 
   rises_lower : (low from : ℕ) (ns : List ℕ) → low ≤ from → rises_from from ns ≡ true → rises_from low ns ≡ true
   rises_lower low from [] le rises = refl
-  rises_lower low from (n ∷ ns) le rises =
-      grind (arith, common_steps, and_parts (leb from n) (rises_from n ns) rises, rises_from n ns, leb-true from n, le-leb low n)
+  rises_lower low from (n ∷ ns) le rises = grind (arith, common_steps, and_parts (leb from n) (rises_from n ns) rises, leb-true from n, le-leb low n)
 
   rises_past :
       (low j : ℕ) (xs ys : List A) → low ≤ j → rises_from j (map key ys) ≡ true → rises_from low (map key (filter (has j) xs ++ ys)) ≡ true

@@ -24,7 +24,7 @@ with_subtags-some text (s ∷ ss) some =
 -- some that are joined already follow as each of them does
 pub with_joined : (text s : List ℕ) (ss : List (List ℕ)) → 1 ≤ length s → with_subtag text (join (s ∷ ss)) ≡ fold with_subtag text (s ∷ ss)
 unfolding with_subtag
-with_joined text s ss some = grind (arith, common_steps, join-hyphenated s ss, append_assoc, hyphenated ss, with_subtags-some)
+with_joined text s ss some = grind (arith, common_steps, join-hyphenated s ss, append_assoc, with_subtags-some)
 
 pub record_joined : (r : Record) → IsWellFormed r → fold with_subtag [] (flat r) ≡ spell r
 unfolding with_subtag

@@ -15,7 +15,7 @@ use Rattle.langtag_registry.specs.Canonical.{canonical_primary, canonical_extend
 use Rattle.langtag_registry.specs.Fields.{preferred_language, preferred_region, preferred_variant, preferred_tag}
 use Rattle.langtag_registry.specs.Subtags.{language_preferred, region_preferred, variant_preferred, tag_preferred}
 use Rattle.langtag_registry.proofs.OrderLaws.{in_order-twice, in_order-risen}
-use Rattle.langtag_registry.proofs.ReplacedSubtags.{none_from_test, replaced, replaced-twice, language_settled, region_settled, variant_settled, extlang_cases}
+use Rattle.langtag_registry.proofs.ReplacedSubtags.{none_from_test, replaced-twice, language_settled, region_settled, variant_settled, extlang_cases}
 use Rattle.langtag_registry.proofs.Values.{value_good}
 use Rattle.langtag_registry.proofs.WellFormedForms.{canonical_record_well_formed}
 use Rattle.langtag_registry.proofs.WholeTags.{record_of, simple_record, preferred_spelled}
@@ -31,8 +31,7 @@ region_twice o = grind (arith, common_steps, replaced-twice preferred_region reg
 
 variants_twice : (vs : List (List ℕ)) → canonical_variants (canonical_variants vs) ≡ canonical_variants vs
 variants_twice [] = refl
-variants_twice (v ∷ vs) =
-    grind (arith, common_steps, replaced-twice preferred_variant variant_settled v, variant_settled v, replaced preferred_variant v, variants_twice vs)
+variants_twice (v ∷ vs) = grind (arith, common_steps, replaced-twice preferred_variant variant_settled v, variant_settled v, variants_twice vs)
 
 pub canonical_record-twice : (r : Record) → canonical_record (canonical_record r) ≡ canonical_record r
 unfolding canonical_record
@@ -86,10 +85,10 @@ whole_settled text new is = none_from_test (preferred_tag new) (and_parts _ _ (s
 -- nor do its subtags
 pub preferred_record_stays : (text new : List ℕ) → preferred_tag text ≡ Some new → canonical_record (record_of new) ≡ record_of new
 preferred_record_stays text new is =
-    grind (arith, common_steps, record_of new, simple_record new, and_parts, stays_of text new is, record_stays, none_from_test, variants_stay)
+    grind (arith, common_steps, simple_record new, and_parts, stays_of text new is, record_stays, none_from_test, variants_stay)
 
 pub preferred_itself : (text new : List ℕ) → preferred_tag text ≡ Some new → IsCanonicalForm new new
-preferred_itself text new is = search (rules, itself, record_of, whole_settled, preferred_spelled, preferred_record_stays)
+preferred_itself text new is = search (rules, itself, whole_settled, preferred_spelled, preferred_record_stays)
 
 -- ---- every text
 

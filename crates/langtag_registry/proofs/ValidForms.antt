@@ -97,7 +97,7 @@ canonical_record_valid :
     IsValidRecord (canonical_record r)
 unfolding canonical_record
 canonical_record_valid r well valid once =
-    search (rules, no_extended, if_some-map, replaced, replaced-holds, new_region_known, each-map, new_variant_known, in_order-once, canonical_primary_known, extlang_cases, new_extlang_known)
+    search (rules, no_extended, if_some-map, replaced-holds, new_region_known, each-map, new_variant_known, in_order-once, canonical_primary_known, extlang_cases, new_extlang_known)
 
 -- a text is valid that a valid record spells
 valid_spelled : (text : List ℕ) (r : Record) → Spells r text → IsValidRecord r → IsValid text

@@ -27,11 +27,11 @@ canonical_language_well_formed p es is =
     grind (arith, common_steps, canonical_primary_well_formed, extlang_cases, extended_primary, new_extlang_extended, replaced-holds, new_language_short)
 
 pub canonical_region_well_formed : (o : Option (List ℕ)) → IfSome o (λ s. IsTrue (is_region s)) → IfSome (canonical_region o) (λ s. IsTrue (is_region s))
-canonical_region_well_formed = grind (arith, common_steps, if_some-map, replaced preferred_region, replaced-holds preferred_region, regions_good)
+canonical_region_well_formed = grind (arith, common_steps, if_some-map, replaced-holds preferred_region, regions_good)
 
 pub canonical_variants_well_formed :
     (vs : List (List ℕ)) → AllByRecursion (λ s. IsTrue (is_variant s)) vs → AllByRecursion (λ s. IsTrue (is_variant s)) (canonical_variants vs)
-canonical_variants_well_formed = grind (arith, common_steps, each-map, replaced preferred_variant, replaced-holds preferred_variant, variants_good)
+canonical_variants_well_formed = grind (arith, common_steps, each-map, replaced-holds preferred_variant, variants_good)
 
 pub canonical_record_well_formed : (r : Record) → IsWellFormed r → IsWellFormed (canonical_record r)
 unfolding canonical_record

@@ -1,5 +1,5 @@
 -- A tag of any kind is ASCII, so a text that is not UTF-8 is not a tag.
-use Rattle.std.proofs.Common.{Bool, ◌≡◌, ℕ, ◌<◌, true, List, [], ◌∷◌, inl, inr, arith, ap, sym, subst, refl, ◌∙◌}
+use Rattle.std.proofs.Common.{Bool, ◌≡◌, ℕ, ◌<◌, true, List, [], ◌∷◌, arith, ap, sym, subst, refl, ◌∙◌}
 use Rattle.std.proofs.lemmas.Bool.{and_parts, agree_below_at}
 use Rattle.std.specs.Char.{is_ascii}
 use Rattle.std.specs.List.{AllByRecursion, list_all}
@@ -7,6 +7,7 @@ use Rattle.std.specs.Str.{IsAscii, IsUtf8}
 use Rattle.std.proofs.lemmas.Bool.Decides.{nat_tests}
 use Rattle.std.proofs.lemmas.Str.{IsUtf8-from_ascii, IsAscii-append}
 use Rattle.std.proofs.lemmas.Str.Ascii.{IsAscii-nil, IsAscii-cons}
+use Rattle.std.proofs.lemmas.Grind.{common_steps}
 use Rattle.langtag_scan.specs.Case.{fold_byte}
 use Rattle.langtag_scan.specs.Class.{is_letter, is_digit, is_alphanumeric, is_private_subtag}
 use Rattle.langtag_scan.specs.Grandfathered.{grandfathered_tags, irregular_texts}
@@ -25,9 +26,7 @@ use Rattle.langtag_scan.proofs.SubtagLists.{each_subtag}
 -- a text is, where each byte passes a test that none above 127 does
 pub IsAscii-each : (test : ℕ → Bool) → ((b : ℕ) → test b ≡ true → b < 128) → (s : List ℕ) → list_all test s ≡ true → IsAscii s
 IsAscii-each test below [] each = IsAscii-nil
-IsAscii-each test below (b ∷ s) each =
-    let k = and_parts (test b) (list_all test s) each in
-    IsAscii-cons b s (below b k.0) (IsAscii-each test below s k.1)
+IsAscii-each test below (b ∷ s) each = grind (arith, common_steps, and_parts (test b) (list_all test s) each, IsAscii-cons b s, IsAscii-each test below s)
 
 -- as letters and digits do
 pub alphanumeric_below : (b : ℕ) → is_alphanumeric b ≡ true → b < 128
@@ -74,9 +73,7 @@ IsAscii-irregular t (k, irregular) =
 
 pub IsAscii-tag : (t : List ℕ) → IsTag t → IsAscii t
 unfolding IsTag
-IsAscii-tag t (inl normal) = IsAscii-normal t normal
-IsAscii-tag t (inr (inl private)) = IsAscii-private t private
-IsAscii-tag t (inr (inr irregular)) = IsAscii-irregular t irregular
+IsAscii-tag t h = grind (arith, common_steps, IsAscii-normal t, IsAscii-private t, IsAscii-irregular t)
 
 pub IsUtf8-tag : (t : List ℕ) → IsTag t → IsUtf8 t
 IsUtf8-tag t is = IsUtf8-from_ascii t (IsAscii-tag t is)

@@ -1,12 +1,12 @@
 -- What a test says that is true, and which of two values a choice has.
-use Rattle.std.proofs.Common.{◌≡◌, ℕ, ◌≤◌, Bool, true, false, cond, leb, ◌⊎◌, inl, inr, refl}
+use Rattle.std.proofs.Common.{◌≡◌, ℕ, ◌≤◌, Bool, true, false, cond, leb, ◌⊎◌, arith}
 use Rattle.std.specs.Int.{is_in_range}
 use Rattle.std.proofs.lemmas.Bool.{and_parts, leb-true}
+use Rattle.std.proofs.lemmas.Grind.{common_steps}
 
 pub between_true : (low high n : ℕ) → is_in_range low high n ≡ true → (low ≤ n) × (n ≤ high)
 between_true low high n within = let h = and_parts (leb low n) (leb n high) within in (leb-true low n h.0, leb-true n high h.1)
 
 -- a choice is its first value where the test is true, and else its second
 pub chosen : {A : Type 0} (test : Bool) (x y z : A) → cond test x y ≡ z → ((test ≡ true) × (x ≡ z)) ⊎ ((test ≡ false) × (y ≡ z))
-chosen true x y z e = inl (refl, e)
-chosen false x y z e = inr (refl, e)
+chosen test x y z e = grind (arith, common_steps)

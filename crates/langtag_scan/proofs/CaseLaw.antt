@@ -1,16 +1,17 @@
 -- The case of letters changes no class, no segment and no stage; so it changes no kind of tag, no part and no end.
-use Rattle.std.proofs.Common.{◌≡◌, ℕ, Bool, true, false, cond, eqb, List, [], ◌∷◌, ◌++◌, length, map, Option, Some, None, inl, inr, refl, sym, ap, ◌∙◌, arith}
+use Rattle.std.proofs.Common.{◌≡◌, ℕ, Bool, false, eqb, List, [], ◌∷◌, ◌++◌, length, map, Option, inl, inr, refl, sym, ap, ◌∙◌, arith}
 use Rattle.std.specs.Prelude.{IsTrue, IfSome}
-use Rattle.std.specs.List.{AllByRecursion, list_all, flat_map, onto_first}
+use Rattle.std.specs.List.{AllByRecursion, list_all, flat_map}
 use Rattle.std.specs.Option.{option_map, option_map_or}
 use Rattle.std.proofs.lemmas.Bool.Decides.{nat_tests}
 use Rattle.std.proofs.lemmas.List.{length-map, map-append}
+use Rattle.std.proofs.lemmas.Grind.{common_steps}
 use Rattle.langtag_scan.specs.Case.{fold_byte, fold_text, Alike}
 use Rattle.langtag_scan.specs.AlikeRecords.{fold_extension, fold_private_use, fold_record, AlikeRecords, IsSpelledAlike}
 use Rattle.langtag_scan.specs.Class.{is_letter, is_digit, is_alphanumeric, starts_with_digit, is_primary, is_extended, is_script, is_region, is_variant, is_extension_subtag, is_private_subtag, is_mark, is_singleton}
 use Rattle.langtag_scan.specs.Ends.{ends_of}
 use Rattle.langtag_scan.specs.Record.{Extension, PrivateUse, Record, IsWellFormedExtension, IsWellFormedPrivateUse, IsWellFormed, extension_flat, one_flat, private_part_flat, flat, spell, EachRecord}
-use Rattle.langtag_scan.specs.Stage.{Stage, Start, AfterMark, Classes, is_one, classes_of, next_stage}
+use Rattle.langtag_scan.specs.Stage.{Stage, Start, Classes, is_one, classes_of, next_stage}
 use Rattle.langtag_scan.specs.Subtags.{join, segments}
 use Rattle.langtag_scan.specs.Tag.{IsNormal, IsPrivate, IsIrregular, IsIrregularAt, IsTag}
 use Rattle.langtag_scan.proofs.NormalTexts.{normal_from_runs, runs_from_normal, spelled_once}
@@ -68,22 +69,16 @@ module _ (p : ℕ → Bool) (same : (b : ℕ) → p (fold_byte b) ≡ p b) where
   all-fold (b ∷ s) = rw (same b, all-fold s) refl
 
   is_one-fold : (s : List ℕ) → is_one p (fold_text s) ≡ is_one p s
-  is_one-fold [] = refl
-  is_one-fold (b ∷ []) = same b
-  is_one-fold (b ∷ c ∷ s) = refl
+  is_one-fold s = grind (arith, common_steps)
 
 starts_with_digit-fold : (s : List ℕ) → starts_with_digit (fold_text s) ≡ starts_with_digit s
-starts_with_digit-fold [] = refl
-starts_with_digit-fold (b ∷ s) = is_digit-fold b
+starts_with_digit-fold s = grind (arith, common_steps, is_digit-fold)
 
 -- a subtag and its fold are of the same classes
 pub classes-fold : (s : List ℕ) → classes_of (fold_text s) ≡ classes_of s
 unfolding is_primary is_extended is_script is_region is_variant is_extension_subtag is_private_subtag
 classes-fold s =
-    let letters = all-fold is_letter is_letter-fold in
-    let digits = all-fold is_digit is_digit-fold in
-    let each = all-fold is_alphanumeric is_alphanumeric-fold in
-    simp (length-fold, letters, digits, each, starts_with_digit-fold, is_one-fold is_mark is_mark-fold, is_one-fold is_singleton is_singleton-fold)
+    simp (all-fold, is_letter-fold, is_digit-fold, is_alphanumeric-fold, length-fold, starts_with_digit-fold, is_one-fold, is_mark-fold, is_singleton-fold)
 
 -- so the fold is of a class where the subtag is
 abbrev IsOf : (Classes → Bool) → List ℕ → Type 0
@@ -96,8 +91,7 @@ class-fold is s fits = ap is (classes-fold s) ∙ fits
 
 -- two functions that agree
 agree : (f g : Stage → Bool) → ((x : Stage) → f x ≡ g x) → (o : Option Stage) → option_map_or f o false ≡ option_map_or g o false
-agree f g same None = refl
-agree f g same (Some x) = same x
+agree f g same o = grind (arith, common_steps)
 
 -- folded subtags may follow where those that they fold may
 pub runs-fold : (stage : Stage) (ss : List (List ℕ)) → runs stage (map fold_text ss) ≡ runs stage ss
@@ -108,22 +102,14 @@ runs-fold stage (s ∷ ss) =
 
 -- after a mark likewise
 pub runs_private-fold : (ss : List (List ℕ)) → runs_private (map fold_text ss) ≡ runs_private ss
-runs_private-fold [] = refl
-runs_private-fold (s ∷ ss) = rw (is_one-fold is_mark is_mark-fold s, runs-fold AfterMark ss) refl
+runs_private-fold ss = grind (arith, common_steps, is_one-fold, is_mark-fold, runs-fold)
 
 -- ---- hyphens
 
 -- the segments of a folded text are those of the text, folded
 pub segments-fold : (t : List ℕ) → segments (fold_text t) ≡ map fold_text (segments t)
 segments-fold [] = refl
-segments-fold (b ∷ t) = rw (hyphen-fold b, segments-fold t) (one_more (eqb b 45) (segments t))
-  where
-    one_more :
-        (v : Bool) (ss : List (List ℕ)) →
-        cond v ([] ∷ map fold_text ss) (onto_first (fold_byte b) (map fold_text ss)) ≡ map fold_text (cond v ([] ∷ ss) (onto_first b ss))
-    one_more true ss = refl
-    one_more false [] = refl
-    one_more false (s ∷ ss) = refl
+segments-fold (b ∷ t) = grind (arith, common_steps, hyphen-fold b, segments-fold t)
 
 -- and a join of folded subtags is the join, folded
 pub join-fold : (ss : List (List ℕ)) → join (map fold_text ss) ≡ fold_text (join ss)
@@ -136,8 +122,7 @@ join-fold (s ∷ u ∷ us) = ap (λ (t : List ℕ). fold_text s ++ 45 ∷ t) (jo
 
 -- the subtags of a folded script or region are those of the part, folded
 pub one_flat-fold : (o : Option (List ℕ)) → one_flat (option_map fold_text o) ≡ map fold_text (one_flat o)
-one_flat-fold None = refl
-one_flat-fold (Some s) = refl
+one_flat-fold o = grind (arith, common_steps)
 
 -- those of the extensions likewise
 pub extensions-fold : (es : List Extension) → flat_map extension_flat (map fold_extension es) ≡ map fold_text (flat_map extension_flat es)
@@ -146,14 +131,11 @@ extensions-fold (e ∷ es) = rw (extensions-fold es) (sym (map-append fold_text 
 
 -- those of the private use part
 pub private_part-fold : (o : Option PrivateUse) → private_part_flat (option_map fold_private_use o) ≡ map fold_text (private_part_flat o)
-private_part-fold None = refl
-private_part-fold (Some p) = refl
+private_part-fold o = grind (arith, common_steps)
 
 -- so a folded record spells the folded text
 spell-fold : (r : Record) → spell (fold_record r) ≡ fold_text (spell r)
-spell-fold r =
-    let folded : flat (fold_record r) ≡ map fold_text (flat r) = simp (one_flat-fold, extensions-fold, private_part-fold, map-append) in
-    ap join folded ∙ join-fold (flat r)
+spell-fold r = grind (arith, common_steps, one_flat-fold, extensions-fold, private_part-fold, map-append, join-fold (flat r))
 
 -- alike records spell alike texts
 pub spelled_alike : (r q : Record) → AlikeRecords r q → Alike (spell r) (spell q)
@@ -166,8 +148,7 @@ module _ {X Y : Type 0} (P : X → Type 0) (Q : Y → Type 0) (f : X → Y) (ste
   each-map (x ∷ xs) fits = (step x fits.0, each-map xs fits.1)
 
   if_some-map : (o : Option X) → IfSome o P → IfSome (option_map f o) Q
-  if_some-map None fits = tt
-  if_some-map (Some x) fits = step x fits
+  if_some-map o fits = grind (arith, common_steps)
 
 each-fold : (is : Classes → Bool) (ss : List (List ℕ)) → AllByRecursion (IsOf is) ss → AllByRecursion (IsOf is) (map fold_text ss)
 each-fold is = each-map (IsOf is) (IsOf is) fold_text (class-fold is)
@@ -239,9 +220,7 @@ alike_private t u alike private = private_from_runs u (alike_test runs_private r
 -- a text that is alike a tag is a tag
 pub alike_tag : (t u : List ℕ) → Alike t u → IsTag t → IsTag u
 unfolding IsTag IsIrregular
-alike_tag t u alike (inl normal) = inl (alike_normal t u alike normal)
-alike_tag t u alike (inr (inl private)) = inr (inl (alike_private t u alike private))
-alike_tag t u alike (inr (inr (k, irregular))) = inr (inr (k, alike_irregular k t u alike irregular))
+alike_tag t u alike h = grind (arith, common_steps, alike_normal, alike_private, alike_irregular)
 
 -- a text that is alike a normal one has an alike record, with the same ends
 pub alike_parts : (t u : List ℕ) → Alike t u → EachRecord t (λ r. IsSpelledAlike r u)

@@ -1,5 +1,5 @@
 -- How the order of texts without regard to case goes on from an index, and what it answers where a text has ended.
-use Rattle.std.proofs.Common.{◌≡◌, ℕ, suc, ◌+◌, ◌-◌, ◌<◌, min, true, false, cond, List, [], ◌∷◌, length, get_or, take, drop, refl, ◌∙◌, Fits, w8, arith, add-one, length-drop, Less, Equal, Greater, Ordering}
+use Rattle.std.proofs.Common.{◌≡◌, ℕ, suc, ◌+◌, ◌-◌, ◌<◌, min, true, false, cond, List, [], ◌∷◌, length, get_or, take, drop, refl, ◌∙◌, Fits, w8, arith, add-one, length-drop, Less, Greater, Ordering}
 use Rattle.std.specs.Ordering.{nat_cmp, ordering_then, is_ne}
 use Rattle.std.proofs.Math.Seq.{drop-cons}
 use Rattle.std.proofs.lemmas.List.{get_or-drop}
@@ -13,9 +13,7 @@ case_cmp-drop :
 case_cmp-drop a b i in_a in_b = rw (add-one, drop-cons a i 0 in_a, drop-cons b i 0 in_b) refl
 
 ordering_then-is_ne : (first rest : Ordering) → ordering_then first rest ≡ cond (is_ne first) first rest
-ordering_then-is_ne Less rest = refl
-ordering_then-is_ne Equal rest = refl
-ordering_then-is_ne Greater rest = refl
+ordering_then-is_ne first rest = grind (arith, common_steps)
 
 module _ (a b : List ℕ) (i x y : ℕ) (o : Ordering) (in_a : i < length a) (in_b : i < length b) (at_a : x ≡ get_or a i 0) (at_b : y ≡ get_or b i 0) (at_index : o ≡ nat_cmp (fold_byte x) (fold_byte y)) where
   -- the bytes at an index tie
@@ -46,12 +44,8 @@ case_cmp-ended a b i bytes_a bytes_b ended =
         (s t : List ℕ) → ((k : ℕ) → Fits w8 (get_or s k 0)) → ((k : ℕ) → Fits w8 (get_or t k 0)) → length s ≡ length a - i →
         length t ≡ length b - i → case_cmp s t ≡ nat_cmp (length b) (length a)
     by_rest [] [] bytes_s bytes_t e f = let same : length b ≡ length a = omega (arith, ended) in grind (arith, common_steps, same)
-    by_rest [] (y ∷ t) bytes_s bytes_t e f =
-        let longer : length a < length b = omega (arith, ended) in
-        rw (end-above_fold_byte y (bytes_t 0)) (grind (arith, common_steps))
-    by_rest (x ∷ s) [] bytes_s bytes_t e f =
-        let longer : length b < length a = omega (arith, ended) in
-        rw (fold_byte-below_end x (bytes_s 0)) (grind (arith, common_steps))
+    by_rest [] (y ∷ t) bytes_s bytes_t e f = grind (arith, common_steps, end-above_fold_byte y (bytes_t 0))
+    by_rest (x ∷ s) [] bytes_s bytes_t e f = grind (arith, common_steps, fold_byte-below_end x (bytes_s 0))
     by_rest (x ∷ s) (y ∷ t) bytes_s bytes_t e f = absurd (omega (arith, ended))
 
 -- of two texts of which one begins the other the shorter is the greater

@@ -1,8 +1,9 @@
 -- The subtags of a well-formed record are decoded, and give that record.
-use Rattle.std.proofs.Common.{◌≡◌, ℕ, ◌+◌, ◌-◌, ◌≤◌, true, cond, eqb, leb, List, [], ◌∷◌, ◌++◌, length, Option, Some, None, ◌⊎◌, inl, inr, refl, sym, ap, ◌∙◌, arith, append_assoc}
+use Rattle.std.proofs.Common.{◌≡◌, ℕ, ◌+◌, ◌-◌, ◌≤◌, true, cond, eqb, leb, List, [], ◌∷◌, ◌++◌, length, Option, Some, None, ◌⊎◌, refl, ◌∙◌, arith, append_assoc}
 use Rattle.std.specs.Prelude.{IsTrue, IfSome}
 use Rattle.std.specs.List.{AllByRecursion, flat_map}
 use Rattle.std.proofs.lemmas.Bool.{and_from, eq-eqb, lt-ltb, le-leb}
+use Rattle.std.proofs.lemmas.Grind.{common_steps}
 use Rattle.langtag_scan.specs.Class.{is_extended, is_script, is_region, is_variant, is_extension_subtag, is_private_subtag, is_primary}
 use Rattle.langtag_scan.specs.Record.{PrivateUse, Extension, Record, IsWellFormedPrivateUse, IsWellFormedExtension, IsWellFormed, extension_flat, one_flat, private_part_flat, flat}
 use Rattle.langtag_scan.specs.Stage.{Stage, Start, Language, Extended, AfterScript, AfterRegion, AfterVariant, AfterSingleton, InExtension, AfterMark, InPrivate, classes_of, may_end}
@@ -24,9 +25,7 @@ more_decode :
     {ss : List (List ℕ)} {b : Read} (stage after : Stage) (s : List ℕ) → may_follow stage after ≡ true →
     leads_to after (classes_of s) ≡ true → Decodes after ss b → Decodes stage (s ∷ ss) (put after s b)
 unfolding runs decode
-more_decode {ss} {b} stage after s follows class others =
-    let next = reached stage after s follows class in
-    record { run = rw next others.run; is = decode-cons stage after s ss next ∙ ap (put after s) others.is }
+more_decode {ss} {b} stage after s follows class others = grind (arith, common_steps, reached stage after s follows class, decode-cons stage after s ss)
 
 in_private : (ss : List (List ℕ)) → AllByRecursion (λ s. IsTrue (is_private_subtag s)) ss → Decodes InPrivate ss (pending ss [] None)
 in_private [] fits = none_decodes InPrivate refl
@@ -71,8 +70,7 @@ module _ (p : Option PrivateUse) (fits_private : IfSome p IsWellFormedPrivateUse
       (es : List Extension) → AllByRecursion IsWellFormedExtension es → (stage : Stage) → next_part stage ≤ 4 →
       Decodes stage (flat_map extension_flat es ++ private_part_flat p) (whole (from_extensions es p))
   extensions_decode [] fits stage on = private_decodes p fits_private stage on
-  extensions_decode (e ∷ es) fits stage on =
-      rw append_assoc (one_extension e es _ fits.0 (extensions_decode es fits.1 InExtension (omega arith)) stage on)
+  extensions_decode (e ∷ es) fits stage on = grind (arith, common_steps, append_assoc, one_extension e es, extensions_decode es fits.1 InExtension)
 
   module _ (es : List Extension) (fits_extensions : AllByRecursion IsWellFormedExtension es) where
     variants_decode :
@@ -111,8 +109,7 @@ module _ (p : Option PrivateUse) (fits_private : IfSome p IsWellFormedPrivateUse
 
 -- how many extended subtags stand after a primary one
 few_extended : (n : ℕ) (xs : List (List ℕ)) → length xs ≤ 3 → ((n ≤ 3) ⊎ (xs ≡ [])) → length xs ≤ 3 - cond (leb n 3) 0 3
-few_extended n xs few (inr none) = omega (arith, ap length none)
-few_extended n xs few (inl short) = rw (le-leb n 3 short) (omega arith)
+few_extended n xs few h = grind (arith, common_steps, le-leb n 3)
 
 -- the subtags of a well-formed record are decoded to it
 pub decode_complete : (r : Record) → IsWellFormed r → Decodes Start (flat r) (whole r)
@@ -125,5 +122,4 @@ decode_complete r fits =
 
 -- no two well-formed records have the same subtags
 pub flat_once : (r q : Record) → IsWellFormed r → IsWellFormed q → flat r ≡ flat q → r ≡ q
-flat_once r q fits fit e =
-    ap (λ (b : Read). b.parts) (sym (decode_complete r fits).is ∙ ap (decode Start) e ∙ (decode_complete q fit).is)
+flat_once r q fits fit e = grind (arith, common_steps, decode_complete r fits, decode_complete q fit)

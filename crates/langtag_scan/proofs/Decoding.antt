@@ -5,6 +5,7 @@ use Rattle.std.specs.List.{AllByRecursion, flat_map}
 use Rattle.std.specs.Option.{option_map_or}
 use Rattle.std.proofs.lemmas.Bool.Decides.{nat_tests}
 use Rattle.std.proofs.lemmas.List.{nil_from_length}
+use Rattle.std.proofs.lemmas.Grind.{common_steps}
 use Rattle.langtag_scan.specs.Class.{is_primary, is_extended, is_script, is_region, is_variant, is_extension_subtag, is_private_subtag}
 use Rattle.langtag_scan.specs.Record.{PrivateUse, Extension, Record, IsWellFormedPrivateUse, IsWellFormedExtension, extension_flat, one_flat, private_part_flat}
 use Rattle.langtag_scan.specs.Stage.{Stage, Start, Language, Extended, AfterScript, AfterRegion, AfterVariant, AfterSingleton, InExtension, AfterMark, InPrivate, classes_of, next_stage, may_end}
@@ -83,8 +84,7 @@ module _
     by_next :
         (stage : Stage) (s : List ℕ) (ss : List (List ℕ)) (o : Option Stage) → next_stage stage s ≡ o →
         option_map_or (λ after. runs after ss) o false ≡ true → ((after : Stage) → runs after ss ≡ true → P after ss) → P stage (s ∷ ss)
-    by_next stage s ss None next run others = absurd cc
-    by_next stage s ss (Some after) next run others = more stage after s ss next (others after run)
+    by_next stage s ss o next run others = grind (arith, common_steps)
 
     pub over_run : (ss : List (List ℕ)) (stage : Stage) → runs stage ss ≡ true → P stage ss
     unfolding runs

@@ -1,8 +1,9 @@
 -- The classes of subtags that may stand at one place have no member in common.
-use Rattle.std.proofs.Common.{◌≡◌, Some, ℕ, ◌≤◌, true, false, eqb, List, [], ◌∷◌, length, refl, arith, ◌⊎◌}
+use Rattle.std.proofs.Common.{◌≡◌, Some, ℕ, ◌≤◌, true, false, eqb, List, length, arith, ◌⊎◌}
 use Rattle.std.proofs.lemmas.Bool.{eqb-true, and_parts}
 use Rattle.std.specs.Prelude.{⊤}
 use Rattle.std.proofs.lemmas.Bool.Decides.{nat_tests}
+use Rattle.std.proofs.lemmas.Grind.{common_steps}
 use Rattle.langtag_scan.specs.Class.{is_letter, is_digit, are_letters, are_digits, are_alphanumeric, starts_with_digit, is_extended, is_script, is_region, is_variant, is_extension_subtag, is_mark, is_singleton}
 use Rattle.langtag_scan.specs.Stage.{Stage, AfterScript, AfterRegion, AfterVariant, AfterSingleton, AfterMark, Classes, classes_of, next_stage}
 use Rattle.langtag_scan.proofs.Steps.{leads_to, may_follow}
@@ -38,12 +39,10 @@ unfolding is_variant
 variant_long s h = grind (arith, nat_tests)
 
 pub first_no_digit : (s : List ℕ) → are_letters s ≡ true → starts_with_digit s ≡ true → ⊥
-first_no_digit [] l d = absurd cc
-first_no_digit (b ∷ s) l d = let k = and_parts (is_letter b) (are_letters s) l in letter_no_digit b k.0 d
+first_no_digit s l d = grind (arith, common_steps, and_parts, letter_no_digit)
 
 pub digits_begin : (s : List ℕ) → 1 ≤ length s → are_digits s ≡ true → starts_with_digit s ≡ true
-digits_begin [] n d = absurd (omega arith)
-digits_begin (b ∷ s) n d = (and_parts (is_digit b) (are_digits s) d).0
+digits_begin s n d = grind (arith, common_steps, and_parts)
 
 abbrev IsOfNoPart : Classes → Type 0
 IsOfNoPart c = (c.extended ≡ false) × (c.script ≡ false) × (c.region ≡ false) × (c.variant ≡ false) × (c.extension_subtag ≡ false)
@@ -59,14 +58,7 @@ IsFirst _ c = ⊤
 
 pub first_class : (after : Stage) (s : List ℕ) → leads_to after (classes_of s) ≡ true → IsFirst after (classes_of s)
 unfolding is_extended is_script is_region is_variant is_extension_subtag
-first_class AfterScript s h = grind (arith, nat_tests)
-first_class AfterRegion s h = (grind (arith, nat_tests, first_no_digit s, digits_begin s), grind (arith, nat_tests))
-first_class AfterVariant s h = (grind (arith, nat_tests), grind (arith, nat_tests, first_no_digit s), grind (arith, nat_tests))
-first_class AfterMark (c ∷ []) h = (refl, refl, refl, refl, refl)
-first_class AfterSingleton (c ∷ []) h = ((refl, refl, refl, refl, refl), singleton_no_mark c h)
-first_class AfterMark _ h = absurd cc
-first_class AfterSingleton _ h = absurd cc
-first_class _ s h = tt
+first_class after s h = grind (arith, common_steps, nat_tests, first_no_digit s, digits_begin s, singleton_no_mark)
 
 -- so a subtag of the class of a stage leads there, where the stage may follow
 pub reached :

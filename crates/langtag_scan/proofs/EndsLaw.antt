@@ -3,6 +3,7 @@
 use Rattle.std.proofs.Common.{◌≡◌, subst, drop, ℕ, zero, suc, ◌+◌, ◌≤◌, true, false, cond, leb, List, [], ◌∷◌, length, Some, refl, sym, ◌∙◌, arith}
 use Rattle.std.proofs.lemmas.Bool.Decides.{nat_tests}
 use Rattle.std.proofs.lemmas.List.{length-append}
+use Rattle.std.proofs.lemmas.Grind.{common_steps}
 use Rattle.langtag_scan.specs.Ends.{ends_of}
 use Rattle.langtag_scan.specs.Machine.{all_at, end_at, index_after}
 use Rattle.langtag_scan.specs.Record.{Record, IsWellFormed, flat}
@@ -56,21 +57,13 @@ AreOpen-after after p e = grind (arith, nat_tests)
 
 index_inside : (stage : Stage) (e : Ends) (s : List ℕ) → is_outside stage ≡ false → index_after stage e s ≡ e.whole + (1 + length s)
 unfolding is_outside
-index_inside Start e s inside = absurd cc
-index_inside _ e s inside = omega arith
+index_inside stage e s inside = grind (arith, common_steps)
 
 -- one subtag before those of a part moves the ends from this part on
 AreLater-add :
     (after : Stage) (d e : Ends) (s : List ℕ) (b : Read) → AreOpen (place after) e →
     AreLater d (end_at after (e.whole + (1 + length s)) e) (by_part after b) → AreLater d e (add (place after) s (by_part after b))
-AreLater-add after d e s b o later = (
-  later.0 ∙ grind (arith, nat_tests, o.0),
-  later.1 ∙ grind (arith, nat_tests, o.1),
-  later.2 ∙ grind (arith, nat_tests, o.2),
-  later.3 ∙ grind (arith, nat_tests, o.3),
-  later.4 ∙ grind (arith, nat_tests, o.4),
-  later.5 ∙ grind (arith, nat_tests),
-)
+AreLater-add after d e s b o later = grind (arith, common_steps, nat_tests)
 
 AreRight : Stage → List (List ℕ) → Type 0
 AreRight stage ss =
@@ -93,14 +86,7 @@ more_right stage after s ss next right e inside o =
 
 -- the ends of a record are that of its primary subtag, and later ones
 ends_of-later : (d : Ends) (r : Record) → AreLater d (all_at (length r.primary)) (blocks r.extended r) → d ≡ ends_of r
-ends_of-later d r later =
-    ends_equal d (ends_of r)
-    (later.0 ∙ simp (weight-hyphenated, length-join) (omega arith))
-    (later.1 ∙ simp (weight-hyphenated, length-join, length-hyphenated) (omega arith))
-    (later.2 ∙ simp (weight-hyphenated, length-join, length-hyphenated) (omega arith))
-    (later.3 ∙ simp (weight-hyphenated, length-join, length-hyphenated) (omega arith))
-    (later.4 ∙ simp (weight-hyphenated, length-join, length-hyphenated) (omega arith))
-    (later.5 ∙ simp (weight-hyphenated, length-join, length-hyphenated) (omega arith))
+ends_of-later d r later = grind (arith, common_steps, ends_equal d (ends_of r), weight-hyphenated, length-join, length-hyphenated)
 
 -- after all subtags of a well-formed record the ends are those of its parts
 pub ends_after-flat : (r : Record) → IsWellFormed r → ends_after Start (all_at 0) (flat r) ≡ ends_of r

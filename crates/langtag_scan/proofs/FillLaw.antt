@@ -1,19 +1,20 @@
 -- A prefix is viable exactly where it fills to a tag or begins an irregular text.
-use Rattle.std.proofs.Common.{◌≡◌, ◌↔◌, ℕ, ◌-◌, Bool, true, false, eqb, eqb-true, not, List, [], ◌∷◌, ◌++◌, length, take, drop, Option, Some, None, inl, inr, ◌⊎◌, refl, sym, ap, subst, ◌∙◌, arith, append_assoc, append-nil}
-use Rattle.std.specs.List.{after_last, suffix_len}
+use Rattle.std.proofs.Common.{◌≡◌, ◌↔◌, ℕ, ◌-◌, false, eqb, eqb-true, List, [], ◌∷◌, ◌++◌, length, Some, ◌⊎◌, sym, subst, arith, append_assoc, append-nil, Bool, true, take, drop, Option, None, inl, inr, refl, ap, ◌∙◌}
+use Rattle.std.specs.List.{after_last}
 use Rattle.std.proofs.lemmas.List.{map-append, take-append-drop, length-map, take-map, length_push, drop-append-le, drop_all, reverse-append}
 use Rattle.std.proofs.Math.Seq.{take-append_seam}
-use Rattle.langtag_scan.specs.Case.{fold_byte, fold_text}
+use Rattle.std.proofs.lemmas.Grind.{common_steps}
 use Rattle.langtag_scan.specs.Tag.{IsIrregular, IsIrregularAt, IsTag}
 use Rattle.langtag_scan.specs.Viable.{IsViable, IsIrregularPrefix, filling, fill}
 use Rattle.langtag_scan.specs.Stage.{Stage, Start, after_stage}
 use Rattle.langtag_scan.specs.Subtags.{is_hyphen, segments}
-use Rattle.langtag_scan.specs.Machine.{all_at, end_at, outcome_of, IsRefused}
+use Rattle.langtag_scan.specs.Machine.{outcome_of, IsRefused, all_at, end_at}
 use Rattle.langtag_scan.specs.declared.ends.Ends.{Ends}
 use Rattle.langtag_scan.specs.declared.finding.Finding.{Finding}
-use Rattle.langtag_scan.proofs.Outcomes.{Decides, decided}
+use Rattle.langtag_scan.proofs.Outcomes.{decided, Decides}
 use Rattle.langtag_scan.proofs.ReadingLaws.{IsPartRead, reads_nothing, reads_filled, reads_after, after_hyphen, found_begun}
 use Rattle.langtag_scan.proofs.Running.{empty_begun, found_after}
+use Rattle.langtag_scan.specs.Case.{fold_byte, fold_text}
 use Rattle.langtag_scan.proofs.TagLaws.{tag_irregular, viable_from_tag}
 
 -- ---- what stands after the last hyphen
@@ -25,9 +26,7 @@ begun-hyphen : (q : List ℕ) → begun (q ++ 45 ∷ []) ≡ []
 begun-hyphen q = rw (reverse-append q (45 ∷ [])) (drop_all (length (q ++ 45 ∷ []) - 0) (q ++ 45 ∷ []) (omega arith))
 
 begun-push : (q : List ℕ) (b : ℕ) → eqb b 45 ≡ false → begun (q ++ b ∷ []) ≡ begun q ++ b ∷ []
-begun-push q b other =
-    let n = suffix_len (λ x. not (is_hyphen x)) q in
-    rw (reverse-append q (b ∷ []), other) (ap (λ k. drop k (q ++ b ∷ [])) (omega (arith, length_push q b)) ∙ drop-append-le (length q - n) q (b ∷ []) (omega arith))
+begun-push q b other = grind (arith, common_steps, reverse-append q (b ∷ []), length_push q b, drop-append-le)
 
 -- ---- a prefix of what something is found of
 
@@ -108,8 +107,7 @@ fill_from_viable p (u, inr (inl private)) = inl (filled_tag p u (λ refused. ref
 fill_from_viable p (u, inr (inr (k, irregular))) = inr (prefix_from_irregular p u k irregular)
 
 viable_from_fill : (p : List ℕ) → IsTag (fill p) ⊎ IsIrregularPrefix p → IsViable p
-viable_from_fill p (inl tag) = viable_from_tag p (filling (begun p)) tag
-viable_from_fill p (inr prefix) = irregular_from_prefix p prefix
+viable_from_fill p h = grind (arith, common_steps, viable_from_tag p (filling (begun p)), irregular_from_prefix p)
 
 pub viable_fill : (p : List ℕ) → IsViable p ↔ (IsTag (fill p) ⊎ IsIrregularPrefix p)
 viable_fill p = (fill_from_viable p, viable_from_fill p)

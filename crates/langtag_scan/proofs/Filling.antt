@@ -1,15 +1,16 @@
 -- A subtag that has begun, filled to five letters, may stand wherever it has begun, and a tag may end after it.
-use Rattle.std.proofs.Common.{◌≡◌, ℕ, zero, suc, ◌-◌, ◌≤◌, true, cond, List, ◌++◌, length, [], Some, None, refl, sym, ap, subst, ◌∙◌, arith, ne_eqb}
+use Rattle.std.proofs.Common.{◌≡◌, ℕ, zero, suc, ◌-◌, ◌≤◌, true, List, ◌++◌, length, Some, refl, ◌∙◌, arith, ne_eqb, cond, [], None, ap}
 use Rattle.std.specs.Prelude.{replicate}
 use Rattle.std.proofs.lemmas.Bool.{le-leb, lt-leb}
 use Rattle.std.proofs.lemmas.List.{length-append, length-replicate}
 use Rattle.std.proofs.lemmas.List.Folds.{list_all-append}
-use Rattle.langtag_scan.specs.Class.{is_letter, is_alphanumeric, are_letters, are_alphanumeric}
+use Rattle.std.proofs.lemmas.Grind.{common_steps}
+use Rattle.langtag_scan.specs.Class.{is_letter, are_letters, are_alphanumeric}
 use Rattle.langtag_scan.specs.Subtags.{segments}
 use Rattle.langtag_scan.specs.Kind.{Kind, kind_of, has_letters, classes_by}
 use Rattle.langtag_scan.specs.Viable.{filling}
-use Rattle.langtag_scan.specs.Stage.{Stage, Start, Language, Extended, AfterScript, AfterRegion, AfterVariant, AfterSingleton, InExtension, AfterMark, InPrivate, AfterFirstMark, InPrivateTag, Classes, classes_of, after_by, may_end}
-use Rattle.langtag_scan.specs.Machine.{IsBegun, end_at, index_after, found_by, outcome}
+use Rattle.langtag_scan.specs.Stage.{Stage, Start, Classes, classes_of, after_by, may_end, Language, Extended, AfterScript, AfterRegion, AfterVariant, AfterSingleton, InExtension, AfterMark, InPrivate, AfterFirstMark, InPrivateTag}
+use Rattle.langtag_scan.specs.Machine.{IsBegun, outcome, end_at, index_after, found_by}
 use Rattle.langtag_scan.specs.declared.ends.Ends.{Ends}
 use Rattle.langtag_scan.specs.declared.finding.Finding.{Finding}
 use Rattle.langtag_scan.proofs.Running.{found_after, segments-one}
@@ -26,20 +27,7 @@ abbrev full : Kind → Classes
 full kind = classes_by kind 5
 
 full_classes : (f : List ℕ) → IsFull f → classes_of f ≡ full (kind_of f)
-full_classes f h =
-    let n : ℕ = length f in
-    let long : 5 ≤ n = h.long in
-    classes_of-kind f h.short h.alphanumeric
-    ∙ rw (
-      le-leb 5 n long,
-      le-leb 2 n (omega arith),
-      le-leb 1 n (omega arith),
-      lt-leb n 3 (omega arith),
-      ne_eqb n 1 (λ e. omega (arith, e)),
-      ne_eqb n 2 (λ e. omega (arith, e)),
-      ne_eqb n 3 (λ e. omega (arith, e)),
-      ne_eqb n 4 (λ e. omega (arith, e)),
-    ) refl
+full_classes f h = grind (arith, common_steps, classes_of-kind f h.short h.alphanumeric, le-leb 5, le-leb 2, le-leb 1, lt-leb, ne_eqb)
 
 -- it may stand there, and a tag may end after it
 Finishes : Stage → Classes → Type 0
@@ -66,24 +54,13 @@ letters_a zero = refl
 letters_a (suc n) = letters_a n
 
 filled : (stage : Stage) (s : List ℕ) → IsBegun stage s → IsFull (s ++ filling s)
-filled stage s h =
-    let len = length-append s (filling s) in
-    let more = length-replicate {A = ℕ} (5 - length s) 97 in
-    record {
-      long = omega (arith, len, more);
-      short = omega (arith, len, more, h.short);
-      alphanumeric = list_all-append is_alphanumeric s (filling s) ∙ rw (h.alphanumeric, letters_alphanumeric (filling s) (letters_a (5 - length s))) refl;
-    }
+filled stage s h = grind (arith, common_steps, length-append, length-replicate, list_all-append, letters_alphanumeric, letters_a)
 
 filled_letters : (s : List ℕ) → are_letters s ≡ true → are_letters (s ++ filling s) ≡ true
 filled_letters s h = list_all-append is_letter s (filling s) ∙ rw (h, letters_a (5 - length s)) refl
 
 finishes : (stage : Stage) (s : List ℕ) → IsBegun stage s → Finishes stage (classes_of (s ++ filling s))
-finishes stage s begun =
-    let f = s ++ filling s in
-    let full_f = filled stage s begun in
-    subst (Finishes stage) (sym (full_classes f full_f))
-    (after_full stage (kind_of f) (λ first. sym (letters-kind_of f) ∙ filled_letters s (begun.letters first)))
+finishes stage s begun = grind (arith, common_steps, filled stage s begun, full_classes, after_full stage, letters-kind_of, filled_letters s)
 
 -- where the last subtag is filled, something is found
 pub filled_found : (stage : Stage) (e : Ends) (s : List ℕ) → IsBegun stage s → (f : Finding) × (outcome stage e (segments (s ++ filling s)) ≡ Some f)

@@ -1,15 +1,14 @@
 -- The numbers of texts of letters and digits tell them apart but for case.
-use Rattle.std.proofs.Common.{◌≡◌, ℕ, ◌+◌, ◌*◌, ◌<◌, ◌≤◌, true, ◌==◌, List, [], ◌∷◌, Bool, inl, inr, refl, ap, sym, ◌∙◌, arith}
+use Rattle.std.proofs.Common.{◌≡◌, ℕ, ◌+◌, ◌*◌, ◌<◌, ◌≤◌, true, ◌==◌, List, [], ◌∷◌, Bool, refl, sym, arith, rules}
 use Rattle.std.specs.List.{fold, list_any, list_all, AllByRecursion}
 use Rattle.std.specs.Prelude.{map}
 use Prim.Native.Nat.{◌^◌}
 use Rattle.std.proofs.Math.Nat.{pow-le-pow_right}
-use Rattle.std.proofs.lemmas.Grind.{pow_more}
+use Rattle.std.proofs.lemmas.Grind.{pow_more, common_steps}
 use Rattle.std.proofs.lemmas.Bool.{and_parts, false_from_ne_true}
 use Rattle.std.proofs.lemmas.Bool.Decides.{eqb_tells, nat_tests}
 use Rattle.std.proofs.lemmas.List.Folds.{fold-map}
 use Rattle.langtag_scan.specs.Case.{fold_byte, fold_text, are_alike, folded_number}
-use Rattle.langtag_scan.specs.CaseLaws.{are_alike-decides}
 use Rattle.langtag_scan.specs.Class.{is_letter, is_digit, is_alphanumeric, are_alphanumeric}
 use Rattle.langtag_scan.proofs.Digits.{IsBase, digits-same}
 
@@ -18,11 +17,7 @@ record IsByte (d : ℕ) : Type 0 where
   most : d < 256
 
 base_256 : IsBase 256 IsByte
-base_256 = record {
-  some = λ b d. d.some;
-  digit = λ n m x y xd yd same. let xs = xd.some in let xm = xd.most in let ys = yd.some in let ym = yd.most in omega (arith, xs, xm, ys, ym, same);
-  rest = λ n m x y xd yd same. let xs = xd.some in let xm = xd.most in let ys = yd.some in let ym = yd.most in omega (arith, xs, xm, ys, ym, same);
-}
+base_256 = grind (arith, common_steps)
 
 fold_digit : (b : ℕ) → is_alphanumeric b ≡ true → IsByte (fold_byte b)
 unfolding is_letter is_digit fold_byte
@@ -37,16 +32,7 @@ unfolding folded_number
 folded_number-fold text = sym (fold-map (λ number d. number * 256 + d) fold_byte 0 text)
 
 pub folded_number-tells : (a b : List ℕ) → are_alphanumeric a ≡ true → are_alphanumeric b ≡ true → (folded_number b == folded_number a) ≡ are_alike a b
-folded_number-tells a b al bl =
-    elim (eqb_tells (folded_number b) (folded_number a)) [
-      | inl same ↦
-          let texts : fold_text a ≡ fold_text b = digits-same 256 IsByte base_256 (fold_text a) (fold_text b) (fold_digits a al) (fold_digits b bl)
-          (sym (folded_number-fold a) ∙ sym same.1 ∙ folded_number-fold b) in
-          same.0 ∙ sym ((are_alike-decides a b).1 texts)
-      | inr other ↦
-          other.0
-          ∙ sym (false_from_ne_true (are_alike a b) (λ yes. other.1 (folded_number-fold b ∙ ap (fold (λ number d. number * 256 + d) 0) (sym ((are_alike-decides a b).0 yes)) ∙ sym (folded_number-fold a))))
-    ]
+folded_number-tells a b al bl = search (rules, eqb_tells, digits-same, base_256, fold_digits, folded_number-fold, false_from_ne_true)
 
 -- ---- a text is one of a list where its number is one of the list's numbers
 
@@ -56,8 +42,7 @@ module _ (number : List ℕ → ℕ) (is_good : List ℕ → Bool) (tells : (a b
       list_any (are_alike text) list ≡ list_any (λ n. n == number text) (map number list)
   among-numbers text [] good all = refl
   among-numbers text (first ∷ list) good all =
-      let k = and_parts (is_good first) (list_all is_good list) all in
-      rw (tells text first good k.0, among-numbers text list good k.1) refl
+      grind (arith, common_steps, and_parts (is_good first) (list_all is_good list) all, among-numbers text list good)
 
 pub among-folded :
     (text : List ℕ) (list : List (List ℕ)) → are_alphanumeric text ≡ true → list_all are_alphanumeric list ≡ true →

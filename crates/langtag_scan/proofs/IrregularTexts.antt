@@ -1,9 +1,10 @@
 -- The irregular texts: which of them a text may still become, by its prefixes.
-use Rattle.std.proofs.Common.{◌≡◌, ℕ, suc, ◌<◌, Bool, true, eqb, ltb, ◌&&◌, List, [], ◌∷◌, ◌++◌, length, get_or, drop, refl, sym, ap, ◌∙◌, arith}
+use Rattle.std.proofs.Common.{◌≡◌, ℕ, ◌<◌, Bool, true, eqb, ◌&&◌, List, [], ◌∷◌, ◌++◌, length, get_or, drop, refl, sym, ◌∙◌, arith}
 use Rattle.std.proofs.lemmas.Bool.{eqb-true, eq-eqb, and_parts, and_from, agree_below, agree_below_at}
 use Rattle.std.proofs.lemmas.Bool.Decides.{nat_tests}
 use Rattle.std.proofs.lemmas.List.{map-append, drop-map, length-map, get_or-map}
 use Rattle.std.proofs.lemmas.Option.{slice_get-get_or, slice_get_within, get_or_from_slice_get}
+use Rattle.std.proofs.lemmas.Grind.{common_steps}
 use Rattle.langtag_scan.specs.Case.{fold_byte, fold_text}
 use Rattle.langtag_scan.specs.Grandfathered.{grandfathered_tags, irregular_texts}
 use Rattle.langtag_scan.specs.Irregular.{folded_texts, folded_at, is_prefix, has_at, is_possible}
@@ -26,16 +27,13 @@ folded_at-fold k within = get_or-map fold_text irregular_texts k [] [] (omega (a
 -- a text is irregular where its fold stands in the table
 pub irregular_from_fold : (t : List ℕ) (k : ℕ) → k < 17 → folded_at k ≡ fold_text t → IsIrregularAt k t
 unfolding IsIrregularAt
-irregular_from_fold t k within same =
-    let there = slice_get-get_or irregular_texts k [] (omega (arith, seventeen)) in
-    (get_or irregular_texts k [], there, sym (folded_at-fold k within) ∙ same)
+irregular_from_fold t k within same = grind (arith, common_steps, slice_get-get_or irregular_texts k, seventeen, folded_at-fold k within)
 
 -- and only there
 pub irregular_fold : (t : List ℕ) (k : ℕ) → IsIrregularAt k t → (k < 17) × (folded_at k ≡ fold_text t)
 unfolding IsIrregularAt
 irregular_fold t k (name, at, same) =
-    let within : k < 17 = omega (arith, seventeen, slice_get_within irregular_texts k name at) in
-    (within, folded_at-fold k within ∙ ap fold_text (get_or_from_slice_get irregular_texts k name [] at) ∙ same)
+    grind (arith, common_steps, seventeen, slice_get_within irregular_texts k name at, folded_at-fold k, get_or_from_slice_get irregular_texts k name)
 
 -- ---- prefixes
 
@@ -48,25 +46,14 @@ is_prefix-append (b ∷ p) u = and_from (eqb b b) (is_prefix p (p ++ u)) (eq-eqb
 pub prefix_rest : (p text : List ℕ) → is_prefix p text ≡ true → p ++ drop (length p) text ≡ text
 prefix_rest [] text h = refl
 prefix_rest (b ∷ p) [] h = absurd cc
-prefix_rest (b ∷ p) (c ∷ text) h =
-    let k = and_parts (eqb b c) (is_prefix p text) h in
-    let same : b ≡ c = eqb-true _ _ k.0 in
-    rw (same, prefix_rest p text k.1) refl
+prefix_rest (b ∷ p) (c ∷ text) h = grind (arith, common_steps, and_parts (eqb b c) (is_prefix p text) h, eqb-true, prefix_rest p text)
 
 -- a prefix with one byte more
 pub is_prefix-push : (p text : List ℕ) (b : ℕ) → is_prefix (p ++ b ∷ []) text ≡ (is_prefix p text && has_at text (length p) b)
 is_prefix-push [] [] b = refl
-is_prefix-push [] (c ∷ text) b = first b c (length text)
-  where
-    first : (b c n : ℕ) → (eqb b c && true) ≡ (true && (ltb 0 (suc n) && eqb c b))
-    first b c n = grind (arith, nat_tests)
+is_prefix-push [] (c ∷ text) b = grind (arith, common_steps, nat_tests)
 is_prefix-push (x ∷ p) [] b = refl
-is_prefix-push (x ∷ p) (c ∷ text) b =
-    ap (λ v. eqb x c && v) (is_prefix-push p text b)
-    ∙ further (eqb x c) (is_prefix p text) (eqb (get_or text (length p) 0) b) (length p) (length text)
-  where
-    further : (x y z : Bool) (m n : ℕ) → (x && (y && (ltb m n && z))) ≡ ((x && y) && (ltb (suc m) (suc n) && z))
-    further x y z m n = grind (arith, nat_tests)
+is_prefix-push (x ∷ p) (c ∷ text) b = grind (arith, common_steps, is_prefix-push p text b, nat_tests)
 
 -- ---- none begins another
 
@@ -82,9 +69,7 @@ folded_once = each_pair (λ i j. is_prefix (folded_at i) (folded_at j)) eqb 17 r
 -- so no text is irregular at two indices
 pub irregular_once : (j k : ℕ) (t : List ℕ) → IsIrregularAt j t → IsIrregularAt k t → j ≡ k
 irregular_once j k t first other =
-    let a = irregular_fold t j first in
-    let b = irregular_fold t k other in
-    eqb-true j k (sym (folded_once j k a.0 b.0) ∙ ap (λ x. is_prefix x (folded_at k)) (a.1 ∙ sym b.1) ∙ folded_once k k b.0 b.0 ∙ eq-eqb k k refl)
+    grind (arith, common_steps, irregular_fold t j first, irregular_fold t k other, eqb-true j k, folded_once j k, folded_once k k, eq-eqb k k refl)
 
 -- ---- the texts that are reached
 
@@ -99,5 +84,4 @@ possible_viable p k within h =
 -- and each prefix of an irregular text keeps it possible
 pub possible_prefix : (p u : List ℕ) (k : ℕ) → IsIrregularAt k (p ++ u) → (k < 17) × (is_possible p k ≡ true)
 possible_prefix p u k irregular =
-    let whole = irregular_fold (p ++ u) k irregular in
-    (whole.0, ap (is_prefix (fold_text p)) (whole.1 ∙ map-append fold_byte p u) ∙ is_prefix-append (fold_text p) (fold_text u))
+    grind (arith, common_steps, irregular_fold (p ++ u) k irregular, map-append fold_byte p u, is_prefix-append (fold_text p) (fold_text u))

@@ -6,6 +6,7 @@ use Rattle.std.specs.Option.{option_map}
 use Rattle.std.proofs.lemmas.Bool.{eq-eqb, ne_eqb}
 use Rattle.std.proofs.lemmas.List.{take_at, drop_at, length-append, length_push}
 use Rattle.std.proofs.lemmas.List.Concat.{flat_map-append}
+use Rattle.std.proofs.lemmas.Grind.{common_steps}
 use Rattle.langtag_scan.specs.Record.{PrivateUse, one_flat, private_use_flat, private_part_flat}
 use Rattle.langtag_scan.specs.Subtags.{join}
 use Rattle.langtag_scan.specs.Parts.{present, text_between}
@@ -29,8 +30,7 @@ join-append x xs ys = simp (join-hyphenated, hyphenated-append, append_assoc)
 
 -- the join of some subtags, where there are any, in their place
 pub hyphenated-present : (ss : List (List ℕ)) → hyphenated (present ss) ≡ hyphenated ss
-hyphenated-present [] = refl
-hyphenated-present (s ∷ ss) = ap (λ t. 45 ∷ t) (append-nil (join (s ∷ ss)) ∙ join-hyphenated s ss)
+hyphenated-present ss = grind (arith, common_steps, append-nil, join-hyphenated)
 
 -- what stands before some subtags, these, and what stands after them
 pub join-around : (x : List ℕ) (xs ys zs : List (List ℕ)) → join (x ∷ (xs ++ (ys ++ zs))) ≡ (join (x ∷ xs) ++ hyphenated ys) ++ hyphenated zs
@@ -74,16 +74,13 @@ joined [] = None
 joined (subtag ∷ subtags) = Some (join (subtag ∷ subtags))
 
 pub joined-one : (o : Option (List ℕ)) → joined (one_flat o) ≡ o
-joined-one None = refl
-joined-one (Some s) = refl
+joined-one o = grind (arith, common_steps)
 
 pub joined-private : (o : Option PrivateUse) → joined (private_part_flat o) ≡ option_map (λ p. join (private_use_flat p)) o
-joined-private None = refl
-joined-private (Some p) = refl
+joined-private o = grind (arith, common_steps)
 
 pub unwrap_or-joined : (ss : List (List ℕ)) → unwrap_or (joined ss) [] ≡ join ss
-unwrap_or-joined [] = refl
-unwrap_or-joined (s ∷ ss) = refl
+unwrap_or-joined ss = grind (arith, common_steps)
 
 text_between-cut :
     (text prefix part rest : List ℕ) (end : ℕ) → text ≡ prefix ++ 45 ∷ (part ++ rest) → end ≡ length prefix + 1 + length part →
@@ -98,11 +95,8 @@ text_between-cut text prefix part rest end cut at =
 pub text_between-join :
     (x : List ℕ) (xs ys zs : List (List ℕ)) →
     text_between (join (x ∷ (xs ++ (ys ++ zs)))) (length (join (x ∷ xs))) (length (join (x ∷ (xs ++ ys)))) ≡ joined ys
-text_between-join x xs [] zs = rw (append-nil xs, eq-eqb (length (join (x ∷ xs))) (length (join (x ∷ xs))) refl) refl
-text_between-join x xs (y ∷ ys) zs =
-    let part : hyphenated (y ∷ ys) ≡ 45 ∷ join (y ∷ ys) = ap (λ t. 45 ∷ t) (sym (join-hyphenated y ys)) in
-    let whole : join (x ∷ (xs ++ ((y ∷ ys) ++ zs))) ≡ join (x ∷ xs) ++ 45 ∷ (join (y ∷ ys) ++ hyphenated zs) = join-append x xs ((y ∷ ys) ++ zs) ∙ ap (λ t. join (x ∷ xs) ++ t) (hyphenated-append (y ∷ ys) zs ∙ ap (λ t. t ++ hyphenated zs) part) in
-    text_between-cut (join (x ∷ (xs ++ ((y ∷ ys) ++ zs)))) (join (x ∷ xs)) (join (y ∷ ys)) (hyphenated zs) (length (join (x ∷ (xs ++ y ∷ ys)))) whole (omega (arith, length-join-append x xs (y ∷ ys), ap length part))
+text_between-join x xs ys zs =
+    grind (arith, common_steps, append-nil, eq-eqb, join-hyphenated, join-append, hyphenated-append, text_between-cut, length-join-append)
 
 -- the same, however the prefix and the whole are grouped
 pub text_between-lists :

@@ -1,11 +1,12 @@
 -- The kind of a subtag and its length tell its classes.
-use Rattle.std.proofs.Common.{◌≡◌, ℕ, suc, ◌≤◌, Bool, true, false, cond, eqb, ne_eqb, not, ◌&&◌, ◌||◌, List, [], ◌∷◌, length, refl, sym, ap, ◌∙◌, arith}
+use Rattle.std.proofs.Common.{◌≡◌, ℕ, suc, ◌≤◌, Bool, true, false, eqb, ne_eqb, not, ◌&&◌, List, [], ◌∷◌, length, refl, sym, ap, ◌∙◌, arith}
 use Rattle.std.proofs.Math.Bool.{and-true, and_assoc}
 use Rattle.std.specs.Prelude.{fold}
 use Rattle.std.proofs.lemmas.Bool.{le-leb, and_parts, false_from_ne_true, both_ways}
 use Rattle.std.proofs.lemmas.Bool.Decides.{nat_tests}
+use Rattle.std.proofs.lemmas.Grind.{common_steps}
 use Rattle.langtag_scan.specs.Class.{is_letter, is_digit, is_alphanumeric, are_letters, are_digits, are_alphanumeric, starts_with_digit, is_primary, is_extended, is_script, is_region, is_variant, is_extension_subtag, is_private_subtag, is_mark, is_singleton}
-use Rattle.langtag_scan.specs.Kind.{Kind, Empty, Mark, Letters, Digits, kind_after, kind_of, has_letters, has_digits, begins_with_digit, is_kind_of_mark, classes_by}
+use Rattle.langtag_scan.specs.Kind.{Kind, Empty, kind_after, kind_of, has_letters, has_digits, begins_with_digit, is_kind_of_mark, classes_by}
 use Rattle.langtag_scan.specs.Stage.{is_one, classes_of}
 use Rattle.langtag_scan.proofs.Disjoint.{letter_no_digit}
 use Rattle.langtag_scan.proofs.SubtagFacts.{mark_letters}
@@ -14,11 +15,7 @@ use Rattle.langtag_scan.proofs.SubtagFacts.{mark_letters}
 
 -- a letter or digit is just one of them
 digit-letter : (b : ℕ) → is_alphanumeric b ≡ true → is_digit b ≡ not (is_letter b)
-digit-letter b h = by_letter (is_letter b) refl h
-  where
-    by_letter : (l : Bool) → is_letter b ≡ l → (l || is_digit b) ≡ true → is_digit b ≡ not l
-    by_letter true e o = false_from_ne_true (is_digit b) (letter_no_digit b e)
-    by_letter false e o = o
+digit-letter b h = grind (arith, common_steps, false_from_ne_true (is_digit b), letter_no_digit b)
 
 has_letters-after : (kind : Kind) (b : ℕ) → has_letters (kind_after kind b) ≡ (has_letters kind && is_letter b)
 has_letters-after kind b = grind (arith, nat_tests)
@@ -44,8 +41,7 @@ begins-first b = grind (arith, nat_tests)
 
 letters-kind : (s : List ℕ) (kind : Kind) → has_letters (fold kind_after kind s) ≡ (has_letters kind && are_letters s)
 letters-kind [] kind = sym (and-true (has_letters kind))
-letters-kind (b ∷ s) kind =
-    letters-kind s (kind_after kind b) ∙ ap (λ v. v && are_letters s) (has_letters-after kind b) ∙ and_assoc (has_letters kind) (is_letter b) (are_letters s)
+letters-kind (b ∷ s) kind = cc (letters-kind s (kind_after kind b), has_letters-after kind b, and_assoc (has_letters kind) (is_letter b) (are_letters s))
 
 digits-kind : (s : List ℕ) (kind : Kind) → are_alphanumeric s ≡ true → has_digits (fold kind_after kind s) ≡ (has_digits kind && are_digits s)
 digits-kind [] kind h = sym (and-true (has_digits kind))
@@ -60,38 +56,24 @@ begins-kind [] kind some = refl
 begins-kind (b ∷ s) kind some = begins-kind s (kind_after kind b) (some_after kind b) ∙ begins-after kind b some
 
 starts-kind : (s : List ℕ) → are_alphanumeric s ≡ true → starts_with_digit s ≡ begins_with_digit (kind_of s)
-starts-kind [] h = refl
-starts-kind (b ∷ s) h =
-    let k = and_parts (is_alphanumeric b) (are_alphanumeric s) h in
-    digit-letter b k.0 ∙ sym (begins-first b) ∙ sym (begins-kind s (kind_after Empty b) (some_after Empty b))
+starts-kind s h = grind (arith, common_steps, and_parts, digit-letter, begins-first, begins-kind, some_after)
 
 not_one : (n : ℕ) (v : Bool) → (eqb (suc (suc n)) 1 && v) ≡ false
 not_one n v = rw (ne_eqb (suc (suc n)) 1 (λ e. omega arith)) refl
 
 one_mark : (b : ℕ) → is_mark b ≡ is_kind_of_mark (kind_after Empty b)
-one_mark b = by_mark (is_mark b) refl (is_letter b) refl
-  where
-    by_mark : (m : Bool) → is_mark b ≡ m → (l : Bool) → is_letter b ≡ l → m ≡ is_kind_of_mark (cond l (cond m Mark Letters) Digits)
-    by_mark true marked true letter = refl
-    by_mark true marked false other = absurd (both_ways (is_letter b && true) (rw other refl) (mark_letters (b ∷ []) marked))
-    by_mark false none true letter = refl
-    by_mark false none false other = refl
+one_mark b = grind (arith, common_steps, both_ways, mark_letters (b ∷ []))
 
 mark-kind : (s : List ℕ) → is_one is_mark s ≡ (eqb (length s) 1 && is_kind_of_mark (kind_of s))
-mark-kind [] = refl
-mark-kind (b ∷ []) = one_mark b
-mark-kind (b ∷ c ∷ s) = sym (not_one (length s) _)
+mark-kind s = grind (arith, common_steps, one_mark, not_one (length s))
 
 singleton-kind : (s : List ℕ) → are_alphanumeric s ≡ true → is_one is_singleton s ≡ (eqb (length s) 1 && not (is_kind_of_mark (kind_of s)))
 unfolding is_singleton
-singleton-kind [] h = refl
-singleton-kind (b ∷ []) h = rw ((and_parts (is_alphanumeric b) true h).0) (ap not (one_mark b))
-singleton-kind (b ∷ c ∷ s) h = sym (not_one (length s) _)
+singleton-kind s h = grind (arith, common_steps, and_parts, one_mark, not_one (length s))
 
 pub classes_of-kind : (s : List ℕ) → length s ≤ 8 → are_alphanumeric s ≡ true → classes_of s ≡ classes_by (kind_of s) (length s)
 unfolding is_primary is_extended is_script is_region is_variant is_extension_subtag is_private_subtag
-classes_of-kind s short h =
-    rw (sym (letters-kind s Empty), sym (digits-kind s Empty h), starts-kind s h, mark-kind s, singleton-kind s h, h, le-leb (length s) 8 short) (simp and-true refl)
+classes_of-kind s short h = grind (arith, common_steps, letters-kind, digits-kind, starts-kind, mark-kind, singleton-kind, le-leb, and-true)
 
 -- letters alone
 pub letters-kind_of : (s : List ℕ) → are_letters s ≡ has_letters (kind_of s)

@@ -1,11 +1,12 @@
 -- A text is normal exactly where its segments may follow one another, and its record is the only one.
-use Rattle.std.proofs.Common.{◌≡◌, append-nil, cond, eqb, leb, length, ℕ, true, cond, List, [], ◌∷◌, Some, sym, ap, ◌∙◌, Bool, false, inl, inr, ◌⊎◌, refl}
+use Rattle.std.proofs.Common.{◌≡◌, append-nil, ℕ, true, List, Some, sym, ap, ◌∙◌, ◌⊎◌, arith, rules}
 use Rattle.std.specs.List.{AllByRecursion}
 use Rattle.std.proofs.lemmas.Bool.{and_parts, both_ways}
 use Rattle.std.proofs.lemmas.List.Splits.{join_with_byte-slice_split}
-use Rattle.langtag_scan.specs.Class.{is_primary, is_singleton}
+use Rattle.std.proofs.lemmas.Grind.{common_steps}
+use Rattle.langtag_scan.specs.Class.{is_singleton}
 use Rattle.langtag_scan.specs.Record.{Record, IsWellFormed, flat, spell}
-use Rattle.langtag_scan.specs.Stage.{Stage, Start, Language, Extended, AfterScript, AfterRegion, AfterVariant, AfterSingleton, InExtension, AfterMark, AfterFirstMark, classes_of, is_one, after_stage}
+use Rattle.langtag_scan.specs.Stage.{Stage, Start, classes_of, is_one, after_stage}
 use Rattle.langtag_scan.specs.Subtags.{join, segments}
 use Rattle.langtag_scan.specs.Tag.{IsNormal}
 use Rattle.langtag_scan.proofs.Steps.{leads_to, after_class, next_step}
@@ -16,22 +17,12 @@ use Rattle.langtag_scan.proofs.SubtagLists.{segments-joined}
 use Rattle.langtag_scan.proofs.Runs.{runs}
 
 of_singleton : (s : List ℕ) → is_one is_singleton s ≡ true → IsSubtag s
-of_singleton (c ∷ []) h = of_one c (singleton_alphanumeric c h)
-of_singleton _ h = absurd cc
+of_singleton s h = grind (arith, common_steps, of_one, singleton_alphanumeric)
 
 -- a subtag of a class has one to eight letters and digits
 of_class : (after : Stage) (s : List ℕ) → leads_to after (classes_of s) ≡ true → IsSubtag s
-of_class Start s h = absurd cc
-of_class (Language taken) s h = of_primary s (and_parts (is_primary s) (eqb taken (cond (leb (length s) 3) 0 3)) h).0
-of_class (Extended taken) s h = of_extended s h
-of_class AfterScript s h = of_script s h
-of_class AfterRegion s h = of_region s h
-of_class AfterVariant s h = of_variant s h
-of_class AfterSingleton s h = of_singleton s h
-of_class InExtension s h = of_extension_subtag s h
-of_class AfterMark s h = of_mark s h
-of_class AfterFirstMark s h = of_mark s h
-of_class _ s h = of_private_subtag s h
+of_class after s h =
+    search (rules, of_primary, and_parts, of_extended, of_script, of_region, of_variant, of_singleton, of_extension_subtag, of_mark, of_private_subtag)
 
 -- and so has one that may stand somewhere
 pub after_subtag : (stage : Stage) (s : List ℕ) (after : Stage) → after_stage stage s ≡ Some after → IsSubtag s
@@ -51,8 +42,7 @@ pub spelled_once : (r q : Record) → IsWellFormed r → IsWellFormed q → spel
 spelled_once r q fits fit e = flat_once r q fits fit (sym (spelled_segments r fits) ∙ ap segments e ∙ spelled_segments q fit)
 
 well_formed : (b : Read) → Ready Start b → FitParts b.parts → IsWellFormed b.parts
-well_formed b m k =
-    record { primary = m.0; extended = k.0; few = m.1; short = m.2; script = k.1; region = k.2; variants = k.3; extensions = k.4; private_use = k.5 }
+well_formed b m k = grind (arith, common_steps)
 
 -- a text is normal where its segments may follow one another
 pub normal_from_runs : (t : List ℕ) → runs Start (segments t) ≡ true → IsNormal t
@@ -66,14 +56,8 @@ normal_from_runs t run =
 -- and only there
 pub runs_from_normal : (t : List ℕ) → IsNormal t → runs Start (segments t) ≡ true
 unfolding IsNormal
-runs_from_normal t n =
-    let same : segments t ≡ flat n.0 = ap segments (sym n.1.1) ∙ spelled_segments n.0 n.1.0 in
-    ap (runs Start) same ∙ (decode_complete n.0 n.1.0).run
+runs_from_normal t n = grind (arith, common_steps, spelled_segments n.0 n.1.0, decode_complete n.0 n.1.0)
 
 -- so a text is normal or not
 pub normal_or_not : (t : List ℕ) → IsNormal t ⊎ (IsNormal t → ⊥)
-normal_or_not t = by_run (runs Start (segments t)) refl
-  where
-    by_run : (run : Bool) → runs Start (segments t) ≡ run → IsNormal t ⊎ (IsNormal t → ⊥)
-    by_run true run = inl (normal_from_runs t run)
-    by_run false run = inr (λ normal. both_ways _ run (runs_from_normal t normal))
+normal_or_not t = grind (arith, common_steps, normal_from_runs t, both_ways, runs_from_normal t)

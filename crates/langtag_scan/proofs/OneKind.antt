@@ -1,6 +1,7 @@
 -- No text is of two of the three cases of a tag.
-use Rattle.std.proofs.Common.{◌≡◌, ℕ, ◌<◌, Bool, true, false, List, [], ◌∷◌, map, refl, sym, ap, ◌∙◌}
+use Rattle.std.proofs.Common.{◌≡◌, ℕ, ◌<◌, Bool, true, false, List, map, refl, arith}
 use Rattle.std.proofs.lemmas.Bool.{agree_below_at, both_ways}
+use Rattle.std.proofs.lemmas.Grind.{common_steps}
 use Rattle.langtag_scan.specs.Case.{fold_byte, fold_text}
 use Rattle.langtag_scan.specs.Class.{is_letter, is_digit, is_primary, is_extended, is_script, is_region, is_variant, is_extension_subtag, is_private_subtag, is_mark, is_singleton}
 use Rattle.langtag_scan.specs.Grandfathered.{grandfathered_tags, irregular_texts}
@@ -17,10 +18,7 @@ use Rattle.langtag_scan.proofs.Runs.{runs}
 -- no subtags are those of a normal text and of a private one
 runs_once : (ss : List (List ℕ)) → runs Start ss ≡ true → runs_private ss ≡ true → ⊥
 unfolding runs
-runs_once [] normal private = absurd cc
-runs_once ([] ∷ ss) normal private = absurd cc
-runs_once ((m ∷ c ∷ s) ∷ ss) normal private = absurd cc
-runs_once ((m ∷ []) ∷ ss) normal private = let none = rw (one_no_primary m) at normal in absurd cc
+runs_once ss normal private = grind (arith, common_steps, one_no_primary)
 
 -- no normal text is private
 pub normal_no_private : (t : List ℕ) → IsNormal t → IsPrivate t → ⊥
@@ -31,9 +29,7 @@ irregular_fails :
     (test : List (List ℕ) → Bool) → ((ss : List (List ℕ)) → test (map fold_text ss) ≡ test ss) →
     ((k : ℕ) → k < 17 → test (segments (folded_at k)) ≡ false) → (t : List ℕ) → IsIrregular t → test (segments t) ≡ false
 unfolding IsIrregular
-irregular_fails test same none t (k, irregular) =
-    let whole = irregular_fold t k irregular in
-    sym (segments_test-fold test same t) ∙ ap (λ v. test (segments v)) (sym whole.1) ∙ none k whole.0
+irregular_fails test same none t (k, irregular) = grind (arith, common_steps, irregular_fold t k irregular, segments_test-fold test same t)
 
 -- no irregular text begins with a primary subtag that the rest may follow
 none_normal : (k : ℕ) → k < 17 → runs Start (segments (folded_at k)) ≡ false

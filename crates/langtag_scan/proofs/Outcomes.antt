@@ -1,14 +1,14 @@
 -- What the stages find of a text is what it is: a normal tag with the ends of its parts, a private use tag, or neither.
-use Rattle.std.proofs.Common.{◌≡◌, ℕ, ◌&&◌, Bool, true, false, cond, leb, List, [], ◌∷◌, length, Some, None, refl, sym, ap, subst, ◌∙◌}
+use Rattle.std.proofs.Common.{◌≡◌, ℕ, Bool, true, false, cond, leb, List, [], ◌∷◌, length, Some, None, refl, sym, ap, subst, arith, ◌∙◌}
 use Rattle.std.specs.Prelude.{Option, MatchOption}
 use Rattle.std.specs.Option.{option_map_or}
 use Rattle.std.proofs.lemmas.Bool.{both_ways}
+use Rattle.std.proofs.lemmas.Grind.{common_steps}
 use Rattle.langtag_scan.specs.Class.{is_primary, is_mark, is_private_subtag}
 use Rattle.langtag_scan.specs.Ends.{HasEnds}
 use Rattle.langtag_scan.specs.Found.{IsFoundOf}
 use Rattle.langtag_scan.specs.Machine.{all_at, end_at, index_after, found_by, outcome, outcome_of, IsRefused}
-use Rattle.langtag_scan.specs.Record.{flat}
-use Rattle.langtag_scan.specs.Stage.{Stage, Start, Language, InPrivate, AfterMark, AfterFirstMark, InPrivateTag, is_one, next_stage, may_end}
+use Rattle.langtag_scan.specs.Stage.{Stage, Start, Language, InPrivate, AfterMark, AfterFirstMark, InPrivateTag, is_one, may_end, next_stage}
 use Rattle.langtag_scan.specs.Subtags.{segments}
 use Rattle.langtag_scan.specs.Tag.{IsNormal}
 use Rattle.langtag_scan.specs.declared.ends.Ends.{Ends}
@@ -29,15 +29,13 @@ found_if run f = cond run (Some f) None
 
 found-inside : (stage : Stage) (e : Ends) → is_outside stage ≡ false → found_by stage e ≡ Normal e
 unfolding is_outside
-found-inside InPrivateTag e inside = absurd cc
-found-inside _ e inside = refl
+found-inside stage e inside = grind (arith, common_steps)
 
 one_more :
     (found : Stage → Option Finding) (run : Stage → Bool) (ends : Stage → Ends) (e : Ends) (o : Option Stage) →
     ((after : Stage) → o ≡ Some after → found after ≡ found_if (run after) (Normal (ends after))) →
     option_map_or found o None ≡ found_if (option_map_or run o false) (Normal (option_map_or ends o e))
-one_more found run ends e None same = refl
-one_more found run ends e (Some after) same = same after refl
+one_more found run ends e o same = grind (arith, common_steps)
 
 -- a normal tag that has begun
 normal_outcome :
@@ -54,15 +52,13 @@ normal_outcome (s ∷ ss) stage e inside =
 by_private :
     (v : Bool) (found : Stage → Option Finding) (run : Stage → Bool) → found InPrivateTag ≡ found_if (run InPrivate) PrivateUse →
     option_map_or found (cond v (Some InPrivateTag) None) None ≡ found_if (option_map_or run (cond v (Some InPrivate) None) false) PrivateUse
-by_private true found run same = same
-by_private false found run same = refl
+by_private v found run same = grind (arith, common_steps)
 
 private_outcome : (ss : List (List ℕ)) (e : Ends) → outcome InPrivateTag e ss ≡ found_if (runs InPrivate ss) PrivateUse
 unfolding outcome runs
 private_outcome [] e = refl
 private_outcome (s ∷ ss) e =
-    by_private (is_private_subtag s) (λ after. outcome after (end_at after (index_after InPrivateTag e s) e) ss) (λ after. runs after ss)
-    (private_outcome ss (end_at InPrivateTag (index_after InPrivateTag e s) e))
+    grind (arith, common_steps, by_private (is_private_subtag s), private_outcome ss (end_at InPrivateTag (index_after InPrivateTag e s) e))
 
 marked_outcome : (ss : List (List ℕ)) (e : Ends) → outcome AfterFirstMark e ss ≡ found_if (runs AfterMark ss) PrivateUse
 unfolding outcome runs
@@ -80,27 +76,17 @@ primary_outcome s ss e primary = rw primary (normal_outcome ss (Language (cond (
 other_outcome :
     (s : List ℕ) (ss : List (List ℕ)) (e : Ends) → is_primary s ≡ false → outcome Start e (s ∷ ss) ≡ found_if (runs_private (s ∷ ss)) PrivateUse
 unfolding outcome
-other_outcome s ss e other = rw other (by_mark (is_one is_mark s))
-  where
-    by_mark :
-        (v : Bool) →
-        found_after e (index_after Start e s) ss (cond v (Some AfterFirstMark) None) ≡ found_if (v && runs AfterMark ss) PrivateUse
-    by_mark true = marked_outcome ss (end_at AfterFirstMark (index_after Start e s) e)
-    by_mark false = refl
+other_outcome s ss e other = grind (arith, common_steps, marked_outcome)
 
 -- ---- what the rules say of the text
 
 -- where a normal tag may end, the ends are those of the record
 found_with : (t : List ℕ) → IsNormal t → IsFoundOf t (Normal (ends_after Start (all_at 0) (segments t)))
 unfolding IsNormal HasEnds
-found_with t n =
-    let same : flat n.0 ≡ segments t = sym (spelled_segments n.0 n.1.0) ∙ ap segments n.1.1 in
-    (n.0, n.1, ap (ends_after Start (all_at 0)) (sym same) ∙ ends_after-flat n.0 n.1.0)
+found_with t n = grind (arith, common_steps, spelled_segments n.0 n.1.0, ends_after-flat n.0 n.1.0)
 
 primary_unmarked : (s : List ℕ) → is_primary s ≡ true → is_one is_mark s ≡ false
-primary_unmarked [] h = refl
-primary_unmarked (m ∷ []) h = let none : is_primary (m ∷ []) ≡ false = one_no_primary m in absurd cc
-primary_unmarked (m ∷ c ∷ s) h = refl
+primary_unmarked s h = grind (arith, common_steps, one_no_primary)
 
 -- what is found by the one rule or the other
 abbrev found_of : List ℕ → Bool → Bool → Option Finding
@@ -112,23 +98,12 @@ Decides t found = MatchOption found (IsRefused t) (λ f. IsFoundOf t f)
 
 by_rules : (t s : List ℕ) (ss : List (List ℕ)) → segments t ≡ s ∷ ss → outcome_of t ≡ found_of t (runs Start (segments t)) (runs_private (segments t))
 unfolding runs
-by_rules t s ss at = by_primary (is_primary s) refl
-  where
-    by_primary : (v : Bool) → is_primary s ≡ v → outcome_of t ≡ found_of t (runs Start (segments t)) (runs_private (segments t))
-    by_primary true primary = rw at (primary_outcome s ss (all_at 0) primary ∙ rw (primary_unmarked s primary) refl)
-    by_primary false other =
-        let none : runs Start (s ∷ ss) ≡ false = rw other refl in
-        rw (at, none) (other_outcome s ss (all_at 0) other)
+by_rules t s ss at = grind (arith, common_steps, primary_outcome, primary_unmarked, other_outcome)
 
 decides :
     (t : List ℕ) (normal private : Bool) → runs Start (segments t) ≡ normal → runs_private (segments t) ≡ private →
     Decides t (found_of t normal private)
-decides t true private n p = found_with t (normal_from_runs t n)
-decides t false true n p = private_from_runs t p
-decides t false false n p = record {
-  not_normal = λ is. both_ways (runs Start (segments t)) n (runs_from_normal t is);
-  not_private = λ is. both_ways (runs_private (segments t)) p (runs_from_private t is);
-}
+decides t normal private n p = grind (arith, common_steps, found_with, normal_from_runs, private_from_runs, both_ways, runs_from_normal, runs_from_private)
 
 -- ---- the law
 

@@ -1,10 +1,11 @@
 -- Each part of a record stands between the end of the part before and its own end.
-use Rattle.std.proofs.Common.{◌≡◌, ℕ, List, [], ◌++◌, take, drop, arith, sym, ap, ◌∙◌, append_assoc, append-nil, ◌+◌, length}
+use Rattle.std.proofs.Common.{◌≡◌, ℕ, List, [], ◌++◌, take, drop, arith, ◌∙◌, append_assoc, append-nil, ◌+◌, length}
 use Rattle.std.specs.List.{flat_map}
+use Rattle.std.proofs.lemmas.Grind.{common_steps}
 use Rattle.langtag_scan.specs.Ends.{to_script, to_region, to_variants, to_extensions, ends_of}
 use Rattle.langtag_scan.specs.Record.{Record, extension_flat, one_flat, private_part_flat, flat, spell}
 use Rattle.langtag_scan.specs.Subtags.{join}
-use Rattle.langtag_scan.specs.Parts.{language_part, private_use_part, present, parts, text_between}
+use Rattle.langtag_scan.specs.Parts.{language_part, private_use_part, parts, text_between}
 use Rattle.langtag_scan.specs.Parts.{AreInOrder}
 use Rattle.langtag_scan.specs.declared.ends.Ends.{Ends}
 use Rattle.langtag_scan.proofs.Joins.{join-hyphenated, hyphenated-append, hyphenated-present, join-append, take-join, length-join, length-hyphenated, joined, joined-one, joined-private, text_between-join, text_between-lists, hyphenated}
@@ -47,13 +48,7 @@ private_use_between r =
 
 -- no part ends before the one that it follows
 pub ends_in_order : (r : Record) → AreInOrder (ends_of r)
-ends_in_order r = record {
-  script = simp (length-join, length-hyphenated) (omega arith);
-  region = simp (length-join, length-hyphenated) (omega arith);
-  variants = simp (length-join, length-hyphenated) (omega arith);
-  extensions = simp (length-join, length-hyphenated) (omega arith);
-  private_use = simp (length-join, length-hyphenated) (omega arith);
-}
+ends_in_order r = grind (arith, common_steps, length-join, length-hyphenated)
 
 -- a text is as long as its first subtag and the others, each with a hyphen
 pub length-spell :
@@ -66,10 +61,7 @@ length-spell r = simp (length-join, length-hyphenated) (omega arith)
 
 -- the parts that are there, joined by hyphens, are the whole text
 pub join-parts : (r : Record) → join (parts r) ≡ spell r
-join-parts r =
-    join-hyphenated (language_part r) (one_flat r.script ++ (one_flat r.region ++ (present r.variants ++ (present (flat_map extension_flat r.extensions) ++ present (private_part_flat r.private_use)))))
-    ∙ ap (λ t. language_part r ++ t) (simp (hyphenated-append, hyphenated-present))
-    ∙ sym (join-append r.primary r.extended (one_flat r.script ++ from_region r))
+join-parts r = grind (arith, common_steps, join-hyphenated, hyphenated-append, hyphenated-present, join-append)
 
 -- ---- when ends are equal
 
@@ -77,5 +69,4 @@ join-parts r =
 pub ends_equal :
     (d e : Ends) → d.language ≡ e.language → d.script ≡ e.script → d.region ≡ e.region → d.variants ≡ e.variants →
     d.extensions ≡ e.extensions → d.whole ≡ e.whole → d ≡ e
-ends_equal d e language script region variants extensions whole =
-    λ i. record { language = language i; script = script i; region = region i; variants = variants i; extensions = extensions i; whole = whole i }
+ends_equal d e language script region variants extensions whole = grind (arith, common_steps)

@@ -1,5 +1,5 @@
 -- What a position says is so: which tags may follow the bytes that led to it, and where their parts have ended.
-use Rattle.std.proofs.Common.{◌≡◌, ℕ, ◌+◌, ◌<◌, ◌≤◌, Bool, true, false, cond, eqb, eqb-true, ne_eqb, ltb, not, ◌&&◌, ◌||◌, List, [], ◌∷◌, ◌++◌, length, get_or, set, Option, Some, None, inl, inr, refl, sym, ap, subst, ◌∙◌, arith, append_assoc, append-nil}
+use Rattle.std.proofs.Common.{◌≡◌, ℕ, ◌+◌, ◌<◌, ◌≤◌, Bool, true, false, cond, eqb, eqb-true, ne_eqb, not, ◌&&◌, ◌||◌, List, [], ◌∷◌, ◌++◌, length, get_or, set, Option, Some, None, refl, arith, append_assoc, append-nil, sym, ap, subst, ◌∙◌}
 use Rattle.std.specs.Prelude.{MatchOption, replicate}
 use Rattle.std.specs.List.{position, position_or_len}
 use Rattle.std.specs.Option.{option_map, option_map_or}
@@ -10,13 +10,12 @@ use Rattle.std.proofs.lemmas.List.{length_push, length-set, map-append}
 use Rattle.std.proofs.lemmas.List.Quantifiers.{position-Some}
 use Rattle.std.proofs.lemmas.List.Sums.{fold-append, fails_before_first}
 use Rattle.langtag_scan.specs.Case.{fold_byte, fold_text}
-use Rattle.langtag_scan.specs.Class.{is_letter, is_digit, is_alphanumeric}
 use Rattle.langtag_scan.specs.Grandfathered.{grandfathered_tags, irregular_texts}
-use Rattle.langtag_scan.specs.Irregular.{folded_texts, folded_at, is_prefix, is_possible}
+use Rattle.langtag_scan.specs.Irregular.{folded_texts, is_prefix, is_possible, folded_at}
 use Rattle.langtag_scan.specs.Kind.{kind_after, kind_of}
-use Rattle.langtag_scan.specs.Machine.{IsBegun, all_at, end_at, HasStopped, ends_at}
+use Rattle.langtag_scan.specs.Machine.{IsBegun, end_at, HasStopped, ends_at}
 use Rattle.langtag_scan.specs.Position.{Begun, fresh, nothing_read, is_start, may_grow, stage_after, begun_after, possible_index, irregular_after, position_after, position_of, place_of}
-use Rattle.langtag_scan.specs.Stage.{Stage, Start, after_stage, after_by}
+use Rattle.langtag_scan.specs.Stage.{Stage, Start, after_stage}
 use Rattle.langtag_scan.specs.declared.ends.Ends.{Ends}
 use Rattle.langtag_scan.proofs.IrregularTexts.{is_prefix-push, seventeen_folded}
 use Rattle.langtag_scan.proofs.KindLaws.{classes_of-kind}
@@ -40,21 +39,14 @@ placed : (places : List ℕ) (k n j : ℕ) → k < length places → get_or (set
 placed places k n j within = grind (arith, common_steps)
 
 place_within : (stage : Stage) → place_of stage < 6
-place_within Start = omega arith
-place_within _ = omega arith
+place_within stage = grind (arith, common_steps)
 
 below_set : (places : List ℕ) (k n : ℕ) → k < length places → ((j : ℕ) → get_or places j 0 ≤ n) → (j : ℕ) → get_or (set places k n) j 0 ≤ n + 1
 below_set places k n within below j = let old = below j in grind (arith, common_steps, old)
 
 -- no part ends
 marked_on : (places : List ℕ) (n : ℕ) (e : Ends) → IsMarked places n e → IsMarked (set places 5 n) (n + 1) e
-marked_on places n e m =
-    let within : 5 < length places = omega (arith, m.six) in
-    record {
-      six = length-set places 5 n ∙ m.six;
-      below = below_set places 5 n within m.below;
-      is = rw (placed places 5 n 0 within, placed places 5 n 1 within, placed places 5 n 2 within, placed places 5 n 3 within, placed places 5 n 4 within) m.is;
-    }
+marked_on places n e m = grind (arith, common_steps, length-set, below_set, placed)
 
 -- the part of a stage ends at the index
 ends_set : (places : List ℕ) (n : ℕ) (e : Ends) (after : Stage) → (after ≡ Start → ⊥) → IsMarked places n e → end_at after n e ≡ ends_at (set places (place_of after) n) (end_at after n e).whole
@@ -72,13 +64,7 @@ ends_set places n e after past m =
     refl)
 
 pub marked_end : (places : List ℕ) (n : ℕ) (e : Ends) (after : Stage) → (after ≡ Start → ⊥) → IsMarked places n e → IsMarked (set places (place_of after) n) (n + 1) (end_at after n e)
-marked_end places n e after past m =
-    let within : place_of after < length places = omega (arith, m.six, place_within after) in
-    record {
-      six = length-set places (place_of after) n ∙ m.six;
-      below = below_set places (place_of after) n within m.below;
-      is = ends_set places n e after past m;
-    }
+marked_end places n e after past m = grind (arith, common_steps, place_within, length-set, below_set, ends_set)
 
 -- ---- the subtag that has begun
 
@@ -100,23 +86,10 @@ abbrev pub place_before : Option Begun → ℕ
 place_before o = option_map_or (λ s. cond (eqb s.size 0) (place_of s.stage) 5) o 5
 
 pub place_before_within : (o : Option Begun) → place_before o < 6
-place_before_within None = omega arith
-place_before_within (Some s) = by_size (eqb s.size 0)
-  where
-    by_size : (v : Bool) → cond v (place_of s.stage) 5 < 6
-    by_size true = place_within s.stage
-    by_size false = omega arith
+place_before_within o = grind (arith, common_steps, place_within)
 
 pub tracks_nothing : Tracks [] (replicate 6 0) (Some (fresh Start))
-tracks_nothing = record {
-  before = [];
-  bytes = [];
-  ends = all_at 0;
-  part = record { split = refl; reads = reads_nothing; begun = empty_begun Start };
-  kind = refl;
-  size = refl;
-  marked = record { six = refl; below = λ k. grind (arith, common_steps); is = refl };
-}
+tracks_nothing = grind (arith, common_steps, reads_nothing, empty_begun Start)
 
 pub stopped-append : (p u : List ℕ) → HasStopped p → HasStopped (p ++ u)
 stopped-append p u stopped = record {
@@ -127,33 +100,20 @@ stopped-append p u stopped = record {
 module _ (q places : List ℕ) (s : Begun) (known : IsTracked q places s) where
   -- the stage after the subtag follows from what is known of it
   pub stage_is : stage_after s ≡ after_stage s.stage known.bytes
-  stage_is =
-      ap (after_by s.stage) (rw (known.kind, known.size) (sym (classes_of-kind known.bytes known.part.begun.short known.part.begun.alphanumeric)))
+  stage_is = grind (arith, common_steps, classes_of-kind known.bytes known.part.begun.short known.part.begun.alphanumeric)
 
   -- and so does whether it may go on with a byte
   opened : (stage : Stage) (l d : Bool) → (l || d) ≡ true → (stage ≡ Start → l ≡ true) → (l || (d && not (is_start stage))) ≡ true
-  opened stage true d any first = refl
-  opened Start false d any first = absurd (both_ways false refl (first refl))
-  opened _ false d any first = and-true d ∙ any
+  opened stage l d any first = grind (arith, common_steps, both_ways, and-true d)
 
   closed : (stage : Stage) (l d : Bool) → (l || (d && not (is_start stage))) ≡ true → ((l || d) ≡ true) × (stage ≡ Start → l ≡ true)
-  closed stage true d h = (refl, λ start. refl)
-  closed Start false true h = absurd cc
-  closed Start false false h = absurd cc
-  closed _ false d h = (sym (and-true d) ∙ h, λ start. absurd cc)
+  closed stage l d h = grind (arith, common_steps, and-true d)
 
   grows_begun : (b : ℕ) → may_grow s b ≡ true → IsBegun s.stage (known.bytes ++ b ∷ [])
-  grows_begun b grows =
-      let parts = and_parts (ltb s.size 8) (is_letter b || (is_digit b && not (is_start s.stage))) grows in
-      let other = closed s.stage (is_letter b) (is_digit b) parts.1 in
-      begun_push s.stage known.bytes b other.0 other.1 (omega (arith, known.size, ltb-true s.size 8 parts.0)) known.part.begun
+  grows_begun b grows = grind (arith, common_steps, and_parts, closed, begun_push, ltb-true)
 
   begun_grows : (b : ℕ) → IsBegun s.stage (known.bytes ++ b ∷ []) → may_grow s b ≡ true
-  begun_grows b begun =
-      let last = (begun_parts s.stage known.bytes (b ∷ []) begun).1 in
-      let any = (and_parts (is_alphanumeric b) true last.alphanumeric).0 in
-      rw (lt-ltb s.size 8 (omega (arith, known.size, begun.short, length_push known.bytes b)))
-      (opened s.stage (is_letter b) (is_digit b) any (λ start. (and_parts (is_letter b) true (last.letters start)).0))
+  begun_grows b begun = grind (arith, common_steps, begun_parts, and_parts, lt-ltb, length_push, opened)
 
   at_hyphen : (o : Option Stage) → stage_after s ≡ o → Tracks (q ++ 45 ∷ []) (set places (place_before (option_map fresh o)) (length q)) (option_map fresh o)
   at_hyphen None next = refused_stops known.part (sym stage_is ∙ next)
@@ -196,8 +156,7 @@ module _ (q places : List ℕ) (s : Begun) (known : IsTracked q places s) where
 
 -- one byte more
 pub tracks_push : (q places : List ℕ) (b : ℕ) (o : Option Begun) → Tracks q places o → Tracks (q ++ b ∷ []) (set places (place_before (option_map_or (begun_after b) o None)) (length q)) (option_map_or (begun_after b) o None)
-tracks_push q places b None stopped = stopped-append q (b ∷ []) stopped
-tracks_push q places b (Some s) known = by_hyphen q places s known b (eqb b 45) refl
+tracks_push q places b o known = grind (arith, common_steps, stopped-append q (b ∷ []), by_hyphen q places)
 
 -- ---- the irregular texts
 
@@ -210,20 +169,11 @@ fold_text-push q b = map-append fold_byte q (b ∷ [])
 
 -- where no element passes a test
 pub position-None : {X : Type 0} (p : X → Bool) (xs : List X) (k : ℕ) (d : X) → position p xs ≡ None → k < length xs → p (get_or xs k d) ≡ false
-position-None p xs k d none within =
-    elim (cases_lt k (position_or_len p xs)) [
-      | inl before ↦ fails_before_first p xs k d before
-      | inr after ↦
-          let found : ltb (position_or_len p xs) (length xs) ≡ true = lt-ltb _ _ (omega arith) in
-          let some = ap (λ v. cond v (Some (position_or_len p xs)) None) (sym found) ∙ none in
-          absurd cc
-    ]
+position-None p xs k d none within = grind (arith, common_steps, cases_lt k (position_or_len p xs), fails_before_first p xs k d, lt-ltb)
 
 by_index : (q : List ℕ) (o : Option ℕ) → possible_index (fold_text q) ≡ o → FollowsIrregular q (option_map (λ k. fold_text q) o)
-by_index q None none = λ k within. position-None (is_prefix (fold_text q)) folded_texts k [] none (omega (arith, seventeen_folded))
-by_index q (Some k) at =
-    let first = position-Some (is_prefix (fold_text q)) folded_texts k [] at in
-    (refl, k, at, omega (arith, first.0, seventeen_folded), first.1)
+by_index q o at =
+    grind (arith, common_steps, position-None (is_prefix (fold_text q)) folded_texts, seventeen_folded, position-Some (is_prefix (fold_text q)) folded_texts)
 
 pub irregular_push : (q : List ℕ) (b : ℕ) (o : Option (List ℕ)) → FollowsIrregular q o → FollowsIrregular (q ++ b ∷ []) (option_map_or (irregular_after b) o None)
 irregular_push q b None none = λ k within.

@@ -1,6 +1,7 @@
 -- What is known of a text with which a tag may begin, while another of its subtags is read and once it has ended.
-use Rattle.std.proofs.Common.{◌≡◌, ℕ, false, eqb, List, [], ◌∷◌, ◌++◌, length, Option, Some, None, refl, sym, ap, subst, ◌∙◌, arith, append_assoc, append-nil}
+use Rattle.std.proofs.Common.{◌≡◌, ℕ, false, eqb, List, [], ◌∷◌, ◌++◌, length, Some, None, refl, sym, ap, ◌∙◌, arith, append_assoc, append-nil, Option}
 use Rattle.std.proofs.lemmas.List.{length-append, length_push}
+use Rattle.std.proofs.lemmas.Grind.{common_steps}
 use Rattle.langtag_scan.specs.Machine.{IsBegun, all_at, end_at, index_after, outcome, outcome_of, Reads, HasStopped, IsRefused}
 use Rattle.langtag_scan.specs.Stage.{Stage, Start, after_stage}
 use Rattle.langtag_scan.specs.Subtags.{segments}
@@ -10,7 +11,7 @@ use Rattle.langtag_scan.specs.declared.ends.Ends.{Ends}
 use Rattle.langtag_scan.specs.declared.finding.Finding.{Finding}
 use Rattle.langtag_scan.proofs.Filling.{filled_found}
 use Rattle.langtag_scan.proofs.FoundLaws.{tag_found}
-use Rattle.langtag_scan.proofs.Outcomes.{Decides, decided}
+use Rattle.langtag_scan.proofs.Outcomes.{decided, Decides}
 use Rattle.langtag_scan.proofs.Running.{found_after, segments-one, segments-hyphen, outcome-begun, outcome-ended}
 use Rattle.langtag_scan.proofs.StageLaws.{after_not_start, index_after-length, index_after-end}
 use Rattle.langtag_scan.proofs.TagLaws.{viable_from_tag}
@@ -47,9 +48,7 @@ module _ {p s q : List ℕ} {stage : Stage} {e : Ends} (k : IsPartRead p s q sta
 
   -- with its last subtag filled it is a tag
   pub reads_filled : IsTag (q ++ filling s)
-  reads_filled =
-      let f = filled_found stage e s k.begun in
-      tag_found (q ++ filling s) f.0 (subst (Decides (q ++ filling s)) (onward (filling s) ∙ f.1) (decided (q ++ filling s)))
+  reads_filled = grind (arith, common_steps, filled_found stage e s k.begun, tag_found (q ++ filling s), onward (filling s), decided (q ++ filling s))
 
   pub reads_viable : IsViable q
   reads_viable = viable_from_tag q (filling s) reads_filled
@@ -57,8 +56,7 @@ module _ {p s q : List ℕ} {stage : Stage} {e : Ends} (k : IsPartRead p s q sta
   -- ---- a byte more: where something is found, the subtag goes on with it
 
   pub found_begun : (b : ℕ) (u : List ℕ) (f : Finding) → eqb b 45 ≡ false → outcome_of ((q ++ b ∷ []) ++ u) ≡ Some f → IsBegun stage (s ++ b ∷ [])
-  found_begun b u f other is =
-      outcome-begun stage e s b u f k.begun.alphanumeric other (sym (onward (b ∷ u)) ∙ ap outcome_of (sym (append_assoc q (b ∷ []) u)) ∙ is)
+  found_begun b u f other is = grind (arith, common_steps, outcome-begun, onward, append_assoc)
 
   pub stuck_stops : (b : ℕ) → eqb b 45 ≡ false → (IsBegun stage (s ++ b ∷ []) → ⊥) → HasStopped (q ++ b ∷ [])
   stuck_stops b other stuck = stopped_from (q ++ b ∷ []) (λ u f is. stuck (found_begun b u f other is))
@@ -78,15 +76,8 @@ module _ {p s q : List ℕ} {stage : Stage} {e : Ends} (k : IsPartRead p s q sta
 
   -- after which nothing follows
   pub refused_stops : after_stage stage s ≡ None → HasStopped (q ++ 45 ∷ [])
-  refused_stops next =
-      stopped_from (q ++ 45 ∷ []) (λ u f is. let none = after_hyphen u ∙ ap (found_after e (length q) (segments u)) next in absurd cc)
+  refused_stops next = grind (arith, common_steps, stopped_from (q ++ 45 ∷ []), after_hyphen)
 
   -- after which a stage follows
   pub reads_after : (after : Stage) → after_stage stage s ≡ Some after → Reads (q ++ 45 ∷ []) after (end_at after (length q) e)
-  reads_after after next = record {
-    same = λ u. after_hyphen u ∙ ap (found_after e (length q) (segments u)) next;
-    index = index_after-end after (length q) e past ∙ omega (arith, length_push q 45);
-  }
-    where
-      past : after ≡ Start → ⊥
-      past = after_not_start stage after s next
+  reads_after after next = grind (arith, common_steps, after_hyphen, index_after-end, length_push, after_not_start)

@@ -1,5 +1,5 @@
 -- What the position after some bytes says of them: whether a tag begins so, and what they are as a whole text.
-use Rattle.std.proofs.Common.{◌≡◌, ℕ, ◌+◌, ◌<◌, Bool, true, false, cond, ◌&&◌, List, [], ◌∷◌, ◌++◌, length, take, get_or, set, Option, Some, None, inl, inr, refl, sym, ap, subst, ◌∙◌, arith, append-nil}
+use Rattle.std.proofs.Common.{◌≡◌, ℕ, ◌+◌, ◌<◌, Bool, true, false, cond, ◌&&◌, List, [], ◌∷◌, ◌++◌, length, take, get_or, set, Option, Some, None, refl, sym, ap, subst, ◌∙◌, arith, append-nil, inl, inr}
 use Rattle.std.specs.List.{position}
 use Rattle.std.specs.Prelude.{replicate}
 use Rattle.std.specs.Option.{option_map_or, is_none}
@@ -8,13 +8,14 @@ use Rattle.std.proofs.lemmas.Bool.{both_ways}
 use Rattle.std.proofs.lemmas.List.{take_more, take_all, length-take, get_or-replicate, set-get_or}
 use Rattle.std.proofs.lemmas.List.Quantifiers.{position-Some}
 use Rattle.std.proofs.lemmas.Slice.Eq.{bytes_eq-Decides}
+use Rattle.std.proofs.lemmas.Grind.{common_steps}
 use Rattle.langtag_scan.specs.Case.{fold_text}
 use Rattle.langtag_scan.specs.Found.{IsFoundOf}
-use Rattle.langtag_scan.specs.Irregular.{folded_texts, folded_at, is_possible}
+use Rattle.langtag_scan.specs.Irregular.{folded_texts, is_possible}
 use Rattle.langtag_scan.specs.Machine.{end_at, found_by, outcome, HasStopped, IsRefused, ends_at}
-use Rattle.langtag_scan.specs.Position.{Begun, position_of, begun_after, stage_after, place_of, part_before, ending_after, irregular_ending, ending_of, is_dead}
-use Rattle.langtag_scan.specs.Stage.{Stage, Start, InPrivateTag, may_end}
-use Rattle.langtag_scan.specs.Tag.{IsNormal, IsPrivate, IsIrregular, IsIrregularAt, IsTag}
+use Rattle.langtag_scan.specs.Position.{Begun, position_of, stage_after, part_before, ending_after, irregular_ending, ending_of, is_dead, begun_after}
+use Rattle.langtag_scan.specs.Stage.{Stage, Start, may_end}
+use Rattle.langtag_scan.specs.Tag.{IsPrivate, IsIrregular, IsIrregularAt, IsTag}
 use Rattle.langtag_scan.specs.Viable.{IsViable, IsStop}
 use Rattle.langtag_scan.specs.declared.ends.Ends.{Ends}
 use Rattle.langtag_scan.specs.declared.finding.Finding.TheVariants as finding
@@ -32,9 +33,7 @@ use Rattle.langtag_scan.proofs.TagLaws.{tag_irregular, viable_from_tag, no_tag_d
 
 -- a text that may still become an irregular one
 pub viable_possible : (p : List ℕ) (k : ℕ) → k < 17 → is_possible p k ≡ true → IsViable p
-viable_possible p k within possible =
-    let there = possible_viable p k within possible in
-    viable_from_tag p there.0 (tag_irregular (p ++ there.0) k there.1)
+viable_possible p k within possible = grind (arith, common_steps, possible_viable p k within possible, viable_from_tag p, tag_irregular)
 
 -- some tag begins with the empty text
 pub viable_nothing : IsViable []
@@ -50,9 +49,7 @@ not_viable p stopped gone (u, inr (inr (k, irregular))) =
     both_ways (is_possible p k) (gone k possible.0) possible.1
 
 by_dead : (q places : List ℕ) (b : Option Begun) (o : Option (List ℕ)) → Tracks q places b → FollowsIrregular q o → (is_none b && is_none o) ≡ true → IsViable q → ⊥
-by_dead q places None None stopped gone dead = not_viable q stopped gone
-by_dead q places None (Some p) stopped known dead = absurd cc
-by_dead q places (Some s) o known follows dead = absurd cc
+by_dead q places b o known follows dead = grind (arith, common_steps, not_viable q)
 
 pub dead_not_viable : (q places : List ℕ) → Tracks q places (position_of q).begun → is_dead (position_of q) ≡ true → IsViable q → ⊥
 dead_not_viable q places tracks dead = by_dead q places _ _ tracks (follows_irregular q) dead
@@ -77,20 +74,13 @@ IsEnded t places (Irregular k) = IsIrregularAt k t
 -- a text that is of none of the three kinds is not a tag
 no_tag : (t : List ℕ) → IsRefused t → (IsIrregular t → ⊥) → IsTag t → ⊥
 unfolding IsTag
-no_tag t refused never (inl normal) = refused.not_normal normal
-no_tag t refused never (inr (inl private)) = refused.not_private private
-no_tag t refused never (inr (inr irregular)) = never irregular
+no_tag t refused never h = grind (arith, common_steps)
 
 module _ (t places : List ℕ) (refused : IsRefused t) where
   by_text : (o : Option ℕ) → position (bytes_eq (fold_text t)) folded_texts ≡ o → IsEnded t places (option_map_or Irregular o NoTag)
   unfolding IsIrregular
-  by_text None none = no_tag t refused (λ (k, irregular).
-      let is = irregular_fold t k irregular in
-      let other = position-None (bytes_eq (fold_text t)) folded_texts k [] none (omega (arith, is.0, seventeen_folded)) in
-      both_ways (bytes_eq (fold_text t) (folded_at k)) other ((bytes_eq-Decides (fold_text t) (folded_at k)).1 (sym is.1)))
-  by_text (Some k) at =
-      let first = position-Some (bytes_eq (fold_text t)) folded_texts k [] at in
-      irregular_from_fold t k (omega (arith, first.0, seventeen_folded)) (sym ((bytes_eq-Decides (fold_text t) (folded_at k)).0 first.1))
+  by_text o at =
+      grind (arith, common_steps, no_tag, irregular_fold, position-None, seventeen_folded, both_ways, bytes_eq-Decides, position-Some, irregular_from_fold)
 
   -- what is neither normal nor for private use may be irregular
   refused_ended : (o : Option (List ℕ)) → FollowsIrregular t o → IsEnded t places (option_map_or irregular_ending o NoTag)
@@ -102,21 +92,14 @@ module _ (t places : List ℕ) (refused : IsRefused t) where
 
 -- the whole text is neither
 stopped_refused : (t : List ℕ) → HasStopped t → IsRefused t
-stopped_refused t stopped = record {
-  not_normal = λ normal. stopped.not_normal [] (subst IsNormal (sym (append-nil t)) normal);
-  not_private = λ private. stopped.not_private [] (subst IsPrivate (sym (append-nil t)) private);
-}
+stopped_refused t stopped = grind (arith, common_steps, append-nil t)
 
 whole-end : (after : Stage) (n : ℕ) (e : Ends) → (end_at after n e).whole ≡ n
-whole-end Start n e = refl
-whole-end _ n e = refl
+whole-end after n e = grind (arith, common_steps)
 
 module _ (t places : List ℕ) (s : Begun) (known : IsTracked t places s) (o : Option (List ℕ)) (follows : FollowsIrregular t o) where
   found : (stage : Stage) → (stage ≡ Start → ⊥) → IsFoundOf t (found_by stage (end_at stage (length t) known.ends)) → IsEnded t places (ending_after stage)
-  found InPrivateTag past is = is
-  found stage past is =
-      let marked = marked_end places (length t) known.ends stage past known.marked in
-      subst (λ e. IsFoundOf t (finding.Normal e)) (marked.is ∙ ap (ends_at (set places (place_of stage) (length t))) (whole-end stage (length t) known.ends)) is
+  found stage past is = grind (arith, common_steps, marked_end places (length t) known.ends stage past known.marked, whole-end stage (length t) known.ends)
 
   by_end :
       (stage : Stage) → (stage ≡ Start → ⊥) → (v : Bool) → Decides t (cond v (Some (found_by stage (end_at stage (length t) known.ends))) None) →
@@ -182,9 +165,7 @@ dead_next t places i b within read viable known dead =
 pub text_ended :
     (t places : List ℕ) (i : ℕ) (ending : Ending) → i ≡ length t → Tracks (take i t) places (position_of (take i t)).begun → ending ≡ ending_of (position_of (take i t)) →
     IsEnded t places ending
-text_ended t places i ending at tracks is =
-    let whole : take i t ≡ t = take_all i t (omega (arith, at)) in
-    rw (is ∙ ap (λ q. ending_of (position_of q)) whole) (ended t places (subst (λ q. Tracks q places (position_of q).begun) whole tracks))
+text_ended t places i ending at tracks is = grind (arith, common_steps, take_all i t, ended t places)
 
 pub whole_stop : (t : List ℕ) (i : ℕ) → i ≡ length t → IsViable (take i t) → IsStop t i
 whole_stop t i at viable = subst (IsStop t) (sym at) (stop_whole t (subst IsViable (take_all i t (omega (arith, at))) viable))

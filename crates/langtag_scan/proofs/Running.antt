@@ -1,5 +1,5 @@
 -- How the stages run over the segments of a text, and what is found where a subtag goes on or ends.
-use Rattle.std.proofs.Common.{◌≡◌, ℕ, ◌<◌, ◌⊎◌, Bool, true, false, cond, eqb, leb, List, [], ◌∷◌, ◌++◌, length, Option, Some, None, inl, inr, refl, sym, ap, subst, ◌∙◌, arith, append_assoc}
+use Rattle.std.proofs.Common.{◌≡◌, ℕ, ◌<◌, ◌⊎◌, true, false, eqb, List, [], ◌∷◌, ◌++◌, length, Option, Some, None, inl, inr, refl, ap, arith, append_assoc, sym, subst, ◌∙◌}
 use Rattle.std.proofs.lemmas.Bool.{and_parts}
 use Rattle.std.specs.List.{All, onto_first}
 use Rattle.std.specs.Option.{option_map_or}
@@ -7,9 +7,10 @@ use Rattle.std.proofs.lemmas.List.{length-append, length_push}
 use Rattle.std.proofs.lemmas.List.Elements.{All-from_recursion}
 use Rattle.std.proofs.lemmas.List.Folds.{list_all-append}
 use Rattle.std.proofs.lemmas.List.Splits.{slice_split_none, slice_split_at, slice_split-cons_no, slice_split-cons_yes}
+use Rattle.std.proofs.lemmas.Grind.{common_steps}
 use Rattle.langtag_scan.specs.Class.{is_letter, is_alphanumeric, has_length, are_letters, are_alphanumeric, is_primary, is_mark}
 use Rattle.langtag_scan.specs.Subtags.{is_hyphen, segments}
-use Rattle.langtag_scan.specs.Stage.{Stage, Start, Language, AfterFirstMark, is_one, next_stage, after_stage}
+use Rattle.langtag_scan.specs.Stage.{Stage, Start, is_one, next_stage, after_stage}
 use Rattle.langtag_scan.specs.Machine.{end_at, index_after, outcome, IsBegun}
 use Rattle.langtag_scan.specs.declared.ends.Ends.{Ends}
 use Rattle.langtag_scan.specs.declared.finding.Finding.{Finding}
@@ -42,13 +43,7 @@ segments-hyphen s u h = slice_split_at (λ b. eqb b 45) s 45 u (hyphen_free s h)
 -- the first segment is what stands before a hyphen
 pub first_of : (u : List ℕ) → (v : List ℕ) × (ss : List (List ℕ)) × (segments u ≡ v ∷ ss)
 first_of [] = ([], [], refl)
-first_of (b ∷ u) = by_hyphen (eqb b 45) refl (first_of u)
-  where
-    by_hyphen :
-        (v : Bool) → eqb b 45 ≡ v → ((w : List ℕ) × (ss : List (List ℕ)) × (segments u ≡ w ∷ ss)) →
-        (w : List ℕ) × (ss : List (List ℕ)) × (segments (b ∷ u) ≡ w ∷ ss)
-    by_hyphen true e k = ([], segments u, slice_split-cons_yes is_hyphen b u e)
-    by_hyphen false e k = (b ∷ k.0, k.1, slice_split-cons_no is_hyphen b u e ∙ ap (onto_first b) k.2)
+first_of (b ∷ u) = grind (arith, common_steps, first_of u, slice_split-cons_yes is_hyphen b u, slice_split-cons_no is_hyphen b u)
 
 segments-prefix : (s u v : List ℕ) (ss : List (List ℕ)) → are_alphanumeric s ≡ true → segments u ≡ v ∷ ss → segments (s ++ u) ≡ (s ++ v) ∷ ss
 segments-prefix [] u v ss h e = e
@@ -64,29 +59,15 @@ empty_begun stage = record { short = omega arith; alphanumeric = refl; letters =
 pub begun_push :
     (stage : Stage) (s : List ℕ) (b : ℕ) → is_alphanumeric b ≡ true → (stage ≡ Start → is_letter b ≡ true) → length s < 8 → IsBegun stage s →
     IsBegun stage (s ++ b ∷ [])
-begun_push stage s b held first less h = record {
-  short = omega (arith, length_push s b);
-  alphanumeric = rw (list_all-append is_alphanumeric s (b ∷ []), h.alphanumeric, held) refl;
-  letters = λ e. rw (list_all-append is_letter s (b ∷ []), h.letters e, first e) refl;
-}
+begun_push stage s b held first less h =
+    grind (arith, common_steps, length_push s b, list_all-append is_alphanumeric s (b ∷ []), list_all-append is_letter s (b ∷ []))
 
 pub begun_parts : (stage : Stage) (s v : List ℕ) → IsBegun stage (s ++ v) → IsBegun stage s × IsBegun stage v
-begun_parts stage s v h =
-    let len = length-append s v in
-    let held = and_parts (are_alphanumeric s) (are_alphanumeric v) (sym (list_all-append is_alphanumeric s v) ∙ h.alphanumeric) in
-    let letters : stage ≡ Start → (are_letters s ≡ true) × (are_letters v ≡ true) =
-    λ e. and_parts (are_letters s) (are_letters v) (sym (list_all-append is_letter s v) ∙ h.letters e) in (
-      record { short = omega (arith, len, h.short); alphanumeric = held.0; letters = λ e. (letters e).0 },
-      record { short = omega (arith, len, h.short); alphanumeric = held.1; letters = λ e. (letters e).1 },
-    )
+begun_parts stage s v h = grind (arith, common_steps, length-append, and_parts, list_all-append)
 
 -- a first subtag is a primary one or a mark
 pub first_kind : (s : List ℕ) (after : Stage) → after_stage Start s ≡ Some after → (is_primary s ≡ true) ⊎ (is_one is_mark s ≡ true)
-first_kind s after e =
-    elim (chosen (is_primary s) (Some (Language (cond (leb (length s) 3) 0 3))) (cond (is_one is_mark s) (Some AfterFirstMark) None) (Some after) e) [
-      | inl h ↦ inl h.0
-      | inr h ↦ elim (chosen (is_one is_mark s) (Some AfterFirstMark) None (Some after) h.1) [ inl k ↦ inr k.0 | inr k ↦ absurd cc ]
-    ]
+first_kind s after e = grind (arith, common_steps, chosen)
 
 start_letters : (s : List ℕ) (after : Stage) → after_stage Start s ≡ Some after → are_letters s ≡ true
 unfolding is_primary
@@ -94,9 +75,7 @@ start_letters s after e = elim (first_kind s after e) [ inl h ↦ (and_parts (ha
 
 -- a subtag that a tag has
 pub after_begun : (stage after : Stage) (s : List ℕ) → after_stage stage s ≡ Some after → IsBegun stage s
-after_begun stage after s e =
-    let k = after_subtag stage s after e in
-    record { short = k.short; alphanumeric = k.alphanumeric; letters = λ first. start_letters s after (ap (λ x. after_stage x s) (sym first) ∙ e) }
+after_begun stage after s e = grind (arith, common_steps, after_subtag stage s after e, start_letters s after)
 
 -- ---- a byte more: where something is found, the subtag goes on with it
 

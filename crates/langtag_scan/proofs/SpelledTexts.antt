@@ -1,8 +1,9 @@
 -- A normal text: its one record, the offsets where its parts end, and what a fact of which only the truth is known
 -- says of them.
-use Rattle.std.proofs.Common.{◌≡◌, ℕ, List, length, refl, sym, ap, ◌∙◌}
+use Rattle.std.proofs.Common.{◌≡◌, ℕ, List, length, refl, sym, ◌∙◌, arith}
 use Rattle.std.proofs.Math.Logic.{∥∥₁_elim, ∥∥₁_prop}
 use Rattle.std.proofs.Props.{props}
+use Rattle.std.proofs.lemmas.Grind.{common_steps}
 use mathlib.Core.Bool.{Bool-set}
 use Rattle.std.specs.Str.{IsAscii}
 use Rattle.langtag_scan.specs.Ends.{ends_of, HasEnds}
@@ -28,8 +29,7 @@ normal_from_ends text ends (r, spells, at) = normal_spelled text r spells
 -- there is one record, so each record has these ends
 pub ends_each : (text : List ℕ) (ends : Ends) → HasEnds text ends → EachRecord text (λ r. ends ≡ ends_of r)
 unfolding HasEnds
-ends_each text ends (q, spelled, at) r spells =
-    at ∙ ap ends_of (spelled_once q r spelled.0 spells.0 (spelled.1 ∙ sym spells.1))
+ends_each text ends (q, spelled, at) r spells = grind (arith, common_steps, spelled_once q r spelled.0 spells.0 (spelled.1 ∙ sym spells.1))
 
 -- ---- what is merely so is at hand
 
@@ -49,8 +49,7 @@ ends_had text ends merely =
 
 -- are those of its record
 pub subtags-spelled : (text : List ℕ) → EachRecord text (λ r. subtags text ≡ flat r)
-subtags-spelled text r spells =
-    ap subtags (sym spells.1) ∙ subtags-joined (flat r) (flat_subtags r spells.0)
+subtags-spelled text r spells = grind (arith, common_steps, subtags-joined (flat r) (flat_subtags r spells.0), flat_subtags r spells.0)
 
 -- and no more of them than `count` can answer
 pub ruleset tag_subtags = (subtags-spelled, length-subtags)
@@ -74,6 +73,4 @@ pub record AreOffsetsIn (text : List ℕ) (ends : Ends) : Type 0 where
 
 pub offsets_kept : (text : List ℕ) (ends : Ends) → ∥ HasEnds text ends ∥₁ → AreOffsetsIn text ends
 offsets_kept text ends merely =
-    let kept = ends_had text ends merely in
-    let is = normal_from_ends text ends kept in
-    record { normal = is; order = ends_ordered text ends kept; whole = ends_whole text ends kept; ascii = IsAscii-normal text is }
+    grind (arith, common_steps, ends_had text ends merely, normal_from_ends text ends, ends_ordered text ends, ends_whole text ends, IsAscii-normal text)

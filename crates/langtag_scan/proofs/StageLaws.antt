@@ -1,9 +1,10 @@
 -- The stages: what comes after a subtag, and where it ends.
-use Rattle.std.proofs.Common.{◌≡◌, ℕ, ◌+◌, Bool, true, false, List, [], length, Some, refl, ap, arith}
-use Rattle.langtag_scan.specs.Stage.{Stage, Start, Language, AfterFirstMark, InPrivateTag, classes_of, next_stage, after_stage}
+use Rattle.std.proofs.Common.{◌≡◌, ℕ, ◌+◌, Bool, true, false, List, [], length, Some, arith}
+use Rattle.std.proofs.lemmas.Grind.{common_steps}
+use Rattle.langtag_scan.specs.Stage.{Stage, Start, AfterFirstMark, InPrivateTag, next_stage, after_stage}
 use Rattle.langtag_scan.specs.Machine.{end_at, index_after}
 use Rattle.langtag_scan.specs.declared.ends.Ends.{Ends}
-use Rattle.langtag_scan.proofs.Steps.{leads_to, may_follow, after_class, next_step}
+use Rattle.langtag_scan.proofs.Steps.{may_follow, after_class, next_step}
 
 -- ---- which stages follow
 
@@ -17,11 +18,7 @@ is_outside _ = false
 -- after a subtag of a normal tag, one has begun
 follower_inside : (stage after : Stage) → may_follow stage after ≡ true → is_outside after ≡ false
 unfolding is_outside
-follower_inside Start (Language taken) h = refl
-follower_inside _ Start h = absurd cc
-follower_inside _ AfterFirstMark h = absurd cc
-follower_inside _ InPrivateTag h = absurd cc
-follower_inside _ _ h = refl
+follower_inside stage after h = grind (arith, common_steps)
 
 pub next_inside : (stage after : Stage) (s : List ℕ) → next_stage stage s ≡ Some after → is_outside after ≡ false
 next_inside stage after s e = follower_inside stage after (next_step stage after s e).0
@@ -29,25 +26,17 @@ next_inside stage after s e = follower_inside stage after (next_step stage after
 -- and it goes on as a normal tag does
 pub after-inside : (stage : Stage) (s : List ℕ) → is_outside stage ≡ false → after_stage stage s ≡ next_stage stage s
 unfolding is_outside
-after-inside Start s inside = absurd cc
-after-inside AfterFirstMark s inside = absurd cc
-after-inside InPrivateTag s inside = absurd cc
-after-inside _ s inside = refl
+after-inside stage s inside = grind (arith, common_steps)
 
 -- no stage after a subtag is the first one
 pub after_not_start : (stage after : Stage) (s : List ℕ) → after_stage stage s ≡ Some after → after ≡ Start → ⊥
-after_not_start stage after s e first =
-    let led = after_class stage after s e in
-    let none = ap (λ x. leads_to x (classes_of s)) first in
-    cc
+after_not_start stage after s e first = grind (arith, common_steps, after_class stage after s e)
 
 -- ---- where a subtag ends
 
 pub index_after-length : (stage : Stage) (e : Ends) (s : List ℕ) → index_after stage e s ≡ index_after stage e [] + length s
-index_after-length Start e s = omega arith
-index_after-length _ e s = omega arith
+index_after-length stage e s = grind (arith, common_steps)
 
 -- after a hyphen the next subtag begins one byte on
 pub index_after-end : (after : Stage) (n : ℕ) (e : Ends) → (after ≡ Start → ⊥) → index_after after (end_at after n e) [] ≡ n + 1
-index_after-end Start n e h = absurd (h refl)
-index_after-end _ n e later = omega arith
+index_after-end after n e later = grind (arith, common_steps)

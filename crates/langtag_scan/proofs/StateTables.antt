@@ -1,8 +1,8 @@
 -- What the tables say of the state of a position is what the grammar says of the position: by computation.
-use Rattle.std.proofs.Common.{◌≡◌, ℕ, ◌+◌, ◌-◌, ◌<◌, ◌≤◌, zero, suc, Bool, true, false, cond, eqb, eqb-true, eq-eqb, ne_eqb, ltb, leb, not, ◌&&◌, ◌||◌, List, [], ◌∷◌, ◌++◌, length, take, drop, get_or, Option, Some, None, inl, inr, refl, sym, ap, subst, ◌∙◌, arith}
+use Rattle.std.proofs.Common.{◌≡◌, ℕ, ◌+◌, ◌-◌, ◌<◌, ◌≤◌, Bool, true, false, cond, eqb, eqb-true, eq-eqb, ne_eqb, ltb, leb, not, ◌&&◌, ◌||◌, List, [], ◌∷◌, ◌++◌, length, take, get_or, Option, Some, None, refl, ap, ◌∙◌, arith, zero, suc, drop, inl, inr, sym, subst}
 use Rattle.std.specs.Prelude.{codes, fold, MatchOption}
 use Rattle.std.specs.List.{list_all}
-use Rattle.std.specs.Option.{option_map, option_map_or}
+use Rattle.std.specs.Option.{option_map_or, option_map}
 use Rattle.std.specs.Cmp.{booleans_Decides}
 use Rattle.std.proofs.Math.Bool.{beq}
 use Rattle.std.proofs.Math.Seq.{take-append_seam}
@@ -10,15 +10,16 @@ use Rattle.std.proofs.lemmas.Bool.{agree_below, agree_below_at, and_parts, or_ca
 use Rattle.std.proofs.lemmas.List.{length-append, get_or_past}
 use Rattle.std.proofs.lemmas.List.Quantifiers.{position-Some}
 use Rattle.std.proofs.lemmas.List.Sums.{AllPass-from_list_all}
+use Rattle.std.proofs.lemmas.Grind.{common_steps}
 use Rattle.langtag_scan.specs.Case.{fold_byte, fold_text}
 use Rattle.langtag_scan.specs.Class.{is_letter, is_digit, is_mark}
 use Rattle.langtag_scan.specs.Grandfathered.{grandfathered_tags, irregular_texts}
-use Rattle.langtag_scan.specs.Irregular.{folded_texts, folded_at, is_prefix, is_possible}
+use Rattle.langtag_scan.specs.Irregular.{folded_texts, folded_at, is_possible, is_prefix}
 use Rattle.langtag_scan.specs.Kind.{Kind, Empty, Mark, Letters, Digits, LetterFirst, DigitFirst, with_letter}
-use Rattle.langtag_scan.specs.Position.{Begun, Position, nothing_read, begun_after, possible_index, irregular_after, position_after, position_of, part_before, ending_of, is_dead}
+use Rattle.langtag_scan.specs.Position.{Begun, Position, begun_after, possible_index, irregular_after, position_after, position_of, part_before, ending_of, is_dead, nothing_read}
 use Rattle.langtag_scan.specs.Stage.{Stage, Start, Language, Extended, AfterScript, AfterRegion, AfterVariant, AfterSingleton, InExtension, AfterMark, InPrivate, AfterFirstMark, InPrivateTag}
 use Rattle.langtag_scan.specs.States.{states_of, states_along}
-use Rattle.langtag_scan.specs.Tracking.{Stands, next_number, begun_number, is_reached, state_of}
+use Rattle.langtag_scan.specs.Tracking.{Stands, next_number, is_reached, state_of, begun_number}
 use Rattle.langtag_scan.specs.declared.state.Ending.{Ending}
 use Rattle.langtag_scan.specs.declared.state.State.{State}
 use Rattle.langtag_scan.specs.declared.state.Ending.TheVariants.{NoTag, Normal, PrivateUse, Irregular}
@@ -162,13 +163,11 @@ pub class_within : (b : ℕ) → b < 256 → class_of b < 29
 class_within b within = ltb-true _ _ (and_parts (ltb (class_of b) 29) _ (bytes_classed b within)).0
 
 with_letter-same : (kind : Kind) (c b : ℕ) → is_mark c ≡ is_mark b → with_letter kind c ≡ with_letter kind b
-with_letter-same Empty c b marks = ap (λ v. cond v Mark Letters) marks
-with_letter-same _ c b marks = refl
+with_letter-same kind c b marks = grind (arith, common_steps)
 
 begun_after-same : (o : Option Begun) (c b : ℕ) → eqb c 45 ≡ eqb b 45 → is_letter c ≡ is_letter b → is_digit c ≡ is_digit b → is_mark c ≡ is_mark b →
     option_map_or (begun_after c) o None ≡ option_map_or (begun_after b) o None
-begun_after-same None c b hyphens letters digits marks = refl
-begun_after-same (Some s) c b hyphens letters digits marks = rw (hyphens, letters, digits, with_letter-same s.kind c b marks) refl
+begun_after-same o c b hyphens letters digits marks = grind (arith, common_steps, with_letter-same)
 
 -- no irregular text has another byte
 outside : (p : List ℕ) (c : ℕ) (o : Option ℕ) → is_text_byte c ≡ false → possible_index (p ++ c ∷ []) ≡ o → o ≡ None
@@ -196,8 +195,7 @@ irregular_after-same (Some p) c b hyphens letters folds =
 position_after-same :
     (p : Position) (c b : ℕ) → eqb c 45 ≡ eqb b 45 → is_letter c ≡ is_letter b → is_digit c ≡ is_digit b → is_mark c ≡ is_mark b →
     (eqb (fold_byte c) (fold_byte b) || not (is_text_byte b)) ≡ true → position_after p c ≡ position_after p b
-position_after-same p c b hyphens letters digits marks folds =
-    rw (begun_after-same p.begun c b hyphens letters digits marks, irregular_after-same p.irregular c b hyphens letters folds) refl
+position_after-same p c b hyphens letters digits marks folds = grind (arith, common_steps, begun_after-same, irregular_after-same)
 
 position_after-class : (p : Position) (b : ℕ) → b < 256 → position_after p (class_byte (class_of b)) ≡ position_after p b
 position_after-class p b within =
@@ -210,9 +208,7 @@ position_after-class p b within =
 
 -- a position does not change with the case of letters
 position_after-fold : (p : Position) (b : ℕ) → position_after p (fold_byte b) ≡ position_after p b
-position_after-fold p b =
-    position_after-same p (fold_byte b) b (hyphen-fold b) (is_letter-fold b) (is_digit-fold b) (is_mark-fold b)
-    (rw (eq-eqb (fold_byte (fold_byte b)) (fold_byte b) (fold_byte-twice b)) refl)
+position_after-fold p b = grind (arith, common_steps, position_after-same, hyphen-fold, is_letter-fold, is_digit-fold, is_mark-fold, eq-eqb, fold_byte-twice)
 
 position_from-fold : (q : List ℕ) (p : Position) → fold position_after p (fold_text q) ≡ fold position_after p q
 position_from-fold [] p = refl
@@ -221,12 +217,7 @@ position_from-fold (b ∷ q) p = ap (λ x. fold position_after x (fold_text q)) 
 -- ---- what the tables say of a state
 
 kind_at : (kind : Kind) → (kind_index kind < 6) × (get_or kinds (kind_index kind) Empty ≡ kind)
-kind_at Empty = (omega arith, refl)
-kind_at Mark = (omega arith, refl)
-kind_at Letters = (omega arith, refl)
-kind_at Digits = (omega arith, refl)
-kind_at LetterFirst = (omega arith, refl)
-kind_at DigitFirst = (omega arith, refl)
+kind_at kind = grind (arith, common_steps)
 
 begun_described : (s : Begun) → is_reached (record { begun = Some s; irregular = None }) ≡ true → is_described (record { begun = Some s; irregular = None }) ≡ true
 begun_described s reached =
@@ -269,10 +260,7 @@ module _ (q : List ℕ) (number : ℕ) (live : number < table.NONE) (stands : St
 
   said : Said
   unfolding is_described_by
-  said =
-      let first = and_parts (agree_below (leads (position_of q) number) (λ class. true) 29) _ described in
-      let part = and_parts (eqb (get_or table.TABLES.now.parts number 0) (part_before (position_of q))) _ first.1 in
-      (first.0, eqb-true _ _ part.0, part.1)
+  said = grind (arith, common_steps, and_parts, agree_below (leads (position_of q) number), described, eqb-true)
 
   pub stands_push : (b : ℕ) → b < 256 →
       Stands (q ++ b ∷ []) (next_number (class_of b) number) × (eqb (next_number (class_of b) number) table.NONE ≡ is_dead (position_of (q ++ b ∷ [])))
@@ -298,8 +286,7 @@ stands_nothing = record { reached = refl; is = refl }
 pub stands_after :
     (o : Option State) (n : ℕ) (q : List ℕ) → MatchOption o (n ≡ 164) (λ next. next.number ≡ n) → Stands q n × (eqb n table.NONE ≡ is_dead (position_of q)) →
     MatchOption o (is_dead (position_of q) ≡ true) (λ next. (is_dead (position_of q) ≡ false) × Stands q next.number)
-stands_after None n q none (stands, dead) = sym dead ∙ eq-eqb n 164 none
-stands_after (Some next) n q is (stands, dead) = (sym dead ∙ ne_eqb n 164 (λ e. omega (arith, e, is, next.within)), rw is stands)
+stands_after o n q is h = grind (arith, common_steps, eq-eqb n 164, ne_eqb n 164)
 
 -- ---- the numbers
 

@@ -1,9 +1,10 @@
 -- What the classes of subtags have in common: one to eight letters and digits, and so no hyphen (RFC 5646 section 2.1).
-use Rattle.std.proofs.Common.{◌≡◌, ℕ, ◌≤◌, true, false, not, eqb, eqb-true, List, [], ◌∷◌, length, inl, inr, refl, ap, arith}
+use Rattle.std.proofs.Common.{◌≡◌, ℕ, ◌≤◌, true, false, not, eqb, eqb-true, List, [], ◌∷◌, length, refl, ap, arith}
 use Rattle.std.proofs.Math.Bool.{or-true}
 use Rattle.std.specs.List.{All, AllByRecursion}
 use Rattle.std.proofs.lemmas.Bool.{ne_eqb, and_parts, or_cases}
 use Rattle.std.proofs.lemmas.List.Elements.{All-from_recursion}
+use Rattle.std.proofs.lemmas.Grind.{common_steps}
 use Rattle.langtag_scan.specs.Class.{is_letter, is_digit, is_alphanumeric, has_length, are_letters, are_digits, are_alphanumeric, is_primary, is_extended, is_script, is_region, is_variant, is_extension_subtag, is_private_subtag, is_mark, is_singleton}
 use Rattle.langtag_scan.specs.Stage.{is_one}
 use Rattle.langtag_scan.proofs.BoolFacts.{between_true}
@@ -25,10 +26,7 @@ digits_alphanumeric (b ∷ s) h = let k = and_parts (is_digit b) (are_digits s) 
 
 pub of_primary : (s : List ℕ) → is_primary s ≡ true → IsSubtag s
 unfolding is_primary
-of_primary s h =
-    let k = and_parts (has_length 2 8 s) (are_letters s) h in
-    let m = between_true 2 8 (length s) k.0 in
-    record { some = omega arith; short = omega arith; alphanumeric = letters_alphanumeric s k.1 }
+of_primary s h = grind (arith, common_steps, and_parts (has_length 2 8 s) (are_letters s) h, between_true 2 8 (length s), letters_alphanumeric s)
 
 pub of_extended : (s : List ℕ) → is_extended s ≡ true → IsSubtag s
 of_extended s h = let k = extended_three s h in record { some = omega arith; short = omega arith; alphanumeric = letters_alphanumeric s k.1 }
@@ -37,49 +35,29 @@ pub of_script : (s : List ℕ) → is_script s ≡ true → IsSubtag s
 of_script s h = let k = script_four s h in record { some = omega arith; short = omega arith; alphanumeric = letters_alphanumeric s k.1 }
 
 pub of_region : (s : List ℕ) → is_region s ≡ true → IsSubtag s
-of_region s h =
-    elim (region_two_three s h) [
-      | inl k ↦ record { some = omega arith; short = omega arith; alphanumeric = letters_alphanumeric s k.1 }
-      | inr k ↦ record { some = omega arith; short = omega arith; alphanumeric = digits_alphanumeric s k.1 }
-    ]
+of_region s h = grind (arith, common_steps, region_two_three s h, letters_alphanumeric s, digits_alphanumeric s)
 
 pub of_variant : (s : List ℕ) → is_variant s ≡ true → IsSubtag s
-of_variant s h =
-    elim (variant_long s h) [
-      | inl k ↦ record { some = omega arith; short = omega arith; alphanumeric = k.2 }
-      | inr k ↦ record { some = omega arith; short = omega arith; alphanumeric = k.1 }
-    ]
+of_variant s h = grind (arith, common_steps, variant_long s h)
 
 pub of_extension_subtag : (s : List ℕ) → is_extension_subtag s ≡ true → IsSubtag s
 unfolding is_extension_subtag
-of_extension_subtag s h =
-    let k = and_parts (has_length 2 8 s) (are_alphanumeric s) h in
-    let m = between_true 2 8 (length s) k.0 in
-    record { some = omega arith; short = omega arith; alphanumeric = k.1 }
+of_extension_subtag s h = grind (arith, common_steps, and_parts (has_length 2 8 s) (are_alphanumeric s) h, between_true 2 8 (length s))
 
 pub of_private_subtag : (s : List ℕ) → is_private_subtag s ≡ true → IsSubtag s
 unfolding is_private_subtag
-of_private_subtag s h =
-    let k = and_parts (has_length 1 8 s) (are_alphanumeric s) h in
-    let m = between_true 1 8 (length s) k.0 in
-    record { some = omega arith; short = omega arith; alphanumeric = k.1 }
+of_private_subtag s h = grind (arith, common_steps, and_parts (has_length 1 8 s) (are_alphanumeric s) h, between_true 1 8 (length s))
 
 mark_letter : (c : ℕ) → is_mark c ≡ true → is_letter c ≡ true
 unfolding is_mark is_letter
-mark_letter c h =
-    elim (or_cases (eqb c 120) (eqb c 88) h) [
-      | inl e ↦ let same : c ≡ 120 = eqb-true _ _ e in rw same refl
-      | inr e ↦ let same : c ≡ 88 = eqb-true _ _ e in rw same refl
-    ]
+mark_letter c h = grind (arith, common_steps, or_cases (eqb c 120) (eqb c 88) h, eqb-true)
 
 pub mark_alphanumeric : (c : ℕ) → is_mark c ≡ true → is_alphanumeric c ≡ true
 mark_alphanumeric c h = rw (mark_letter c h) refl
 
 -- a mark alone has letters alone
 pub mark_letters : (s : List ℕ) → is_one is_mark s ≡ true → are_letters s ≡ true
-mark_letters [] h = refl
-mark_letters (c ∷ []) h = rw (mark_letter c h) refl
-mark_letters (c ∷ d ∷ s) h = absurd cc
+mark_letters s h = grind (arith, common_steps, mark_letter)
 
 pub singleton_alphanumeric : (c : ℕ) → is_singleton c ≡ true → is_alphanumeric c ≡ true
 unfolding is_singleton
@@ -89,9 +67,7 @@ pub of_one : (c : ℕ) → is_alphanumeric c ≡ true → IsSubtag (c ∷ [])
 of_one c h = record { some = omega arith; short = omega arith; alphanumeric = rw h refl }
 
 pub of_mark : (s : List ℕ) → is_one is_mark s ≡ true → IsSubtag s
-of_mark [] h = absurd cc
-of_mark (c ∷ []) h = of_one c (mark_alphanumeric c h)
-of_mark (c ∷ d ∷ s) h = absurd cc
+of_mark s h = grind (arith, common_steps, of_one, mark_alphanumeric)
 
 pub alphanumeric_no_hyphen : (b : ℕ) → is_alphanumeric b ≡ true → eqb b 45 ≡ false
 unfolding is_letter is_digit

@@ -1,6 +1,6 @@
 -- Texts and the lists of subtags that stand between their hyphens: joining and splitting undo one another, and a list of
 -- members of a class is found again in its join.
-use Rattle.std.proofs.Common.{◌≡◌, ℕ, ◌<◌, ◌≤◌, ◌+◌, ◌-◌, List, length, drop, length-drop, get_or, arith, subst, Bool, true, false, [], ◌∷◌, ◌++◌, refl, ap, ◌∙◌, Option, None, Some, Bor, MatchOption, All, IsTrue}
+use Rattle.std.proofs.Common.{◌≡◌, ℕ, ◌<◌, ◌≤◌, ◌+◌, ◌-◌, List, length, drop, length-drop, get_or, arith, Bool, true, false, [], ◌∷◌, ◌++◌, refl, ap, ◌∙◌, Option, Bor, MatchOption, All, IsTrue}
 use Rattle.std.proofs.lemmas.Bool.{and_parts}
 use Rattle.std.specs.Str.{IsUtf8, IsCharBoundary}
 use Rattle.std.proofs.lemmas.Str.{IsCharBoundary-after_ascii}
@@ -8,6 +8,7 @@ use Rattle.std.specs.List.{onto_first, AllByRecursion, list_all}
 use Rattle.std.proofs.lemmas.List.Splits.{slice_split-cons_yes, slice_split-cons_no, slice_split_none, slice_split_at, length-slice_split, join_with_byte-slice_split}
 use Rattle.std.proofs.lemmas.List.Elements.{All-nil, All-cons, All-head, All-tail, All-from_recursion, All-weaker}
 use Rattle.std.proofs.lemmas.List.Sums.{count_by-le-length}
+use Rattle.std.proofs.lemmas.Grind.{common_steps}
 use Rattle.langtag_scan.specs.Subtags.{is_hyphen, IsHyphenFree, join, segments, subtags, segments_left}
 use Rattle.langtag_scan.proofs.Joins.{length-join}
 use Rattle.langtag_scan.proofs.SubtagFacts.{IsSubtag, no_hyphen}
@@ -18,12 +19,10 @@ use Rattle.langtag_scan.proofs.SubtagFacts.{IsSubtag, no_hyphen}
 pub segments_left-first :
     (text first : List ℕ) (rest : Option (Bor (List ℕ))) → IsHyphenFree first →
     MatchOption rest (text ≡ first) (λ r. text ≡ first ++ 45 ∷ r.now) → segments text ≡ first ∷ segments_left rest
-segments_left-first text first None free whole = rw whole (slice_split_none is_hyphen first free)
-segments_left-first text first (Some rest) free joined = rw joined (slice_split_at is_hyphen first 45 rest.now free refl)
+segments_left-first text first rest free joined = grind (arith, common_steps, slice_split_none, slice_split_at)
 
 pub onto_first-append : (b : ℕ) (prefix back : List (List ℕ)) → 0 < length prefix → onto_first b (prefix ++ back) ≡ onto_first b prefix ++ back
-onto_first-append b [] back some = absurd (omega (arith, some))
-onto_first-append b (segment ∷ prefix) back some = refl
+onto_first-append b prefix back some = grind (arith, common_steps)
 
 -- the segments before and after any hyphen
 pub slice_split-append : (prefix back : List ℕ) → segments (prefix ++ 45 ∷ back) ≡ segments prefix ++ segments back
@@ -33,11 +32,7 @@ slice_split-append (b ∷ prefix) back = by_first (is_hyphen b) refl (slice_spli
     by_first :
         (cut : Bool) → is_hyphen b ≡ cut → segments (prefix ++ 45 ∷ back) ≡ segments prefix ++ segments back →
         segments (b ∷ prefix ++ 45 ∷ back) ≡ segments (b ∷ prefix) ++ segments back
-    by_first true cut others =
-        rw (slice_split-cons_yes is_hyphen b (prefix ++ 45 ∷ back) cut, slice_split-cons_yes is_hyphen b prefix cut, others) refl
-    by_first false kept others =
-        rw (slice_split-cons_no is_hyphen b (prefix ++ 45 ∷ back) kept, slice_split-cons_no is_hyphen b prefix kept, others)
-        (onto_first-append b (segments prefix) (segments back) (omega (arith, length-slice_split is_hyphen prefix)))
+    by_first cut kept others = grind (arith, common_steps, slice_split-cons_yes, slice_split-cons_no, onto_first-append, length-slice_split)
 
 -- one more segment, after a hyphen
 pub slice_split-push : (prefix last : List ℕ) → IsHyphenFree last → segments (prefix ++ 45 ∷ last) ≡ segments prefix ++ last ∷ []
@@ -47,27 +42,21 @@ slice_split-push prefix last free = slice_split-append prefix last ∙ ap (λ ba
 pub segments_left-last :
     (text last : List ℕ) (prefix : Option (Bor (List ℕ))) → IsHyphenFree last →
     MatchOption prefix (text ≡ last) (λ f. text ≡ f.now ++ 45 ∷ last) → segments text ≡ segments_left prefix ++ last ∷ []
-segments_left-last text last None free whole = rw whole (slice_split_none is_hyphen last free)
-segments_left-last text last (Some prefix) free joined = rw joined (slice_split-push prefix.now last free)
+segments_left-last text last prefix free joined = grind (arith, common_steps, slice_split_none, slice_split-push)
 
 -- ---- no segment holds a hyphen
 
 onto_first-hyphen_free : (b : ℕ) (texts : List (List ℕ)) → is_hyphen b ≡ false → All IsHyphenFree texts → All IsHyphenFree (onto_first b texts)
-onto_first-hyphen_free b [] kept free =
-    All-cons IsHyphenFree (b ∷ []) [] (All-cons (λ c. is_hyphen c ≡ false) b [] kept (All-nil (λ c. is_hyphen c ≡ false))) (All-nil IsHyphenFree)
+onto_first-hyphen_free b [] kept free = grind (arith, common_steps, All-cons, All-nil)
 onto_first-hyphen_free b (text ∷ texts) kept free =
-    All-cons IsHyphenFree (b ∷ text) texts
-    (All-cons (λ c. is_hyphen c ≡ false) b text kept (All-head IsHyphenFree text texts free))
-    (All-tail IsHyphenFree text texts free)
+    grind (arith, common_steps, All-cons, All-head IsHyphenFree text texts free, All-tail IsHyphenFree text texts free)
 
 pub segments-hyphen_free : (text : List ℕ) → All IsHyphenFree (segments text)
 segments-hyphen_free [] = All-cons IsHyphenFree [] [] (All-nil (λ c. is_hyphen c ≡ false)) (All-nil IsHyphenFree)
 segments-hyphen_free (b ∷ text) = by_first (is_hyphen b) refl (segments-hyphen_free text)
   where
     by_first : (cut : Bool) → is_hyphen b ≡ cut → All IsHyphenFree (segments text) → All IsHyphenFree (segments (b ∷ text))
-    by_first true cut free =
-        rw (slice_split-cons_yes is_hyphen b text cut) (All-cons IsHyphenFree [] (segments text) (All-nil (λ c. is_hyphen c ≡ false)) free)
-    by_first false kept free = rw (slice_split-cons_no is_hyphen b text kept) (onto_first-hyphen_free b (segments text) kept free)
+    by_first cut kept free = grind (arith, common_steps, slice_split-cons_yes, All-cons, All-nil, slice_split-cons_no, onto_first-hyphen_free)
 
 -- ---- joining and splitting
 
@@ -80,8 +69,7 @@ segments-join first (second ∷ texts) free =
 
 -- the subtags of a text that has some
 pub subtags-segments : (text : List ℕ) → 0 < length text → subtags text ≡ segments text
-subtags-segments [] some = absurd (omega (arith, some))
-subtags-segments (b ∷ text) some = refl
+subtags-segments text some = grind (arith, common_steps)
 
 -- the subtags of a text, joined, are the text
 pub join-subtags : (text : List ℕ) → join (subtags text) ≡ text
@@ -111,8 +99,7 @@ each_subtag test shows (s ∷ ss) h = (shows s h.0, each_subtag test shows ss h.
 
 -- subtags that were joined are the segments of the join
 pub segments-joined : (s : List ℕ) (ss : List (List ℕ)) → AllByRecursion IsSubtag (s ∷ ss) → segments (join (s ∷ ss)) ≡ s ∷ ss
-segments-joined s ss fits =
-    segments-join s ss (All-weaker IsSubtag IsHyphenFree no_hyphen (s ∷ ss) (All-from_recursion IsSubtag (s ∷ ss) fits))
+segments-joined s ss fits = grind (arith, common_steps, segments-join, All-weaker, no_hyphen, All-from_recursion)
 
 -- and its subtags
 pub subtags-joined : (ss : List (List ℕ)) → AllByRecursion IsSubtag ss → subtags (join ss) ≡ ss
@@ -133,6 +120,4 @@ length-after_first text = omega (arith, length-drop 1 (subtags text), length-sub
 
 -- a text may be cut after a hyphen
 pub IsCharBoundary-after_hyphen : (text : List ℕ) (i : ℕ) → IsUtf8 text → 0 < i → i ≤ length text → get_or text (i - 1) 0 ≡ 45 → IsCharBoundary text i
-IsCharBoundary-after_hyphen text i utf8 some within hyphen =
-    let before : (i - 1) + 1 ≡ i = omega arith in
-    subst (IsCharBoundary text) before (IsCharBoundary-after_ascii text (i - 1) utf8 (omega arith) (omega arith))
+IsCharBoundary-after_hyphen text i utf8 some within hyphen = grind (arith, common_steps, IsCharBoundary-after_ascii text (i - 1) utf8)

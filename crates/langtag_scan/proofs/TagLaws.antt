@@ -1,7 +1,8 @@
 -- Tags, the prefixes that some tag begins with, and where a text stops (RFC 5646 section 2.1).
-use Rattle.std.proofs.Common.{◌≡◌, ℕ, ◌<◌, ◌≤◌, List, ◌++◌, length, take, drop, inl, inr, refl, sym, ap, subst, ◌∙◌, arith, append_assoc}
+use Rattle.std.proofs.Common.{ℕ, ◌<◌, ◌≤◌, List, ◌++◌, length, take, drop, inl, inr, sym, subst, arith, append_assoc}
 use Rattle.std.proofs.Math.Seq.{take-length}
 use Rattle.std.proofs.lemmas.List.{take-append-drop, take-take}
+use Rattle.std.proofs.lemmas.Grind.{common_steps}
 use Rattle.langtag_scan.specs.Tag.{IsNormal, IsPrivate, IsIrregular, IsIrregularAt, IsTag}
 use Rattle.langtag_scan.specs.Viable.{IsViable, IsStop}
 
@@ -41,15 +42,11 @@ no_tag_dead t i dead tag = dead (viable_from_tag (take i t) (drop i t) (subst Is
 
 -- each prefix of a viable prefix is viable
 pub prefixes_viable : (t : List ℕ) (i k : ℕ) → IsViable (take i t) → k ≤ i → IsViable (take k t)
-prefixes_viable t i k v le =
-    let split : take k t ++ drop k (take i t) ≡ take i t = ap (λ (u : List ℕ). u ++ drop k (take i t)) (sym (take-take k i t le)) ∙ take-append-drop k (take i t) in
-    viable_prefix (take k t) (drop k (take i t)) (subst IsViable (sym split) v)
+prefixes_viable t i k v le = grind (arith, common_steps, take-take k i t le, take-append-drop k (take i t), viable_prefix (take k t) (drop k (take i t)))
 
 -- a text stops at its first prefix that is not viable, or else at its end
 pub stop_at : (t : List ℕ) (i : ℕ) → i ≤ length t → ((k : ℕ) → k < i → IsViable (take k t)) → (IsViable (take i t) → ⊥) → IsStop t i
 stop_at t i within before dead = record { within = within; before = before; at = inr dead }
 
 pub stop_whole : (t : List ℕ) → IsViable t → IsStop t (length t)
-stop_whole t viable =
-    let last : IsViable (take (length t) t) = subst IsViable (sym (take-length t)) viable in
-    record { within = omega arith; before = λ k below. prefixes_viable t (length t) k last (omega arith); at = inl (last, refl) }
+stop_whole t viable = grind (arith, common_steps, take-length t, prefixes_viable t (length t))

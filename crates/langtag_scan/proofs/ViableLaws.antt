@@ -1,29 +1,19 @@
 -- How much of a text is viable, by where the text stops once it has one byte more.
-use Rattle.std.proofs.Common.{◌≡◌, ℕ, ◌+◌, ◌≤◌, List, [], ◌∷◌, ◌++◌, length, take, inl, inr, sym, subst, arith, append_assoc}
+use Rattle.std.proofs.Common.{ℕ, ◌+◌, ◌≤◌, List, [], ◌∷◌, ◌++◌, length, take, sym, subst, arith, append_assoc}
 use Rattle.std.proofs.lemmas.Bool.{cases_lt}
 use Rattle.std.proofs.lemmas.List.{take-append-le, length_push}
+use Rattle.std.proofs.lemmas.Grind.{common_steps}
 use Rattle.langtag_scan.specs.Viable.{IsViable, IsStop, IsViableLength}
 use Rattle.langtag_scan.proofs.RecogniserLaws.{viable_nothing}
 use Rattle.langtag_scan.proofs.TagLaws.{prefixes_viable}
 
 -- a text that has a byte does not stop before it
 pub stop_some : (t : List ℕ) (n : ℕ) → IsStop t n → 1 ≤ length t → 1 ≤ n
-stop_some t n stop some = elim (cases_lt 0 n) [
-  | inl read ↦ omega (arith, read)
-  | inr none ↦
-      let zero_here : n ≡ 0 = omega (arith, none) in
-      elim stop.at [
-        | inl whole ↦ omega (arith, whole.1, zero_here, some)
-        | inr dead ↦ absurd (dead (subst (λ k. IsViable (take k t)) (sym zero_here) viable_nothing))
-      ]
-]
+stop_some t n stop some = grind (arith, common_steps, cases_lt 0 n, viable_nothing)
 
 -- where the longer text stops within the shorter one, it has read a byte too many
 stop_not_viable : (t : List ℕ) (b n : ℕ) → IsStop (t ++ b ∷ []) n → n ≤ length t → IsViable (take n (t ++ b ∷ [])) → ⊥
-stop_not_viable t b n stop within viable = elim stop.at [
-  | inl whole ↦ absurd (omega (arith, whole.1, length_push t b, within))
-  | inr dead ↦ dead viable
-]
+stop_not_viable t b n stop within viable = grind (arith, common_steps, length_push t b)
 
 -- what stands before the last byte that it has read is as much of the shorter one as is viable
 pub viable_before : (t : List ℕ) (b n : ℕ) → IsStop (t ++ b ∷ []) (n + 1) → IsViableLength t n

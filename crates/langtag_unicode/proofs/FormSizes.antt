@@ -1,6 +1,7 @@
 -- How long the form of a tag may be: at most 20 bytes longer than the tag, 13 in `u` and 7 in `t`.
-use Rattle.std.proofs.Common.{◌≡◌, ℕ, ◌+◌, ◌≤◌, ◌&&◌, ◌||◌, ◌==◌, not, leb, Bool, true, false, cond, List, [], ◌∷◌, ◌++◌, length, map, find, Option, None, Some, unwrap_or, inl, inr, refl, sym, ap, subst, ◌∙◌, arith, eqb-true}
+use Rattle.std.proofs.Common.{◌≡◌, ℕ, ◌+◌, ◌≤◌, ◌&&◌, ◌||◌, ◌==◌, not, leb, Bool, true, false, cond, List, [], ◌∷◌, ◌++◌, length, map, find, Option, None, Some, unwrap_or, refl, sym, ap, subst, ◌∙◌, arith, eqb-true, rules}
 use Rattle.std.proofs.lemmas.Bool.{and_parts, eq-eqb, false_from_ne_true, false≢true, leb-true, not-true}
+use Rattle.std.proofs.lemmas.Grind.{common_steps}
 use Rattle.std.specs.Prelude.{codes}
 use Rattle.std.specs.Str.{bytes_eq}
 use Rattle.std.specs.List.{flat_map, list_all}
@@ -11,7 +12,6 @@ use Rattle.langtag_scan.proofs.CaseLaw.{length-fold}
 use Rattle.langtag_scan.proofs.Joins.{length-join}
 use Rattle.langtag_scan.proofs.SubtagLists.{join-subtags}
 use Rattle.langtag_scan.specs.Case.{Alike, are_alike, fold_byte, fold_text}
-use Rattle.langtag_scan.specs.CaseLaws.{are_alike-decides}
 use Rattle.langtag_scan.specs.Class.{is_region, is_script}
 use Rattle.langtag_scan.specs.Record.{Extension, Record, extension_flat, spell}
 use Rattle.langtag_scan.specs.Subtags.{join, subtags}
@@ -19,7 +19,7 @@ use Rattle.langtag_scan.specs.Tag.{IsNormal}
 use Rattle.langtag_unicode.specs.Alias.{Alias, TypeAlias, alias_for, type_alias_for}
 use Rattle.langtag_unicode.specs.Aliases.{subdivision_aliases, transform_type_aliases, unicode_type_aliases}
 use Rattle.langtag_unicode.specs.Form as form
-use Rattle.langtag_unicode.specs.Form.{IsExtensionsForm, extension_form, extensions_record, forms_after, in_alphabet, is_before, is_of, is_transform, language_form, letters_and_digits, put_among, transform_value, unicode_form, unicode_value}
+use Rattle.langtag_unicode.specs.Form.{IsExtensionsForm, extension_form, extensions_record, forms_after, in_alphabet, is_of, is_transform, language_form, letters_and_digits, put_among, transform_value, unicode_form, unicode_value}
 use Rattle.langtag_unicode.specs.Keys.{length_with_hyphens}
 use Rattle.langtag_unicode.specs.Keywords.{before_key, is_key, value_of}
 use Rattle.langtag_unicode.specs.Transform.{is_field_key}
@@ -44,22 +44,11 @@ map-size (s ∷ ss) = let later = map-size ss in let same = length-fold s in ome
 
 put-size : (x : List ℕ) (ss : List (List ℕ)) → size (put_among x ss) ≤ length x + 1 + size ss
 put-size x [] = omega arith
-put-size x (s ∷ ss) = by_tests (is_before x s) (is_before s x) (put-size x ss)
-  where
-    by_tests :
-        (a b : Bool) → size (put_among x ss) ≤ length x + 1 + size ss →
-        size (cond a (x ∷ s ∷ ss) (cond b (s ∷ put_among x ss) (s ∷ ss))) ≤ length x + 1 + size (s ∷ ss)
-    by_tests true b later = omega arith
-    by_tests false true later = omega (arith, later)
-    by_tests false false later = omega arith
+put-size x (s ∷ ss) = grind (arith, common_steps, put-size x ss)
 
 pub alphabet-size : (ss : List (List ℕ)) → size (in_alphabet ss) ≤ size ss
 alphabet-size [] = omega arith
-alphabet-size (s ∷ ss) =
-    let one = put-size (fold_text s) (in_alphabet ss) in
-    let later = alphabet-size ss in
-    let same = length-fold s in
-    omega (arith, one, later, same)
+alphabet-size (s ∷ ss) = grind (arith, common_steps, put-size (fold_text s) (in_alphabet ss), alphabet-size ss, length-fold s)
 
 -- ---- a text and its subtags
 
@@ -69,14 +58,10 @@ bytes [] = 0
 bytes (b ∷ t) = length t + 2
 
 pub bytes-alike : (a b : List ℕ) → are_alike a b ≡ true → bytes a ≡ bytes b
-bytes-alike [] [] alike = refl
-bytes-alike [] (y ∷ b) alike = absurd (omega (arith, alike_length [] (y ∷ b) alike))
-bytes-alike (x ∷ a) [] alike = absurd (omega (arith, alike_length (x ∷ a) [] alike))
-bytes-alike (x ∷ a) (y ∷ b) alike = omega (arith, alike_length (x ∷ a) (y ∷ b) alike)
+bytes-alike a b alike = grind (arith, common_steps, alike_length)
 
 pub bytes-most : (t : List ℕ) → bytes t ≤ length t + 1
-bytes-most [] = omega arith
-bytes-most (b ∷ t) = omega arith
+bytes-most t = grind (arith, common_steps)
 
 pub subtags-size : (t : List ℕ) → size (subtags t) ≡ bytes t
 subtags-size [] = refl
@@ -84,19 +69,11 @@ subtags-size (b ∷ t) = by_list (subtags (b ∷ t)) refl
   where
     by_list : (ss : List (List ℕ)) → subtags (b ∷ t) ≡ ss → size (subtags (b ∷ t)) ≡ length t + 2
     by_list [] is = let none = ap length (sym (join-subtags (b ∷ t)) ∙ ap join is) in absurd (omega (arith, none))
-    by_list (s ∷ ss) is =
-        let whole = ap length (sym (join-subtags (b ∷ t)) ∙ ap join is) in
-        let joined = length-join s ss in
-        let rest = length-with_hyphens ss in
-        ap size is ∙ omega (arith, whole, joined, rest)
+    by_list (s ∷ ss) is = grind (arith, common_steps, join-subtags (b ∷ t), length-join s ss, length-with_hyphens ss)
 
 join-size : (v : List (List ℕ)) → bytes (join v) ≤ size v
 join-size [] = omega arith
-join-size (s ∷ ss) =
-    let joined = length-join s ss in
-    let rest = length-with_hyphens ss in
-    let most = bytes-most (join (s ∷ ss)) in
-    omega (arith, joined, rest, most)
+join-size (s ∷ ss) = grind (arith, common_steps, length-join s ss, length-with_hyphens ss, bytes-most (join (s ∷ ss)))
 
 -- ---- sums over letters
 
@@ -114,11 +91,7 @@ total-none f none (a ∷ xs) = let one = none a in let later = total-none f none
 
 pub flat-size : (f : ℕ → List (List ℕ)) (g more : ℕ → ℕ) → ((a : ℕ) → size (f a) ≤ g a + more a) → (xs : List ℕ) → size (flat_map f xs) ≤ total g xs + total more xs
 flat-size f g more le [] = omega arith
-flat-size f g more le (a ∷ xs) =
-    let one = le a in
-    let later = flat-size f g more le xs in
-    let both = size-append (f a) (flat_map f xs) in
-    omega (arith, one, later, both)
+flat-size f g more le (a ∷ xs) = grind (arith, common_steps, flat-size f g more le xs, both, size-append (f a) (flat_map f xs))
 
 -- no two letters are equal, in any case
 abbrev pub are_apart : List ℕ → Bool
@@ -133,11 +106,7 @@ letters_apart = refl
 module _ (n extra : ℕ) (f g : ℕ → ℕ) (apart : (a : ℕ) → (fold_byte a == n) ≡ false → f a ≤ g a) (any : (a : ℕ) → f a ≤ extra + g a) where
   never : (xs : List ℕ) → list_all (λ b. not (fold_byte b == n)) xs ≡ true → total f xs ≤ total g xs
   never [] all = omega arith
-  never (a ∷ xs) all =
-      let parts = and_parts (not (fold_byte a == n)) (list_all (λ b. not (fold_byte b == n)) xs) all in
-      let one = apart a (not-true _ parts.0) in
-      let later = never xs parts.1 in
-      omega (arith, one, later)
+  never (a ∷ xs) all = grind (arith, common_steps, and_parts (not (fold_byte a == n)), not-true, never xs)
 
   pub once : (xs : List ℕ) → are_apart xs ≡ true → total f xs ≤ extra + total g xs
   once [] all = omega arith
@@ -171,18 +140,10 @@ module _ (opens : List ℕ → Bool) (two : (s : List ℕ) → opens s ≡ true 
   weight-first s ss key b is = ap (λ t. option_map_or (λ v. 3 + size v) (cond (t && are_alike s key) (Some (before_key opens ss)) (value_of opens key ss)) 0) is
 
   weight-apart : (s : List ℕ) (ss : List (List ℕ)) (key : List ℕ) → opens s ≡ true → (Alike s key → ⊥) → weight opens (s ∷ ss) key ≤ weight opens ss key
-  weight-apart s ss key is other =
-      let apart = false_from_ne_true (are_alike s key) (λ alike. other ((are_alike-decides s key).0 alike)) in
-      let same = weight-first s ss key true is ∙ ap (λ t. option_map_or (λ v. 3 + size v) (cond t (Some (before_key opens ss)) (value_of opens key ss)) 0) apart in
-      omega (arith, same)
+  weight-apart s ss key is other = search (rules, false_from_ne_true, weight-first)
 
   weight-any : (s : List ℕ) (ss : List (List ℕ)) (key : List ℕ) → opens s ≡ true → weight opens (s ∷ ss) key ≤ 3 + size (before_key opens ss) + weight opens ss key
-  weight-any s ss key is = let more = by_test (are_alike s key) in omega (arith, more, weight-first s ss key true is)
-    where
-      by_test :
-          (t : Bool) → option_map_or (λ v. 3 + size v) (cond t (Some (before_key opens ss)) (value_of opens key ss)) 0 ≤ 3 + size (before_key opens ss) + weight opens ss key
-      by_test true = omega arith
-      by_test false = omega arith
+  weight-any s ss key is = grind (arith, common_steps, weight-first s ss key)
 
   -- one more key weighs at most what it and its value have
   key-weights :
@@ -207,15 +168,8 @@ module _ (opens : List ℕ → Bool) (two : (s : List ℕ) → opens s ≡ true 
           (t : Bool) → opens s ≡ t → total (weights opens letters ss) letters ≤ size (from_key opens ss) →
           total (weights opens letters (s ∷ ss)) letters ≤ size (cond t (s ∷ ss) (from_key opens ss))
       by_test true is later =
-          let more = key-weights s ss is in
-          let parts = size-append (before_key opens ss) (from_key opens ss) in
-          let whole = ap size (before-from opens ss) in
-          let len = two s is in
-          omega (arith, more, parts, whole, len, later)
-      by_test false is later =
-          let same = total-le (weights opens letters (s ∷ ss)) (weights opens letters ss)
-          (λ a. total-le _ _ (λ b. let one = weight-first s ss (a ∷ b ∷ []) false is in omega (arith, one)) letters) letters in
-          omega (arith, same, later)
+          grind (arith, common_steps, key-weights s ss is, size-append (before_key opens ss) (from_key opens ss), from_key opens ss, before-from opens ss)
+      by_test false is later = grind (arith, common_steps, total-le, weight-first s ss)
 
 grown : (n old most sum more : ℕ) → n ≤ old + sum → old ≤ most → sum ≡ more → n ≤ most + more
 grown n old most sum more one two is = omega (arith, one, two, is)
@@ -223,19 +177,7 @@ grown n old most sum more one two is = omega (arith, one, two, is)
 -- a keyword grows by what its value may grow
 module _ (opens : List ℕ → Bool) (canonical : List ℕ → List ℕ → List ℕ) (growth : List ℕ → ℕ) (grows : (key value : List ℕ) → bytes (canonical key value) ≤ bytes value + growth key) where
   keyword-size : (ss : List (List ℕ)) (a b : ℕ) → size (form.keyword_form opens canonical ss (a ∷ b ∷ [])) ≤ weight opens ss (a ∷ b ∷ []) + growth (a ∷ b ∷ [])
-  keyword-size ss a b = by_value (value_of opens (a ∷ b ∷ []) ss)
-    where
-      by_value :
-          (o : Option (List (List ℕ))) →
-          size (option_map_or (λ v. (a ∷ b ∷ []) ∷ map fold_text (subtags (canonical (a ∷ b ∷ []) (join v)))) o []) ≤ option_map_or (λ v. 3 + size v) o 0 + growth (a ∷ b ∷ [])
-      by_value None = omega arith
-      by_value (Some v) =
-          let text = canonical (a ∷ b ∷ []) (join v) in
-          let same = map-size (subtags text) in
-          let new = subtags-size text in
-          let old = join-size v in
-          let more = grows (a ∷ b ∷ []) (join v) in
-          omega (arith, same, new, old, more)
+  keyword-size ss a b = grind (arith, common_steps, map-size, subtags-size, join-size)
 
   -- `more` is what all keys together may grow
   pub keywords-size :
@@ -260,16 +202,7 @@ transform_growth key = cond (bytes_eq key (codes "d0")) 4 (cond (bytes_eq key (c
 pub alias-grows :
     (rows : List Alias) (growth : List ℕ → ℕ) (text : List ℕ) → list_all {X = Alias} (λ row. leb (bytes row.new) (bytes row.old + growth (fold_text row.old))) rows ≡ true →
     bytes (unwrap_or (alias_for rows text) text) ≤ bytes text + growth (fold_text text)
-alias-grows rows growth text all = by_found (find (λ (row : Alias). are_alike row.old text) rows) refl
-  where
-    by_found : (o : Option Alias) → find (λ (row : Alias). are_alike row.old text) rows ≡ o → bytes (unwrap_or (option_map (λ row. row.new) o) text) ≤ bytes text + growth (fold_text text)
-    by_found None none = omega arith
-    by_found (Some row) found =
-        let most = leb-true _ _ (found_has (λ (row : Alias). leb (bytes row.new) (bytes row.old + growth (fold_text row.old))) (λ (row : Alias). are_alike row.old text) rows row all found) in
-        let is = found_is (λ (row : Alias). are_alike row.old text) rows row found in
-        let same = bytes-alike row.old text is in
-        let one = ap growth ((are_alike-decides row.old text).0 is) in
-        omega (arith, most, same, one)
+alias-grows rows growth text all = search (rules, leb-true, found_has, found_is, bytes-alike)
 
 -- `final` changes what replaces a text
 type-grows :
@@ -282,13 +215,7 @@ type-grows final short rows growth key text all = by_found (find (λ (row : Type
         (o : Option TypeAlias) → find (λ (row : TypeAlias). are_alike row.key key && are_alike row.old text) rows ≡ o →
         bytes (final (unwrap_or (option_map (λ row. row.new) o) text)) ≤ bytes text + growth (fold_text key)
     by_found None none = let less = short text in omega (arith, less)
-    by_found (Some row) found =
-        let most = leb-true _ _
-        (found_has (λ (row : TypeAlias). leb (bytes (final row.new)) (bytes row.old + growth (fold_text row.key))) (λ (row : TypeAlias). are_alike row.key key && are_alike row.old text) rows row all found) in
-        let is = both (are_alike row.key key) (are_alike row.old text) (found_is (λ (row : TypeAlias). are_alike row.key key && are_alike row.old text) rows row found) in
-        let same = bytes-alike row.old text is.1 in
-        let one = ap growth ((are_alike-decides row.key key).0 is.0) in
-        omega (arith, most, same, one)
+    by_found (Some row) found = search (rules, leb-true, found_has, both, found_is, bytes-alike)
 
 subdivision-grows : (value : List ℕ) → bytes (form.subdivision value) ≤ bytes value + 2
 unfolding form.subdivision subdivision_aliases
@@ -299,11 +226,7 @@ unfolding transform_value transform_type_aliases fold_byte
 transform-grows key value = type-grows (λ t. t) (λ t. omega arith) transform_type_aliases transform_growth key value refl
 
 without_true-short : (t : List ℕ) → bytes (form.without_true t) ≤ bytes t
-without_true-short t = by_true (are_alike t (codes "true"))
-  where
-    by_true : (b : Bool) → bytes (cond b [] t) ≤ bytes t
-    by_true true = omega arith
-    by_true false = omega arith
+without_true-short t = grind (arith, common_steps)
 
 unicode_type-grows : (key value : List ℕ) → bytes (form.without_true (form.unicode_type key value)) ≤ bytes value + unicode_growth (fold_text key)
 unfolding form.unicode_type unicode_type_aliases fold_byte
@@ -311,15 +234,7 @@ unicode_type-grows key value = type-grows form.without_true without_true-short u
 
 unicode-grows : (key value : List ℕ) → bytes (unicode_value key value) ≤ bytes value + unicode_growth (fold_text key)
 unfolding fold_byte
-unicode-grows key value = by_test (form.has_subdivision key) refl
-  where
-    by_test : (b : Bool) → form.has_subdivision key ≡ b → bytes (form.without_true (cond b (form.subdivision value) (form.unicode_type key value))) ≤ bytes value + unicode_growth (fold_text key)
-    by_test true is =
-        let short = without_true-short (form.subdivision value) in
-        let most = subdivision-grows value in
-        let two = ap {B = ℕ} (λ b. cond b 2 (cond (bytes_eq (fold_text key) (codes "ca")) 5 (cond (bytes_eq (fold_text key) (codes "tz")) 4 0))) is in
-        omega (arith, short, most, two)
-    by_test false is = unicode_type-grows key value
+unicode-grows key value = grind (arith, common_steps, without_true-short (form.subdivision value), subdivision-grows value, unicode_type-grows key value)
 
 unicode_growths : total (λ a. total (λ b. unicode_growth (fold_text (a ∷ b ∷ []))) letters_and_digits) letters_and_digits ≡ 13
 unfolding fold_byte
@@ -335,10 +250,7 @@ pub key-two : (s : List ℕ) → is_key s ≡ true → length s ≡ 2
 key-two s is = eqb-true _ _ is
 
 pub field-two : (s : List ℕ) → is_field_key s ≡ true → length s ≡ 2
-field-two [] is = absurd (false≢true is)
-field-two (x ∷ []) is = absurd (false≢true is)
-field-two (x ∷ y ∷ []) is = refl
-field-two (x ∷ y ∷ z ∷ s) is = absurd (false≢true is)
+field-two s is = grind (arith, common_steps, false≢true)
 
 pub unicode-size : (ss : List (List ℕ)) → size (unicode_form ss) ≤ 13 + size ss
 unicode-size ss =
@@ -361,27 +273,10 @@ fields-size language more ss grows =
     omega (arith, both, grows, fields, parts, whole)
 
 pub one-size : (test : List ℕ → Bool) (ss : List (List ℕ)) → size (form.one_of test ss) + size (form.after_one test ss) ≡ size ss
-one-size test [] = refl
-one-size test (s ∷ ss) = by_test (test s)
-  where
-    by_test : (b : Bool) → size (cond b (s ∷ []) []) + size (cond b ss (s ∷ ss)) ≡ size (s ∷ ss)
-    by_test true = omega arith
-    by_test false = omega arith
+one-size test ss = grind (arith, common_steps)
 
 language-size : (ss : List (List ℕ)) → size (form.language_form ss) ≤ size ss
-language-size [] = omega arith
-language-size (s ∷ ss) =
-    let after = form.after_one is_script ss in
-    let variants = form.after_one is_region after in
-    let a = size-append (map fold_text (form.one_of is_script ss)) (map fold_text (form.one_of is_region after) ++ in_alphabet variants) in
-    let b = size-append (map fold_text (form.one_of is_region after)) (in_alphabet variants) in
-    let c = map-size (form.one_of is_script ss) in
-    let d = map-size (form.one_of is_region after) in
-    let e = alphabet-size variants in
-    let f = one-size is_script ss in
-    let g = one-size is_region after in
-    let h = length-fold s in
-    omega (arith, a, b, c, d, e, f, g, h)
+language-size ss = grind (arith, common_steps, size-append, map-size, alphabet-size, one-size is_script ss, one-size is_region, length-fold)
 
 extension-size : (u t : Bool) (e : Extension) → size (extension_flat (extension_form u t e)) ≤ cond (is_of 117 e && not u) 13 0 + cond (is_of 116 e && not t) 7 0 + size (extension_flat e)
 extension-size u t e =
@@ -392,18 +287,13 @@ extension-size u t e =
     by_tests : (a b c : Bool) → size (extension_flat (form_by a (b && c) e)) ≤ cond a 13 0 + cond b 7 0 + size (extension_flat e)
     by_tests true b c = let short = unicode-size e.subtags in omega (arith, short)
     by_tests false true true =
-        let language = language-size (before_key is_field_key e.subtags) in
-        let short = fields-size (language_form (before_key is_field_key e.subtags)) 0 e.subtags (omega (arith, language)) in
-        omega (arith, short)
+        search (rules, arith, language-size (before_key is_field_key e.subtags), fields-size (language_form (before_key is_field_key e.subtags)) 0 e.subtags)
     by_tests false true false = omega arith
     by_tests false false c = omega arith
 
 -- only the first extension with a singleton grows
 first_only : (n : ℕ) (this seen : Bool) → cond (this && not seen) n 0 + cond (seen || this) 0 n ≡ cond seen 0 n
-first_only n true true = omega arith
-first_only n true false = omega arith
-first_only n false true = omega arith
-first_only n false false = omega arith
+first_only n this seen = grind (arith, common_steps)
 
 forms-size : (u t : Bool) (es : List Extension) → size (flat_map extension_flat (forms_after u t es)) ≤ cond u 0 13 + cond t 0 7 + size (flat_map extension_flat es)
 forms-size u t [] = omega arith
@@ -420,23 +310,12 @@ forms-size u t (e ∷ es) =
 
 -- a tag with other extensions is longer by what these have more
 pub extensions-length : (r : Record) (es : List Extension) → length (spell (record r { extensions = es })) + size (flat_map extension_flat r.extensions) ≡ length (spell r) + size (flat_map extension_flat es)
-extensions-length r es =
-    let old_all = length-spell r in
-    let new_all = length-spell (record r { extensions = es }) in
-    let old = length-with_hyphens (flat_map extension_flat r.extensions) in
-    let new = length-with_hyphens (flat_map extension_flat es) in
-    omega (arith, old_all, new_all, old, new)
+extensions-length r es = search (rules, length-spell, length-with_hyphens)
 
 pub form_length : (r : Record) → length (spell (extensions_record r)) ≤ length (spell r) + 20
 unfolding extensions_record
-form_length r =
-    let whole = extensions-length r (forms_after false false r.extensions) in
-    let extensions = forms-size false false r.extensions in
-    omega (arith, whole, extensions)
+form_length r = grind (arith, common_steps, extensions-length r (forms_after false false r.extensions), forms-size false false r.extensions)
 
 pub form_bounded : (old new : List ℕ) → IsExtensionsForm old new → length new ≤ length old + 20
 unfolding IsNormal
-form_bounded old new is = elim (normal_or_not old) [
-  | inl here ↦ let long = form_length here.0 in omega (arith, long, ap length (is.parts here.0 here.1), ap length here.1.1)
-  | inr other ↦ omega (arith, ap length (is.kept other))
-]
+form_bounded old new is = grind (arith, common_steps, normal_or_not old, form_length)

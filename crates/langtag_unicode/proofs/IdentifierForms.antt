@@ -1,5 +1,6 @@
 -- The form of a language identifier has a language, and maybe a script and a region.
-use Rattle.std.proofs.Common.{◌≡◌, ℕ, Bool, true, false, cond, List, [], ◌∷◌, ◌++◌, ◌&&◌, ◌==◌, not, length, map, fold, Option, Some, None, option_map, unwrap_or, refl, sym, ap, ◌∙◌, append_assoc}
+use Rattle.std.proofs.Common.{◌≡◌, ℕ, Bool, true, false, cond, List, [], ◌∷◌, ◌++◌, ◌&&◌, ◌==◌, not, length, map, fold, Option, Some, None, option_map, unwrap_or, refl, sym, ap, ◌∙◌, append_assoc, arith}
+use Rattle.std.proofs.lemmas.Grind.{common_steps}
 use Rattle.std.proofs.lemmas.List.{length-map}
 use Rattle.std.specs.List.{flat_map, list_all}
 use Rattle.std.specs.Option.{is_none, option_map_or}
@@ -69,16 +70,15 @@ likely_regions_good = refl
 
 -- ---- what is found has what all have
 
+-- the row that is found
+pub row_found :
+    (good : Likely → Bool) (rows : List Likely) (key to : Fields) → list_all good rows ≡ true → likely_for rows key ≡ Some to →
+    (row : Likely) × (good row ≡ true) × (are_alike_fields row.from key ≡ true) × (row.to ≡ to)
+row_found good [] key to all found = absurd cc
+row_found good (row ∷ rows) key to all found = grind (arith, common_steps, both (good row) (list_all good rows) all, row_found good rows key to)
+
 pub row_good : (good : Fields → Bool) (rows : List Likely) (key to : Fields) → list_all (λ row. good row.to) rows ≡ true → likely_for rows key ≡ Some to → good to ≡ true
-row_good good [] key to all found = absurd cc
-row_good good (row ∷ rows) key to all found =
-    let parts = both (good row.to) (list_all (λ row. good row.to) rows) all in
-    by_test (are_alike_fields row.from key) parts.0 (row_good good rows key to parts.1) found
-  where
-    by_test :
-        (b : Bool) → good row.to ≡ true → (likely_for rows key ≡ Some to → good to ≡ true) → cond b (Some row.to) (likely_for rows key) ≡ Some to → good to ≡ true
-    by_test true first later is = let same : row.to ≡ to = cc in ap good (sym same) ∙ first
-    by_test false first later is = later is
+row_good good rows key to all found = let (row, is, alike, same) = row_found (λ row. good row.to) rows key to all found in ap good (sym same) ∙ is
 
 -- the first of two values, if both have a region or none
 first_good :

@@ -2,13 +2,14 @@
 -- `sr-Latn`, and one is that of the variant `heploc`, which becomes `alalc97`.
 use Rattle.std.proofs.Common.{◌≡◌, ℕ, suc, ◌+◌, ◌-◌, ◌≤◌, leb, Bool, true, false, not, cond, ◌&&◌, ◌||◌, List, [], ◌∷◌, ◌++◌, fold, length, Option, Some, None, option_map, unwrap_or, refl, sym, ap, ◌∙◌, arith}
 use Rattle.std.proofs.lemmas.Bool.{false≢true, leb-true, not-true, or_right}
+use Rattle.std.proofs.lemmas.Grind.{common_steps}
 use Rattle.std.proofs.lemmas.List.Folds.{Any-from_list_any}
 use Rattle.std.specs.Prelude.{IsTrue, codes, find}
 use Rattle.std.specs.List.{AllPairs, list_all, list_any}
 use Rattle.std.specs.Option.{is_some, option_map_or}
 use Rattle.std.specs.Str.{bytes_eq}
 use Rattle.langtag_likely.specs.Aliases.{language_aliases, region_replacements}
-use Rattle.langtag_likely.specs.Likely.{Fields, Likely, are_alike_fields, language_alone, likely_for, or_else, or_other}
+use Rattle.langtag_likely.specs.Likely.{Fields, Likely, language_alone, likely_for, or_else, or_other}
 use Rattle.langtag_likely.specs.Matching.{language_replaced, region_alone, with_language_from}
 use Rattle.langtag_likely.specs.Maximal.{subtag_of}
 use Rattle.langtag_scan.proofs.SubtagLists.{each_from_test}
@@ -25,7 +26,7 @@ use Rattle.langtag_unicode.specs.LocaleForm as form
 use Rattle.langtag_unicode.specs.LocaleForm.{has_variant, identifier_flat, identifier_form, is_pair_of, language_after, new_variants, variant_form}
 use Rattle.langtag_unicode.proofs.FormSizes.{alias-grows, alphabet-size, bytes, bytes-alike, bytes-most, size, size-append}
 use Rattle.langtag_unicode.proofs.IdentifierCase.{region_by}
-use Rattle.langtag_unicode.proofs.IdentifierForms.{AreSubtags, form_subtags, language_primary, sign_cases}
+use Rattle.langtag_unicode.proofs.IdentifierForms.{AreSubtags, form_subtags, language_primary, row_found, sign_cases}
 use Rattle.langtag_unicode.proofs.IdentifierLast.{among}
 use Rattle.langtag_unicode.proofs.LocaleTables.{both, found_good, found_has, found_is}
 use Rattle.langtag_unicode.proofs.VariantForms.{forms}
@@ -34,14 +35,18 @@ use Rattle.langtag_unicode.proofs.VariantForms.{forms}
 abbrev pub fields_bytes : Fields → ℕ
 fields_bytes f = bytes f.language + (bytes f.script + bytes f.region)
 
--- the bytes of a language when it has changed with a variant
+-- the bytes that a language has at most when it changes with a variant
 abbrev room : List ℕ → ℕ
 room language = cond (list_any (λ (alias : TypeAlias). are_alike alias.key language) list.variant_languages) (4 + (bytes language - 4)) (bytes language)
+
+-- the bytes that fields have at most when their language changes with a variant
+abbrev fields_room : Fields → ℕ
+fields_room f = room f.language + (bytes f.script + bytes f.region)
 
 -- ---- by computation
 
 abbrev grows_by_5 : Likely → Bool
-grows_by_5 row = leb (room row.to.language + (bytes row.to.script + bytes row.to.region)) (bytes row.from.language + 5)
+grows_by_5 row = leb (fields_room row.to) (bytes row.from.language + 5)
 
 languages_grow : list_all grows_by_5 language_aliases ≡ true
 unfolding language_aliases list.variant_languages fold_byte
@@ -75,46 +80,22 @@ pairs_short = refl
 
 -- ---- language, script and region
 
--- the row that is found
-row_found :
-    (good : Likely → Bool) (rows : List Likely) (key to : Fields) → list_all good rows ≡ true → likely_for rows key ≡ Some to →
-    (row : Likely) × (good row ≡ true) × (are_alike_fields row.from key ≡ true) × (row.to ≡ to)
-row_found good [] key to all found = absurd cc
-row_found good (row ∷ rows) key to all found =
-    let parts = both (good row) (list_all good rows) all in
-    by_test (are_alike_fields row.from key) refl (row_found good rows key to parts.1) found
-  where
-    by_test :
-        (b : Bool) → are_alike_fields row.from key ≡ b →
-        (likely_for rows key ≡ Some to → (row : Likely) × (good row ≡ true) × (are_alike_fields row.from key ≡ true) × (row.to ≡ to)) →
-        cond b (Some row.to) (likely_for rows key) ≡ Some to → (row : Likely) × (good row ≡ true) × (are_alike_fields row.from key ≡ true) × (row.to ≡ to)
-    by_test true is later found = (row, (both (good row) (list_all good rows) all).0, is, cc)
-    by_test false is later found = later found
-
 other-size : (text other : List ℕ) → bytes (or_other text other) ≤ bytes text + bytes other
-other-size [] other = omega arith
-other-size (b ∷ text) other = omega arith
+other-size text other = grind (arith, common_steps)
 
 room-most : (language : List ℕ) → 3 ≤ bytes language → room language ≤ bytes language + 1
-room-most language some = by_test (list_any (λ (alias : TypeAlias). are_alike alias.key language) list.variant_languages)
-  where
-    by_test : (b : Bool) → cond b (4 + (bytes language - 4)) (bytes language) ≤ bytes language + 1
-    by_test true = omega (arith, some)
-    by_test false = omega arith
+room-most language some = grind (arith, common_steps, bytes language)
 
-replaced-size :
-    (f : Fields) → 3 ≤ bytes f.language → room (language_replaced f).language + (bytes (language_replaced f).script + bytes (language_replaced f).region) ≤ fields_bytes f + 5
+replaced-size : (f : Fields) → 3 ≤ bytes f.language → fields_room (language_replaced f) ≤ fields_bytes f + 5
 unfolding language_replaced
 replaced-size f some = by_found (likely_for language_aliases (language_alone f)) refl
   where
-    by_found :
-        (o : Option Fields) → likely_for language_aliases (language_alone f) ≡ o →
-        room (option_map_or (with_language_from f) o f).language + (bytes (option_map_or (with_language_from f) o f).script + bytes (option_map_or (with_language_from f) o f).region) ≤ fields_bytes f + 5
+    by_found : (o : Option Fields) → likely_for language_aliases (language_alone f) ≡ o → fields_room (option_map_or (with_language_from f) o f) ≤ fields_bytes f + 5
     by_found None none = let most = room-most f.language some in omega (arith, most)
     by_found (Some to) found =
         let (row, good, alike, same) = row_found grows_by_5 language_aliases (language_alone f) to languages_grow found in
         let most = leb-true _ _ good in
-        let moved = ap (λ (t : Fields). room t.language + (bytes t.script + bytes t.region)) same in
+        let moved = ap fields_room same in
         let old = bytes-alike row.from.language f.language (both (are_alike row.from.language f.language) _ alike).0 in
         let script = other-size f.script to.script in
         let region = other-size f.region to.region in
@@ -132,20 +113,16 @@ fold-size variants (a ∷ aliases) language n all le may =
     by_test :
         (b : Bool) → (are_alike a.key language && has_variant variants a.old) ≡ b → bytes a.new ≤ 4 → (4 ≤ n → bytes a.new ≤ n → bytes (fold (language_after variants) a.new aliases) ≤ n) →
         bytes (fold (language_after variants) language aliases) ≤ n → bytes (fold (language_after variants) (cond b a.new language) aliases) ≤ n
-    by_test true is short changed kept =
-        let four = may (ap (λ t. t || list_any (λ (alias : TypeAlias). are_alike alias.key language) aliases) (both (are_alike a.key language) (has_variant variants a.old) is).0) in
-        changed four (omega (arith, four, short))
-    by_test false is short changed kept = kept
+    by_test b is short changed kept = grind (arith, common_steps, both)
 
-variant_language-size : (variants : List (List ℕ)) (f : Fields) → fields_bytes (form.variant_language variants f) ≤ room f.language + (bytes f.script + bytes f.region)
+variant_language-size : (variants : List (List ℕ)) (f : Fields) → fields_bytes (form.variant_language variants f) ≤ fields_room f
 unfolding form.variant_language
 variant_language-size variants f =
     let language = fold-size variants list.variant_languages f.language (room f.language) variant_languages_short (least _) (λ any. let same = ap (λ b. cond b (4 + (bytes f.language - 4)) (bytes f.language)) any in omega (arith, same)) in
     omega (arith, language)
   where
     least : (b : Bool) → bytes f.language ≤ cond b (4 + (bytes f.language - 4)) (bytes f.language)
-    least true = omega arith
-    least false = omega arith
+    least b = grind (arith, common_steps)
 
 sign-size : (f : Fields) → fields_bytes (form.sign_language f) ≤ fields_bytes f
 unfolding fold_byte
@@ -161,14 +138,7 @@ sign-size f = sign_cases (λ x. fields_bytes x ≤ fields_bytes f) f (λ none. o
 -- `aaland` brings a region, and is left out itself
 variant_region-size : (variants : List (List ℕ)) (f : Fields) → fields_bytes (form.variant_region variants f) ≤ fields_bytes f + cond (has_variant variants (codes "aaland")) 7 0
 unfolding form.variant_region list.variant_regions
-variant_region-size variants f =
-    let region = other-size f.region (form.region_of variants list.variant_regions) in
-    let brought = by_test (has_variant variants (codes "aaland")) in
-    omega (arith, region, brought)
-  where
-    by_test : (b : Bool) → bytes (option_map_or (λ (alias : Alias). alias.new) (cond b (Some (record { old = codes "aaland"; new = codes "ax" })) None) []) ≤ cond b 7 0
-    by_test true = omega arith
-    by_test false = omega arith
+variant_region-size variants f = grind (arith, common_steps, other-size f.region (form.region_of variants list.variant_regions), bytes)
 
 heir-size : (likely : List ℕ) (regions : List (List ℕ)) (n : ℕ) → list_all (λ region. leb (bytes region) n) regions ≡ true → bytes (form.heir likely regions) ≤ n
 heir-size likely [] n all = omega arith
@@ -194,12 +164,7 @@ region-size f = by_row (likely_for region_replacements (region_alone f)) refl
 
     by_row : (o : Option Fields) → likely_for region_replacements (region_alone f) ≡ o → bytes (region_by f o (alias_for list.region_heirs f.region)) ≤ bytes f.region
     by_row None none = by_heirs (find (λ (alias : Alias). are_alike alias.old f.region) list.region_heirs) refl
-    by_row (Some to) found =
-        let (row, good, alike, same) = row_found region_is_short region_replacements (region_alone f) to regions_short found in
-        let most = leb-true _ _ good in
-        let moved = ap (λ (t : Fields). bytes t.region) same in
-        let old = bytes-alike row.from.region f.region (both _ (are_alike row.from.region f.region) (both _ (are_alike row.from.script [] && are_alike row.from.region f.region) alike).1).1 in
-        omega (arith, most, moved, old)
+    by_row (Some to) found = grind (arith, common_steps, row_found, regions_short, leb-true, bytes, bytes-alike, both)
 
 region_replaced-size : (f : Fields) → fields_bytes (form.region_replaced f) ≤ fields_bytes f
 unfolding form.region_replaced
@@ -212,19 +177,7 @@ script-size f = let short = alias-grows list.script_aliases (λ t. 0) f.script r
 fields-size : (variants : List (List ℕ)) (f : Fields) → 3 ≤ bytes f.language → fields_bytes (identifier_form variants f) ≤ fields_bytes f + 5 + cond (has_variant variants (codes "aaland")) 7 0
 unfolding identifier_form
 fields-size variants f some =
-    let a = language_replaced f in
-    let b = form.variant_language variants a in
-    let c = form.sign_language b in
-    let d = form.variant_region variants c in
-    let e = form.region_replaced d in
-    let one = replaced-size f some in
-    let two = variant_language-size variants a in
-    let three = sign-size b in
-    let four = variant_region-size variants c in
-    let five = region_replaced-size d in
-    let six = sign-size e in
-    let seven = script-size (form.sign_language e) in
-    omega (arith, one, two, three, four, five, six, seven)
+    grind (arith, common_steps, replaced-size, variant_language-size, sign-size, variant_region-size, region_replaced-size, script-size)
 
 -- ---- the variants
 
@@ -281,16 +234,13 @@ variant-size language variants v =
     by_dropped false false is left = let kept = by_pair (find (is_pair_of variants v) list.variant_pairs) refl in omega (arith, kept)
 
 subtag-size : (s : List ℕ) → size (one_flat (subtag_of s)) ≡ bytes s
-subtag-size [] = refl
-subtag-size (b ∷ s) = omega arith
+subtag-size s = grind (arith, common_steps)
 
 either-most : (a b : Bool) → cond (a || b) 7 0 ≤ cond a 7 0 + cond b 7 0
-either-most true b = omega arith
-either-most false b = omega arith
+either-most a b = grind (arith, common_steps)
 
 either-once : (a b : Bool) → (a ≡ true → b ≡ false) → cond a 1 0 + cond b 1 0 ≤ cond (a || b) 1 0
-either-once true b once = let none = ap {B = ℕ} (λ t. cond t 1 0) (once refl) in omega (arith, none)
-either-once false b once = omega arith
+either-once a b once = grind (arith, common_steps)
 
 forms-size :
     (language : List ℕ) (variants vs : List (List ℕ)) → HasOneHeploc vs →
@@ -309,12 +259,10 @@ forms-size language variants (v ∷ vs) one =
 -- ---- the whole identifier
 
 bytes-some : (t : List ℕ) → 2 ≤ length t → bytes t ≡ length t + 1
-bytes-some [] some = absurd (omega (arith, some))
-bytes-some (b ∷ t) some = omega arith
+bytes-some t some = grind (arith, common_steps)
 
 once-most : (b : Bool) → cond b 1 0 ≤ 1
-once-most true = omega arith
-once-most false = omega arith
+once-most b = grind (arith, common_steps)
 
 pub identifier-size :
     (f : Fields) (vs : List (List ℕ)) → AreSubtags f → HasOneHeploc vs → size (identifier_flat (identifier_form vs f) (new_variants vs f)) ≤ fields_bytes f + size vs + 6

@@ -1,6 +1,7 @@
 -- How long a tag may become when a keyword is set or removed.
-use Rattle.std.proofs.Common.{◌≡◌, ℕ, ◌+◌, ◌≤◌, Bool, true, false, cond, List, [], ◌∷◌, ◌++◌, length, find, None, Some, unwrap_or, inl, inr, refl, ap, arith}
+use Rattle.std.proofs.Common.{◌≡◌, ℕ, ◌+◌, ◌≤◌, Bool, true, false, cond, List, [], ◌∷◌, ◌++◌, length, find, None, Some, unwrap_or, refl, arith}
 use Rattle.std.proofs.lemmas.Bool.{and_parts}
+use Rattle.std.proofs.lemmas.Grind.{common_steps}
 use Rattle.std.specs.List.{flat_map}
 use Rattle.std.specs.Option.{is_some}
 use Rattle.langtag_extension.specs.Spelling.{find_extension}
@@ -26,8 +27,7 @@ without-size key inside (s ∷ ss) = by_test (belongs key inside s) (without-siz
     by_test :
         (b : Bool) → size (without_within key true ss) ≤ size ss → size (without_within key false ss) ≤ size ss →
         size (cond b (without_within key true ss) (s ∷ without_within key false ss)) ≤ size (s ∷ ss)
-    by_test true gone kept = omega (arith, gone)
-    by_test false gone kept = omega (arith, kept)
+    by_test b gone kept = grind (arith, common_steps)
 
 put-size : (key : List ℕ) (stands : Bool) (keyword ss : List (List ℕ)) → size (put_keyword key stands keyword ss) ≤ size keyword + size ss
 put-size key stands keyword [] = omega arith
@@ -39,31 +39,20 @@ put-size key stands keyword (s ∷ ss) =
     by_test :
         (b : Bool) → size (keyword ++ without_keyword key (s ∷ ss)) ≤ size keyword + size (s ∷ ss) → size (put_keyword key stands keyword ss) ≤ size keyword + size ss →
         size (cond b (keyword ++ without_keyword key (s ∷ ss)) (s ∷ put_keyword key stands keyword ss)) ≤ size keyword + size (s ∷ ss)
-    by_test true here later = here
-    by_test false here later = omega (arith, later)
+    by_test b here later = grind (arith, common_steps)
 
 -- a key that stands there is as long as the key
 standing-size : (key : List ℕ) (ss : List (List ℕ)) → length (unwrap_or (find (is_this_key key) ss) key) ≡ length key
 standing-size key [] = refl
-standing-size key (s ∷ ss) = by_test (is_this_key key s) refl (standing-size key ss)
-  where
-    by_test :
-        (b : Bool) → is_this_key key s ≡ b → length (unwrap_or (find (is_this_key key) ss) key) ≡ length key →
-        length (unwrap_or (cond b (Some s) (find (is_this_key key) ss)) key) ≡ length key
-    by_test true is later = alike_length s key (and_parts (is_key s) (are_alike s key) is).1
-    by_test false is later = later
+standing-size key (s ∷ ss) = grind (arith, common_steps, standing-size key ss, alike_length s key, and_parts (is_key s) (are_alike s key))
 
 with-size : (key : List ℕ) (value ss : List (List ℕ)) → size (with_keyword key value ss) ≤ (length key + 1 + size value) + size ss
-with-size key value ss =
-    let all = put-size key (is_some (find (is_this_key key) ss)) (unwrap_or (find (is_this_key key) ss) key ∷ value) ss in
-    let same = standing-size key ss in
-    omega (arith, all, same)
+with-size key value ss = grind (arith, common_steps, put-size, standing-size)
 
 -- ---- extensions
 
 extension-size : (singleton : ℕ) (ss : List (List ℕ)) → size (flat_map extension_flat (extension_of singleton ss)) ≤ 2 + size ss
-extension-size singleton [] = omega arith
-extension-size singleton (s ∷ ss) = let all = size-append ((singleton ∷ []) ∷ s ∷ ss) [] in omega (arith, all)
+extension-size singleton ss = grind (arith, common_steps, size-append)
 
 -- subtags that are more by some bytes, and a new `u` of some bytes
 module _
@@ -71,14 +60,7 @@ module _
     (new : size (flat_map extension_flat (extension_of 117 (change []))) ≤ fresh) (most : extra ≤ fresh)
   where
     place-size : (stands : Bool) (e : Extension) → size (flat_map extension_flat (at_place change stands e)) ≤ fresh + size (extension_flat e)
-    place-size true e =
-        let whole = extension-size e.singleton (change e.subtags) in
-        let more = grows e.subtags in
-        omega (arith, whole, more, most)
-    place-size false e =
-        let same = ap size (flat-last (extension_of 117 (change [])) e) in
-        let both = size-append (flat_map extension_flat (extension_of 117 (change []))) (extension_flat e) in
-        omega (arith, same, both, new)
+    place-size stands e = grind (arith, common_steps, extension-size, size, flat-last, size-append)
 
     changed-size : (stands : Bool) (es : List Extension) → size (flat_map extension_flat (changed_from change stands es)) ≤ fresh + size (flat_map extension_flat es)
     changed-size stands [] = omega (arith, new)
@@ -87,17 +69,7 @@ module _
         by_test :
             (b : Bool) → is_place_of_u stands e ≡ b → size (flat_map extension_flat (changed_from change stands es)) ≤ fresh + size (flat_map extension_flat es) →
             size (flat_map extension_flat (changed_from change stands (e ∷ es))) ≤ fresh + size (flat_map extension_flat (e ∷ es))
-        by_test true is later =
-            let same = ap size (u-here change stands e es is) in
-            let both = size-append (flat_map extension_flat (at_place change stands e)) (flat_map extension_flat es) in
-            let old = size-append (extension_flat e) (flat_map extension_flat es) in
-            let here = place-size stands e in
-            omega (arith, same, both, old, here)
-        by_test false is later =
-            let same = ap size (u-later change stands e es is) in
-            let both = size-append (extension_flat e) (flat_map extension_flat (changed_from change stands es)) in
-            let old = size-append (extension_flat e) (flat_map extension_flat es) in
-            omega (arith, same, both, old, later)
+        by_test b is later = grind (arith, common_steps, size, u-here, size-append, u-later)
 
 -- ---- the whole tag
 
@@ -127,14 +99,8 @@ removed_length key r =
 
 pub set_bounded : (key value old new : List ℕ) → IsForm (edited_record key (Some (subtags value))) old new → length new ≤ length old + length key + length value + 4
 unfolding IsNormal
-set_bounded key value old new is = elim (normal_or_not old) [
-  | inl here ↦ let long = set_length key value here.0 in omega (arith, long, ap length (is.parts here.0 here.1), ap length here.1.1)
-  | inr other ↦ omega (arith, ap length (is.kept other))
-]
+set_bounded key value old new is = grind (arith, common_steps, normal_or_not old, set_length key value)
 
 pub removed_bounded : (key old new : List ℕ) → IsForm (edited_record key None) old new → length new ≤ length old
 unfolding IsNormal
-removed_bounded key old new is = elim (normal_or_not old) [
-  | inl here ↦ let long = removed_length key here.0 in omega (arith, long, ap length (is.parts here.0 here.1), ap length here.1.1)
-  | inr other ↦ omega (arith, ap length (is.kept other))
-]
+removed_bounded key old new is = grind (arith, common_steps, normal_or_not old, removed_length key)

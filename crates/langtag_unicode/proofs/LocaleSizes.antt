@@ -1,23 +1,22 @@
 -- How long the form of a Unicode locale identifier may be: at most 32 bytes longer than the tag. Its language identifier
 -- may grow by 6 bytes, `u` by 13, and `t` by 13.
-use Rattle.std.proofs.Common.{◌≡◌, ℕ, ◌+◌, ◌<◌, ◌≤◌, ◌^◌, Bool, true, false, cond, ◌&&◌, ◌==◌, List, [], ◌∷◌, ◌++◌, length, Option, Some, None, map, unwrap_or, refl, sym, ap, ◌∙◌, arith, eqb-true}
+use Rattle.std.proofs.Common.{◌≡◌, ℕ, ◌+◌, ◌<◌, ◌≤◌, ◌^◌, Bool, true, false, cond, ◌==◌, List, [], ◌∷◌, ◌++◌, length, Option, Some, None, unwrap_or, refl, sym, ap, ◌∙◌, arith, eqb-true}
 use Rattle.std.proofs.lemmas.Bool.{eq-eqb, false_from_ne_true, false≢true}
+use Rattle.std.proofs.lemmas.Grind.{common_steps}
 use Rattle.std.specs.List.{flat_map, list_all}
-use Rattle.std.specs.Option.{is_none, option_map_or}
+use Rattle.std.specs.Option.{option_map_or}
 use Rattle.langtag.proofs.RepeatLaws.{repeat-first}
-use Rattle.langtag.specs.Repeat.{IsFirstRepeat, are_alike_bytes, repeat}
 use Rattle.langtag_extension.specs.Spelling.{find_extension}
 use Rattle.langtag_likely.specs.Likely.{Fields}
 use Rattle.langtag_likely.specs.Maximal.{subtag_of}
 use Rattle.langtag_scan.proofs.NormalTexts.{spelled_once}
 use Rattle.langtag_scan.proofs.PartOffsets.{length-spell}
 use Rattle.langtag_scan.specs.Case.{are_alike, fold_byte}
-use Rattle.langtag_scan.specs.Class.{is_region, is_script}
 use Rattle.langtag_scan.specs.Record.{Extension, IsWellFormed, Record, Spells, extension_flat, one_flat, spell}
-use Rattle.langtag_unicode.specs.Form.{after_one, are_different_variants, are_fields, is_language_or_none, is_of, is_unicode_language, one_of}
+use Rattle.langtag_unicode.specs.Form.{are_fields, is_language_or_none, is_of}
 use Rattle.langtag_unicode.specs.Keywords.{before_key}
 use Rattle.langtag_unicode.specs.Locale.{IsLocale, is_locale_extension, is_locale_record}
-use Rattle.langtag_unicode.specs.LocaleForm.{extension_at, extensions_in_order, identifier_fields, first_subtag, identifier_form, identifier_variants, locale_extension_form, locale_record, locale_text, new_variants, record_fields, singletons, transform_language_form}
+use Rattle.langtag_unicode.specs.LocaleForm.{extension_at, extensions_in_order, first_subtag, identifier_form, locale_extension_form, locale_record, locale_text, new_variants, record_fields, singletons, transform_language_form}
 use Rattle.langtag_unicode.specs.Transform.{is_field_key}
 use Rattle.langtag_unicode.proofs.FormSizes.{are_apart, bytes, bytes-most, fields-size, flat-size, once, one-size, size, size-append, total, total-none, unicode-size}
 use Rattle.langtag_unicode.proofs.IdentifierForms.{record_subtags, same_length}
@@ -30,21 +29,10 @@ use Rattle.langtag_unicode.proofs.SubtagTexts.{length-with_hyphens}
 -- ---- the extension `t`
 
 first-size : (ss : List (List ℕ)) → bytes (first_subtag ss) ≤ size ss
-first-size [] = omega arith
-first-size (s ∷ ss) = let most = bytes-most s in omega (arith, most)
+first-size ss = grind (arith, common_steps, bytes-most)
 
 transform_language-size : (ss : List (List ℕ)) → is_language_or_none ss ≡ true → size (transform_language_form ss) ≤ 6 + size ss
-transform_language-size [] is = omega arith
-transform_language-size (s ∷ ss) is =
-    let vs = identifier_variants ss in
-    let parts = both (is_unicode_language s) (are_different_variants vs) is in
-    let all = identifier-size (identifier_fields s ss) vs (fields_good s ss parts.0) (one-different vs parts.1) in
-    let language = bytes-most s in
-    let script = first-size (one_of is_script ss) in
-    let region = first-size (one_of is_region (after_one is_script ss)) in
-    let a = one-size is_script ss in
-    let b = one-size is_region (after_one is_script ss) in
-    omega (arith, all, language, script, region, a, b)
+transform_language-size ss is = grind (arith, common_steps, both, identifier-size, fields_good, one-different, bytes-most, first-size, one-size)
 
 -- ---- extensions
 
@@ -95,11 +83,7 @@ all-weights (e ∷ es) =
     apart n other = let same = ap (λ t. option_map_or (λ e. size (extension_flat e)) (cond t (Some e) (find_extension n es)) 0) (apart_turned _ _ other) in omega (arith, same)
 
     any : (n : ℕ) → weight (e ∷ es) n ≤ size (extension_flat e) + weight es n
-    any n = by_test (fold_byte e.singleton == fold_byte n)
-      where
-        by_test : (t : Bool) → option_map_or (λ e. size (extension_flat e)) (cond t (Some e) (find_extension n es)) 0 ≤ size (extension_flat e) + weight es n
-        by_test true = omega arith
-        by_test false = omega arith
+    any n = grind (arith, common_steps, size)
 
 pub extensions-size : (es : List Extension) → list_all is_locale_extension es ≡ true → size (flat_map extension_flat (extensions_in_order es)) ≤ size (flat_map extension_flat es) + 26
 extensions-size es allowed =
@@ -121,21 +105,11 @@ extensions-size es allowed =
 -- ---- the whole tag
 
 part-size : (part : Option (List ℕ)) → bytes (unwrap_or part []) ≤ size (one_flat part)
-part-size None = omega arith
-part-size (Some s) = let most = bytes-most s in omega (arith, most)
+part-size part = grind (arith, common_steps, bytes-most)
 
 -- no variant is repeated
 variants_once : (r : Record) → is_locale_record r ≡ true → HasOneHeploc r.variants
-variants_once r locale =
-    let identifier = is_unicode_language r.primary && length r.extended == 0 in
-    let variants = is_none (repeat are_alike r.variants) in
-    let singletons = is_none (repeat are_alike_bytes (map (λ e. e.singleton) r.extensions)) in
-    by_repeat (repeat are_alike r.variants) (repeat-first are_alike r.variants)
-    (both identifier variants (both (identifier && variants) singletons (both (identifier && variants && singletons) (list_all is_locale_extension r.extensions) locale).0).0).1
-  where
-    by_repeat : (o : Option (List ℕ)) → IsFirstRepeat are_alike r.variants o → is_none o ≡ true → HasOneHeploc r.variants
-    by_repeat None first none = one-pairs r.variants first
-    by_repeat (Some v) first none = absurd (false≢true none)
+variants_once r locale = grind (arith, common_steps, repeat-first are_alike r.variants, both, one-pairs r.variants, false≢true)
 
 -- `more` is the bytes by which the extensions grow
 parts_length :

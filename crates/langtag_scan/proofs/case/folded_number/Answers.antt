@@ -1,6 +1,6 @@
-use Rattle.std.proofs.Common.{◌+◌, ◌*◌, take, arith, refl, sym, ap, ◌∙◌}
+use Rattle.std.proofs.Common.{◌+◌, ◌*◌, arith, refl}
 use Rattle.std.proofs.lemmas.List.Sums.{fold_more}
-use Rattle.langtag_scan.specs.Case.{fold_byte}
+use Rattle.std.proofs.lemmas.Grind.{common_steps}
 use Rattle.langtag_scan.specs.Case.{folded_number}
 use Rattle.langtag_scan.proofs.FoldedNumbers.{digit_fits, fits_64, folded_number-tells}
 use Rattle.langtag_scan.proofs.case.folded_number.Goals as goal
@@ -30,15 +30,7 @@ overflow_add-number c =
 pub loop-byte-preserved : goal.loop-byte-preserved
 unfolding folded_number
 loop-byte-preserved c =
-    let small = c.into_smallcase.type_inv in
-    let same = c.from.ensures in
-    record {
-      so_far =
-          ap (λ n. n * 256 + c.from.result) c.loop-byte.invariant.so_far
-          ∙ ap (λ byte. folded_number (take c.loop-byte.byte-index c.args.bytes.now) * 256 + byte) (same ∙ c.into_smallcase.ensures)
-          ∙ sym (fold_more (λ number byte. number * 256 + fold_byte byte) 0 c.args.bytes.now c.loop-byte.byte-index 0 c.loop-byte-test.true);
-      digits = digit_fits c.loop-byte.number c.loop-byte.byte-index c.from.result c.loop-byte.invariant.digits (omega (arith, small, same));
-    }
+    grind (arith, common_steps, fold_more, digit_fits c.loop-byte.number c.loop-byte.byte-index c.from.result c.loop-byte.invariant.digits)
 
 pub returns-clause-tells : goal.returns-clause-tells
 returns-clause-tells c = folded_number-tells

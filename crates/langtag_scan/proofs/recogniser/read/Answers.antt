@@ -1,14 +1,15 @@
-use Rattle.std.proofs.Common.{◌≡◌, ◌+◌, ◌<◌, [], ◌∷◌, ◌++◌, length, take, get_or, set, sym, ap, subst, ◌∙◌, arith}
+use Rattle.std.proofs.Common.{arith, ◌≡◌, ◌+◌, ◌<◌, [], ◌∷◌, ◌++◌, length, take, get_or, set, sym, ap, subst, ◌∙◌}
+use Rattle.std.proofs.lemmas.Grind.{common_steps}
+use Rattle.langtag_scan.specs.declared.finding.Finding.TheVariants as finding
+use Rattle.langtag_scan.proofs.PositionLaws.{tracks_nothing, Tracks}
+use Rattle.langtag_scan.proofs.RecogniserLaws.{viable_nothing, alive_viable, next_prefix, tracks_first, tracks_next, dead_next, text_ended, whole_stop}
+use Rattle.langtag_scan.proofs.StateTables.{stands_nothing, stands_ending}
 use Rattle.std.specs.Prelude.{replicate}
 use Rattle.langtag_scan.specs.Machine.{ends_at}
 use Rattle.langtag_scan.specs.Found.{IsFoundOf}
 use Rattle.langtag_scan.specs.Position.{position_of, is_dead}
 use Rattle.langtag_scan.specs.Tracking.{Stands}
-use Rattle.langtag_scan.specs.declared.finding.Finding.TheVariants as finding
 use Rattle.langtag_scan.specs.declared.state.Ending.TheVariants.{NoTag, Normal, PrivateUse, Irregular}
-use Rattle.langtag_scan.proofs.PositionLaws.{Tracks, tracks_nothing}
-use Rattle.langtag_scan.proofs.RecogniserLaws.{viable_nothing, alive_viable, next_prefix, tracks_first, tracks_next, dead_next, text_ended, whole_stop}
-use Rattle.langtag_scan.proofs.StateTables.{stands_nothing, stands_ending}
 use Rattle.langtag_scan.proofs.recogniser.read.Goals as goal
 
 pub loop-index-init : goal.loop-index-init
@@ -57,8 +58,7 @@ returns-then-len-eq0-clause-found g c =
     text_ended t (replicate 6 0) 0 NoTag (omega (arith, c.len-len.ensures, c.if-len-eq0.true)) tracks_nothing (stands_ending [] 0 (omega arith) stands_nothing)
 
 pub returns-then-len-eq0-clause-reads : goal.returns-then-len-eq0-clause-reads
-returns-then-len-eq0-clause-reads g c =
-    (0, whole_stop (g.S.ByteSource.bytes c.args.source.now) 0 (omega (arith, c.len-len.ensures, c.if-len-eq0.true)) viable_nothing, omega arith, omega arith)
+returns-then-len-eq0-clause-reads g c = grind (arith, common_steps, whole_stop (g.S.ByteSource.bytes c.args.source.now) 0, viable_nothing)
 
 pub returns-in_err-state-clause-found : goal.returns-in_err-state-clause-found
 returns-in_err-state-clause-found g c =
@@ -125,21 +125,13 @@ returns-in-Normal-clause-found g c =
     subst (λ e. IsFoundOf t (finding.Normal e)) (sym ends) ended
 
 pub returns-in-NoTag-clause-reads : goal.returns-in-NoTag-clause-reads
-returns-in-NoTag-clause-reads g c =
-    let known = c.loop-index.invariant in
-    (c.loop-index.index, whole_stop (g.S.ByteSource.bytes c.args.source.now) c.loop-index.index (omega (arith, c.len-len.ensures, known.within)) known.viable, known.reads, known.reach)
+returns-in-NoTag-clause-reads g c = grind (arith, common_steps, whole_stop (g.S.ByteSource.bytes c.args.source.now) c.loop-index.index)
 
 pub returns-in-Normal-clause-reads : goal.returns-in-Normal-clause-reads
-returns-in-Normal-clause-reads g c =
-    let known = c.loop-index.invariant in
-    (c.loop-index.index, whole_stop (g.S.ByteSource.bytes c.args.source.now) c.loop-index.index (omega (arith, c.len-len.ensures, known.within)) known.viable, known.reads, known.reach)
+returns-in-Normal-clause-reads g c = grind (arith, common_steps, whole_stop (g.S.ByteSource.bytes c.args.source.now) c.loop-index.index)
 
 pub returns-in-PrivateUse-clause-reads : goal.returns-in-PrivateUse-clause-reads
-returns-in-PrivateUse-clause-reads g c =
-    let known = c.loop-index.invariant in
-    (c.loop-index.index, whole_stop (g.S.ByteSource.bytes c.args.source.now) c.loop-index.index (omega (arith, c.len-len.ensures, known.within)) known.viable, known.reads, known.reach)
+returns-in-PrivateUse-clause-reads g c = grind (arith, common_steps, whole_stop (g.S.ByteSource.bytes c.args.source.now) c.loop-index.index)
 
 pub returns-in-Irregular-clause-reads : goal.returns-in-Irregular-clause-reads
-returns-in-Irregular-clause-reads g c =
-    let known = c.loop-index.invariant in
-    (c.loop-index.index, whole_stop (g.S.ByteSource.bytes c.args.source.now) c.loop-index.index (omega (arith, c.len-len.ensures, known.within)) known.viable, known.reads, known.reach)
+returns-in-Irregular-clause-reads g c = grind (arith, common_steps, whole_stop (g.S.ByteSource.bytes c.args.source.now) c.loop-index.index)

@@ -1,4 +1,4 @@
-use Rattle.std.proofs.Common.{◌<◌, [], ◌∷◌, ◌++◌, arith}
+use Rattle.std.proofs.Common.{arith, ◌<◌, [], ◌∷◌, ◌++◌}
 use Rattle.langtag_scan.proofs.StateTables.{stands_push, stands_after, class_within}
 use Rattle.langtag_scan.proofs.state.State.after.Goals as goal
 
