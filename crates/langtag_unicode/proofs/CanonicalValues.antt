@@ -13,20 +13,10 @@ use Rattle.langtag_scan.specs.Subtags.{join, subtags}
 use Rattle.langtag_unicode.specs.Alias.{Alias, TypeAlias, alias_for, type_alias_for}
 use Rattle.langtag_unicode.specs.Aliases.{subdivision_aliases, transform_type_aliases, unicode_type_aliases}
 use Rattle.langtag_unicode.specs.Form.{has_subdivision, subdivision, transform_value, unicode_type, unicode_value, without_true}
+use Rattle.langtag_unicode.proofs.IdentifierCase.{alias_for-alike, type_alias_for-alike}
 use Rattle.langtag_unicode.proofs.LocaleTables.{both, found_has, found_is}
 
 -- ---- case
-
-pub alias-fold : (rows : List Alias) (text : List ℕ) → alias_for rows (fold_text text) ≡ alias_for rows text
-alias-fold rows text = ap (λ t. option_map (λ alias. alias.new) (find (λ alias. bytes_eq (fold_text alias.old) t) rows)) (fold_text-twice text)
-
-pub type-fold : (rows : List TypeAlias) (key text : List ℕ) → type_alias_for rows key (fold_text text) ≡ type_alias_for rows key text
-type-fold rows key text =
-    ap (λ t. option_map (λ alias. alias.new) (find (λ alias. are_alike alias.key key && bytes_eq (fold_text alias.old) t) rows)) (fold_text-twice text)
-
-pub type-key : (rows : List TypeAlias) (a b text : List ℕ) → fold_text a ≡ fold_text b → type_alias_for rows a text ≡ type_alias_for rows b text
-type-key rows a b text alike =
-    ap (λ k. option_map (λ alias. alias.new) (find (λ alias. bytes_eq (fold_text alias.key) k && are_alike alias.old text) rows)) alike
 
 pub subtags-fold : (text : List ℕ) → subtags (fold_text text) ≡ map fold_text (subtags text)
 subtags-fold [] = refl
@@ -63,7 +53,7 @@ is_none-none (Some new) is = absurd (false≢true is)
 alias-own :
     (rows : List Alias) (text : List ℕ) → list_all {X = Alias} (λ row. is_none (alias_for rows row.new)) rows ≡ true →
     alias_for rows (fold_text (unwrap_or (alias_for rows text) text)) ≡ None
-alias-own rows text settled = alias-fold rows (unwrap_or (alias_for rows text) text) ∙ by_row (find test rows) refl
+alias-own rows text settled = alias_for-alike rows _ _ (fold_text-twice (unwrap_or (alias_for rows text) text)) ∙ by_row (find test rows) refl
   where
     test : Alias → Bool
     test alias = are_alike alias.old text
@@ -75,7 +65,7 @@ alias-own rows text settled = alias-fold rows (unwrap_or (alias_for rows text) t
 type-own :
     (rows : List TypeAlias) (key text : List ℕ) → list_all {X = TypeAlias} (λ row. is_none (type_alias_for rows row.key row.new)) rows ≡ true →
     type_alias_for rows key (fold_text (unwrap_or (type_alias_for rows key text) text)) ≡ None
-type-own rows key text settled = type-fold rows key (unwrap_or (type_alias_for rows key text) text) ∙ by_row (find test rows) refl
+type-own rows key text settled = type_alias_for-alike rows key key _ _ refl (fold_text-twice (unwrap_or (type_alias_for rows key text) text)) ∙ by_row (find test rows) refl
   where
     test : TypeAlias → Bool
     test alias = are_alike alias.key key && are_alike alias.old text
@@ -84,7 +74,7 @@ type-own rows key text settled = type-fold rows key (unwrap_or (type_alias_for r
     by_row None none = ap (option_map (λ alias. alias.new)) none
     by_row (Some a) found =
         let same = (are_alike-decides a.key key).0 (both (are_alike a.key key) (are_alike a.old text) (found_is test rows a found)).0 in
-        type-key rows key a.key a.new (sym same)
+        type_alias_for-alike rows key a.key a.new a.new (sym same) refl
         ∙ is_none-none (type_alias_for rows a.key a.new) (found_has (λ (alias : TypeAlias). is_none (type_alias_for rows alias.key alias.new)) test rows a settled found)
 
 type-empty : (rows : List TypeAlias) (key : List ℕ) → list_all {X = TypeAlias} (λ row. not (are_alike row.old [])) rows ≡ true → type_alias_for rows key [] ≡ None
@@ -154,10 +144,7 @@ module _ (canonical : List ℕ → List ℕ) (own : (text : List ℕ) → canoni
   value-settled : (w : List (List ℕ)) → map fold_text (subtags (canonical (join (map fold_text (subtags (canonical (join w))))))) ≡ map fold_text (subtags (canonical (join w)))
   value-settled w =
       let c : List ℕ = canonical (join w) in
-      ap (λ t. map fold_text (subtags (canonical t))) (join-fold (subtags c) ∙ ap fold_text (join-subtags c))
-      ∙ ap (λ t. map fold_text (subtags t)) (own (join w))
-      ∙ ap (map fold_text) (subtags-fold c)
-      ∙ map-twice fold_text fold_text-twice (subtags c)
+      rw (join-fold (subtags c), join-subtags c, own (join w), subtags-fold c) (map-twice fold_text fold_text-twice (subtags c))
 
 pub unicode-settled :
     (key : List ℕ) (w : List (List ℕ)) →

@@ -29,10 +29,10 @@ use Rattle.langtag_unicode.specs.LocaleForm.{extension_at, extensions_in_order, 
 use Rattle.langtag_unicode.specs.Transform.{is_field_key}
 use Rattle.langtag_unicode.proofs.AlphabetTwice.{in_alphabet-alike}
 use Rattle.langtag_unicode.proofs.CanonicalKeywords.{key-fold, unicode_key-fold}
-use Rattle.langtag_unicode.proofs.CanonicalValues.{alias-fold, replaced, subtags-fold, type-fold}
+use Rattle.langtag_unicode.proofs.CanonicalValues.{replaced, subtags-fold}
 use Rattle.langtag_unicode.proofs.ExtensionForms.{form_by, form_tested}
 use Rattle.langtag_unicode.proofs.FormTwice.{language-parts, lower_fields, same_fields, unicode_language-fold}
-use Rattle.langtag_unicode.proofs.IdentifierCase.{AreAlike, identifier_form-alike, new_variants-alike}
+use Rattle.langtag_unicode.proofs.IdentifierCase.{AreAlike, alias_for-alike, type_alias_for-alike, identifier_form-alike, new_variants-alike}
 use Rattle.langtag_unicode.proofs.KeySplits.{all_keys}
 use Rattle.langtag_unicode.proofs.KeywordBlocks.{block}
 use Rattle.langtag_unicode.proofs.KeywordsInForm.{flat-same, form-blocks, values_in_form}
@@ -53,8 +53,7 @@ lower-twice = map-twice fold_text fold_text-twice
 module _ (opens : List ℕ → Bool) (opens-fold : (s : List ℕ) → opens (fold_text s) ≡ opens s) where
   before-fold : (ss : List (List ℕ)) → before_key opens (map fold_text ss) ≡ map fold_text (before_key opens ss)
   before-fold [] = refl
-  before-fold (s ∷ ss) =
-      ap (λ b. cond b [] (fold_text s ∷ before_key opens (map fold_text ss))) (opens-fold s) ∙ ap (λ t. cond (opens s) [] (fold_text s ∷ t)) (before-fold ss) ∙ by_test (opens s)
+  before-fold (s ∷ ss) = rw (opens-fold s, before-fold ss) (by_test (opens s))
     where
       by_test : (b : Bool) → cond b [] (fold_text s ∷ map fold_text (before_key opens ss)) ≡ map fold_text (cond b [] (s ∷ before_key opens ss))
       by_test true = refl
@@ -62,10 +61,7 @@ module _ (opens : List ℕ → Bool) (opens-fold : (s : List ℕ) → opens (fol
 
   value-fold : (key : List ℕ) (ss : List (List ℕ)) → value_of opens key (map fold_text ss) ≡ option_map (map fold_text) (value_of opens key ss)
   value-fold key [] = refl
-  value-fold key (s ∷ ss) =
-      ap (λ b. cond (b && are_alike (fold_text s) key) (Some (before_key opens (map fold_text ss))) (value_of opens key (map fold_text ss))) (opens-fold s)
-      ∙ ap (λ b. cond (opens s && b) (Some (before_key opens (map fold_text ss))) (value_of opens key (map fold_text ss))) (alike-left s key)
-      ∙ by_test (opens s && are_alike s key) (value-fold key ss)
+  value-fold key (s ∷ ss) = rw (opens-fold s, fold_text-twice s) (by_test (opens s && are_alike s key) (value-fold key ss))
     where
       by_test :
           (b : Bool) → value_of opens key (map fold_text ss) ≡ option_map (map fold_text) (value_of opens key ss) →
@@ -108,8 +104,8 @@ unfolding subdivision unicode_type
 replaced-fold key text = by_test (has_subdivision key)
   where
     by_test : (b : Bool) → Alike (cond b (subdivision (fold_text text)) (unicode_type key (fold_text text))) (cond b (subdivision text) (unicode_type key text))
-    by_test true = ap (λ o. fold_text (unwrap_or o (fold_text text))) (alias-fold subdivision_aliases text) ∙ or_fold (alias_for subdivision_aliases text) text
-    by_test false = ap (λ o. fold_text (unwrap_or o (fold_text text))) (type-fold unicode_type_aliases key text) ∙ or_fold (type_alias_for unicode_type_aliases key text) text
+    by_test true = ap (λ o. fold_text (unwrap_or o (fold_text text))) (alias_for-alike subdivision_aliases (fold_text text) text (fold_text-twice text)) ∙ or_fold (alias_for subdivision_aliases text) text
+    by_test false = ap (λ o. fold_text (unwrap_or o (fold_text text))) (type_alias_for-alike unicode_type_aliases key key (fold_text text) text refl (fold_text-twice text)) ∙ or_fold (type_alias_for unicode_type_aliases key text) text
 
 without-alike : (a b : List ℕ) → Alike a b → Alike (without_true a) (without_true b)
 without-alike a b alike = lower a ∙ ap (λ t. cond (bytes_eq t (fold_text (codes "true"))) [] t) alike ∙ sym (lower b)
@@ -126,22 +122,19 @@ unicode_value-fold key text = without-alike (replaced key (fold_text text)) (rep
 
 transform_value-fold : (key text : List ℕ) → Alike (transform_value key (fold_text text)) (transform_value key text)
 unfolding transform_value
-transform_value-fold key text = ap (λ o. fold_text (unwrap_or o (fold_text text))) (type-fold transform_type_aliases key text) ∙ or_fold (type_alias_for transform_type_aliases key text) text
+transform_value-fold key text = ap (λ o. fold_text (unwrap_or o (fold_text text))) (type_alias_for-alike transform_type_aliases key key (fold_text text) text refl (fold_text-twice text)) ∙ or_fold (type_alias_for transform_type_aliases key text) text
 
 -- ---- the extension `u`
 
 unicode-fold : (ss : List (List ℕ)) → unicode_form (map fold_text ss) ≡ unicode_form ss
-unicode-fold ss =
-    ap (λ t. in_alphabet t ++ form.keywords_form is_key unicode_value (map fold_text ss)) (before-fold is_key key-fold ss)
-    ∙ ap (λ t. t ++ form.keywords_form is_key unicode_value (map fold_text ss)) (in_alphabet-alike (map fold_text (before_key is_key ss)) (before_key is_key ss) (lower-twice (before_key is_key ss)))
-    ∙ ap (λ t. in_alphabet (before_key is_key ss) ++ t) (keywords-fold is_key key-fold unicode_value unicode_value-fold ss)
+unicode-fold ss = rw (before-fold is_key key-fold ss, keywords-fold is_key key-fold unicode_value unicode_value-fold ss, in_alphabet-alike (map fold_text (before_key is_key ss)) (before_key is_key ss) (lower-twice (before_key is_key ss))) refl
 
 -- ---- the language of `t`
 
 module _ (test : List ℕ → Bool) (test-fold : (s : List ℕ) → test (fold_text s) ≡ test s) where
   one-fold : (ss : List (List ℕ)) → first_subtag (one_of test (map fold_text ss)) ≡ fold_text (first_subtag (one_of test ss))
   one-fold [] = refl
-  one-fold (s ∷ ss) = ap (λ b. first_subtag (cond b (fold_text s ∷ []) [])) (test-fold s) ∙ by_test (test s)
+  one-fold (s ∷ ss) = rw (test-fold s) (by_test (test s))
     where
       by_test : (b : Bool) → first_subtag (cond b (fold_text s ∷ []) []) ≡ fold_text (first_subtag (cond b (s ∷ []) []))
       by_test true = refl
@@ -149,7 +142,7 @@ module _ (test : List ℕ → Bool) (test-fold : (s : List ℕ) → test (fold_t
 
   after-fold : (ss : List (List ℕ)) → after_one test (map fold_text ss) ≡ map fold_text (after_one test ss)
   after-fold [] = refl
-  after-fold (s ∷ ss) = ap (λ b. cond b (map fold_text ss) (fold_text s ∷ map fold_text ss)) (test-fold s) ∙ by_test (test s)
+  after-fold (s ∷ ss) = rw (test-fold s) (by_test (test s))
     where
       by_test : (b : Bool) → cond b (map fold_text ss) (fold_text s ∷ map fold_text ss) ≡ map fold_text (cond b ss (s ∷ ss))
       by_test true = refl
@@ -160,6 +153,9 @@ script-fold s = ap (λ (c : Classes). c.script) (classes-fold s)
 
 region-fold : (s : List ℕ) → is_region (fold_text s) ≡ is_region s
 region-fold s = ap (λ (c : Classes). c.region) (classes-fold s)
+
+variant-fold : (s : List ℕ) → is_variant (fold_text s) ≡ is_variant s
+variant-fold s = ap (λ (c : Classes). c.variant) (classes-fold s)
 
 variants-fold : (ss : List (List ℕ)) → identifier_variants (map fold_text ss) ≡ map fold_text (identifier_variants ss)
 variants-fold ss = ap (after_one is_region) (after-fold is_script script-fold ss) ∙ after-fold is_region region-fold (after_one is_script ss)
@@ -181,21 +177,10 @@ lower-flat :
     (f : Fields) (vs : List (List ℕ)) →
     map fold_text (identifier_flat f vs)
     ≡ fold_text f.language ∷ (one_flat (subtag_of (fold_text f.script)) ++ (one_flat (subtag_of (fold_text f.region)) ++ map fold_text vs))
-lower-flat f vs =
-    ap (λ t. fold_text f.language ∷ t)
-    (map-append fold_text (one_flat (subtag_of f.script)) (one_flat (subtag_of f.region) ++ vs)
-    ∙ ap (λ t. t ++ map fold_text (one_flat (subtag_of f.region) ++ vs)) (subtag-fold f.script)
-    ∙ ap (λ t. one_flat (subtag_of (fold_text f.script)) ++ t)
-    (map-append fold_text (one_flat (subtag_of f.region)) vs ∙ ap (λ t. t ++ map fold_text vs) (subtag-fold f.region)))
+lower-flat f vs = simp (map-append, subtag-fold)
 
 flat-alike : (f g : Fields) (vs ws : List (List ℕ)) → AlikeFields f g → vs ≡ ws → AreAlike (identifier_flat f vs) (identifier_flat g ws)
-flat-alike f g vs ws h same =
-    lower-flat f vs
-    ∙ ap (λ t. t ∷ (one_flat (subtag_of (fold_text f.script)) ++ (one_flat (subtag_of (fold_text f.region)) ++ map fold_text vs))) h.language
-    ∙ ap (λ t. fold_text g.language ∷ (one_flat (subtag_of t) ++ (one_flat (subtag_of (fold_text f.region)) ++ map fold_text vs))) h.script
-    ∙ ap (λ t. fold_text g.language ∷ (one_flat (subtag_of (fold_text g.script)) ++ (one_flat (subtag_of t) ++ map fold_text vs))) h.region
-    ∙ ap (λ t. fold_text g.language ∷ (one_flat (subtag_of (fold_text g.script)) ++ (one_flat (subtag_of (fold_text g.region)) ++ map fold_text t))) same
-    ∙ sym (lower-flat g ws)
+flat-alike f g vs ws h same = rw (lower-flat f vs, lower-flat g ws, h.language, h.script, h.region, same) refl
 
 language-fold : (ss : List (List ℕ)) → AreAlike (transform_language_form (map fold_text ss)) (transform_language_form ss)
 language-fold [] = refl
@@ -207,49 +192,31 @@ language-fold (s ∷ ss) =
 
 transform-fold : (ss : List (List ℕ)) → AreAlike (locale_transform_form (map fold_text ss)) (locale_transform_form ss)
 transform-fold ss =
-    map-append fold_text (transform_language_form (before_key is_field_key (map fold_text ss))) (form.keywords_form is_field_key transform_value (map fold_text ss))
-    ∙ ap (λ t. map fold_text (transform_language_form t) ++ map fold_text (form.keywords_form is_field_key transform_value (map fold_text ss))) (before-fold is_field_key field_key-fold ss)
-    ∙ ap (λ t. t ++ map fold_text (form.keywords_form is_field_key transform_value (map fold_text ss))) (language-fold (before_key is_field_key ss))
-    ∙ ap (λ t. map fold_text (transform_language_form (before_key is_field_key ss)) ++ map fold_text t) (keywords-fold is_field_key field_key-fold transform_value transform_value-fold ss)
-    ∙ sym (map-append fold_text (transform_language_form (before_key is_field_key ss)) (form.keywords_form is_field_key transform_value ss))
+    rw (map-append fold_text (transform_language_form (before_key is_field_key (map fold_text ss))) (form.keywords_form is_field_key transform_value (map fold_text ss)), map-append fold_text (transform_language_form (before_key is_field_key ss)) (form.keywords_form is_field_key transform_value ss), before-fold is_field_key field_key-fold ss, language-fold (before_key is_field_key ss), keywords-fold is_field_key field_key-fold transform_value transform_value-fold ss) refl
 
 -- ---- whether `t` is allowed
 
 any-fold : (v : List ℕ) (vs : List (List ℕ)) → list_any (are_alike (fold_text v)) (map fold_text vs) ≡ list_any (are_alike v) vs
 any-fold v [] = refl
-any-fold v (w ∷ vs) =
-    ap (λ b. b || list_any (are_alike (fold_text v)) (map fold_text vs)) (alike-left v (fold_text w) ∙ alike-right v w) ∙ ap (λ b. are_alike v w || b) (any-fold v vs)
+any-fold v (w ∷ vs) = rw (fold_text-twice v, fold_text-twice w, any-fold v vs) refl
 
 different-fold : (vs : List (List ℕ)) → are_different_variants (map fold_text vs) ≡ are_different_variants vs
 different-fold [] = refl
-different-fold (v ∷ vs) =
-    ap (λ (c : Classes). c.variant && not (list_any (are_alike (fold_text v)) (map fold_text vs)) && are_different_variants (map fold_text vs)) (classes-fold v)
-    ∙ ap (λ b. is_variant v && not b && are_different_variants (map fold_text vs)) (any-fold v vs)
-    ∙ ap (λ b. is_variant v && not (list_any (are_alike v) vs) && b) (different-fold vs)
+different-fold (v ∷ vs) = rw (variant-fold v, any-fold v vs, different-fold vs) refl
 
 language_or_none-fold : (ss : List (List ℕ)) → is_language_or_none (map fold_text ss) ≡ is_language_or_none ss
 language_or_none-fold [] = refl
-language_or_none-fold (s ∷ ss) =
-    ap (λ b. b && are_different_variants (identifier_variants (map fold_text ss))) (unicode_language-fold s)
-    ∙ ap (λ b. is_unicode_language s && b) (ap are_different_variants (variants-fold ss) ∙ different-fold (identifier_variants ss))
+language_or_none-fold (s ∷ ss) = rw (unicode_language-fold s, variants-fold ss, different-fold (identifier_variants ss)) refl
 
 follow-fold : (inside after : Bool) (s : List ℕ) → may_follow inside after (fold_text s) ≡ may_follow inside after s
-follow-fold inside after s =
-    ap (λ b. cond b (not after) (not inside || leb 3 (length (fold_text s)))) (field_key-fold s)
-    ∙ ap (λ n. cond (is_field_key s) (not after) (not inside || leb 3 n)) (length-fold s)
+follow-fold inside after s = rw (field_key-fold s, length-fold s) refl
 
 are_fields-fold : (inside after : Bool) (ss : List (List ℕ)) → are_fields inside after (map fold_text ss) ≡ are_fields inside after ss
 are_fields-fold inside after [] = refl
-are_fields-fold inside after (s ∷ ss) =
-    ap (λ b. b && are_fields (inside || is_field_key (fold_text s)) (is_field_key (fold_text s)) (map fold_text ss)) (follow-fold inside after s)
-    ∙ ap (λ b. may_follow inside after s && are_fields (inside || b) b (map fold_text ss)) (field_key-fold s)
-    ∙ ap (λ b. may_follow inside after s && b) (are_fields-fold (inside || is_field_key s) (is_field_key s) ss)
+are_fields-fold inside after (s ∷ ss) = rw (follow-fold inside after s, field_key-fold s, are_fields-fold (inside || is_field_key s) (is_field_key s) ss) refl
 
 is_transform-fold : (ss : List (List ℕ)) → is_transform (map fold_text ss) ≡ is_transform ss
-is_transform-fold ss =
-    ap (λ t. is_language_or_none t && are_fields false false (map fold_text ss)) (before-fold is_field_key field_key-fold ss)
-    ∙ ap (λ b. b && are_fields false false (map fold_text ss)) (language_or_none-fold (before_key is_field_key ss))
-    ∙ ap (λ b. is_language_or_none (before_key is_field_key ss) && b) (are_fields-fold false false ss)
+is_transform-fold ss = rw (before-fold is_field_key field_key-fold ss, language_or_none-fold (before_key is_field_key ss), are_fields-fold false false ss) refl
 
 -- ---- the form of the extension `t`, with its case and the order of its variants changed alone
 
@@ -266,9 +233,7 @@ language_form-fold (s ∷ ss) =
 
 transform_form-fold : (ss : List (List ℕ)) → transform_form (map fold_text ss) ≡ transform_form ss
 transform_form-fold ss =
-    ap (λ t. language_form t ++ form.keywords_form is_field_key transform_value (map fold_text ss)) (before-fold is_field_key field_key-fold ss)
-    ∙ ap (λ t. t ++ form.keywords_form is_field_key transform_value (map fold_text ss)) (language_form-fold (before_key is_field_key ss))
-    ∙ ap (λ t. language_form (before_key is_field_key ss) ++ t) (keywords-fold is_field_key field_key-fold transform_value transform_value-fold ss)
+    rw (before-fold is_field_key field_key-fold ss, language_form-fold (before_key is_field_key ss), keywords-fold is_field_key field_key-fold transform_value transform_value-fold ss) refl
 
 -- ---- extensions
 
@@ -277,26 +242,17 @@ is_of-fold n e = ap (λ b. b == n) (fold_byte-twice e.singleton)
 
 unicode_subtags-fold : (ss : List (List ℕ)) → list_all is_unicode_subtag (map fold_text ss) ≡ list_all is_unicode_subtag ss
 unicode_subtags-fold [] = refl
-unicode_subtags-fold (s ∷ ss) =
-    ap (λ b. (not b || is_unicode_key (fold_text s)) && list_all is_unicode_subtag (map fold_text ss)) (key-fold s)
-    ∙ ap (λ b. (not (is_key s) || b) && list_all is_unicode_subtag (map fold_text ss)) (unicode_key-fold s)
-    ∙ ap (λ b. is_unicode_subtag s && b) (unicode_subtags-fold ss)
+unicode_subtags-fold (s ∷ ss) = rw (key-fold s, unicode_key-fold s, unicode_subtags-fold ss) refl
 
 allowed-fold : (e : Extension) → is_locale_extension (fold_extension e) ≡ is_locale_extension e
-allowed-fold e =
-    ap (λ b. cond b (list_all is_unicode_subtag (map fold_text e.subtags)) (cond (is_of 116 (fold_extension e)) (is_transform (map fold_text e.subtags)) true)) (is_of-fold 117 e)
-    ∙ ap (λ b. cond (is_of 117 e) (list_all is_unicode_subtag (map fold_text e.subtags)) (cond b (is_transform (map fold_text e.subtags)) true)) (is_of-fold 116 e)
-    ∙ ap (λ b. cond (is_of 117 e) b (cond (is_of 116 e) (is_transform (map fold_text e.subtags)) true)) (unicode_subtags-fold e.subtags)
-    ∙ ap (λ b. cond (is_of 117 e) (list_all is_unicode_subtag e.subtags) (cond (is_of 116 e) b true)) (is_transform-fold e.subtags)
+allowed-fold e = rw (is_of-fold 117 e, is_of-fold 116 e, unicode_subtags-fold e.subtags, is_transform-fold e.subtags) refl
 
 pub all_allowed-fold : (es : List Extension) → list_all is_locale_extension (map fold_extension es) ≡ list_all is_locale_extension es
 all_allowed-fold [] = refl
-all_allowed-fold (e ∷ es) = ap (λ b. b && list_all is_locale_extension (map fold_extension es)) (allowed-fold e) ∙ ap (λ b. is_locale_extension e && b) (all_allowed-fold es)
+all_allowed-fold (e ∷ es) = rw (allowed-fold e, all_allowed-fold es) refl
 
 pub extension-twice : (e : Extension) → fold_extension (fold_extension e) ≡ fold_extension e
-extension-twice e =
-    ap (λ n. record { singleton = n; subtags = map fold_text (map fold_text e.subtags) }) (fold_byte-twice e.singleton)
-    ∙ ap (λ ss. record { singleton = fold_byte e.singleton; subtags = ss }) (lower-twice e.subtags)
+extension-twice e = rw (fold_byte-twice e.singleton, lower-twice e.subtags) refl
 
 extension-alike : (e : Extension) → fold_extension (locale_extension_form (fold_extension e)) ≡ fold_extension (locale_extension_form e)
 extension-alike e =
@@ -310,9 +266,7 @@ extension-alike e =
 
 find-fold : (n : ℕ) (es : List Extension) → find_extension n (map fold_extension es) ≡ option_map fold_extension (find_extension n es)
 find-fold n [] = refl
-find-fold n (e ∷ es) =
-    ap (λ b. cond (b == fold_byte n) (Some (fold_extension e)) (find_extension n (map fold_extension es))) (fold_byte-twice e.singleton)
-    ∙ by_test (fold_byte e.singleton == fold_byte n) (find-fold n es)
+find-fold n (e ∷ es) = rw (fold_byte-twice e.singleton) (by_test (fold_byte e.singleton == fold_byte n) (find-fold n es))
   where
     by_test :
         (b : Bool) → find_extension n (map fold_extension es) ≡ option_map fold_extension (find_extension n es) →
@@ -332,10 +286,7 @@ at-fold es n = ap (λ o. map fold_extension (option_map_or (λ e. locale_extensi
 all-fold : (es : List Extension) (ns : List ℕ) → map fold_extension (flat_map (extension_at (map fold_extension es)) ns) ≡ map fold_extension (flat_map (extension_at es) ns)
 all-fold es [] = refl
 all-fold es (n ∷ ns) =
-    map-append fold_extension (extension_at (map fold_extension es) n) (flat_map (extension_at (map fold_extension es)) ns)
-    ∙ ap (λ t. t ++ map fold_extension (flat_map (extension_at (map fold_extension es)) ns)) (at-fold es n)
-    ∙ ap (λ t. map fold_extension (extension_at es n) ++ t) (all-fold es ns)
-    ∙ sym (map-append fold_extension (extension_at es n) (flat_map (extension_at es) ns))
+    rw (map-append fold_extension (extension_at (map fold_extension es) n) (flat_map (extension_at (map fold_extension es)) ns), map-append fold_extension (extension_at es n) (flat_map (extension_at es) ns), at-fold es n, all-fold es ns) refl
 
 -- the forms of extensions in lowercase are those of the extensions, but for case
 pub extensions-alike : (es : List Extension) → map fold_extension (extensions_in_order (map fold_extension es)) ≡ map fold_extension (extensions_in_order es)
@@ -357,11 +308,7 @@ one_form-fold u t e =
 
 forms-fold : (u t : Bool) (es : List Extension) → map fold_extension (forms_after u t (map fold_extension es)) ≡ map fold_extension (forms_after u t es)
 forms-fold u t [] = refl
-forms-fold u t (e ∷ es) =
-    ap (λ x. x ∷ map fold_extension (forms_after (u || is_of 117 (fold_extension e)) (t || is_of 116 (fold_extension e)) (map fold_extension es))) (one_form-fold u t e)
-    ∙ ap (λ b. fold_extension (extension_form u t e) ∷ map fold_extension (forms_after (u || b) (t || is_of 116 (fold_extension e)) (map fold_extension es))) (is_of-fold 117 e)
-    ∙ ap (λ b. fold_extension (extension_form u t e) ∷ map fold_extension (forms_after (u || is_of 117 e) (t || b) (map fold_extension es))) (is_of-fold 116 e)
-    ∙ ap (λ x. fold_extension (extension_form u t e) ∷ x) (forms-fold (u || is_of 117 e) (t || is_of 116 e) es)
+forms-fold u t (e ∷ es) = rw (one_form-fold u t e, is_of-fold 117 e, is_of-fold 116 e, forms-fold (u || is_of 117 e) (t || is_of 116 e) es) refl
 
 abbrev with_extensions : List Extension → Record → Record
 with_extensions es r = record r { extensions = es }

@@ -38,11 +38,7 @@ extension-again u t e fits = subst (λ x. extension_form u t x ≡ x) (sym (form
 
 forms-again : (u t : Bool) (es : List Extension) → AllByRecursion IsWellFormedExtension es → forms_after u t (forms_after u t es) ≡ forms_after u t es
 forms-again u t [] fits = refl
-forms-again u t (e ∷ es) fits =
-    ap (λ x. x ∷ forms_after (u || is_of 117 (extension_form u t e)) (t || is_of 116 (extension_form u t e)) (forms_after (u || is_of 117 e) (t || is_of 116 e) es)) (extension-again u t e fits.0)
-    ∙ ap (λ b. extension_form u t e ∷ forms_after (u || b) (t || is_of 116 (extension_form u t e)) (forms_after (u || is_of 117 e) (t || is_of 116 e) es)) (form-of 117 u t e)
-    ∙ ap (λ b. extension_form u t e ∷ forms_after (u || is_of 117 e) (t || b) (forms_after (u || is_of 117 e) (t || is_of 116 e) es)) (form-of 116 u t e)
-    ∙ ap (λ x. extension_form u t e ∷ x) (forms-again (u || is_of 117 e) (t || is_of 116 e) es fits.1)
+forms-again u t (e ∷ es) fits = rw (extension-again u t e fits.0, form-of 117 u t e, form-of 116 u t e, forms-again (u || is_of 117 e) (t || is_of 116 e) es fits.1) refl
 
 record-again : (r : Record) → IsWellFormed r → extensions_record (extensions_record r) ≡ extensions_record r
 unfolding extensions_record

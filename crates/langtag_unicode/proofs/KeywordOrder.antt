@@ -8,7 +8,7 @@ use Rattle.langtag_scan.specs.CaseLaws.{are_alike-decides}
 use Rattle.langtag_scan.specs.Subtags.{join, subtags}
 use Rattle.langtag_unicode.specs.Form as form
 use Rattle.langtag_unicode.specs.Form.{in_alphabet, language_form, letters_and_digits, transform_form, transform_value, unicode_form, unicode_value}
-use Rattle.langtag_unicode.specs.FormLaws.{AreKeyword, OrderChangesNothing}
+use Rattle.langtag_unicode.specs.FormLaws.{IsKeyword, OrderChangesNothing}
 use Rattle.langtag_unicode.specs.Keywords.{before_key, is_key, value_of}
 use Rattle.langtag_unicode.specs.Transform.{is_field_key}
 use Rattle.langtag_unicode.proofs.KeywordsInForm.{before-plain, value-plain}
@@ -32,16 +32,13 @@ module _ (opens : List ℕ → Bool) where
 
   -- a keyword, and what follows it
   value-first :
-      (key k : List ℕ) (v rest : List (List ℕ)) → AreKeyword opens k v → before_key opens rest ≡ [] →
+      (key k : List ℕ) (v rest : List (List ℕ)) → IsKeyword opens k v → before_key opens rest ≡ [] →
       value_of opens key (k ∷ (v ++ rest)) ≡ cond (are_alike k key) (Some v) (value_of opens key rest)
-  value-first key k v rest are none =
-      ap (λ b. cond (b && are_alike k key) (Some (before_key opens (v ++ rest))) (value_of opens key (v ++ rest))) are.0
-      ∙ ap (λ t. cond (are_alike k key) (Some t) (value_of opens key (v ++ rest))) (before-plain opens v rest are.1 ∙ ap (λ t. v ++ t) none ∙ append-nil v)
-      ∙ ap (λ o. cond (are_alike k key) (Some v) o) (value-plain opens key v rest are.1)
+  value-first key k v rest are none = rw (are.0, before-plain opens v rest are.1, none, append-nil v, value-plain opens key v rest are.1) refl
 
   value-moved :
       (key : List ℕ) (before after : List (List ℕ)) (k l : List ℕ) (v w : List (List ℕ)) →
-      AreKeyword opens k v → AreKeyword opens l w → are_alike k l ≡ false → before_key opens after ≡ [] →
+      IsKeyword opens k v → IsKeyword opens l w → are_alike k l ≡ false → before_key opens after ≡ [] →
       value_of opens key (before ++ k ∷ (v ++ l ∷ (w ++ after))) ≡ value_of opens key (before ++ l ∷ (w ++ k ∷ (v ++ after)))
   value-moved key before after k l v w one two differ none = value-same key before _ _ k l one.0 two.0 pair
     where

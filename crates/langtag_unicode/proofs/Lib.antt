@@ -41,3 +41,4 @@ pub mod ExtensionCase
 pub mod LocaleCase
 pub mod LocaleTwice
 pub mod KeywordOrder
+pub mod WholeLaws

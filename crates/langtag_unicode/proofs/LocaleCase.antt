@@ -26,15 +26,11 @@ use Rattle.langtag_unicode.proofs.IdentifierCase.{AreAlike, identifier_form-alik
 module _ {A : Type 0} (alike : A → A → Bool) (f : A → A) (same : (x y : A) → alike (f x) (f y) ≡ alike x y) where
   any-map : (x : A) (xs : List A) → list_any (alike (f x)) (map f xs) ≡ list_any (alike x) xs
   any-map x [] = refl
-  any-map x (y ∷ xs) = ap (λ b. b || list_any (alike (f x)) (map f xs)) (same x y) ∙ ap (λ b. alike x y || b) (any-map x xs)
+  any-map x (y ∷ xs) = rw (same x y, any-map x xs) refl
 
   index-map : (seen xs : List A) → repeat_index_after alike (map f seen) (map f xs) ≡ repeat_index_after alike seen xs
   index-map seen [] = refl
-  index-map seen (x ∷ xs) =
-      ap (λ b. cond b (Some (length (map f seen))) (repeat_index_after alike (map f seen ++ f x ∷ []) (map f xs))) (any-map x seen)
-      ∙ ap (λ n. cond (list_any (alike x) seen) (Some n) (repeat_index_after alike (map f seen ++ f x ∷ []) (map f xs))) (length-map seen f)
-      ∙ ap (λ t. cond (list_any (alike x) seen) (Some (length seen)) (repeat_index_after alike t (map f xs))) (sym (map-append f seen (x ∷ [])))
-      ∙ ap (λ o. cond (list_any (alike x) seen) (Some (length seen)) o) (index-map (seen ++ x ∷ []) xs)
+  index-map seen (x ∷ xs) = rw (any-map x seen, length-map seen f, ← map-append f seen (x ∷ []), index-map (seen ++ x ∷ []) xs) refl
 
   repeat-map : (xs : List A) → is_none (repeat alike (map f xs)) ≡ is_none (repeat alike xs)
   repeat-map xs = ap (λ o. is_none (option_and_then (slice_get (map f xs)) o)) (index-map [] xs) ∙ by_index (repeat_index_after alike [] xs)
@@ -48,7 +44,7 @@ module _ {A : Type 0} (alike : A → A → Bool) (f : A → A) (same : (x y : A)
       by_index (Some k) = ap is_none (slice_get-map f xs k) ∙ mapped (slice_get xs k)
 
 bytes-fold : (a b : ℕ) → are_alike_bytes (fold_byte a) (fold_byte b) ≡ are_alike_bytes a b
-bytes-fold a b = ap (λ n. n == fold_byte (fold_byte b)) (fold_byte-twice a) ∙ ap (λ n. fold_byte a == n) (fold_byte-twice b)
+bytes-fold a b = rw (fold_byte-twice a, fold_byte-twice b) refl
 
 singletons-fold : (es : List Extension) → map (λ e. e.singleton) (map fold_extension es) ≡ map fold_byte (map (λ e. e.singleton) es)
 singletons-fold [] = refl
@@ -58,16 +54,14 @@ singletons-fold (e ∷ es) = ap (λ t. fold_byte e.singleton ∷ t) (singletons-
 
 locale-fold : (r : Record) → is_locale_record (fold_record r) ≡ is_locale_record r
 locale-fold r =
-    let variants = is_none (repeat are_alike (map fold_text r.variants)) in
-    let singletons = is_none (repeat are_alike_bytes (map (λ e. e.singleton) (map fold_extension r.extensions))) in
-    let allowed = list_all is_locale_extension (map fold_extension r.extensions) in
-    ap (λ b. b && length (map fold_text r.extended) == 0 && variants && singletons && allowed) (unicode_language-fold r.primary)
-    ∙ ap (λ n. is_unicode_language r.primary && n == 0 && variants && singletons && allowed) (length-map r.extended fold_text)
-    ∙ ap (λ b. is_unicode_language r.primary && length r.extended == 0 && b && singletons && allowed) (repeat-map are_alike fold_text (λ s t. alike-left s (fold_text t) ∙ alike-right s t) r.variants)
-    ∙ ap (λ b. is_unicode_language r.primary && length r.extended == 0 && is_none (repeat are_alike r.variants) && b && allowed)
-    (ap (λ ns. is_none (repeat are_alike_bytes ns)) (singletons-fold r.extensions) ∙ repeat-map are_alike_bytes fold_byte bytes-fold (map (λ e. e.singleton) r.extensions))
-    ∙ ap (λ b. is_unicode_language r.primary && length r.extended == 0 && is_none (repeat are_alike r.variants) && is_none (repeat are_alike_bytes (map (λ e. e.singleton) r.extensions)) && b)
-    (all_allowed-fold r.extensions)
+    rw (
+      unicode_language-fold r.primary,
+      length-map r.extended fold_text,
+      repeat-map are_alike fold_text (λ s t. alike-left s (fold_text t) ∙ alike-right s t) r.variants,
+      singletons-fold r.extensions,
+      repeat-map are_alike_bytes fold_byte bytes-fold (map (λ e. e.singleton) r.extensions),
+      all_allowed-fold r.extensions,
+    ) refl
 
 pub locale-alike : (r q : Record) → AlikeRecords r q → is_locale_record r ≡ is_locale_record q
 locale-alike r q alike = sym (locale-fold r) ∙ ap is_locale_record alike ∙ locale-fold q
@@ -87,9 +81,7 @@ subtag-alike s t alike = lower_subtag s ∙ ap subtag_of alike ∙ sym (lower_su
 
 private_use-twice : (o : Option PrivateUse) → option_map fold_private_use (option_map fold_private_use o) ≡ option_map fold_private_use o
 private_use-twice None = refl
-private_use-twice (Some p) =
-    ap (λ n. Some (record { mark = n; subtags = map fold_text (map fold_text p.subtags) })) (fold_byte-twice p.mark)
-    ∙ ap (λ ss. Some (record { mark = fold_byte p.mark; subtags = ss })) (lower-twice p.subtags)
+private_use-twice (Some p) = rw (fold_byte-twice p.mark, lower-twice p.subtags) refl
 
 -- the record in lowercase has a form that is equal but for case
 form-fold : (r : Record) → AlikeRecords (locale_record (fold_record r)) (locale_record r)

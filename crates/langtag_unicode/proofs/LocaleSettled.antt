@@ -9,19 +9,20 @@ use Rattle.langtag_likely.specs.Likely.{Fields}
 use Rattle.langtag_scan.proofs.SubtagLists.{each_from_test, test_from_each}
 use Rattle.langtag_scan.specs.Case.{are_alike, fold_byte}
 use Rattle.langtag_scan.specs.Record.{Extension, IsWellFormed, IsWellFormedExtension, Record}
-use Rattle.langtag_unicode.specs.Form.{are_different_variants, are_fields, is_language_or_none, is_of, is_transform, is_unicode_language, transform_value, unicode_form}
+use Rattle.langtag_unicode.specs.Form.{are_different_variants, are_fields, is_language_or_none, is_of, is_transform, is_unicode_language, unicode_form}
 use Rattle.langtag_unicode.specs.Keywords.{before_key}
 use Rattle.langtag_unicode.specs.Locale.{is_locale_extension, is_locale_record, is_unicode_subtag}
-use Rattle.langtag_unicode.specs.LocaleForm.{extension_at, extensions_in_order, identifier_fields, identifier_form, identifier_variants, locale_extension_form, locale_record, locale_transform_form, new_variants, record_fields, singletons, transform_language_form}
+use Rattle.langtag_unicode.specs.LocaleForm.{extension_at, extensions_in_order, identifier_fields, identifier_flat, identifier_form, identifier_variants, locale_extension_form, locale_record, locale_transform_form, new_variants, record_fields, singletons, transform_language_form}
 use Rattle.langtag_unicode.specs.Transform.{is_field_key}
 use Rattle.langtag_unicode.proofs.FormRecords.{Good}
+use Rattle.langtag_unicode.proofs.FormTwice.{IsLanguageForm, after_language, fields-again, variants-again, with-allowed}
 use Rattle.langtag_unicode.proofs.IdentifierForms.{form_subtags, record_subtags}
-use Rattle.langtag_unicode.proofs.KeywordsInForm.{front-again}
+use Rattle.langtag_unicode.proofs.IdentifierTwice.{identifier_form-twice, new_variants-twice}
 use Rattle.langtag_unicode.proofs.LocaleAgain.{new_variants-apart, none_repeated, singletons-apart, unicode_form-may}
 use Rattle.langtag_unicode.proofs.LocaleExtensions.{locale_form_by, locale_form_tested, transform_allowed}
 use Rattle.langtag_unicode.proofs.LocaleRecords.{all_allowed, different_variants, fields_good, new_variants_good}
 use Rattle.langtag_unicode.proofs.LocaleTables.{both, found_has}
-use Rattle.langtag_unicode.proofs.LocaleTransforms.{AreNoFields, are-fields, field_values, identifier-no_field, identifier-variants}
+use Rattle.langtag_unicode.proofs.LocaleTransforms.{identifier-no_field, identifier-variants}
 
 both_true : (x y : Bool) → x ≡ true → y ≡ true → (x && y) ≡ true
 both_true true y one two = two
@@ -29,30 +30,30 @@ both_true false y one two = one
 
 -- ---- the extension `t`
 
-pub language-no_field : (ss : List (List ℕ)) → is_language_or_none ss ≡ true → AreNoFields (transform_language_form ss)
-language-no_field [] is = tt
-language-no_field (s ∷ ss) is =
+-- the form of the language of `t` is one, and its own form
+pub language-is_form : (ss : List (List ℕ)) → is_language_or_none ss ≡ true → IsLanguageForm transform_language_form ss
+language-is_form [] is = record { none = tt; allowed = refl; twice = refl }
+language-is_form (s ∷ ss) is =
     let f : Fields = identifier_fields s ss in
     let vs = identifier_variants ss in
     let parts = both (is_unicode_language s) (are_different_variants vs) is in
-    identifier-no_field (identifier_form vs f) (new_variants vs f) (form_subtags vs f (fields_good s ss parts.0)) (new_variants_good vs f (different_variants vs parts.1))
-
-pub language-allowed : (ss : List (List ℕ)) → is_language_or_none ss ≡ true → is_language_or_none (transform_language_form ss) ≡ true
-language-allowed [] is = refl
-language-allowed (s ∷ ss) is =
-    let f : Fields = identifier_fields s ss in
-    let vs = identifier_variants ss in
-    let parts = both (is_unicode_language s) (are_different_variants vs) is in
+    let new : Fields = identifier_form vs f in
+    let new_vs = new_variants vs f in
     let subtags = form_subtags vs f (fields_good s ss parts.0) in
-    both_true _ _ subtags.language
-    (identifier-variants (identifier_form vs f) (new_variants vs f) subtags (new_variants_good vs f (different_variants vs parts.1)) (new_variants-apart vs f))
+    let variants = new_variants_good vs f (different_variants vs parts.1) in
+    record {
+      none = identifier-no_field new new_vs subtags variants;
+      allowed = both_true _ _ subtags.language (identifier-variants new new_vs subtags variants (new_variants-apart vs f));
+      twice =
+          ap (λ g. identifier_flat (identifier_form (identifier_variants (after_language new new_vs)) g) (new_variants (identifier_variants (after_language new new_vs)) g))
+          (fields-again new new_vs subtags variants)
+          ∙ ap (λ ws. identifier_flat (identifier_form ws new) (new_variants ws new)) (variants-again new new_vs subtags variants)
+          ∙ ap (λ g. identifier_flat g (new_variants new_vs new)) (identifier_form-twice vs f)
+          ∙ ap (identifier_flat new) (new_variants-twice vs f);
+    }
 
-transform-allowed : (ss : List (List ℕ)) → Good ss → is_transform ss ≡ true → is_transform (locale_transform_form ss) ≡ true
-transform-allowed ss good is =
-    let parts = both (is_language_or_none (before_key is_field_key ss)) (are_fields false false ss) is in
-    let language = transform_language_form (before_key is_field_key ss) in
-    let none = language-no_field (before_key is_field_key ss) parts.0 in
-    both_true _ _ (ap is_language_or_none (front-again is_field_key transform_value ss (field_values ss good parts.1) language none) ∙ language-allowed (before_key is_field_key ss) parts.0) (are-fields ss good parts.1 language none)
+pub start-is_form : (ss : List (List ℕ)) → is_transform ss ≡ true → IsLanguageForm transform_language_form (before_key is_field_key ss)
+start-is_form ss is = language-is_form (before_key is_field_key ss) (both (is_language_or_none (before_key is_field_key ss)) (are_fields false false ss) is).0
 
 -- ---- extensions
 
@@ -66,7 +67,7 @@ form-allowed e fits allowed = ap is_locale_extension (locale_form_tested _ _ e r
     by_tests : (a b : Bool) → is_of 117 e ≡ a → is_of 116 e ≡ b → is_locale_extension (locale_form_by a b e) ≡ true
     by_tests true b one two =
         test_from_each is_unicode_subtag (unicode_form e.subtags) (unicode_form-may e.subtags fits.subtags (each_from_test is_unicode_subtag e.subtags (unicode_allowed e one allowed)))
-    by_tests false true one two = transform-allowed e.subtags fits.subtags (transform_allowed e one two allowed)
+    by_tests false true one two = let is = transform_allowed e one two allowed in with-allowed transform_language_form e.subtags fits.subtags is (start-is_form e.subtags is)
     by_tests false false one two = allowed
 
 forms-allowed :

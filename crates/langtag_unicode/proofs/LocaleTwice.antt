@@ -24,7 +24,7 @@ use Rattle.langtag_unicode.proofs.LocaleAgain.{form_singleton}
 use Rattle.langtag_unicode.proofs.LocaleCase.{locale-alike, text-alike}
 use Rattle.langtag_unicode.proofs.LocaleExtensions.{locale_form_by, locale_form_tested, transform_allowed}
 use Rattle.langtag_unicode.proofs.LocaleRecords.{all_allowed, different_variants, fields_good, locale_well_formed, new_variants_good}
-use Rattle.langtag_unicode.proofs.LocaleSettled.{language-allowed, language-no_field, locale_settled}
+use Rattle.langtag_unicode.proofs.LocaleSettled.{locale_settled, start-is_form}
 use Rattle.langtag_unicode.proofs.LocaleTables.{both, found_has, found_is}
 
 -- ---- the extension with a singleton, among the forms
@@ -74,25 +74,6 @@ all_singletons = refl
 
 -- ---- the forms
 
-language-is_form : (ss : List (List ℕ)) → is_language_or_none ss ≡ true → IsLanguageForm transform_language_form ss
-language-is_form ss is = record { none = language-no_field ss is; allowed = language-allowed ss is; twice = twice ss is }
-  where
-    twice : (ss : List (List ℕ)) → is_language_or_none ss ≡ true → transform_language_form (transform_language_form ss) ≡ transform_language_form ss
-    twice [] is = refl
-    twice (s ∷ ss) is =
-        let f : Fields = identifier_fields s ss in
-        let vs = identifier_variants ss in
-        let parts = both (is_unicode_language s) (are_different_variants vs) is in
-        let subtags = fields_good s ss parts.0 in
-        let variants = different_variants vs parts.1 in
-        let new : Fields = identifier_form vs f in
-        let new_vs = new_variants vs f in
-        ap (λ g. identifier_flat (identifier_form (identifier_variants (after_language new new_vs)) g) (new_variants (identifier_variants (after_language new new_vs)) g))
-        (fields-again new new_vs (form_subtags vs f subtags) (new_variants_good vs f variants))
-        ∙ ap (λ ws. identifier_flat (identifier_form ws new) (new_variants ws new)) (variants-again new new_vs (form_subtags vs f subtags) (new_variants_good vs f variants))
-        ∙ ap (λ g. identifier_flat g (new_variants new_vs new)) (identifier_form-twice vs f)
-        ∙ ap (identifier_flat new) (new_variants-twice vs f)
-
 extension-own : (e : Extension) → IsWellFormedExtension e → is_locale_extension e ≡ true → locale_extension_form (locale_extension_form e) ≡ locale_extension_form e
 unfolding fold_byte
 extension-own e fits allowed = subst (λ x. locale_extension_form x ≡ x) (sym (locale_form_tested _ _ e refl refl)) (by_tests (is_of 117 e) (is_of 116 e) refl refl)
@@ -102,8 +83,7 @@ extension-own e fits allowed = subst (λ x. locale_extension_form x ≡ x) (sym 
     by_tests false true one two =
         let is = transform_allowed e one two allowed in
         ap (λ ss. record { singleton = 116; subtags = ss })
-        (with-twice transform_language_form e.subtags fits.subtags is
-        (language-is_form (before_key is_field_key e.subtags) (both (is_language_or_none (before_key is_field_key e.subtags)) (are_fields false false e.subtags) is).0))
+        (with-twice transform_language_form e.subtags fits.subtags is (start-is_form e.subtags is))
     by_tests false false one two = locale_form_tested false false e one two
 
 module _ (es : List Extension) (fits : AllByRecursion IsWellFormedExtension es) (allowed : list_all is_locale_extension es ≡ true) where
@@ -124,7 +104,7 @@ module _ (es : List Extension) (fits : AllByRecursion IsWellFormedExtension es) 
   each-own [] among = refl
   each-own (n ∷ ns) among =
       let parts = both (list_any (λ m. fold_byte m == fold_byte n) singletons) (list_all (λ k. list_any (λ m. fold_byte m == fold_byte k) singletons) ns) among in
-      ap (λ t. t ++ flat_map (extension_at (extensions_in_order es)) ns) (at-own n parts.0) ∙ ap (λ t. extension_at es n ++ t) (each-own ns parts.1)
+      rw (at-own n parts.0, each-own ns parts.1) refl
 
 -- ---- the record
 
@@ -132,21 +112,17 @@ or_subtag : (s : List ℕ) → unwrap_or (subtag_of s) [] ≡ s
 or_subtag [] = refl
 or_subtag (b ∷ s) = refl
 
-abbrev built : Fields → List (List ℕ) → List Extension → Option PrivateUse → Record
-built f vs es p = record { primary = f.language; extended = []; script = subtag_of f.script; region = subtag_of f.region; variants = vs; extensions = es; private_use = p }
-
 record-own : (r : Record) → IsWellFormed r → is_locale_record r ≡ true → locale_record (locale_record r) ≡ locale_record r
 unfolding locale_record
 record-own r fits locale =
-    let f : Fields = record_fields r in
-    let form : Fields = identifier_form r.variants f in
-    let vs = new_variants r.variants f in
-    let es = extensions_in_order r.extensions in
-    ap (λ s. built (identifier_form vs (record { language = form.language; script = s; region = unwrap_or (subtag_of form.region) [] })) (new_variants vs (record { language = form.language; script = s; region = unwrap_or (subtag_of form.region) [] })) (extensions_in_order es) r.private_use) (or_subtag form.script)
-    ∙ ap (λ s. built (identifier_form vs (record { language = form.language; script = form.script; region = s })) (new_variants vs (record { language = form.language; script = form.script; region = s })) (extensions_in_order es) r.private_use) (or_subtag form.region)
-    ∙ ap (λ g. built g (new_variants vs form) (extensions_in_order es) r.private_use) (identifier_form-twice r.variants f)
-    ∙ ap (λ ws. built form ws (extensions_in_order es) r.private_use) (new_variants-twice r.variants f)
-    ∙ ap (λ xs. built form vs xs r.private_use) (each-own r.extensions fits.extensions (all_allowed r locale) singletons all_singletons)
+    let form : Fields = identifier_form r.variants (record_fields r) in
+    rw (
+      or_subtag form.script,
+      or_subtag form.region,
+      identifier_form-twice r.variants (record_fields r),
+      new_variants-twice r.variants (record_fields r),
+      each-own r.extensions fits.extensions (all_allowed r locale) singletons all_singletons,
+    ) refl
 
 -- ---- the text
 

@@ -231,7 +231,7 @@ replaced_well_formed r fits = by_list r.extended refl fits.extended
         by_test false = fits
     by_list (e ∷ f ∷ es) same each = fits
 
-locale_or_not : (tag : List ℕ) → IsLocale tag ⊎ (IsLocale tag → ⊥)
+pub locale_or_not : (tag : List ℕ) → IsLocale tag ⊎ (IsLocale tag → ⊥)
 unfolding IsNormal
 locale_or_not tag = by_normal (normal_or_not tag)
   where

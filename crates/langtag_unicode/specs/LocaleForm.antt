@@ -14,7 +14,7 @@ use Rattle.langtag_likely.specs.Matching.{language_replaced, region_alone}
 use Rattle.langtag_likely.specs.Maximal.{subtag_of}
 use Rattle.langtag_registry.specs.Fields.{preferred_tag}
 use Rattle.langtag_registry.specs.Registered.{is_registered_extlang}
-use Rattle.langtag_scan.specs.Case.{are_alike}
+use Rattle.langtag_scan.specs.Case.{Alike, are_alike}
 use Rattle.langtag_scan.specs.Class.{is_region, is_script}
 use Rattle.langtag_scan.specs.Record.{Extension, Record, one_flat, spell}
 use Rattle.langtag_scan.specs.Subtags.{segments}
@@ -228,3 +228,11 @@ pub record IsWholeForm (tag : List ℕ) (form : Option (List ℕ)) : Type 0 wher
   pub whole : (IsLocale tag → ⊥) → (value : List ℕ) → preferred_tag tag ≡ Some value → IsLocaleForm value form
   pub kept : (IsLocale tag → ⊥) → preferred_tag tag ≡ None → IsGrandfathered tag → form ≡ None
   pub parts : (IsLocale tag → ⊥) → preferred_tag tag ≡ None → (IsGrandfathered tag → ⊥) → PartOf tag (λ r. record_form (extlang_replaced r)) None form
+
+-- the text is a Unicode locale identifier, and its own form
+abbrev pub IsOwnForm : List ℕ → Type 0
+IsOwnForm text = IsLocale text × IsWholeForm text (Some text)
+
+-- the case of the tag changes nothing: each text that equals it, ignoring case, has this form
+abbrev pub IsFormInAnyCase : List ℕ → Option (List ℕ) → Type 0
+IsFormInAnyCase tag form = (other : List ℕ) (other_form : Option (List ℕ)) → Alike tag other → IsWholeForm other other_form → form ≡ other_form

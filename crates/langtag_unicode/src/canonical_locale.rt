@@ -44,6 +44,8 @@ use std::alloc::{AllocError, Global};
 /// ```
 pub fn locale_form(alloc: Global, tag: LangTag<'_>) -> Result<Option<LangTagBuf>, AllocError>
     ensures form { IfOk result (λ form. spec.IsWholeForm (lang_tag_text tag.entry) (option_map lang_tag_buf_text form)) }
+    ensures settled { IfOk result (λ form. IfSome form (λ form. spec.IsOwnForm (lang_tag_buf_text form))) }
+    ensures any_case { IfOk result (λ form. spec.IsFormInAnyCase (lang_tag_text tag.entry) (option_map lang_tag_buf_text form)) }
 {
     let Some(locale) = locale_for(tag) else {
         return Ok(None);
