@@ -1,7 +1,8 @@
 -- The number of a date, digit by digit.
-use Rattle.std.proofs.Common.{◌≡◌, ℕ, ◌+◌, ◌-◌, ◌*◌, ◌<◌, ◌≤◌, true, false, ltb, List, [], ◌∷◌, drop, length, filter, fold, get_or, refl, sym, ◌∙◌, arith}
+use Rattle.std.proofs.Common.{◌≡◌, ℕ, ◌+◌, ◌-◌, ◌*◌, ◌<◌, ◌≤◌, true, false, ltb, List, [], ◌∷◌, drop, length, filter, fold, get_or, refl, ◌∙◌, arith}
 use Rattle.std.proofs.lemmas.Bool.{ltb-true}
 use Rattle.std.proofs.lemmas.List.{at_drop_more}
+use Rattle.std.proofs.lemmas.Bool.Decides.{nat_tests}
 use Rattle.langtag_scan.specs.Class.{is_digit}
 use Rattle.langtag_registry.specs.declared.tables.TheConstants.{FILE_DATE}
 use Rattle.langtag_likely.specs.declared.tables.TheConstants.{CLDR_VERSION}
@@ -29,11 +30,7 @@ continued_grows number (d ∷ digits) = let later = continued_grows (number * 10
 pub digit_fits :
     (number : ℕ) (date : List ℕ) (i : ℕ) → digits_number date < 4294967296 → continued number (drop i date) ≡ digits_number date → i < length date →
     is_digit (get_or date i 0) ≡ true → number * 10 + (get_or date i 0 - 48) < 4294967296
-digit_fits number date i fits rest below digit =
-    let next = number * 10 + (get_or date i 0 - 48) in
-    let whole : continued next (drop (i + 1) date) ≡ digits_number date = sym (continued_digit number date i below digit) ∙ rest in
-    let grows = continued_grows next (filter is_digit (drop (i + 1) date)) in
-    omega (arith, whole, grows, fits)
+digit_fits number date i fits rest below digit = grind (arith, nat_tests, continued_digit number date i below digit, continued_grows)
 
 -- the date of the registry does: by computation
 date_digits : ltb (digits_number FILE_DATE.now) 4294967296 ≡ true

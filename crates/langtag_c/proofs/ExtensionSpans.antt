@@ -2,7 +2,7 @@
 use Rattle.std.proofs.Common.{◌≡◌, ℕ, ◌<◌, ◌≤◌, ◌+◌, ◌-◌, true, List, [], ◌∷◌, ◌++◌, length, take, drop, Option, None, Some, Bor, MatchOption, inl, inr, refl, ap, sym, subst, ◌∙◌, arith, map}
 use Rattle.std.specs.List.{flat_map, list_all}
 use Rattle.std.proofs.lemmas.Bool.{cases_lt}
-use Rattle.std.proofs.lemmas.Bool.Decides.{eqb_tells}
+use Rattle.std.proofs.lemmas.Bool.Decides.{eqb_tells, nat_tests}
 use Rattle.std.proofs.lemmas.List.{at_drop_more, drop-drop, drop-take, take-append-drop, take-take, length-take, length-drop, drop_all}
 use Rattle.std.proofs.lemmas.List.Splits.{join_with_byte-slice_split}
 use Rattle.std.proofs.Math.Seq.{take-length}
@@ -74,9 +74,7 @@ length-span text span has = omega (arith, length-take (end_of span - span.start)
 pub span-first :
     (text : List ℕ) (span : Span) (len : ℕ) → HasBytes text span → len ≤ span.len →
     span_text text (record { start = span.start; len = len }) ≡ take len (span_text text span)
-span-first text span len has few =
-    let size : span.start + len - span.start ≡ len = omega arith in
-    ap (λ n. take n (drop span.start text)) size ∙ sym (take-take len (end_of span - span.start) (drop span.start text) (omega (arith, few)))
+span-first text span len has few = grind (arith, nat_tests, take-take len (end_of span - span.start) (drop span.start text))
 
 -- what stands after them and a hyphen
 pub span-rest :

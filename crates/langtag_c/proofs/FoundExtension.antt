@@ -1,10 +1,10 @@
 -- The first extension of a singleton, by where it stands in a tag.
-use Rattle.std.proofs.Common.{◌≡◌, ℕ, zero, suc, slice_index, slice_index_or, inl, inr, ◌+◌, ◌-◌, ◌<◌, ◌≤◌, Bool, true, false, List, [], ◌∷◌, length, take, drop, map, find, Option, None, Some, Bor, refl, ap, sym, subst, ◌∙◌, arith}
+use Rattle.std.proofs.Common.{◌≡◌, ℕ, slice_index, slice_index_or, ◌+◌, ◌-◌, ◌<◌, ◌≤◌, Bool, true, false, List, [], ◌∷◌, length, take, drop, map, find, Option, None, Some, Bor, refl, ap, sym, subst, ◌∙◌, arith}
 use Rattle.std.specs.List.{AllByRecursion}
 use Rattle.std.specs.Option.{option_map, option_map_or}
 use Rattle.std.proofs.lemmas.List.{drop-drop, drop-take}
 use Rattle.std.proofs.lemmas.Bool.{cases_lt}
-use Rattle.std.proofs.lemmas.Bool.Decides.{eqb_tells}
+use Rattle.std.proofs.lemmas.Bool.Decides.{eqb_tells, nat_tests}
 use Rattle.langtag_scan.specs.Case.{fold_byte}
 use Rattle.std.proofs.lemmas.List.Splits.{length-slice_split}
 use Rattle.langtag_scan.specs.Class.{is_extension_subtag}
@@ -52,15 +52,10 @@ extensions-span text ends span normal each is ending =
 
 -- no bytes
 pub nothing-in : (text : List ℕ) (span : Span) → span.len ≡ 0 → span_text text span ≡ []
-nothing-in text span none =
-    let size : span.start + span.len - span.start ≡ 0 = omega (arith, none) in
-    ap (λ n. take n (drop span.start text)) size
+nothing-in text span none = grind (arith, nat_tests)
 
 pub no-bytes : (text : List ℕ) (span : Span) → IsWithin text span → (HasBytes text span → ⊥) → span.len ≡ 0
-no-bytes text span within none = elim (cases_lt 0 span.len) [
-  | inl some ↦ absurd (none (some, within))
-  | inr empty ↦ omega (arith, empty)
-]
+no-bytes text span within none = grind (arith, nat_tests, cases_lt 0 span.len)
 
 -- the first, and those that are left
 pub record IsStep (text : List ℕ) (before after taken : Span) : Type 0 where
@@ -103,23 +98,14 @@ after-singleton text (e, spelled) = (
 
 -- what stands behind them
 pub without-singleton : (text : List ℕ) (taken : Span) → 2 ≤ taken.len → span_text text (record { start = taken.start + 2; len = taken.len - 2 }) ≡ drop 2 (span_text text taken)
-without-singleton text taken some =
-    let size : taken.start + 2 + (taken.len - 2) - (taken.start + 2) ≡ taken.len - 2 = omega (arith, some) in
-    let whole : taken.start + taken.len - taken.start ≡ 2 + (taken.len - 2) = omega (arith, some) in
-    ap (λ n. take n (drop (taken.start + 2) text)) size
-    ∙ ap (take (taken.len - 2)) (sym (drop-drop 2 taken.start text))
-    ∙ sym (drop-take 2 (taken.len - 2) (drop taken.start text))
-    ∙ ap (λ n. drop 2 (take n (drop taken.start text))) (sym whole)
+without-singleton text taken some = grind (arith, nat_tests, drop-drop 2 taken.start text, drop-take 2 (taken.len - 2) (drop taken.start text))
 
 -- a taken span lies within the text, and has a singleton and more
 pub taken-some :
     (text : List ℕ) (before after taken : Span) (part : Bor (List ℕ)) (len : ℕ) → HasBytes text before → part.now ≡ span_text text before → len ≤ length part.now →
     taken ≡ record { start = before.start; len = len } → IsStep text before after taken → IsWithin text taken × (2 ≤ taken.len)
 taken-some text before after taken part len has is few taken_is step =
-    let size = ap length is ∙ length-span text before has in
-    let end : end_of taken ≡ before.start + len = ap end_of taken_is in
-    let within : IsWithin text taken = omega (arith, end, few, size, has.1) in
-    (within, omega (arith, (after-singleton (span_text text taken) step.first).1, (length-spanned text taken within).1))
+    grind (arith, nat_tests, length-span text before has, after-singleton (span_text text taken) step.first, length-spanned text taken)
 
 -- its bytes
 pub taken-text :
@@ -130,25 +116,13 @@ taken-text text before taken part len has is few taken_is =
 
 -- whether it opens with the byte
 first-byte : (part : List ℕ) (len : ℕ) → 0 < len → slice_index (take len part) 0 ≡ slice_index_or part 0 0
-first-byte part zero some = absurd (omega (arith, some))
-first-byte [] (suc len) some = refl
-first-byte (b ∷ part) (suc len) some = refl
+first-byte part len some = grind (arith, nat_tests)
 
 pub opens-so : (b : ℕ) (text part : List ℕ) (len : ℕ) → text ≡ take len part → 0 < len → fold_byte (slice_index_or part 0 0) ≡ fold_byte b → opens_alike b text ≡ true
-opens-so b text part len is some same =
-    let first = ap (λ t. slice_index t 0) is ∙ first-byte part len some in
-    elim (eqb_tells (fold_byte (slice_index text 0)) (fold_byte b)) [
-      | inl equal ↦ equal.0
-      | inr other ↦ absurd (other.1 (ap fold_byte first ∙ same))
-    ]
+opens-so b text part len is some same = grind (arith, nat_tests, first-byte part len some, eqb_tells (fold_byte (slice_index text 0)) (fold_byte b))
 
 pub opens-not : (b : ℕ) (text part : List ℕ) (len : ℕ) → text ≡ take len part → 0 < len → (fold_byte (slice_index_or part 0 0) ≡ fold_byte b → ⊥) → opens_alike b text ≡ false
-opens-not b text part len is some apart =
-    let first = ap (λ t. slice_index t 0) is ∙ first-byte part len some in
-    elim (eqb_tells (fold_byte (slice_index text 0)) (fold_byte b)) [
-      | inl equal ↦ absurd (apart (sym (ap fold_byte first) ∙ equal.1))
-      | inr other ↦ other.0
-    ]
+opens-not b text part len is some apart = grind (arith, nat_tests, first-byte part len some, eqb_tells (fold_byte (slice_index text 0)) (fold_byte b))
 
 -- the subtags of the first that opens with the byte
 pub subtags-first :
@@ -191,11 +165,7 @@ found-none r well b f none = by_found (find_extension b r.extensions) refl none
 pub found-some :
     (es : List Extension) (b : ℕ) (f : List (List ℕ) → List ℕ) → 0 < length (option_map_or (λ e. e.subtags) (find_extension b es) []) →
     Some (f (option_map_or (λ e. e.subtags) (find_extension b es) [])) ≡ option_map (λ e. f e.subtags) (find_extension b es)
-found-some es b f some = by_found (find_extension b es) some
-  where
-    by_found : (o : Option Extension) → 0 < length (option_map_or (λ e. e.subtags) o []) → Some (f (option_map_or (λ e. e.subtags) o [])) ≡ option_map (λ e. f e.subtags) o
-    by_found None some = absurd (omega (arith, some))
-    by_found (Some e) some = refl
+found-some es b f some = grind (arith, nat_tests)
 
 -- ---- a normal tag
 
@@ -210,8 +180,4 @@ normal-extensions text span (r, spells) part = (r.extensions, record { members =
 
 -- some bytes have a subtag
 pub some-in : (text : List ℕ) (span : Span) → 0 < span.len → IsWithin text span → 0 < length (subtags_in text span)
-some-in text span some within = by_text (span_text text span) (length-span text span (some, within))
-  where
-    by_text : (t : List ℕ) → length t ≡ span.len → 0 < length (subtags t)
-    by_text [] size = absurd (omega (arith, size, some))
-    by_text (b ∷ t) size = omega (arith, length-slice_split is_hyphen (b ∷ t))
+some-in text span some within = grind (arith, nat_tests, length-span text span (some, within), length-slice_split is_hyphen)

@@ -1,14 +1,14 @@
 -- Where the ranges of a header stand, by its items.
-use Rattle.std.proofs.Common.{◌≡◌, ℕ, suc, zero, ◌+◌, ◌<◌, ◌≤◌, Bool, true, false, cond, not, List, [], ◌∷◌, ◌++◌, is_some, length, take, get_or, Option, None, Some, unwrap_or, ap, refl, sym, subst, ◌∙◌, arith}
-use Rattle.std.specs.List.{AllByRecursion, cons_option, onto_first, position, slice_get, sum_by}
+use Rattle.std.proofs.Common.{◌≡◌, ℕ, suc, zero, ◌+◌, ◌<◌, ◌≤◌, Bool, true, false, cond, List, [], ◌∷◌, ◌++◌, is_some, length, take, get_or, Option, None, Some, unwrap_or, ap, refl, sym, subst, ◌∙◌, arith}
+use Rattle.std.specs.List.{AllByRecursion, cons_option, onto_first, slice_get, sum_by}
 use Rattle.std.proofs.lemmas.List.Quantifiers.{position-Some}
 use Rattle.std.proofs.lemmas.List.Splits.{length-slice_split, slice_split-cons_no, slice_split-cons_yes}
 use Rattle.std.proofs.lemmas.List.Sums.{sum_by-append}
 use Rattle.std.proofs.lemmas.Option.{slice_get_read, slice_get_within}
 use Rattle.std.specs.Option.{IfSome}
-use Rattle.langtag_match.specs.AcceptLanguage.{Element, StandsAt, is_comma, is_space, items}
-use Rattle.langtag_match.specs.Range.{is_basic_range}
-use Rattle.langtag_match.specs.Wanted.{digits_behind, hyphened, wanted, wanted_elements, wanted_items, wanted_text}
+use Rattle.std.proofs.lemmas.Bool.Decides.{nat_tests}
+use Rattle.langtag_match.specs.AcceptLanguage.{Element, StandsAt, is_comma, items}
+use Rattle.langtag_match.specs.Wanted.{digits_behind, wanted, wanted_elements, wanted_items}
 use Rattle.langtag_match.proofs.Offsets.{item_stands, width}
 use Rattle.langtag_choice.specs.Best.{IsMatchOf, Pair}
 use Rattle.langtag_choice.specs.declared.best_match.BestMatch as choice
@@ -47,30 +47,15 @@ alone_at (x ∷ all) (suc k) item alone is = alone_at all k item alone.1 is
 -- ---- so it has the range that it has as a header of its own
 
 has_one : (item : List ℕ) (e : Element) (es : List Element) → IsAlone item → wanted_elements item ≡ e ∷ es → wanted item [] ≡ Some e
-has_one item e es alone is = by_option (wanted item []) refl (ap wanted_items (sym alone) ∙ is)
-  where
-    by_option : (o : Option Element) → wanted item [] ≡ o → cons_option (wanted item []) [] ≡ e ∷ es → wanted item [] ≡ Some e
-    by_option None none one = absurd (let lost : [] ≡ e ∷ es = sym (ap (λ o. cons_option o []) none) ∙ one in cc)
-    by_option (Some f) some one =
-        let both : f ∷ [] ≡ e ∷ es = sym (ap (λ o. cons_option o []) some) ∙ one in
-        let same : f ≡ e = cc in
-        some ∙ ap Some same
+has_one item e es alone is = grind (arith, nat_tests, alone)
 
 has_none : (item : List ℕ) → IsAlone item → wanted_elements item ≡ [] → wanted item [] ≡ None
-has_none item alone is = by_option (wanted item []) refl (ap wanted_items (sym alone) ∙ is)
-  where
-    by_option : (o : Option Element) → wanted item [] ≡ o → cons_option (wanted item []) [] ≡ [] → wanted item [] ≡ None
-    by_option None none empty = none
-    by_option (Some f) some empty = absurd (let both : f ∷ [] ≡ [] = sym (ap (λ o. cons_option o []) some) ∙ empty in cc)
+has_none item alone is = grind (arith, nat_tests, alone)
 
 -- ---- the item at an index
 
 pub spaces_within : (item : List ℕ) → spaces_before item ≤ length item
-spaces_within item = within (position (λ b. not (is_space b)) item) (length item) (λ i is. (position-Some (λ b. not (is_space b)) item i 0 is).0)
-  where
-    within : (o : Option ℕ) (n : ℕ) → ((i : ℕ) → o ≡ Some i → i < n) → unwrap_or o n ≤ n
-    within None n some = omega arith
-    within (Some i) n some = omega (arith, some i refl)
+spaces_within item = grind (arith, nat_tests, position-Some)
 
 module _ (header item : List ℕ) (n : ℕ) (below : n < length (items header)) (at : item ≡ get_or (items header) n item) where
   there : slice_get (items header) n ≡ Some item
@@ -97,9 +82,7 @@ module _ (header item : List ℕ) (n : ℕ) (below : n < length (items header)) 
 
   module _ {X : Type 0} (yielded : List X) (x : X) (same : length yielded ≡ n) where
     counted : (b : Bool) → has_range item ≡ b → range_count (take (length (yielded ++ x ∷ [])) (items header)) ≡ range_count (take (length yielded) (items header)) + cond b 1 0
-    counted b is =
-        let next = take_next (items header) yielded x item (subst (λ k. k < length (items header)) (sym same) below) (at ∙ ap (λ k. get_or (items header) k item) (sym same)) in
-        ap range_count next ∙ sum_by-append (λ it. cond (has_range it) 1 0) (take (length yielded) (items header)) (item ∷ []) ∙ rw is (omega arith)
+    counted b is = grind (arith, nat_tests, take_next (items header) yielded x item, sum_by-append)
 
     pub one_more : (e : Element) (es : List Element) → wanted_elements item ≡ e ∷ es → range_count (take (length (yielded ++ x ∷ [])) (items header)) ≡ range_count (take (length yielded) (items header)) + 1
     one_more e es is = counted true (ap is_some (has_one item e es alone is))
@@ -111,11 +94,7 @@ module _ (header item : List ℕ) (n : ℕ) (below : n < length (items header)) 
 
 same_range : (item behind : List ℕ) → is_some (wanted item behind) ≡ has_range item
 unfolding wanted
-same_range item behind = by_test (is_basic_range (hyphened (wanted_text item))) refl
-  where
-    by_test : (b : Bool) → is_basic_range (hyphened (wanted_text item)) ≡ b → is_some (wanted item behind) ≡ has_range item
-    by_test true is = rw is refl
-    by_test false is = rw is refl
+same_range item behind = grind (arith, nat_tests)
 
 length_wanted : (all : List (List ℕ)) → length (wanted_items all) ≡ range_count all
 length_wanted [] = refl

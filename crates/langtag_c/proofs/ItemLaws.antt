@@ -1,10 +1,11 @@
 -- The items of a header that are not empty, by where the first comma stands.
-use Rattle.std.proofs.Common.{◌≡◌, ℕ, ◌+◌, ◌<◌, ◌≤◌, true, false, List, [], ◌∷◌, length, take, drop, inl, inr, refl, ap, sym, ◌∙◌, arith}
-use Rattle.std.specs.List.{All, position_or_len}
+use Rattle.std.proofs.Common.{◌≡◌, ℕ, ◌+◌, ◌<◌, ◌≤◌, true, false, List, [], ◌∷◌, length, take, drop, ap, sym, ◌∙◌, arith}
+use Rattle.std.specs.List.{position_or_len}
 use Rattle.std.proofs.lemmas.Bool.{cases_lt}
 use Rattle.std.proofs.lemmas.List.{take_all, drop_all}
 use Rattle.std.proofs.lemmas.List.Sums.{fails_before_first}
 use Rattle.std.proofs.lemmas.List.Splits.{slice_split_first, slice_split_none}
+use Rattle.std.proofs.lemmas.Bool.Decides.{nat_tests}
 use Rattle.langtag_match.specs.AcceptLanguage.{is_comma, is_ows, items}
 use Rattle.langtag_c.specs.Negotiation.{filled_items}
 use Rattle.langtag_c.specs.Spans.{HasBytes, end_of, span_between, span_text}
@@ -17,24 +18,15 @@ module _ (text : List ℕ) (len : ℕ) (first : len ≡ position_or_len is_comma
 
   -- the last item, which is followed by no other
   last : length text ≤ len → items text ≡ take len text ∷ []
-  last past =
-      let whole = take_all len text past in
-      let free : All (λ b. is_comma b ≡ false) text = λ k d below. fails_before_first is_comma text k d (omega (arith, first)) in
-      slice_split_none is_comma text free ∙ ap (λ t. t ∷ []) (sym whole)
+  last past = grind (arith, nat_tests, take_all len text past, fails_before_first is_comma text, slice_split_none is_comma text)
 
   -- an empty item is passed over
   pub filled_after_empty : is_ows (take len text) ≡ true → filled_items text ≡ filled_items (drop (len + 1) text)
-  filled_after_empty empty = elim (cases_lt len (length text)) [
-    | inl below ↦ rw (cut below, empty) refl
-    | inr past ↦ let none = drop_all (len + 1) text (omega arith) in rw (last past, empty, none) refl
-  ]
+  filled_after_empty empty = grind (arith, nat_tests, cases_lt len (length text), cut, drop_all (len + 1) text, last)
 
   -- and any other is the first
   pub filled_first : is_ows (take len text) ≡ false → filled_items text ≡ take len text ∷ filled_items (drop (len + 1) text)
-  filled_first other = elim (cases_lt len (length text)) [
-    | inl below ↦ rw (cut below, other) refl
-    | inr past ↦ let none = drop_all (len + 1) text (omega arith) in rw (last past, other, none) refl
-  ]
+  filled_first other = grind (arith, nat_tests, cases_lt len (length text), cut, drop_all (len + 1) text, last)
 
 -- ---- the same of spans
 
@@ -57,7 +49,4 @@ module _
   pub item_taken :
       (item : Span) → is_ows (take len list) ≡ false → item ≡ record { start = before.start; len = len } →
       filled_items (span_text header before) ≡ span_text header item ∷ filled_items (span_text header after)
-  item_taken item other item_is =
-      let text : take len list ≡ span_text header item = ap (take len) is ∙ sym (span-first header before len has few) ∙ ap (span_text header) (sym item_is) in
-      ap filled_items (sym is) ∙ filled_first list len first within other ∙ ap (λ t. t ∷ filled_items (drop (len + 1) list)) text
-      ∙ ap (λ t. span_text header item ∷ filled_items t) (sym after_text)
+  item_taken item other item_is = grind (arith, nat_tests, span-first header before len has few, few, filled_first list len first within other, after_text)

@@ -1,11 +1,11 @@
 -- A key and a value of a keyword are UTF-8, and a tag with a keyword set or removed is not empty.
-use Rattle.std.proofs.Common.{◌≡◌, ℕ, ◌+◌, ◌≤◌, Bool, true, false, cond, List, [], ◌∷◌, drop, leb, length, Option, None, Some, refl, ap, arith}
+use Rattle.std.proofs.Common.{◌≡◌, ℕ, ◌+◌, ◌≤◌, true, List, [], ◌∷◌, drop, leb, length, Option, None, refl, ap, arith}
 use Rattle.std.proofs.lemmas.Bool.{and_parts, false≢true}
 use Rattle.std.proofs.lemmas.Str.{IsUtf8-from_ascii}
 use Rattle.std.proofs.lemmas.Str.Ascii.{IsAscii-nil, IsAscii-cons}
 use Rattle.std.specs.List.{AllByRecursion}
-use Rattle.std.specs.Option.{option_map}
 use Rattle.std.specs.Str.{IsUtf8}
+use Rattle.std.proofs.lemmas.Bool.Decides.{nat_tests}
 use Rattle.langtag_likely.specs.Maximal.{IsForm}
 use Rattle.langtag_output.specs.Writes.{Writes}
 use Rattle.langtag_scan.proofs.Ascii.{alphanumeric_below}
@@ -17,8 +17,7 @@ use Rattle.langtag_scan.specs.Class.{is_alphanumeric, is_extension_subtag, is_le
 use Rattle.langtag_scan.specs.Record.{flat}
 use Rattle.langtag_scan.specs.Subtags.{subtags}
 use Rattle.langtag_scan.specs.Tag.{IsNormal}
-use Rattle.langtag_unicode.specs.Edit.{edited_record, invalid_type, invalid_type_from, is_type, is_unicode_key, keyword_error}
-use Rattle.langtag_unicode.specs.declared.keyword_error.KeywordError.TheVariants.{Key, Value}
+use Rattle.langtag_unicode.specs.Edit.{edited_record, invalid_type, invalid_type_from, is_unicode_key, keyword_error}
 use Rattle.langtag_c.proofs.PartLaws.{IsUtf8-joined}
 
 -- ---- a key and a value are UTF-8
@@ -34,23 +33,11 @@ IsUtf8-key (a ∷ b ∷ []) is =
 
 types_subtags : (at : ℕ) (ss : List (List ℕ)) → invalid_type_from at ss ≡ None → AllByRecursion IsSubtag ss
 types_subtags at [] none = tt
-types_subtags at (s ∷ ss) none = by_test (is_type s) refl none (types_subtags (at + (length s + 1)) ss)
-  where
-    by_test :
-        (b : Bool) → is_type s ≡ b → cond b (invalid_type_from (at + (length s + 1)) ss) (Some at) ≡ None →
-        (invalid_type_from (at + (length s + 1)) ss ≡ None → AllByRecursion IsSubtag ss) → AllByRecursion IsSubtag (s ∷ ss)
-    by_test true is none later = (of_extension_subtag s (and_parts (leb 3 (length s)) (is_extension_subtag s) is).1, later none)
-    by_test false is none later = absurd cc
+types_subtags at (s ∷ ss) none =
+    grind (arith, nat_tests, types_subtags (at + (length s + 1)) ss, of_extension_subtag s, and_parts (leb 3 (length s)) (is_extension_subtag s))
 
 accepted : (key : List ℕ) (value : List (List ℕ)) → keyword_error key value ≡ None → (is_unicode_key key ≡ true) × (invalid_type value ≡ None)
-accepted key value none = by_tests (is_unicode_key key) (invalid_type value) refl refl none
-  where
-    by_tests :
-        (b : Bool) (o : Option ℕ) → is_unicode_key key ≡ b → invalid_type value ≡ o → cond b (option_map Value o) (Some Key) ≡ None →
-        (is_unicode_key key ≡ true) × (invalid_type value ≡ None)
-    by_tests true None is all none = (is, all)
-    by_tests true (Some n) is all none = absurd cc
-    by_tests false o is all none = absurd cc
+accepted key value none = grind (arith, nat_tests)
 
 pub IsUtf8-keyword_key : (key : List ℕ) (value : List (List ℕ)) → keyword_error key value ≡ None → IsUtf8 key
 IsUtf8-keyword_key key value none = IsUtf8-key key (accepted key value none).0

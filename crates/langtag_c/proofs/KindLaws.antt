@@ -1,5 +1,6 @@
 -- The number that answers for the kind of a text.
-use Rattle.std.proofs.Common.{ℕ, List, inl, inr, arith}
+use Rattle.std.proofs.Common.{ℕ, List, arith}
+use Rattle.std.proofs.lemmas.Bool.Decides.{nat_tests}
 use Rattle.langtag_scan.specs.Tag.{IsNormal, IsPrivate, IsIrregular, IsTag}
 use Rattle.langtag.proofs.KeptFound.{one_kind}
 use Rattle.langtag_scan.proofs.TagLaws.{tag_normal, tag_private, tag_of_irregular}
@@ -20,6 +21,4 @@ kind_irregular t is_so = grind (arith, tag_of_irregular, one_kind)
 -- a tag of neither of the other kinds is irregular
 pub irregular_left : (t : List ℕ) → IsTag t → (IsNormal t → ⊥) → (IsPrivate t → ⊥) → IsIrregular t
 unfolding IsTag
-irregular_left t (inl is_so) no_normal no_private = absurd (no_normal is_so)
-irregular_left t (inr (inl is_so)) no_normal no_private = absurd (no_private is_so)
-irregular_left t (inr (inr is_so)) no_normal no_private = is_so
+irregular_left t tag no_normal no_private = grind (arith, nat_tests)

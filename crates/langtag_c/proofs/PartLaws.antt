@@ -1,9 +1,10 @@
 -- A part of the library that is set: what it does to a tag its text does, and that is ASCII.
-use Rattle.std.proofs.Common.{◌≡◌, ℕ, ◌≤◌, List, [], ◌∷◌, length, Option, None, Some, MatchOption, unwrap_or, refl, sym, ap, subst, ◌∙◌, arith}
+use Rattle.std.proofs.Common.{◌≡◌, ℕ, ◌≤◌, List, [], ◌∷◌, length, Option, None, Some, MatchOption, unwrap_or, refl, sym, ap, ◌∙◌, arith}
 use Rattle.std.specs.List.{AllByRecursion, flat_map}
 use Rattle.std.specs.Option.{option_map}
 use Rattle.std.specs.Str.{IsUtf8}
 use Rattle.std.proofs.lemmas.Str.{IsUtf8-from_ascii}
+use Rattle.std.proofs.lemmas.Grind.{common_steps}
 use Rattle.langtag_scan.specs.Class.{is_extended, is_variant}
 use Rattle.langtag_scan.specs.Record.{extension_flat}
 use Rattle.langtag_scan.specs.Subtags.{join}
@@ -12,14 +13,11 @@ use Rattle.langtag_extension.proofs.Rules.{all_subtags-flat}
 use Rattle.langtag_scan.proofs.SubtagFacts.{IsSubtag, of_extended, of_primary, of_region, of_script, of_variant}
 use Rattle.langtag_scan.proofs.SubtagLists.{each_subtag}
 use Rattle.langtag_scan.proofs.TagLaws.{tag_private}
-use Rattle.langtag_place.specs.Text.{region_text, script_text}
-use Rattle.langtag_private.specs.Text.{private_use_text}
 use Rattle.langtag_private.proofs.Rules.{IsPrivate-from_test}
 use Rattle.langtag.specs.Edit.{SetsLanguage, SetsScript, SetsRegion, SetsVariants, SetsExtensions, SetsPrivateUse}
 use Rattle.langtag.specs.Edit as typed
 use Rattle.langtag.specs.Text.{part_text}
 use Rattle.langtag.specs.declared.part.Part.{Part}
-use Rattle.langtag.specs.declared.part.Part.TheVariants.{Language, Script, Region, Variants, Extensions, PrivateUse}
 use Rattle.langtag_c.specs.Setting.{PartName, language, script, region, variants, extensions, private_use, IsPartText, IsTextOf, SetsNamedPart, name_of, part_numbered}
 use Rattle.langtag_unicode.specs.Transform.{some_text}
 use Rattle.langtag_c.proofs.TagLengths.{some_tag}
@@ -38,15 +36,7 @@ same_part text_of some None text is = ap some_text is
 same_part text_of some (Some x) text is = sym (filled (text_of x) (some x)) ∙ ap some_text is
 
 pub part_sets : (p : Part) (text old new : List ℕ) → part_text p ≡ text → typed.SetsPart p old new → SetsNamedPart (name_of p) text old new
-part_sets (Language part) text old new is set = subst (λ t. SetsLanguage t old new) is set
-part_sets (Script part) text old new is set =
-    subst (λ t. SetsScript t old new) (same_part script_text (λ s. (of_script _ s.in_class).some) part text is) set
-part_sets (Region part) text old new is set =
-    subst (λ t. SetsRegion t old new) (same_part region_text (λ s. (of_region _ s.in_class).some) part text is) set
-part_sets (Variants part) text old new is set = subst (λ t. SetsVariants t old new) is set
-part_sets (Extensions part) text old new is set = subst (λ t. SetsExtensions t old new) is set
-part_sets (PrivateUse part) text old new is set =
-    subst (λ t. SetsPrivateUse t old new) (same_part private_use_text (λ p. some_tag _ (tag_private _ (IsPrivate-from_test _ p.in_class))) part text is) set
+part_sets p text old new is set = grind (arith, common_steps, same_part, of_script, of_region, some_tag, tag_private, IsPrivate-from_test)
 
 -- ---- bytes that are not UTF-8 are no text of a part
 

@@ -1,6 +1,8 @@
 -- What a span of a span has.
 use Rattle.std.proofs.Common.{◌≡◌, ℕ, ◌+◌, ◌-◌, ◌≤◌, List, length, take, drop, ap, ◌∙◌, arith}
 use Rattle.std.proofs.lemmas.List.{drop-drop, drop-take, take-take, length-take}
+use Rattle.std.proofs.lemmas.Bool.Decides.{nat_tests}
+use Rattle.std.proofs.lemmas.Grind.{common_steps}
 use Rattle.langtag_c.specs.Spans.{end_of, span_text}
 use Rattle.langtag_c.specs.declared.span.Span.{Span}
 
@@ -17,20 +19,10 @@ front_text text n span few =
 pub inner_text :
     (text : List ℕ) (outer inner : Span) → end_of inner ≤ length (span_text text outer) →
     span_text (span_text text outer) inner ≡ span_text text (record { start = outer.start + inner.start; len = inner.len })
-inner_text text outer inner within =
-    let k = outer.start + outer.len - outer.start in
-    let few : end_of inner ≤ k = omega (arith, within, length-take k (drop outer.start text)) in
-    let size : inner.start + inner.len - inner.start ≡ outer.start + inner.start + inner.len - (outer.start + inner.start) = omega arith in
-    front_text (drop outer.start text) k inner few
-    ∙ ap (take (inner.start + inner.len - inner.start)) (drop-drop inner.start outer.start text)
-    ∙ ap (λ n. take n (drop (outer.start + inner.start) text)) size
+inner_text text outer inner within = grind (arith, nat_tests, length-take, front_text (drop outer.start text), drop-drop inner.start outer.start text)
 
 -- what stands in a span before an index in it
 pub begin_text :
     (text : List ℕ) (outer : Span) (start : ℕ) → start ≤ length (span_text text outer) →
     take start (span_text text outer) ≡ take (outer.start + start - outer.start) (drop outer.start text)
-begin_text text outer start within =
-    let k = outer.start + outer.len - outer.start in
-    let size : start ≡ outer.start + start - outer.start = omega arith in
-    take-take start k (drop outer.start text) (omega (arith, within, length-take k (drop outer.start text)))
-    ∙ ap (λ n. take n (drop outer.start text)) size
+begin_text text outer start within = grind (arith, common_steps, take-take, length-take)

@@ -1,8 +1,7 @@
 -- What spans of a text are: language ranges, where they have them.
-use Rattle.std.proofs.Common.{◌≡◌, ℕ, ◌≤◌, List, [], ◌∷◌, length, Option, None, Some, refl, arith}
-use Rattle.std.specs.List.{cons_option}
+use Rattle.std.proofs.Common.{◌≡◌, ℕ, ◌≤◌, List, [], ◌∷◌, length, None, refl, arith}
 use Rattle.std.proofs.lemmas.Bool.{false_from_ne_true}
-use Rattle.langtag_match.specs.AcceptLanguage.{Element}
+use Rattle.std.proofs.lemmas.Bool.Decides.{nat_tests}
 use Rattle.langtag_match.specs.Listed.{listed}
 use Rattle.langtag_c.specs.Choice.{range_at, ranges_at}
 use Rattle.langtag_c.specs.Spans.{HasBytes, has_bytes, span_text}
@@ -17,8 +16,4 @@ no_range text span none = rw (false_from_ne_true (has_bytes text span) (λ yes. 
 
 pub few_ranges : (text : List ℕ) (spans : List Span) → length (ranges_at text spans) ≤ length spans
 few_ranges text [] = omega arith
-few_ranges text (span ∷ spans) = by_first (range_at text span) (few_ranges text spans)
-  where
-    by_first : (first : Option Element) → length (ranges_at text spans) ≤ length spans → length (cons_option first (ranges_at text spans)) ≤ length (span ∷ spans)
-    by_first None few = omega (arith, few)
-    by_first (Some element) few = omega (arith, few)
+few_ranges text (span ∷ spans) = grind (arith, nat_tests, few_ranges text spans)

@@ -1,8 +1,15 @@
 -- What AcceptLanguage reads of a list is what it reads of the items that are not empty.
-use Rattle.std.proofs.Common.{◌≡◌, ℕ, zero, suc, Bool, true, false, not, List, [], ◌∷◌, Option, Some, None, is_some, filter, take, reverse, refl, ap}
-use Rattle.std.specs.List.{before_first, filter_map, list_all, position_or_len}
+use Rattle.std.proofs.Common.{◌≡◌, ℕ, zero, suc, true, not, List, [], ◌∷◌, None, is_some, filter, take, refl, ap, ◌+◌, ◌-◌, length, arith}
+use Rattle.std.specs.List.{filter_map, list_all}
 use Rattle.std.proofs.lemmas.Bool.{and_parts}
-use Rattle.langtag_match.specs.AcceptLanguage.{Element, are_good, element, elements, from_first, is_ows, is_semicolon, is_space, items, range_of}
+use Rattle.std.proofs.lemmas.List.{take_all}
+use Rattle.std.proofs.lemmas.Bool.Decides.{nat_tests}
+use Rattle.std.proofs.lemmas.Grind.{common_steps}
+use Rattle.langtag_c.proofs.FoundExtension.{nothing-in}
+use Rattle.langtag_c.specs.declared.span.Span.{Span}
+use Rattle.langtag_c.specs.Spans.{span_text}
+use Rattle.langtag_c.specs.Negotiation.{filled_items}
+use Rattle.langtag_match.specs.AcceptLanguage.{are_good, element, elements, from_first, is_ows, is_space, items}
 
 -- an empty item is not an element
 spaces_trimmed : (text : List ℕ) → is_ows text ≡ true → from_first text ≡ []
@@ -16,28 +23,20 @@ spaces_taken (suc n) (b ∷ text) spaces = let k = and_parts (is_space b) (is_ow
 
 empty_no_element : (item : List ℕ) → is_ows item ≡ true → element item ≡ None
 unfolding element
-empty_no_element item spaces =
-    let range : range_of item ≡ [] = ap (λ t. reverse (from_first (reverse t))) (spaces_trimmed (before_first is_semicolon item) (spaces_taken (position_or_len is_semicolon item) item spaces)) in
-    rw range refl
+empty_no_element item spaces = grind (arith, common_steps, spaces_trimmed, spaces_taken)
 
 pub same_elements : (items : List (List ℕ)) → elements items ≡ filter_map element (filter (λ item. not (is_ows item)) items)
 same_elements [] = refl
-same_elements (item ∷ items) = by_first (is_ows item) (element item) refl refl (same_elements items)
-  where
-    by_first :
-        (empty : Bool) (found : Option Element) → is_ows item ≡ empty → element item ≡ found →
-        elements items ≡ filter_map element (filter (λ item. not (is_ows item)) items) →
-        elements (item ∷ items) ≡ filter_map element (filter (λ item. not (is_ows item)) (item ∷ items))
-    by_first true found is at others = rw (is, empty_no_element item is) others
-    by_first false None is none others = rw (is, none) others
-    by_first false (Some e) is some others = rw (is, some) (ap (λ es. e ∷ es) others)
+same_elements (item ∷ items) = grind (arith, nat_tests, same_elements items, empty_no_element)
 
 pub same_good : (items : List (List ℕ)) → are_good items ≡ list_all (λ item. is_some (element item)) (filter (λ item. not (is_ows item)) items)
 same_good [] = refl
-same_good (item ∷ items) = by_first (is_ows item) refl (same_good items)
-  where
-    by_first :
-        (empty : Bool) → is_ows item ≡ empty → are_good items ≡ list_all (λ item. is_some (element item)) (filter (λ item. not (is_ows item)) items) →
-        are_good (item ∷ items) ≡ list_all (λ item. is_some (element item)) (filter (λ item. not (is_ows item)) (item ∷ items))
-    by_first true is others = rw is others
-    by_first false is others = rw (is, others) refl
+same_good (item ∷ items) = grind (arith, nat_tests, same_good items)
+
+-- all of a header is a span of it
+pub whole_elements : (header : List ℕ) → elements (filled_items (span_text header (record { start = 0; len = length header }))) ≡ elements (items header)
+whole_elements header = grind (arith, nat_tests, take_all (0 + length header - 0) header, same_elements (items header))
+
+-- no bytes are no item
+pub nothing_filled : (header : List ℕ) (rest : Span) → rest.len ≡ 0 → filled_items (span_text header rest) ≡ []
+nothing_filled header rest none = ap filled_items (nothing-in header rest none)

@@ -5,6 +5,8 @@ use Rattle.std.specs.Option.{option_and_then, option_map}
 use Rattle.std.proofs.lemmas.List.{length-append}
 use Rattle.std.proofs.lemmas.List.Concat.{length-flat_map}
 use Rattle.std.proofs.lemmas.Option.{slice_get-map}
+use Rattle.std.proofs.lemmas.Bool.Decides.{nat_tests}
+use Rattle.std.proofs.lemmas.Grind.{common_steps}
 use Rattle.langtag_scan.specs.Ends.{ends_of, to_region, to_variants}
 use Rattle.langtag_scan.specs.Record.{Record, Extension, IsWellFormed, extension_flat}
 use Rattle.langtag_scan.specs.Parts.{extensions_part}
@@ -35,18 +37,14 @@ pub spans_after-at :
     slice_get (spans_after size end texts) k ≡ option_map (λ text. after (end + length (hyphenated (take k texts))) (size text)) (slice_get texts k)
 spans_after-at size end [] k = refl
 spans_after-at size end (x ∷ xs) zero = let start : end ≡ end + 0 = omega arith in ap (λ n. Some (after n (size x))) start
-spans_after-at size end (x ∷ xs) (suc k) =
-    let start : end + 1 + length x + length (hyphenated (take k xs)) ≡ end + length (hyphenated (take (suc k) (x ∷ xs))) = omega (arith, length-append x (hyphenated (take k xs))) in
-    spans_after-at size (end + 1 + length x) xs k ∙ ap (λ n. option_map (λ text. after n (size text)) (slice_get xs k)) start
+spans_after-at size end (x ∷ xs) (suc k) = grind (arith, common_steps, spans_after-at size (end + 1 + length x) xs k, hyphenated, length-append)
 
 -- the variants follow the end of the region, up to their own
 pub length-variants : (r : Record) (vs : List (List ℕ)) → length (join (to_region r ++ vs)) ≡ (ends_of r).region + length (hyphenated vs)
 length-variants r vs = length-join-append r.primary (drop 1 (to_region r)) vs
 
 pub variants_end : (r : Record) → (ends_of r).region + sum_by width r.variants ≡ (ends_of r).variants
-variants_end r =
-    ap (λ n. (ends_of r).region + n) (sym (length-flat_map (λ s. 45 ∷ s) r.variants)) ∙ sym (length-variants r r.variants)
-    ∙ ap (λ ss. length (join (r.primary ∷ ss))) (simp append_assoc)
+variants_end r = grind (arith, nat_tests, length-flat_map, length-variants r r.variants, append_assoc)
 
 -- the singletons follow the end of the variants, up to that of the extensions
 hyphenated-spellings : (es : List Extension) → hyphenated (flat_map extension_flat es) ≡ hyphenated (map extension_spelling es)
@@ -61,9 +59,7 @@ length-extensions r es =
     length-join-append r.primary (drop 1 (to_variants r)) (flat_map extension_flat es) ∙ ap (λ t. (ends_of r).variants + length t) (hyphenated-spellings es)
 
 pub extensions_end : (r : Record) → (ends_of r).variants + sum_by width (map extension_spelling r.extensions) ≡ (ends_of r).extensions
-extensions_end r =
-    ap (λ n. (ends_of r).variants + n) (sym (length-flat_map (λ s. 45 ∷ s) (map extension_spelling r.extensions))) ∙ sym (length-extensions r r.extensions)
-    ∙ ap (λ ss. length (join (r.primary ∷ ss))) (simp append_assoc)
+extensions_end r = grind (arith, nat_tests, length-flat_map, length-extensions r r.extensions, append_assoc)
 
 -- a span that no member changes
 pub option_map-same : {A B C : Type 0} (f : A → B) (z : C) (o : Option A) → option_map (λ _. z) (option_map f o) ≡ option_map (λ _. z) o
@@ -80,6 +76,4 @@ is_some-map f (Some x) = refl
 pub is_some-span :
     {A B : Type 0} (place : List A → A → Span) (f : A → B) (xs : List A) (index : Option ℕ) →
     is_some (member_span place xs index) ≡ is_some (option_and_then (slice_get (map f xs)) index)
-is_some-span place f xs None = refl
-is_some-span place f xs (Some k) =
-    is_some-map (place (take k xs)) (slice_get xs k) ∙ sym (is_some-map f (slice_get xs k)) ∙ ap is_some (sym (slice_get-map f xs k))
+is_some-span place f xs index = grind (arith, nat_tests, is_some-map, is_some-map f, slice_get-map f xs)

@@ -1,7 +1,7 @@
 -- What the spans that are kept say of the text.
-use Rattle.std.proofs.Common.{◌≡◌, ◌+◌, ◌-◌, ◌≤◌, ℕ, Bool, List, [], length, min, take, drop, unwrap_or, ap, sym, ◌∙◌, arith, inl, inr}
+use Rattle.std.proofs.Common.{◌≡◌, ◌+◌, ◌-◌, ◌≤◌, ℕ, Bool, List, [], length, take, unwrap_or, ap, ◌∙◌, arith}
 use Rattle.std.specs.List.{after_first, position_or_len}
-use Rattle.std.proofs.lemmas.Bool.Decides.{eqb_tells}
+use Rattle.std.proofs.lemmas.Bool.Decides.{eqb_tells, nat_tests}
 use Rattle.std.proofs.lemmas.List.{drop_min, length-drop, take_all}
 use Rattle.langtag_scan.specs.Ends.{HasEnds}
 use Rattle.langtag_scan.specs.Parts.{text_between}
@@ -13,10 +13,7 @@ use Rattle.langtag_c.specs.Spans.{span_text, span_between, spans_at, ArePartsOf}
 
 -- the span between two ends has what stands between them
 pub between_text : (text : List ℕ) (before end : ℕ) → before ≤ end → span_text text (span_between before end) ≡ unwrap_or (text_between text before end) []
-between_text text before end le = elim (eqb_tells before end) [
-  | inl same ↦ let none : end + 0 - end ≡ 0 = omega arith in rw same.0 (ap (λ n. take n (drop end text)) none)
-  | inr other ↦ let size : before + 1 + (end - before - 1) ≡ end = omega (arith, le, other.1) in rw other.0 (ap (λ n. take (n - (before + 1)) (drop (before + 1) text)) size)
-]
+between_text text before end le = grind (arith, nat_tests, eqb_tells before end)
 
 pub spans_parts : (text : List ℕ) (ends : Ends) → HasEnds text ends → EachRecord text (λ r. ArePartsOf text r (spans_at ends))
 spans_parts text ends h r spells =
@@ -34,14 +31,4 @@ spans_parts text ends h r spells =
 pub end_after_first :
     (p : ℕ → Bool) (text end : List ℕ) → end ≡ after_first p text →
     (length end ≤ length text) × (span_text text (record { start = length text - length end; len = length end }) ≡ after_first p text)
-end_after_first p text end is =
-    let at = min (position_or_len p text + 1) (length text) in
-    let few : at ≤ length text = omega arith in
-    let whole : drop at text ≡ after_first p text = drop_min (position_or_len p text + 1) text in
-    let size : length end ≡ length text - at = ap length (is ∙ sym whole) ∙ length-drop at text in
-    let start : length text - length end ≡ at = omega (arith, size, few) in
-    let count : length text - length end + length end - (length text - length end) ≡ length (drop at text) = omega (arith, size, length-drop at text) in (
-      omega (arith, size),
-      ap (λ n. take n (drop (length text - length end) text)) count ∙ ap (λ n. take (length (drop at text)) (drop n text)) start
-          ∙ take_all (length (drop at text)) (drop at text) (omega arith) ∙ whole,
-    )
+end_after_first p text end is = grind (arith, nat_tests, drop_min (position_or_len p text + 1) text, length-drop, take_all)

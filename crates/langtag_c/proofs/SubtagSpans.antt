@@ -1,5 +1,5 @@
 -- The subtags of a span, one after another.
-use Rattle.std.proofs.Common.{◌≡◌, ℕ, zero, suc, ◌+◌, ◌-◌, ◌<◌, ◌≤◌, Bool, true, false, cond, ◌&&◌, Some, List, [], ◌∷◌, ◌++◌, length, take, drop, slice_index, inl, inr, refl, ap, sym, subst, ◌∙◌, arith}
+use Rattle.std.proofs.Common.{◌≡◌, ℕ, zero, suc, ◌+◌, ◌-◌, ◌<◌, ◌≤◌, Bool, true, false, List, [], ◌∷◌, ◌++◌, length, take, drop, slice_index, inl, inr, refl, ap, sym, subst, ◌∙◌, arith}
 use Rattle.std.specs.List.{AllByRecursion, list_any}
 use Rattle.std.proofs.lemmas.Bool.{cases_lt}
 use Rattle.std.proofs.lemmas.Grind.{common_steps}
@@ -8,13 +8,12 @@ use Rattle.std.proofs.lemmas.List.Splits.{slice_split_at, slice_split_none}
 use Rattle.langtag_scan.specs.Subtags.{is_hyphen, IsHyphenFree, NoHyphenWithin, join, segments, subtags}
 use Rattle.langtag_scan.proofs.SubtagLists.{length-subtags, subtags-segments}
 use Rattle.langtag_unicode.specs.Keys.{length_with_hyphens}
-use Rattle.langtag_scan.specs.Case.{are_alike}
-use Rattle.langtag_unicode.specs.Keywords.{before_key, value_of}
+use Rattle.langtag_unicode.specs.Keywords.{before_key}
 use Rattle.langtag_unicode.proofs.SubtagTexts.{length-before_key, take-before_key}
 use Rattle.langtag_c.specs.Keywords.{HasSubtags, subtags_in}
 use Rattle.langtag_c.specs.Spans.{HasBytes, IsWithin, end_of, span_between, span_text}
 use Rattle.langtag_c.specs.declared.span.Span.{Span}
-use Rattle.langtag_c.proofs.ExtensionSpans.{length-span, span-first, span-rest}
+use Rattle.langtag_c.proofs.ExtensionSpans.{length-span, span-rest}
 
 -- no subtag is empty
 abbrev pub AllSome : List (List ℕ) → Type 0
@@ -78,10 +77,6 @@ module _
     some = (subst AllSome span-subtags some.some).1;
   }
 
-  -- the text of the first
-  pub span-taken : (first : Span) → first ≡ record { start = before.start; len = len } → span_text text first ≡ take len part
-  span-taken first first_is = ap (span_text text) first_is ∙ span-first text before len has few ∙ ap (take len) (sym is)
-
 -- ---- some first subtags
 
 -- how many bytes, and how many subtags, a span has at most
@@ -103,10 +98,6 @@ pub any-passed :
 any-passed test zero s ss some other = absurd (omega (arith, some))
 any-passed test (suc n) s ss some other = let before : suc n - 1 ≡ n = omega arith in rw (other, before) refl
 
-pub drop-passed : (n : ℕ) (s : List ℕ) (ss : List (List ℕ)) → 0 < n → drop (n - 1) ss ≡ drop n (s ∷ ss)
-drop-passed zero s ss some = absurd (omega (arith, some))
-drop-passed (suc n) s ss some = let before : suc n - 1 ≡ n = omega arith in rw before refl
-
 -- what is left after one more
 pub drop-next : (all : List (List ℕ)) (n : ℕ) (s : List ℕ) (ss : List (List ℕ)) → drop n all ≡ s ∷ ss → ss ≡ drop (n + 1) all
 drop-next all n s ss left = sym (ap (drop 1) left) ∙ drop-drop 1 n all
@@ -127,22 +118,3 @@ span-before_key test text span n within is =
           ∙ take-before_key test (span_text text span) n is,
       omega (arith, few, within),
     )
-
-pub taken-size : (part : List ℕ) (len : ℕ) → len ≤ length part → length (take len part) ≡ len
-taken-size part len within = omega (arith, within, length-take len part)
-
--- ---- the value of a key
-
-module _ (test : List ℕ → Bool) (key s : List ℕ) (ss : List (List ℕ)) where
-  pub value-found : test s ≡ true → are_alike s key ≡ true → value_of test key (s ∷ ss) ≡ Some (before_key test ss)
-  value-found is same = rw (is, same) refl
-
-  pub value-passed-other : test s ≡ false → value_of test key (s ∷ ss) ≡ value_of test key ss
-  value-passed-other other = rw other refl
-
-  pub value-passed-key : are_alike s key ≡ false → value_of test key (s ∷ ss) ≡ value_of test key ss
-  value-passed-key apart = by_test (test s)
-    where
-      by_test : (b : Bool) → cond (b && are_alike s key) (Some (before_key test ss)) (value_of test key ss) ≡ value_of test key ss
-      by_test true = rw apart refl
-      by_test false = refl

@@ -1,9 +1,9 @@
 -- What is suggested for bytes: they are UTF-8, as a language and a region are.
-use Rattle.std.proofs.Common.{◌≡◌, ℕ, true, false, Bool, cond, List, Option, None, refl}
-use Rattle.std.specs.Prelude.{◌==◌}
+use Rattle.std.proofs.Common.{◌≡◌, ℕ, List, None, refl, arith}
 use Rattle.std.specs.Str.{IsUtf8}
 use Rattle.std.proofs.lemmas.Bool.{false_from_ne_true}
 use Rattle.std.proofs.lemmas.Str.{IsUtf8-from_ascii}
+use Rattle.std.proofs.lemmas.Bool.Decides.{nat_tests}
 use Rattle.langtag_scan.specs.Class.{is_primary, is_region, is_alphanumeric}
 use Rattle.langtag_scan.proofs.Ascii.{IsAscii-each, alphanumeric_below}
 use Rattle.langtag_scan.proofs.SubtagFacts.{IsSubtag, of_primary, of_region}
@@ -23,11 +23,6 @@ no_region s other = rw (false_from_ne_true (is_region s) (λ is. other (IsUtf8-s
 
 -- other bytes are no code
 pub none_suggested : (fault : ℕ) (s : List ℕ) → (IsUtf8 s → ⊥) → suggested fault s ≡ None
-none_suggested fault s other = rw (no_language s other, no_region s other) (by_tests (fault == 2) (fault == 6) None)
-  where
-    by_tests : (a b : Bool) (o : Option (List ℕ)) → cond a o (cond b o o) ≡ o
-    by_tests true b o = refl
-    by_tests false true o = refl
-    by_tests false false o = refl
+none_suggested fault s other = grind (arith, nat_tests, no_language s other, no_region s other)
 
 pub ruleset utf8_suggested = (none_suggested)

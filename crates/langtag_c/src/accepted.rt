@@ -1,5 +1,5 @@
 //! A walk over the elements of an Accept-Language header (RFC 9110 section 12.5.4), without allocating.
-ghost use Rattle.std.specs.Prelude.{◌≡◌, ◌↔◌, ◌≤◌, [], IfSome, None, is_some, length};
+ghost use Rattle.std.specs.Prelude.{◌≡◌, ◌↔◌, ◌<◌, ◌≤◌, [], IfSome, None, is_some, length};
 ghost use Rattle.std.specs.List.{filter_map, list_all};
 ghost use Rattle.langtag_match.specs.AcceptLanguage as spec;
 ghost use Rattle.langtag_match.specs.declared.accept_language_error.ElementPart.TheVariants.{Range, Weight};
@@ -53,12 +53,15 @@ pub extern "C" fn langtag_next_accepted(
 }
 
 /// Removes the first item that is not empty from a list, together with the comma after it.
-fn next_item(header: &[u8], rest: &mut Span) -> Option<Span>
+#[tactic(auto, using(crate::proofs::ReadingLaws::nothing_filled))]
+pub(crate) fn next_item(header: &[u8], rest: &mut Span) -> Option<Span>
     ensures within { IfSome result (IsWithin header.now) }
     ensures taken { IfSome result (TakesItem header.now rest.old rest.new) }
     ensures some { IfSome result (λ _. HasBytes header.now rest.old) }
-    ensures none { result ≡ None → HasBytes header.now rest.old → filled_items (span_text header.now rest.old) ≡ [] }
+    ensures none { result ≡ None → IsWithin header.now rest.old → filled_items (span_text header.now rest.old) ≡ [] }
     ensures nothing { result ≡ None → rest.new ≡ rest.old }
+    ensures shorter { IfSome result (λ _. rest.new.len < rest.old.len) }
+    ensures left { IfSome result (λ _. IsWithin header.now rest.new) }
 {
     let mut left = *rest;
     while let Some(list) = left.of(header) {

@@ -87,13 +87,11 @@ fn len_before_key(bytes: &[u8], subtags: Span, keys: Keys) -> usize
 {
     let mut rest = subtags;
     let mut len = 0;
-    while let Some(part) = rest.of(bytes) {
-        let end = segment_end(part, 0);
-        if keys.has(&part[..end]) {
+    while let Some((_, subtag)) = take_subtag(bytes, &mut rest) {
+        if keys.has(subtag) {
             return len;
         }
-        rest.take_first(end);
-        len += end + 1;
+        len += subtag.len() + 1;
     }
     len
 }
@@ -105,10 +103,7 @@ pub(crate) fn value_of(bytes: &[u8], subtags: Span, keys: Keys, key: &[u8]) -> O
     ensures within { IfSome result (IsWithin bytes.now) }
 {
     let mut rest = subtags;
-    while let Some(part) = rest.of(bytes) {
-        let len = segment_end(part, 0);
-        let subtag = &part[..len];
-        rest.take_first(len);
+    while let Some((_, subtag)) = take_subtag(bytes, &mut rest) {
         if keys.has(subtag) && case_insensitive_eq(subtag, key) {
             return Some(before_key(bytes, rest, keys));
         }
@@ -123,15 +118,13 @@ fn is_among_first(bytes: &[u8], subtags: Span, count: usize, subtag: &[u8]) -> b
 {
     let mut rest = subtags;
     let mut left = count;
-    while let Some(part) = rest.of(bytes) {
+    while let Some((_, other)) = take_subtag(bytes, &mut rest) {
         if left == 0 {
             return false;
         }
-        let len = segment_end(part, 0);
-        if case_insensitive_eq(subtag, &part[..len]) {
+        if case_insensitive_eq(subtag, other) {
             return true;
         }
-        rest.take_first(len);
         left -= 1;
     }
     false
@@ -145,11 +138,10 @@ fn after_first(bytes: &[u8], subtags: Span, count: usize) -> Span
 {
     let mut rest = subtags;
     let mut left = count;
-    while let Some(part) = rest.of(bytes) {
-        if left == 0 {
+    while left > 0 {
+        if take_subtag(bytes, &mut rest).is_none() {
             return rest;
         }
-        rest.take_first(segment_end(part, 0));
         left -= 1;
     }
     rest
@@ -180,10 +172,8 @@ pub(crate) fn next_key(
 {
     let mut rest = after_first(bytes, subtags, *passed);
     let mut count = *passed;
-    while let Some(part) = rest.of(bytes) {
-        let len = segment_end(part, 0);
-        let key = rest.take_first(len);
-        if is_new_key(bytes, subtags, keys, count, &part[..len]) {
+    while let Some((key, subtag)) = take_subtag(bytes, &mut rest) {
+        if is_new_key(bytes, subtags, keys, count, subtag) {
             *passed = count + 1;
             let value = before_key(bytes, rest, keys);
             return Some(KeyPlace { key, value });
@@ -191,4 +181,19 @@ pub(crate) fn next_key(
         count += 1;
     }
     None
+}
+
+/// Removes the first of some subtags, with the hyphen after it. Returns its span and its text.
+fn take_subtag<'a>(bytes: &'a [u8], rest: &mut Span) -> Option<(Span, &'a [u8])>
+    requires { HasSubtags bytes.now rest.old }
+    ensures subtags { MatchOption result (subtags_in bytes.now rest.old ≡ []) (λ taken. subtags_in bytes.now rest.old ≡ taken.1.now ∷ subtags_in bytes.now rest.new) }
+    ensures left { HasSubtags bytes.now rest.new }
+    ensures nothing { result ≡ None → rest.new ≡ rest.old }
+    ensures place { IfSome result (λ taken. IsWithin bytes.now taken.0 × (span_text bytes.now taken.0 ≡ taken.1.now)) }
+    ensures shorter { IfSome result (λ _. rest.new.len < rest.old.len) }
+{
+    let part = rest.of(bytes)?;
+    let len = segment_end(part, 0);
+    let subtag = rest.take_first(len);
+    Some((subtag, &part[..len]))
 }

@@ -13,7 +13,7 @@ ghost use Rattle.langtag_c.specs.Spans.{empty_at};
 ghost use Rattle.langtag_c.specs.TagsAt.{tag_at, tags_at};
 ghost use Rattle.langtag_c.specs.Heaviest.{heaviest};
 
-use crate::accepted::number_of;
+use crate::accepted::{next_item, number_of};
 use crate::span::Span;
 use crate::spanned_tags::{SpannedTags, bytes_in, tag_in};
 use langtag_match::{ElementPart, LanguageRange, element_at, is_empty_element};
@@ -74,13 +74,18 @@ pub extern "C" fn langtag_tag_for_header_lenient(
 
 /// Returns the index of the tag for the element of the greatest weight that finds a tag. If several elements have
 /// this weight, the first counts.
+#[tactic(auto, using(crate::proofs::ReadingLaws::whole_elements))]
 fn heaviest_found(header: &[u8], tags: &SpannedTags<'_>) -> Option<usize>
     ensures { result ≡ heaviest (tags_at tags.now.text.now tags.now.spans.now) (elements (items header.now)) None 0 }
 {
+    let mut rest = Span {
+        start: 0,
+        len: header.len(),
+    };
     let mut found = None;
     let mut weight = 0;
-    for item in header.split(|byte| is_comma(*byte)) {
-        let Ok(element) = element_at(item) else {
+    while let Some(item) = next_item(header, &mut rest) {
+        let Ok(element) = element_at(&header[item.start..item.start + item.len]) else {
             continue;
         };
         if element.weighted.weight <= weight {

@@ -37,7 +37,7 @@ pub fn langtag_next_accepted(
 }
 
 /// Removes the first item that is not empty from a list, together with the comma after it.
-fn next_item(header: &[u8], rest: &mut Span) -> Option<Span> {
+pub(crate) fn next_item(header: &[u8], rest: &mut Span) -> Option<Span> {
     let mut left = *rest;
     while let Some(list) = left.of(header) {
         let len = len_before(list, b',');

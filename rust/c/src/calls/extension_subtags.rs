@@ -56,13 +56,11 @@ pub(crate) fn before_key(bytes: &[u8], subtags: Span, keys: Keys) -> Span {
 fn len_before_key(bytes: &[u8], subtags: Span, keys: Keys) -> usize {
     let mut rest = subtags;
     let mut len = 0;
-    while let Some(part) = rest.of(bytes) {
-        let end = segment_end(part, 0);
-        if keys.has(&part[..end]) {
+    while let Some((_, subtag)) = take_subtag(bytes, &mut rest) {
+        if keys.has(subtag) {
             return len;
         }
-        rest.take_first(end);
-        len += end + 1;
+        len += subtag.len() + 1;
     }
     len
 }
@@ -70,10 +68,7 @@ fn len_before_key(bytes: &[u8], subtags: Span, keys: Keys) -> usize {
 /// Returns the value of the first key that equals a text, ignoring case.
 pub(crate) fn value_of(bytes: &[u8], subtags: Span, keys: Keys, key: &[u8]) -> Option<Span> {
     let mut rest = subtags;
-    while let Some(part) = rest.of(bytes) {
-        let len = segment_end(part, 0);
-        let subtag = &part[..len];
-        rest.take_first(len);
+    while let Some((_, subtag)) = take_subtag(bytes, &mut rest) {
         if keys.has(subtag) && case_insensitive_eq(subtag, key) {
             return Some(before_key(bytes, rest, keys));
         }
@@ -85,15 +80,13 @@ pub(crate) fn value_of(bytes: &[u8], subtags: Span, keys: Keys, key: &[u8]) -> O
 fn is_among_first(bytes: &[u8], subtags: Span, count: usize, subtag: &[u8]) -> bool {
     let mut rest = subtags;
     let mut left = count;
-    while let Some(part) = rest.of(bytes) {
+    while let Some((_, other)) = take_subtag(bytes, &mut rest) {
         if left == 0 {
             return false;
         }
-        let len = segment_end(part, 0);
-        if case_insensitive_eq(subtag, &part[..len]) {
+        if case_insensitive_eq(subtag, other) {
             return true;
         }
-        rest.take_first(len);
         left -= 1;
     }
     false
@@ -103,11 +96,10 @@ fn is_among_first(bytes: &[u8], subtags: Span, count: usize, subtag: &[u8]) -> b
 fn after_first(bytes: &[u8], subtags: Span, count: usize) -> Span {
     let mut rest = subtags;
     let mut left = count;
-    while let Some(part) = rest.of(bytes) {
-        if left == 0 {
+    while left > 0 {
+        if take_subtag(bytes, &mut rest).is_none() {
             return rest;
         }
-        rest.take_first(segment_end(part, 0));
         left -= 1;
     }
     rest
@@ -129,10 +121,8 @@ pub(crate) fn next_key(
 ) -> Option<KeyPlace> {
     let mut rest = after_first(bytes, subtags, *passed);
     let mut count = *passed;
-    while let Some(part) = rest.of(bytes) {
-        let len = segment_end(part, 0);
-        let key = rest.take_first(len);
-        if is_new_key(bytes, subtags, keys, count, &part[..len]) {
+    while let Some((key, subtag)) = take_subtag(bytes, &mut rest) {
+        if is_new_key(bytes, subtags, keys, count, subtag) {
             *passed = count + 1;
             let value = before_key(bytes, rest, keys);
             return Some(KeyPlace { key, value });
@@ -140,4 +130,12 @@ pub(crate) fn next_key(
         count += 1;
     }
     None
+}
+
+/// Removes the first of some subtags, with the hyphen after it. Returns its span and its text.
+fn take_subtag<'a>(bytes: &'a [u8], rest: &mut Span) -> Option<(Span, &'a [u8])> {
+    let part = rest.of(bytes)?;
+    let len = segment_end(part, 0);
+    let subtag = rest.take_first(len);
+    Some((subtag, &part[..len]))
 }

@@ -3,7 +3,7 @@
 //! The tag that look-up finds for an Accept-Language header (RFC 9110 section 12.5.4, RFC 4647 section 3.4), without
 //! allocating.
 
-use crate::calls::accepted::number_of;
+use crate::calls::accepted::{next_item, number_of};
 use crate::calls::span::Span;
 use crate::calls::spanned_tags::{bytes_in, tag_in, SpannedTags};
 use crate::matching::{element_at, is_empty_element, ElementPart, LanguageRange};
@@ -48,10 +48,14 @@ pub fn langtag_tag_for_header_lenient(header: &[u8], bytes: &[u8], tags: &[Span]
 /// Returns the index of the tag for the element of the greatest weight that finds a tag. If several elements have
 /// this weight, the first counts.
 fn heaviest_found(header: &[u8], tags: &SpannedTags<'_>) -> Option<usize> {
+    let mut rest = Span {
+        start: 0,
+        len: header.len(),
+    };
     let mut found = None;
     let mut weight = 0;
-    for item in header.split(|byte| is_comma(*byte)) {
-        let Ok(element) = element_at(item) else {
+    while let Some(item) = next_item(header, &mut rest) {
+        let Ok(element) = element_at(&header[item.start..item.start + item.len]) else {
             continue;
         };
         if element.weighted.weight <= weight {

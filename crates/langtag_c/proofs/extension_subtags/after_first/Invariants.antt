@@ -2,11 +2,11 @@ use Rattle.std.proofs.Common.{◌≡◌, drop}
 use Rattle.langtag_c.specs.Keywords.{HasSubtags, subtags_in}
 use Rattle.langtag_c.proofs.extension_subtags.after_first.Given as goal
 
-abbrev pub invariant-loop-part : goal.invariant-loop-part
-invariant-loop-part l = record {
+abbrev pub invariant-loop-left : goal.invariant-loop-left
+invariant-loop-left l = record {
   some : HasSubtags l.bytes l.rest;
   same : drop l.left (subtags_in l.bytes l.rest) ≡ drop l.initial.left (subtags_in l.bytes l.initial.rest);
 }
 
-abbrev pub decreases-loop-part : goal.decreases-loop-part
-decreases-loop-part l = l.rest.len
+abbrev pub decreases-loop-left : goal.decreases-loop-left
+decreases-loop-left l = l.left

@@ -5,11 +5,11 @@ use Rattle.langtag_c.specs.Keywords.{HasSubtags, subtags_in}
 use Rattle.langtag_c.proofs.extension_subtags.is_among_first.Given as goal
 
 -- none of those that were passed is equal
-abbrev pub invariant-loop-part : goal.invariant-loop-part
-invariant-loop-part l = record {
+abbrev pub invariant-loop-other : goal.invariant-loop-other
+invariant-loop-other l = record {
   some : HasSubtags l.bytes l.rest;
   same : list_any (are_alike l.subtag) (take l.left (subtags_in l.bytes l.rest)) ≡ list_any (are_alike l.subtag) (take l.initial.left (subtags_in l.bytes l.initial.rest));
 }
 
-abbrev pub decreases-loop-part : goal.decreases-loop-part
-decreases-loop-part l = l.rest.len
+abbrev pub decreases-loop-other : goal.decreases-loop-other
+decreases-loop-other l = l.rest.len

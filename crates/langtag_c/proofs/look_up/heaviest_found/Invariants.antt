@@ -1,4 +1,6 @@
-use Rattle.std.proofs.Common.{◌≡◌, None, drop, length}
+use Rattle.std.proofs.Common.{◌≡◌, None}
+use Rattle.langtag_c.specs.Spans.{IsWithin, span_text}
+use Rattle.langtag_c.specs.Negotiation.{filled_items}
 use Rattle.langtag_match.specs.AcceptLanguage.{elements, items}
 use Rattle.langtag_c.specs.Heaviest.{heaviest}
 use Rattle.langtag_c.specs.TagsAt.{tags_at}
@@ -6,6 +8,11 @@ use Rattle.langtag_c.proofs.look_up.heaviest_found.Given as goal
 
 -- what is left of the header, from what was found on
 abbrev pub invariant-loop-item : goal.invariant-loop-item
-invariant-loop-item l =
-    heaviest (tags_at l.tags.text.now l.tags.spans.now) (elements (drop (length l.yielded) (items l.header))) l.found l.weight
-    ≡ heaviest (tags_at l.tags.text.now l.tags.spans.now) (elements (items l.header)) None 0
+invariant-loop-item l = record {
+  within : IsWithin l.header l.rest;
+  same : heaviest (tags_at l.tags.text.now l.tags.spans.now) (elements (filled_items (span_text l.header l.rest))) l.found l.weight
+      ≡ heaviest (tags_at l.tags.text.now l.tags.spans.now) (elements (items l.header)) None 0;
+}
+
+abbrev pub decreases-loop-item : goal.decreases-loop-item
+decreases-loop-item l = l.rest.len
