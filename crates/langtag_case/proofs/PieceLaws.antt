@@ -31,10 +31,6 @@ cased-two (a ∷ []) two = absurd (omega (arith, two))
 cased-two (a ∷ b ∷ []) two = refl
 cased-two (a ∷ b ∷ c ∷ s) two = absurd (omega (arith, two))
 
--- four bytes
-cased-four : (s : List ℕ) → length s ≡ 4 → by_length s ≡ cased 1 s
-cased-four s four = grind (arith, common_steps, cased-none s)
-
 -- ---- a piece
 
 -- what stands after a subtag: nothing, or a hyphen and others
@@ -92,17 +88,9 @@ module _ (text : List ℕ) (end : ℕ) (within : end ≤ length text) (free : No
   are : segments text ≡ s ∷ first.others
   are = ap segments (sym (take-append-drop end text)) ∙ first.are
 
-  -- after a first subtag of a single byte all is small
-  first-single : is_single s ≡ true → recommended_text text ≡ fold_text text
-  first-single single = grind (arith, common_steps, are, after_first s first.others true single, fold-segments text)
-
   -- and so it is after a later one
   later-single : is_single s ≡ true → later_text text ≡ fold_text text
   later-single single = grind (arith, common_steps, are, fold-segments text)
-
-  -- a longer first subtag is small alone
-  first-many : is_single s ≡ false → recommended_text text ≡ fold_text s ++ after_piece (drop end text)
-  first-many many = grind (arith, common_steps, are, after_first s first.others false many)
 
   -- and a later one goes by its length
   later-many : is_single s ≡ false → later_text text ≡ by_length s ++ after_piece (drop end text)
@@ -111,13 +99,13 @@ module _ (text : List ℕ) (end : ℕ) (within : end ≤ length text) (free : No
   -- a subtag of a single byte begins a piece that goes to the end
   pub piece-single :
       end ≡ 1 → BeginsWith text (length text) 0 (later_text text) × BeginsWith text (length text) 0 (recommended_text text)
-  piece-single one = grind (arith, common_steps, later-single, first-single, eq-eqb, size, cased-none, append-nil, take_all, drop_all)
+  piece-single one = grind (arith, common_steps, later-single, eq-eqb, size, cased-none, append-nil, take_all, drop_all, are, after_first, fold-segments)
 
   -- a subtag of another length is a piece
   piece-many :
       (n : ℕ) → end ≢ 1 → n ≤ end → by_length s ≡ cased n s →
       BeginsWith text end n (later_text text) × BeginsWith text end 0 (recommended_text text)
-  piece-many n more order case = grind (arith, common_steps, ne_eqb (length s) 1, size, later-many, first-many, cased-none s)
+  piece-many n more order case = grind (arith, common_steps, ne_eqb (length s) 1, size, later-many, cased-none s, are, after_first)
 
   -- of two bytes
   pub piece-two : end ≡ 2 → BeginsWith text 2 2 (later_text text) × BeginsWith text 2 0 (recommended_text text)
@@ -125,7 +113,7 @@ module _ (text : List ℕ) (end : ℕ) (within : end ≤ length text) (free : No
 
   -- of four bytes
   pub piece-four : end ≡ 4 → BeginsWith text 4 1 (later_text text) × BeginsWith text 4 0 (recommended_text text)
-  piece-four four = grind (arith, common_steps, piece-many 1, cased-four s (size ∙ four), size)
+  piece-four four = grind (arith, common_steps, piece-many 1, size, cased-none)
 
   -- of others
   pub piece-other : end ≢ 1 → end ≢ 2 → end ≢ 4 → BeginsWith text end 0 (later_text text) × BeginsWith text end 0 (recommended_text text)
@@ -214,9 +202,6 @@ module _ (old text : List ℕ) (end len n : ℕ) (at : IsAtEnd old text end) (lo
   joined : done ++ after_piece (drop len rest) ≡ recommended_text old
   joined = grind (arith, common_steps, append_assoc, begins, take_more, here)
 
-  sizes : length changed ≡ length text
-  sizes = grind (arith, common_steps, split, length-append done (drop len rest), done-size, length-drop len rest, length-drop (end + 1) text)
-
   -- the piece is small, and as long as its capitals
   pub piece-small :
       let k = end + 1 + len - (end + 1) in
@@ -227,7 +212,7 @@ module _ (old text : List ℕ) (end len n : ℕ) (at : IsAtEnd old text end) (lo
   pub next-end :
       let k = end + 1 + len - (end + 1) in
       IsAtEnd old (put_mid (end + 1) k text (cased n (take k rest))) (end + 1 + len)
-  next-end = grind (arith, common_steps, width, sizes, length-drop, begins, after, small-drop, small-rest, split, done-size, take-append_seam, joined)
+  next-end = grind (arith, common_steps, width, length-drop, begins, after, small-drop, small-rest, split, done-size, take-append_seam, joined, length-append)
 
 -- and at the end of the text it is in its recommended case
 pub last-end : (old text : List ℕ) (end : ℕ) → IsAtEnd old text end → length text ≤ end → text ≡ recommended_text old

@@ -47,10 +47,6 @@ map-same f g h same (b ∷ s) = rw (same b, map-same f g h same s) refl
 title-fold : (s : List ℕ) → title_text (fold_text s) ≡ title_text s
 title-fold s = grind (arith, common_steps, upper-fold, fold_text-twice s)
 
--- and folds as the subtag does
-fold-title : (s : List ℕ) → fold_text (title_text s) ≡ fold_text s
-fold-title s = grind (arith, common_steps, fold-upper, fold_text-twice s)
-
 -- the case of a subtag is that of its fold, and its fold is that of the subtag
 pub by_length-fold : (s : List ℕ) → by_length (fold_text s) ≡ by_length s
 by_length-fold s = rw (length-fold s, map-same to_ascii_uppercase fold_byte to_ascii_uppercase upper-fold s, title-fold s, fold_text-twice s) refl
@@ -61,7 +57,7 @@ fold-cond v a b s h k = grind (arith, common_steps)
 
 -- so does the case by length
 fold-by_length : (s : List ℕ) → fold_text (by_length s) ≡ fold_text s
-fold-by_length s = grind (arith, common_steps, fold-cond, map-same, fold-upper, fold-title, fold_text-twice)
+fold-by_length s = grind (arith, common_steps, fold-cond, map-same, fold-upper, fold_text-twice)
 
 -- the fold is as long
 single-fold : (s : List ℕ) → is_single (fold_text s) ≡ is_single s
@@ -140,10 +136,6 @@ after_single before [] some = refl
 after_single before (s ∷ ss) some =
     rw (some, or-true (length before == 0), after_single (before ++ s ∷ []) ss (any_push before s true some)) refl
 
--- a singleton is small
-by_length-single : (s : List ℕ) → is_single s ≡ true → by_length s ≡ fold_text s
-by_length-single s single = grind (arith, common_steps, eqb-true (length s) 1 single)
-
 -- where none stood before, those that are not first have the case of later ones
 after_none : (before ss : List (List ℕ)) → list_any is_single before ≡ false → (length before == 0) ≡ false → recommended_after before ss ≡ later ss
 after_none before [] none some = refl
@@ -159,7 +151,7 @@ after_none before (s ∷ ss) none some =
     by_single :
         (v : Bool) → is_single s ≡ v → (is_single s ≡ false → recommended_after (before ++ s ∷ []) ss ≡ later ss) →
         recommended_after before (s ∷ ss) ≡ later (s ∷ ss)
-    by_single v many more = grind (arith, common_steps, by_length-single s, after_single (before ++ s ∷ []) ss, any_push before s)
+    by_single v many more = grind (arith, common_steps, after_single (before ++ s ∷ []) ss, any_push before s, eqb-true)
 
 -- what follows the first subtag
 pub after_first : (s : List ℕ) (ss : List (List ℕ)) (v : Bool) → is_single s ≡ v → recommended_after (s ∷ []) ss ≡ cond v (map fold_text ss) (later ss)

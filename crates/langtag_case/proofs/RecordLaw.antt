@@ -10,7 +10,7 @@ use Rattle.std.proofs.lemmas.List.{map-append}
 use Rattle.std.proofs.lemmas.Grind.{common_steps}
 use Rattle.langtag_scan.specs.AlikeRecords.{fold_extension, fold_private_use}
 use Rattle.langtag_scan.specs.Case.{fold_byte, fold_text}
-use Rattle.langtag_scan.specs.Class.{is_digit, are_letters, are_digits, starts_with_digit, is_single, is_primary, is_extended, is_script, is_region, is_variant}
+use Rattle.langtag_scan.specs.Class.{is_digit, are_letters, are_digits, is_single, is_primary, is_extended, is_script, is_region, is_variant}
 use Rattle.langtag_scan.specs.Record.{EachRecord, Extension, PrivateUse, Record, IsWellFormed, extension_flat, one_flat, private_part_flat, spell}
 use Rattle.langtag_scan.specs.Subtags.{join}
 use Rattle.langtag_scan.proofs.BoolFacts.{between_true}
@@ -31,10 +31,6 @@ digit-case b digit = grind (arith, nat_tests)
 digits-case : (s : List ℕ) → are_digits s ≡ true → capital_text s ≡ fold_text s
 digits-case [] digits = refl
 digits-case (b ∷ s) digits = let k = and_parts (is_digit b) (are_digits s) digits in rw (digit-case b k.0, digits-case s k.1) refl
-
--- a subtag that begins with one
-first_digit-case : (s : List ℕ) → starts_with_digit s ≡ true → title_text s ≡ fold_text s
-first_digit-case s digit = grind (arith, common_steps, digit-case)
 
 -- ---- the case of a subtag by its class
 
@@ -68,7 +64,7 @@ region-cased s is = grind (arith, common_steps, or_cases, eqb-true, and_parts, t
 -- a variant small
 variant-cased : (s : List ℕ) → is_variant s ≡ true → IsCased fold_text s
 unfolding is_variant
-variant-cased s is = grind (arith, common_steps, or_cases, long, between_true, and_parts, eqb-true, first_digit-case)
+variant-cased s is = grind (arith, common_steps, or_cases, long, between_true, and_parts, eqb-true, digit-case)
 
 -- a primary subtag is no singleton
 primary-many : (s : List ℕ) → is_primary s ≡ true → is_single s ≡ false

@@ -71,18 +71,16 @@ is_refused-fold elements tag = grind (arith, nat_tests, longest-fold is_wish, lo
 
 -- ---- what is chosen
 
+mapped : {A B : Type 0} (f : A → B) (o : Option A) (z : B) → option_map f o ≡ Some z → (y : A) × (o ≡ Some y) × (z ≡ f y)
+mapped f None z is = absurd cc
+mapped f (Some y) z is = (y, refl, cc)
+
 -- where one list has an element, another that is equal but for case has one that is
 at-folded :
     {A : Type 0} (fold : A → A) (xs ys : List A) (k : ℕ) (x : A) → map fold xs ≡ map fold ys → slice_get xs k ≡ Some x → (y : A) × (slice_get ys k ≡ Some y) × (fold x ≡ fold y)
-at-folded {A} fold xs ys k x same there = by_option (slice_get ys k) refl
-    (sym (ap (option_map fold) there) ∙ sym (slice_get-map fold xs k) ∙ ap (λ list. slice_get list k) same ∙ slice_get-map fold ys k)
-  where
-    by_option : (o : Option A) → slice_get ys k ≡ o → Some (fold x) ≡ option_map fold (slice_get ys k) → (y : A) × (slice_get ys k ≡ Some y) × (fold x ≡ fold y)
-    by_option None is equal = absurd (let none : Some (fold x) ≡ None = equal ∙ ap (option_map fold) is in cc)
-    by_option (Some y) is equal =
-        let some : Some (fold x) ≡ Some (fold y) = equal ∙ ap (option_map fold) is in
-        let one : fold x ≡ fold y = cc in
-        (y, is, one)
+at-folded {A} fold xs ys k x same there =
+    let equal : option_map fold (slice_get ys k) ≡ Some (fold x) = sym (slice_get-map fold ys k) ∙ ap (λ list. slice_get list k) (sym same) ∙ slice_get-map fold xs k ∙ ap (option_map fold) there in
+    mapped fold (slice_get ys k) (fold x) equal
 
 module _ (elements es : List Element) (tags ts : List (Option (List ℕ))) (same_elements : map folded elements ≡ map folded es) (same_tags : map (option_map fold_text) tags ≡ map (option_map fold_text) ts) where
   -- a pair among others that are equal but for case, of the same rank

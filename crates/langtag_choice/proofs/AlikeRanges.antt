@@ -17,7 +17,7 @@ use Rattle.langtag_likely.specs.Likely.{Fields, known, without_region}
 use Rattle.langtag_likely.specs.Matching.{matching_fields, matching_form}
 use Rattle.langtag_choice.specs.Nearness.{is_form, unlikely, unlikely_form}
 use Rattle.langtag_likely.specs.TextFields.{text_fields, fields_of_subtags, counted, counts, last_language, after_language, script_of, after_script, region_of}
-use Rattle.langtag_likely.proofs.AlikeFields.{AlikeFields, AlikeOptions, are_alike-right, suffices-alike, by_options, by_same, are_alike-left}
+use Rattle.langtag_likely.proofs.AlikeFields.{AlikeFields, AlikeOptions, are_alike-right, suffices-alike, by_options, are_alike-left}
 use Rattle.langtag_choice.proofs.DistanceCase.{forms-alike, matching-alike}
 use Rattle.langtag_scan.specs.Stage.{Classes}
 
@@ -95,11 +95,7 @@ fields_of_subtags-fold (s ∷ others) =
     ∙ ap (λ t. known (codes "ZZ") (region_of t)) (after_script-fold (after_language n))
     ∙ ap (known (codes "ZZ")) (region_of-fold (after_script (after_language n)))
     ∙ known-fold (codes "ZZ") (region_of (after_script (after_language n))) in
-    rw (is_primary-fold s, language, script, region) (by_test (is_primary s) _)
-  where
-    by_test : (b : Bool) (f : Fields) → cond b (Some (fold_fields f)) None ≡ option_map fold_fields (cond b (Some f) None)
-    by_test true f = refl
-    by_test false f = refl
+    rw (is_primary-fold s, language, script, region) (cond-map (option_map fold_fields) (is_primary s) (Some _) None)
 
 text_fields-fold : (text : List ℕ) → text_fields (fold_text text) ≡ option_map fold_fields (text_fields text)
 unfolding text_fields
@@ -113,14 +109,8 @@ same_fields f g same = grind (arith, nat_tests, matching-alike)
 pub matching_form-alike : (a b : List ℕ) → Alike a b → AlikeOptions (matching_form a) (matching_form b)
 unfolding matching_form
 matching_form-alike a b alike =
-    by_same (λ s t. AlikeOptions (cond s None (option_map matching_fields (text_fields (hyphened a)))) (cond t None (option_map matching_fields (text_fields (hyphened b))))) by_test _ _
-    (are_alike-left (basic_text a) (basic_text b) (codes "und") (basic_text-alike a b alike))
-  where
-    by_test : (t : Bool) → AlikeOptions (cond t None (option_map matching_fields (text_fields (hyphened a)))) (cond t None (option_map matching_fields (text_fields (hyphened b))))
-    by_test true = tt
-    by_test false =
-        same_fields (text_fields (hyphened a)) (text_fields (hyphened b))
-        (sym (text_fields-fold (hyphened a)) ∙ ap text_fields (hyphened-alike a b alike) ∙ text_fields-fold (hyphened b))
+    let same = same_fields (text_fields (hyphened a)) (text_fields (hyphened b)) (sym (text_fields-fold (hyphened a)) ∙ ap text_fields (hyphened-alike a b alike) ∙ text_fields-fold (hyphened b)) in
+    grind (arith, are_alike-left (basic_text a) (basic_text b) (codes "und") (basic_text-alike a b alike))
 
 pub distance-alike : (a b c d : List ℕ) → Alike a b → Alike c d → distance_of_texts a c ≡ distance_of_texts b d
 unfolding distance_of_texts

@@ -1,18 +1,16 @@
 -- A tag that is the first range of the greatest weight is chosen.
-use Rattle.std.proofs.Common.{◌≡◌, ℕ, ◌-◌, ◌<◌, ◌≤◌, ◌==◌, Bool, true, false, cond, not, ◌&&◌, ◌||◌, nat_lt, IsTrue, List, [], ◌∷◌, length, length-take, take, drop, Option, Some, None, ap, refl, sym, subst, ◌∙◌, arith}
+use Rattle.std.proofs.Common.{◌≡◌, ℕ, ◌-◌, ◌<◌, ◌≤◌, false, IsTrue, List, [], ◌∷◌, length, length-take, take, Option, Some, None, ap, refl, sym, ◌∙◌, arith}
 use Rattle.std.specs.List.{slice_get}
-use Rattle.std.proofs.lemmas.Bool.{and_parts, ltb-true, ltb-false}
+use Rattle.std.proofs.lemmas.Bool.{and_parts}
 use Rattle.std.proofs.lemmas.Bool.Decides.{nat_tests}
 use Rattle.std.proofs.lemmas.Grind.{common_steps}
-use Rattle.langtag_scan.specs.Case.{Alike, are_alike}
+use Rattle.langtag_scan.specs.Case.{Alike}
 use Rattle.langtag_scan.specs.CaseLaws.{are_alike-decides}
 use Rattle.langtag_match.specs.AcceptLanguage.{Element}
-use Rattle.langtag_match.specs.Basic.{ends_subtag}
-use Rattle.langtag_match.specs.Fallback.{ends_in_single}
 use Rattle.langtag_match.specs.Range.{is_star}
-use Rattle.langtag_choice.specs.Best.{IsAtMost, IsChoice, Pair, is_refused, is_wish, rank, rank_of_pair, reach, serves, service}
+use Rattle.langtag_choice.specs.Best.{IsAtMost, IsChoice, Pair, is_refused, is_wish, rank, rank_of_pair, reach, serves}
 use Rattle.langtag_choice.specs.ChoiceLaws.{IsHeaviest, IsFirstAlike, AnswersEqual}
-use Rattle.langtag_choice.specs.Nearness.{is_fallback, kept, unlikely}
+use Rattle.langtag_choice.specs.Nearness.{kept, unlikely}
 use Rattle.langtag_choice.proofs.AlikeRanges.{distance-none, unlikely-alike}
 use Rattle.langtag_choice.proofs.ChoiceLaws.{same_index}
 use Rattle.langtag_choice.proofs.LookUpAnswers.{whole_fallback}
@@ -28,19 +26,8 @@ kept_alike range tag alike = grind (arith, nat_tests, whole_fallback range tag a
 
 alike_kept : (range tag : List ℕ) → 0 < length range → length range - kept range tag ≡ 0 → Alike range tag
 unfolding kept
-alike_kept range tag some whole = by_test (is_fallback range tag) refl
-  where
-    is_alike : length range - length tag ≡ 0 → is_fallback range tag ≡ true → Alike range tag
-    is_alike whole is =
-        let parts = and_parts (are_alike (take (length tag) range) tag) (ends_subtag (drop (length tag) range) && ((length tag == length range) || not (ends_in_single tag))) is in
-        let same = (are_alike-decides (take (length tag) range) tag).0 (parts.0) in
-        let long : length tag ≡ length range = omega (arith, whole, length-alike (take (length tag) range) tag same, length-take (length tag) range) in
-        let all : take (length tag) range ≡ range = ap (λ n. take n range) long ∙ take-length range in
-        rw (← all) same
-
-    by_test : (b : Bool) → is_fallback range tag ≡ b → Alike range tag
-    by_test true is = let left : length range - length tag ≡ 0 = ap (λ b. length range - cond b (length tag) 0) (sym is) ∙ whole in is_alike left is
-    by_test false is = let left : length range - 0 ≡ 0 = ap (λ b. length range - cond b (length tag) 0) (sym is) ∙ whole in absurd (omega (arith, some, left))
+alike_kept range tag some whole =
+    grind (arith, nat_tests, and_parts, are_alike-decides (take (length tag) range) tag, length-alike (take (length tag) range) tag, length-take (length tag) range, take-length range)
 
 module _ (elements : List Element) (all : List (Option (List ℕ))) (place : ℕ) (element : Element) (index : ℕ) (heaviest : IsHeaviest elements place element) (wish : IsTrue (is_wish element)) (most : element.weight ≤ 1000) (star : is_star element.range ≡ false) (long : 0 < length element.range) (first : IsFirstAlike elements all element.range index) where
   lost_none : length element.range - kept element.range first.tag ≡ 0
@@ -72,24 +59,8 @@ module _ (elements : List Element) (all : List (Option (List ℕ))) (place : ℕ
       (other : Element) (p : ℕ) (tag : List ℕ) (k : ℕ) → slice_get elements p ≡ Some other → slice_get all k ≡ Some (Some tag) → is_refused elements tag ≡ false →
       IsAtMost own_rank (rank p other k tag)
   unfolding rank
-  none_before other p tag k range_there there free = by_tests (nat_lt p place) (nat_lt place p) refl refl
-    where
-      at_place : p ≡ place → IsAtMost own_rank (rank p other k tag)
-      at_place same =
-          let one : Some other ≡ Some element = sym range_there ∙ ap (slice_get elements) same ∙ heaviest.there in
-          let equal : other ≡ element = cc in
-          subst (λ q. IsAtMost own_rank (rank q other k tag)) (sym same) (subst (λ e. IsAtMost own_rank (rank place e k tag)) (sym equal) (own_range tag k there free))
-
-      by_tests : (s t : Bool) → nat_lt p place ≡ s → nat_lt place p ≡ t → IsAtMost own_rank (rank p other k tag)
-      by_tests true t before after =
-          let lighter = heaviest.first p other range_there (ltb-true p place before) in
-          le_then 0 (service (reach other.range tag)) _ (omega arith) (λ r.
-          le_then (1000 - element.weight) (1000 - other.weight) _ (omega (arith, most, lighter)) (λ same. absurd (omega (arith, most, lighter, same))))
-      by_tests false true before after =
-          let later = ltb-true place p after in
-          le_then 0 (service (reach other.range tag)) _ (omega arith) (λ r.
-          le_then (1000 - element.weight) (1000 - other.weight) _ (omega (arith, heaviest.most p other range_there)) (λ same. le_then place p _ (omega (arith, later)) (λ s. absurd (omega (arith, later, s)))))
-      by_tests false false before after = at_place (omega (arith, ltb-false p place before, ltb-false place p after))
+  none_before other p tag k range_there there free =
+      grind (arith, nat_tests, own_range tag k there free, heaviest.first p other range_there, heaviest.most p other range_there, heaviest.there, le_then)
 
   leads : (other : Pair elements all) → IsAtMost (rank place element index first.tag) (rank_of_pair elements all other)
   leads other = rw is_own_rank (none_before other.element other.place other.tag other.index other.wanted other.there other.unrefused)

@@ -1,8 +1,8 @@
 -- What loops over ranges and over tags have found.
-use Rattle.std.proofs.Common.{◌≡◌, ◌⊎◌, inl, inr, ℕ, ◌+◌, ◌-◌, ◌<◌, ◌≤◌, Bool, true, false, nat_lt, List, [], ◌∷◌, suc, length, get_or, Option, Some, None, below_more, refl, sym, subst, ap, ◌∙◌, arith}
+use Rattle.std.proofs.Common.{◌≡◌, ◌⊎◌, inl, inr, ℕ, ◌+◌, ◌-◌, ◌<◌, true, false, List, [], ◌∷◌, suc, length, get_or, Option, Some, None, below_more, refl, sym, subst, ap, ◌∙◌, arith}
 use Rattle.std.specs.List.{slice_get}
 use Rattle.std.specs.Option.{ForSome, MatchOption}
-use Rattle.std.proofs.lemmas.Bool.{ltb-true, ltb-false}
+use Rattle.std.proofs.lemmas.Bool.{cases_lt}
 use Rattle.std.proofs.lemmas.Option.{get_or_from_slice_get, slice_get-get_or, slice_get_within}
 use Rattle.std.proofs.lemmas.Bool.Decides.{nat_tests}
 use Rattle.langtag_match.specs.AcceptLanguage.{Element}
@@ -66,12 +66,12 @@ at_is_for elements tags tag index c inside there at = grind (arith, nat_tests)
 pub real_from :
     (elements : List Element) (tags : List (Option (List ℕ))) (tag : List ℕ) (index : ℕ) (old new : Option Candidate) → index < length tags → ((other : List ℕ) → slice_get tags index ≡ Some (Some other) → tag ≡ other) →
     IsReal elements tags old → IsOldOrAt elements tag index old new → IsReal elements tags new
-real_from elements tags tag index old new inside there real h9 = grind (arith, nat_tests, at_is_for elements tags tag index)
+real_from elements tags tag index old new inside there real changed = grind (arith, nat_tests, at_is_for elements tags tag index)
 
 pub from_of :
     (elements : List Element) (wish : Wish) (tag : List ℕ) (index : ℕ) (old new : Option Candidate) → slice_get elements wish.place ≡ Some (wish_element wish) →
     (new ≡ old) ⊎ MatchOption new ⊥ (IsOf wish tag index) → IsOldOrAt elements tag index old new
-from_of elements wish tag index old new wanted h7 = grind (arith, nat_tests, of_is_at elements wish tag index)
+from_of elements wish tag index old new wanted changed = grind (arith, nat_tests, of_is_at elements wish tag index)
 
 -- from one step to the next
 pub from_later :
@@ -130,22 +130,10 @@ abbrev pub IsRest : List Element → List Element → ℕ → Type 0
 IsRest all left place = (k : ℕ) → slice_get left k ≡ slice_get all (place + k)
 
 pub rest_here : (all left rest : List Element) (element : Element) (place : ℕ) → left ≡ element ∷ rest → IsRest all left place → slice_get all place ≡ Some element
-rest_here all left rest element place is so_far =
-    let here : place ≡ place + 0 = omega arith in
-    ap (slice_get all) here ∙ sym (so_far 0) ∙ ap (λ list. slice_get list 0) is
+rest_here all left rest element place is so_far = grind (arith, so_far 0)
 
 pub rest_next : (all left rest : List Element) (element : Element) (place : ℕ) → left ≡ element ∷ rest → IsRest all left place → IsRest all rest (place + 1)
-rest_next all left rest element place is so_far = λ k.
-    let next : place + suc k ≡ place + 1 + k = omega arith in
-    sym (ap (λ list. slice_get list (suc k)) is) ∙ so_far (suc k) ∙ ap (slice_get all) next
+rest_next all left rest element place is so_far = λ k. grind (arith, so_far (suc k))
 
 pub rest_done : (all left : List Element) (place : ℕ) → left ≡ [] → IsRest all left place → (p : ℕ) (element : Element) → slice_get all p ≡ Some element → p < place
-rest_done all left place is so_far p element there = by_test (nat_lt p place) refl
-  where
-    by_test : (b : Bool) → nat_lt p place ≡ b → p < place
-    by_test true below = ltb-true p place below
-    by_test false above =
-        let from : place ≤ p = ltb-false p place above in
-        let at : place + (p - place) ≡ p = omega (arith, from) in
-        let none : None ≡ Some element = sym (ap (λ list. slice_get list (p - place)) is) ∙ so_far (p - place) ∙ ap (slice_get all) at ∙ there in
-        absurd cc
+rest_done all left place is so_far p element there = grind (arith, so_far (p - place), cases_lt p place)

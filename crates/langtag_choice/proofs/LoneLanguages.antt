@@ -2,7 +2,6 @@
 use Rattle.std.proofs.Common.{◌≡◌, ℕ, ◌<◌, ◌≤◌, Bool, true, false, cond, ltb, not, ◌==◌, List, [], ◌∷◌, get_or, length, length-take, map, take, drop, Option, Some, None, option_map, refl, sym, ap, ◌∙◌, arith, rules}
 use Rattle.std.specs.Prelude.{◌&&◌, codes}
 use Rattle.std.specs.List.{after_first, before_first, list_all, position_or_len}
-use Rattle.std.specs.Option.{option_map_or}
 use Rattle.std.proofs.lemmas.Bool.{and_from, and_parts, both_ways, eq-eqb, false_from_ne_true, ltb-true, or_parts, eqb-false, not-true}
 use Rattle.std.proofs.lemmas.List.Sums.{take_while-cons}
 use Rattle.std.proofs.lemmas.Bool.Decides.{nat_tests}
@@ -16,7 +15,7 @@ use Rattle.langtag_match.specs.Wanted.{hyphened, is_separator}
 use Rattle.langtag_choice.specs.Lone.{HasNoExtended, begins_counted, IsShort, first_two, is_lone, lone_head, replacing}
 use Rattle.langtag_choice.specs.Distance.{distance_of_texts, is_among, language_distance}
 use Rattle.langtag_likely.specs.Likely.{Fields, Likely, are_alike_fields, known, language_alone, likely_for}
-use Rattle.langtag_likely.specs.Matching.{language_replaced, matching_fields, matching_form, with_language_from}
+use Rattle.langtag_likely.specs.Matching.{language_replaced, matching_fields, matching_form}
 use Rattle.langtag_choice.specs.MatchingData.{language_rules}
 use Rattle.langtag_likely.specs.Aliases.{language_aliases}
 use Rattle.langtag_choice.specs.Nearness.{is_fallback, kept}
@@ -31,6 +30,7 @@ use Rattle.langtag_likely.proofs.TextParts.{all_fields, next_part, no_fields}
 use Rattle.langtag_likely.proofs.CommonTexts.{some_length}
 use Rattle.langtag_match.proofs.Prefixes.{length-alike}
 use Rattle.langtag_scan.proofs.Disjoint.{extended_three}
+use Rattle.langtag_likely.proofs.AddedTwice.{either_way}
 
 -- ---- heads
 
@@ -120,14 +120,12 @@ module _ (one : List ℕ) (letters : ℕ × ℕ) (begins : first_two one ≡ Som
     first_other primary = λ alike. other (sym (head_first text primary) ∙ sym (head-alike one (before_first is_separator text) alike) ∙ begins)
 
     text_other : (f : Fields) → text_fields (hyphened text) ≡ Some f → (Alike one f.language → ⊥) × (length f.language ≡ 2)
-    text_other f is = by_primary (is_primary (before_first is_separator text)) refl
-      where
-        by_primary : (b : Bool) → is_primary (before_first is_separator text) ≡ b → (Alike one f.language → ⊥) × (length f.language ≡ 2)
-        by_primary false not = absurd (let none = no_fields text not ∙ is in cc)
-        by_primary true primary =
-            let same = all_fields text _ _ _ primary refl refl refl ∙ is in
-            let language : last_language (known (codes "und") (before_first is_separator text)) (counted_parts (after_first is_separator text)) ≡ f.language = cc in
-            rw (← language, language_first primary) (first_other primary, (short primary).0)
+    text_other f is = either_way (is_primary (before_first is_separator text))
+        (λ primary.
+        let same = all_fields text _ _ _ primary refl refl refl ∙ is in
+        let language : last_language (known (codes "und") (before_first is_separator text)) (counted_parts (after_first is_separator text)) ≡ f.language = cc in
+        rw (← language, language_first primary) (first_other primary, (short primary).0))
+        (λ not. absurd (let none = no_fields text not ∙ is in cc))
 
   -- ---- its replacement
 
@@ -160,11 +158,7 @@ module _ (one : List ℕ) (letters : ℕ × ℕ) (begins : first_two one ≡ Som
   replaced_other :
       (f : Fields) → is_among (replacing language_aliases) one ≡ false → (Alike one f.language → ⊥) → length f.language ≡ 2 → IsOther one (language_replaced f).language
   unfolding language_replaced
-  replaced_other f apart there two = by_row (likely_for language_aliases (language_alone f)) refl
-    where
-      by_row : (o : Option Fields) → likely_for language_aliases (language_alone f) ≡ o → IsOther one (option_map_or (with_language_from f) o f).language
-      by_row None is = record { other = there; some = omega (arith, two) }
-      by_row (Some to) is = alias_other language_aliases aliases_lead (language_alone f) to two is apart
+  replaced_other f apart there two = grind (arith, nat_tests, alias_other language_aliases aliases_lead (language_alone f))
 
   form_other :
       (text : List ℕ) → IsShort text → (first_two text ≡ Some letters → ⊥) → is_among (replacing language_aliases) one ≡ false →

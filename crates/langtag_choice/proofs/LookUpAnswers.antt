@@ -1,5 +1,5 @@
 -- Where look-up finds a tag, one is chosen.
-use Rattle.std.proofs.Common.{◌≡◌, inl, inr, ℕ, zero, suc, ◌-◌, ◌<◌, ◌==◌, Bool, true, false, cond, not, nat_lt, List, [], ◌∷◌, ◌++◌, length, map, get_or, filter, Option, ap, refl, sym, ◌∙◌, arith}
+use Rattle.std.proofs.Common.{◌≡◌, inl, inr, ℕ, zero, suc, ◌-◌, ◌<◌, ◌==◌, true, false, cond, not, nat_lt, List, [], ◌∷◌, ◌++◌, length, map, get_or, filter, Option, ap, refl, sym, ◌∙◌, arith}
 use Rattle.std.specs.List.{All}
 use Rattle.std.proofs.lemmas.Bool.{lt-ltb, eq-eqb}
 use Rattle.std.proofs.lemmas.Bool.Decides.{eqb_tells, nat_tests}
@@ -7,7 +7,7 @@ use Rattle.std.proofs.Math.Bool.{or-true}
 use Rattle.std.proofs.lemmas.List.{length-map}
 use Rattle.std.proofs.lemmas.List.Elements.{All-append, All-cons, All-filter, All-map, All-nil, filter_passes}
 use Rattle.std.proofs.lemmas.Grind.{common_steps}
-use Rattle.langtag_scan.specs.Case.{Alike, are_alike, fold_byte, fold_text}
+use Rattle.langtag_scan.specs.Case.{Alike, fold_byte, fold_text}
 use Rattle.langtag_scan.specs.CaseLaws.{are_alike-decides}
 use Rattle.langtag_scan.proofs.CaseLaw.{hyphen-fold}
 use Rattle.langtag_match.specs.AcceptLanguage.{Element}
@@ -59,17 +59,7 @@ whole_fallback range tag alike =
 
 shorter_fallback : (range text tag : List ℕ) → IsBefore range text → not (ends_in_single text) ≡ true → Alike text tag → is_fallback range tag ≡ true
 shorter_fallback range text tag before multiple alike =
-    let long : length tag ≡ length text = sym (length-alike text tag alike) in
-    let same = (are_alike-decides text tag).1 alike in
-    let single = ends_in_single-alike text tag alike in
-    let whole = before.1 in
-    by_length (length tag == length range) long same (sym (ap not single) ∙ multiple) whole refl
-  where
-    by_length :
-        (b : Bool) → length tag ≡ length text → are_alike text tag ≡ true → not (ends_in_single tag) ≡ true → range ≡ text ++ 45 ∷ before.0 → (length tag == length range) ≡ b →
-        is_fallback range tag ≡ true
-    by_length true long same multiple whole is = rw (is, long, whole, take-append_seam text (45 ∷ before.0), drop-append_seam text (45 ∷ before.0), same) refl
-    by_length false long same multiple whole is = rw (is, multiple, long, whole, take-append_seam text (45 ∷ before.0), drop-append_seam text (45 ∷ before.0), same) refl
+    grind (arith, length-alike text tag alike, are_alike-decides text tag, ends_in_single-alike text tag alike, take-append_seam text (45 ∷ before.0), drop-append_seam text (45 ∷ before.0))
 
 abbrev Falls : List ℕ → List ℕ → Type 0
 Falls range text = (tag : List ℕ) → Alike text tag → is_fallback range tag ≡ true

@@ -1,5 +1,5 @@
 -- Ranges as they are read: "_" as "-", and without each "-*".
-use Rattle.std.proofs.Common.{◌≡◌, ℕ, ◌-◌, ◌≤◌, Bool, true, false, cond, not, ◌==◌, List, [], ◌∷◌, length, length-drop, length-take, take, drop, filter, refl, sym, ap, ◌∙◌, arith}
+use Rattle.std.proofs.Common.{◌≡◌, ℕ, ◌-◌, ◌≤◌, Bool, true, false, not, ◌==◌, List, [], ◌∷◌, length, length-drop, length-take, take, drop, filter, refl, sym, ap, ◌∙◌, arith}
 use Rattle.std.specs.Prelude.{◌&&◌, ◌||◌, codes}
 use Rattle.std.proofs.lemmas.Bool.Decides.{nat_tests}
 use Rattle.std.proofs.lemmas.Grind.{common_steps}
@@ -22,6 +22,7 @@ use Rattle.langtag_likely.specs.Matching.{matching_form}
 use Rattle.langtag_likely.specs.Ranges.{after_common, BeginsPlain}
 use Rattle.langtag_likely.specs.TextFields.{counted, fields_of_subtags, text_fields}
 use Rattle.langtag_choice.specs.Nearness.{is_fallback}
+use Rattle.langtag_likely.proofs.AddedTwice.{either_way}
 
 -- ---- a range of a header, and "*"
 
@@ -60,47 +61,25 @@ tag_left : (range tag : List ℕ) → are_alike (take (length tag) range) tag �
 tag_left [] [] = refl
 tag_left [] (b ∷ tag) = rw (some_length b tag) refl
 tag_left (a ∷ range) [] = refl
-tag_left (a ∷ range) (b ∷ tag) = by_test (fold_byte a == fold_byte b) refl (tag_left range tag)
-  where
-    by_test :
-        (test : Bool) → (fold_byte a == fold_byte b) ≡ test → are_alike (take (length tag) range) tag ≡ (length (after_common range tag).1 == 0) →
-        are_alike (take (length (b ∷ tag)) (a ∷ range)) (b ∷ tag) ≡ (length (after_common (a ∷ range) (b ∷ tag)).1 == 0)
-    by_test true is rest = rw is rest
-    by_test false is rest = rw (is, some_length b tag) refl
+tag_left (a ∷ range) (b ∷ tag) =
+    either_way (fold_byte a == fold_byte b) (λ is. rw is (tag_left range tag)) (λ is. rw (is, some_length b tag) refl)
 
 tag_dropped : (range tag : List ℕ) → (length (after_common range tag).1 == 0) ≡ true → drop (length tag) range ≡ (after_common range tag).0
 tag_dropped [] [] none = refl
 tag_dropped [] (b ∷ tag) none = refl
 tag_dropped (a ∷ range) [] none = refl
-tag_dropped (a ∷ range) (b ∷ tag) none = by_test (fold_byte a == fold_byte b) refl (tag_dropped range tag) none
-  where
-    by_test :
-        (test : Bool) → (fold_byte a == fold_byte b) ≡ test → ((length (after_common range tag).1 == 0) ≡ true → drop (length tag) range ≡ (after_common range tag).0) →
-        (length (cond test (after_common range tag) (a ∷ range, b ∷ tag)).1 == 0) ≡ true → drop (length (b ∷ tag)) (a ∷ range) ≡ (after_common (a ∷ range) (b ∷ tag)).0
-    by_test true is rest none = rw is (rest none)
-    by_test false is rest none = absurd (let some = some_length b tag in cc (some, none))
+tag_dropped (a ∷ range) (b ∷ tag) none = grind (arith, tag_dropped range tag, some_length b tag)
 
 range_left : (range tag : List ℕ) → are_alike range (take (length range) tag) ≡ (length (after_common range tag).0 == 0)
 range_left [] tag = refl
 range_left (a ∷ range) [] = rw (some_length a range) refl
-range_left (a ∷ range) (b ∷ tag) = by_test (fold_byte a == fold_byte b) refl (range_left range tag)
-  where
-    by_test :
-        (test : Bool) → (fold_byte a == fold_byte b) ≡ test → are_alike range (take (length range) tag) ≡ (length (after_common range tag).0 == 0) →
-        are_alike (a ∷ range) (take (length (a ∷ range)) (b ∷ tag)) ≡ (length (after_common (a ∷ range) (b ∷ tag)).0 == 0)
-    by_test true is rest = rw is rest
-    by_test false is rest = rw (is, some_length a range) refl
+range_left (a ∷ range) (b ∷ tag) =
+    either_way (fold_byte a == fold_byte b) (λ is. rw is (range_left range tag)) (λ is. rw (is, some_length a range) refl)
 
 range_dropped : (range tag : List ℕ) → (length (after_common range tag).0 == 0) ≡ true → drop (length range) tag ≡ (after_common range tag).1
 range_dropped [] tag none = refl
 range_dropped (a ∷ range) [] none = refl
-range_dropped (a ∷ range) (b ∷ tag) none = by_test (fold_byte a == fold_byte b) refl (range_dropped range tag) none
-  where
-    by_test :
-        (test : Bool) → (fold_byte a == fold_byte b) ≡ test → ((length (after_common range tag).0 == 0) ≡ true → drop (length range) tag ≡ (after_common range tag).1) →
-        (length (cond test (after_common range tag) (a ∷ range, b ∷ tag)).0 == 0) ≡ true → drop (length (a ∷ range)) (b ∷ tag) ≡ (after_common (a ∷ range) (b ∷ tag)).1
-    by_test true is rest none = rw is (rest none)
-    by_test false is rest none = absurd (let some = some_length a range in cc (some, none))
+range_dropped (a ∷ range) (b ∷ tag) none = grind (arith, range_dropped range tag, some_length a range)
 
 ends_read : (left : List ℕ) → BeginsPlain left → ends_subtag (basic_text left) ≡ ends_subtag (hyphened left)
 ends_read [] plain = ap ends_subtag read_nothing

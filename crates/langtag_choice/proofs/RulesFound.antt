@@ -1,5 +1,5 @@
 -- A rule is found by the number of what it is for, and a text among others by its own.
-use Rattle.std.proofs.Common.{◌≡◌, ℕ, suc, ◌<◌, true, false, ◌==◌, Bool, cond, ltb, List, [], ◌∷◌, length, get_or, map, Option, None, Some, option_map, refl, ap, ◌∙◌, arith, rules}
+use Rattle.std.proofs.Common.{◌≡◌, ℕ, ◌<◌, true, false, ◌==◌, Bool, cond, ltb, List, [], ◌∷◌, length, get_or, map, refl, ap, ◌∙◌, arith, rules}
 use Rattle.std.specs.Option.{option_map_or}
 use Rattle.std.specs.Prelude.{◌&&◌, is_some}
 use Rattle.std.specs.List.{list_all}
@@ -15,6 +15,7 @@ use Rattle.langtag_likely.specs.Numbers.{first_index}
 use Rattle.langtag_choice.specs.Rules.{Rule, fits, distance_by}
 use Rattle.langtag_likely.proofs.RowsFound.{alike_length}
 use Rattle.std.proofs.Math.Bool.{and-false}
+use Rattle.std.proofs.lemmas.Bool.Decides.{nat_tests}
 
 abbrev pub distance_of : Rule → ℕ
 distance_of rule = rule.distance
@@ -26,23 +27,7 @@ module _ (number : Rule → ℕ) (is_good : Rule → Bool) (key : ℕ) (desired 
       (otherwise : ℕ) (rules : List Rule) → list_all is_good rules ≡ true →
       option_map_or (λ i. get_or (map distance_of rules) i 0) (first_index (map number rules) key) otherwise ≡ distance_by rules otherwise desired supported
   distance_by_number otherwise [] all = refl
-  distance_by_number otherwise (rule ∷ rules) all =
-      let k = and_parts (is_good rule) (list_all is_good rules) all in
-      by_test (key == number rule) (first_index (map number rules) key) (distance_by_number otherwise rules k.1)
-      ∙ ap (λ b. cond b rule.distance (distance_by rules otherwise desired supported)) (tells rule k.0)
-    where
-      by_index :
-          (o : Option ℕ) → option_map_or (λ i. get_or (map distance_of rules) i 0) o otherwise ≡ distance_by rules otherwise desired supported →
-          option_map_or (λ i. get_or (map distance_of (rule ∷ rules)) i 0) (option_map suc o) otherwise ≡ distance_by rules otherwise desired supported
-      by_index None later = later
-      by_index (Some i) later = later
-
-      by_test :
-          (b : Bool) (o : Option ℕ) → option_map_or (λ i. get_or (map distance_of rules) i 0) o otherwise ≡ distance_by rules otherwise desired supported →
-          option_map_or (λ i. get_or (map distance_of (rule ∷ rules)) i 0) (cond b (Some 0) (option_map suc o)) otherwise
-          ≡ cond b rule.distance (distance_by rules otherwise desired supported)
-      by_test true o later = refl
-      by_test false o later = by_index o later
+  distance_by_number otherwise (rule ∷ rules) all = grind (arith, nat_tests, and_parts, distance_by_number otherwise rules, tells rule)
 
 -- ---- no rule has a language of more than three letters
 

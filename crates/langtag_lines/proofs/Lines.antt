@@ -1,12 +1,13 @@
 -- How the lines of an input grow as bytes are added at its end.
-use Rattle.std.proofs.Common.{◌≡◌, ◌∙◌, ℕ, ◌+◌, ◌<◌, ◌≤◌, Bool, true, false, eqb-true, None, Some, List, [], ◌∷◌, ◌++◌, length, take, drop, get_or, refl, sym, ap, append_assoc, length-append, take-append-drop, get_or-take, arith}
-use Rattle.std.specs.List.{onto_first, flat_map, AllByRecursion, position, position_or_len}
+use Rattle.std.proofs.Common.{◌≡◌, ◌∙◌, ℕ, ◌+◌, ◌<◌, Bool, true, false, eqb-true, None, Some, List, [], ◌∷◌, ◌++◌, take, drop, get_or, refl, sym, ap, append_assoc, length-append, take-append-drop, get_or-take, arith}
+use Rattle.std.specs.List.{onto_first, flat_map, AllByRecursion, position}
 use Rattle.std.proofs.lemmas.Grind.{common_steps}
 use Rattle.std.proofs.lemmas.List.{take_at, get_or_at, take_more}
 use Rattle.std.proofs.lemmas.List.Elements.{All-nil, All-cons}
 use Rattle.std.proofs.lemmas.List.Quantifiers.{position-Some}
 use Rattle.std.proofs.lemmas.List.Sums.{fails_before_first}
 use Rattle.std.proofs.lemmas.List.Splits.{slice_split-cons_yes, slice_split-cons_no, slice_split_none, slice_split_at}
+use Rattle.std.proofs.lemmas.Bool.Decides.{nat_tests}
 use Rattle.langtag_lines.specs.Lines.{IsCutInto, is_line_feed, ended, pieces, complete_lines, rest_of, NoLineFeed}
 
 -- ---- lines and a rest, from the pieces
@@ -28,15 +29,8 @@ record IsCutAs (input : List ℕ) (lines : List (List ℕ)) (rest : List ℕ) : 
 cut_at_line_feed :
     (b : ℕ) (bs : List ℕ) (lines : List (List ℕ)) (rest : List ℕ) → is_line_feed b ≡ true → IsCutAs bs lines rest →
     IsCutAs (b ∷ bs) ([] ∷ lines) rest
-cut_at_line_feed b bs lines rest feed cut = record {
-  split = slice_split-cons_yes is_line_feed b bs feed ∙ ap (λ l. [] ∷ l) cut.split;
-  cut = record {
-    joined = let is : b ≡ 10 = eqb-true b 10 feed in rw is (ap (λ l. 10 ∷ l) cut.cut.joined);
-    lines_free = (All-nil (λ x. is_line_feed x ≡ false), cut.cut.lines_free);
-    rest_free = cut.cut.rest_free;
-  };
-  grows = λ more. slice_split-cons_yes is_line_feed b (bs ++ more) feed ∙ ap (λ l. [] ∷ l) (cut.grows more);
-}
+cut_at_line_feed b bs lines rest feed cut =
+    grind (arith, nat_tests, slice_split-cons_yes is_line_feed b bs feed, eqb-true b 10 feed, All-nil, slice_split-cons_yes is_line_feed b)
 
 cut_at_other : (b : ℕ) (bs : List ℕ) (lines : List (List ℕ)) (rest : List ℕ) → is_line_feed b ≡ false → IsCutAs bs lines rest
     → (lines' : List (List ℕ)) × (rest' : List ℕ) × IsCutAs (b ∷ bs) lines' rest'
@@ -90,9 +84,7 @@ pieces-joined :
     pieces (flat_map ended lines ++ rest) ≡ lines ++ rest ∷ []
 pieces-joined [] rest lines_free rest_free = slice_split_none is_line_feed rest rest_free
 pieces-joined (l ∷ ls) rest (free, lines_free) rest_free =
-    let after = flat_map ended ls ++ rest in
-    let first : flat_map ended (l ∷ ls) ++ rest ≡ l ++ 10 ∷ after = simp append_assoc in
-    ap pieces first ∙ slice_split_at is_line_feed l 10 after free refl ∙ ap (λ p. l ∷ p) (pieces-joined ls rest lines_free rest_free)
+    grind (arith, nat_tests, append_assoc, slice_split_at is_line_feed l 10, pieces-joined ls rest lines_free rest_free)
 
 -- so a cut is the complete lines and the rest
 cut_lines :
@@ -106,10 +98,7 @@ cut_lines input lines rest cut =
 pub one_cut :
     (input : List ℕ) (lines others : List (List ℕ)) (rest other : List ℕ) → IsCutInto input lines rest →
     IsCutInto input others other → (lines ≡ others) × (rest ≡ other)
-one_cut input lines others rest other cut also =
-    let (these, this) = cut_lines input lines rest cut in
-    let (those, that) = cut_lines input others other also in
-    (these ∙ sym those, this ∙ sym that)
+one_cut input lines others rest other cut also = grind (arith, nat_tests, cut_lines input lines rest cut, cut_lines input others other also)
 
 record Grown (input more : List ℕ) : Type 0 where
   lines : complete_lines (input ++ more) ≡ complete_lines input ++ complete_lines (rest_of input ++ more)
@@ -173,6 +162,4 @@ first_line bytes len at =
 
 -- bytes without one are no line
 pub no_line : (bytes : List ℕ) → position is_line_feed bytes ≡ None → NoLineFeed bytes
-no_line bytes none = λ k d lt.
-    let past : length bytes ≤ position_or_len is_line_feed bytes = grind (arith, common_steps) in
-    fails_before_first is_line_feed bytes k d (omega arith)
+no_line bytes none = grind (arith, nat_tests, fails_before_first is_line_feed bytes)

@@ -1,10 +1,11 @@
 -- How the answers that a writer holds grow as bytes are taken.
-use Rattle.std.proofs.Common.{◌≡◌, ◌∙◌, ℕ, ◌+◌, ◌-◌, false, Option, None, Some, ◌<◌, ◌≤◌, arith, List, [], ◌∷◌, ◌++◌, length, length-append, take, drop, take-append-drop, refl, sym, ap, append_assoc, append-nil, subst, Result, Ok, Err, ◌≢◌}
+use Rattle.std.proofs.Common.{◌≡◌, ◌∙◌, ℕ, ◌+◌, ◌-◌, false, Option, None, Some, ◌<◌, ◌≤◌, arith, List, [], ◌∷◌, ◌++◌, length, length-append, take, take-append-drop, refl, sym, ap, append_assoc, append-nil, subst, Result, Ok, Err, ◌≢◌}
 use Rattle.std.specs.Prelude.{OnOk, IfSome, IfErr, IsErrOf}
 use Rattle.std.proofs.lemmas.List.{take-append-le}
 use Rattle.std.specs.Io.KnownBytes.{Appends, IsAtEnd, Keeps, append_known}
 use Rattle.std.proofs.KnownBytes.{Appends-nil, Appends-trans, Appends-kept}
 use Rattle.std.proofs.Math.Seq.{take-append_seam, take-append-add, take-length}
+use Rattle.std.proofs.lemmas.Bool.Decides.{nat_tests}
 use Rattle.langtag_lines.specs.Lines.{is_line_feed, complete_lines, rest_of, last_line, lines_of, ended, NoLineFeed}
 use Rattle.langtag_lines.specs.Report.{AreAnswersBy, none, one_more, AnswersBy, FirstAnswersBy, HasRun, HavingRead, read_len}
 use Rattle.langtag_lines.specs.declared.run_error.RunError.{RunError}
@@ -21,10 +22,7 @@ append_known-empty (Some x) page empty = ap Some (ap (λ l. x ++ l) empty ∙ ap
 
 Appends-written :
     (a b c : Option (List ℕ)) (page taken : List ℕ) → Appends a (append_known b page) taken → Appends b c page → Appends a c taken
-Appends-written None b c page taken took gained = tt
-Appends-written (Some x) None c page taken took gained = absurd took
-Appends-written (Some x) (Some y) None page taken took gained = absurd gained
-Appends-written (Some x) (Some y) (Some z) page taken took gained = gained ∙ took
+Appends-written a b c page taken took gained = grind (arith, nat_tests)
 
 -- ---- the line in hand, as bytes come
 
@@ -38,20 +36,13 @@ lines_more input rest more is = complete_lines-append input more ∙ ap (λ r. c
 
 -- the first bytes of an input have no more lines than all of it
 few_lines : (n : ℕ) (input : List ℕ) → length (complete_lines (take n input)) ≤ length (complete_lines input)
-few_lines n input =
-    let front = take n input in
-    let more = complete_lines (rest_of front ++ drop n input) in
-    let cut : complete_lines input ≡ complete_lines front ++ more = ap complete_lines (sym (take-append-drop n input)) ∙ complete_lines-append front (drop n input) in
-    omega (arith, ap length cut, length-append (complete_lines front) more)
+few_lines n input = grind (arith, nat_tests, take-append-drop n input, complete_lines-append, length-append)
 
 -- nor than what stood before a read, but for the bytes that a read may bring
 few_before :
     (input more : List ℕ) → length more ≤ read_len →
     length (complete_lines (take (length (input ++ more) - read_len) (input ++ more))) ≤ length (complete_lines input)
-few_before input more few =
-    let n : ℕ = length (input ++ more) - read_len in
-    let within : n ≤ length input = omega (arith, few, length-append input more) in
-    rw (take-append-le n input more within) (few_lines n input)
+few_before input more few = grind (arith, nat_tests, length-append input more, take-append-le, few_lines)
 
 pub free_rest : (input rest : List ℕ) → rest ≡ rest_of input → NoLineFeed rest
 free_rest input rest is = subst NoLineFeed (sym is) (lines_cut input).rest_free
@@ -186,9 +177,4 @@ module _ {IsAnswer : List ℕ → List ℕ → Type 0} where
     pub run_stopped :
         (result : Result (Unit {0}) RunError) (e : RunError) → result ≡ Err e → e ≢ Read →
         (IsErrOf result Memory → HavingRead unread left (FirstAnswersBy IsAnswer old new)) → HasRun IsAnswer result unread left old new
-    run_stopped result e is other memory = record {
-      whole = rw is tt;
-      report = rw is tt;
-      after_read = λ read. absurd (other cc);
-      after_memory = memory;
-    }
+    run_stopped result e is other memory = grind (arith, nat_tests)

@@ -7,7 +7,7 @@ use Rattle.std.proofs.lemmas.List.Folds.{list_all-append}
 use Rattle.std.proofs.lemmas.Grind.{common_steps}
 use Rattle.langtag_scan.specs.Class.{is_letter, are_letters, are_alphanumeric}
 use Rattle.langtag_scan.specs.Subtags.{segments}
-use Rattle.langtag_scan.specs.Kind.{Kind, kind_of, has_letters, classes_by}
+use Rattle.langtag_scan.specs.Kind.{Kind, has_letters, classes_by}
 use Rattle.langtag_scan.specs.Viable.{filling}
 use Rattle.langtag_scan.specs.Stage.{Stage, Start, Classes, classes_of, after_by, may_end, Language, Extended, AfterScript, AfterRegion, AfterVariant, AfterSingleton, InExtension, AfterMark, InPrivate, AfterFirstMark, InPrivateTag}
 use Rattle.langtag_scan.specs.Machine.{IsBegun, outcome, end_at, index_after, found_by}
@@ -25,9 +25,6 @@ record IsFull (f : List ℕ) : Type 0 where
 -- the classes of one are those of five letters and digits of its kind
 abbrev full : Kind → Classes
 full kind = classes_by kind 5
-
-full_classes : (f : List ℕ) → IsFull f → classes_of f ≡ full (kind_of f)
-full_classes f h = grind (arith, common_steps, classes_of-kind f h.short h.alphanumeric, le-leb 5, le-leb 2, le-leb 1, lt-leb, ne_eqb)
 
 -- it may stand there, and a tag may end after it
 Finishes : Stage → Classes → Type 0
@@ -60,7 +57,7 @@ filled_letters : (s : List ℕ) → are_letters s ≡ true → are_letters (s ++
 filled_letters s h = list_all-append is_letter s (filling s) ∙ rw (h, letters_a (5 - length s)) refl
 
 finishes : (stage : Stage) (s : List ℕ) → IsBegun stage s → Finishes stage (classes_of (s ++ filling s))
-finishes stage s begun = grind (arith, common_steps, filled stage s begun, full_classes, after_full stage, letters-kind_of, filled_letters s)
+finishes stage s begun = grind (arith, common_steps, filled stage s begun, after_full stage, letters-kind_of, filled_letters s, classes_of-kind, le-leb, lt-leb, ne_eqb)
 
 -- where the last subtag is filled, something is found
 pub filled_found : (stage : Stage) (e : Ends) (s : List ℕ) → IsBegun stage s → (f : Finding) × (outcome stage e (segments (s ++ filling s)) ≡ Some f)

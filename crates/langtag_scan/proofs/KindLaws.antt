@@ -34,9 +34,6 @@ some_after kind b = grind (arith, nat_tests)
 begins-after : (kind : Kind) (b : ℕ) → is_some_kind kind ≡ true → begins_with_digit (kind_after kind b) ≡ begins_with_digit kind
 begins-after kind b some = grind (arith, nat_tests, some)
 
-begins-first : (b : ℕ) → begins_with_digit (kind_after Empty b) ≡ not (is_letter b)
-begins-first b = grind (arith, nat_tests)
-
 -- ---- a whole subtag
 
 letters-kind : (s : List ℕ) (kind : Kind) → has_letters (fold kind_after kind s) ≡ (has_letters kind && are_letters s)
@@ -56,7 +53,7 @@ begins-kind [] kind some = refl
 begins-kind (b ∷ s) kind some = begins-kind s (kind_after kind b) (some_after kind b) ∙ begins-after kind b some
 
 starts-kind : (s : List ℕ) → are_alphanumeric s ≡ true → starts_with_digit s ≡ begins_with_digit (kind_of s)
-starts-kind s h = grind (arith, common_steps, and_parts, digit-letter, begins-first, begins-kind, some_after)
+starts-kind s h = grind (arith, common_steps, and_parts, digit-letter, begins-kind, some_after, nat_tests)
 
 not_one : (n : ℕ) (v : Bool) → (eqb (suc (suc n)) 1 && v) ≡ false
 not_one n v = rw (ne_eqb (suc (suc n)) 1 (λ e. omega arith)) refl
@@ -64,16 +61,13 @@ not_one n v = rw (ne_eqb (suc (suc n)) 1 (λ e. omega arith)) refl
 one_mark : (b : ℕ) → is_mark b ≡ is_kind_of_mark (kind_after Empty b)
 one_mark b = grind (arith, common_steps, both_ways, mark_letters (b ∷ []))
 
-mark-kind : (s : List ℕ) → is_one is_mark s ≡ (eqb (length s) 1 && is_kind_of_mark (kind_of s))
-mark-kind s = grind (arith, common_steps, one_mark, not_one (length s))
-
 singleton-kind : (s : List ℕ) → are_alphanumeric s ≡ true → is_one is_singleton s ≡ (eqb (length s) 1 && not (is_kind_of_mark (kind_of s)))
 unfolding is_singleton
 singleton-kind s h = grind (arith, common_steps, and_parts, one_mark, not_one (length s))
 
 pub classes_of-kind : (s : List ℕ) → length s ≤ 8 → are_alphanumeric s ≡ true → classes_of s ≡ classes_by (kind_of s) (length s)
 unfolding is_primary is_extended is_script is_region is_variant is_extension_subtag is_private_subtag
-classes_of-kind s short h = grind (arith, common_steps, letters-kind, digits-kind, starts-kind, mark-kind, singleton-kind, le-leb, and-true)
+classes_of-kind s short h = grind (arith, common_steps, letters-kind, digits-kind, starts-kind, singleton-kind, le-leb, and-true, one_mark, not_one)
 
 -- letters alone
 pub letters-kind_of : (s : List ℕ) → are_letters s ≡ has_letters (kind_of s)

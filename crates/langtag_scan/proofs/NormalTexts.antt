@@ -4,9 +4,8 @@ use Rattle.std.specs.List.{AllByRecursion}
 use Rattle.std.proofs.lemmas.Bool.{and_parts, both_ways}
 use Rattle.std.proofs.lemmas.List.Splits.{join_with_byte-slice_split}
 use Rattle.std.proofs.lemmas.Grind.{common_steps}
-use Rattle.langtag_scan.specs.Class.{is_singleton}
 use Rattle.langtag_scan.specs.Record.{Record, IsWellFormed, flat, spell}
-use Rattle.langtag_scan.specs.Stage.{Stage, Start, classes_of, is_one, after_stage}
+use Rattle.langtag_scan.specs.Stage.{Stage, Start, classes_of, after_stage}
 use Rattle.langtag_scan.specs.Subtags.{join, segments}
 use Rattle.langtag_scan.specs.Tag.{IsNormal}
 use Rattle.langtag_scan.proofs.Steps.{leads_to, after_class, next_step}
@@ -16,13 +15,10 @@ use Rattle.langtag_scan.proofs.SubtagFacts.{IsSubtag, of_primary, of_extended, o
 use Rattle.langtag_scan.proofs.SubtagLists.{segments-joined}
 use Rattle.langtag_scan.proofs.Runs.{runs}
 
-of_singleton : (s : List ℕ) → is_one is_singleton s ≡ true → IsSubtag s
-of_singleton s h = grind (arith, common_steps, of_one, singleton_alphanumeric)
-
 -- a subtag of a class has one to eight letters and digits
 of_class : (after : Stage) (s : List ℕ) → leads_to after (classes_of s) ≡ true → IsSubtag s
 of_class after s h =
-    search (rules, of_primary, and_parts, of_extended, of_script, of_region, of_variant, of_singleton, of_extension_subtag, of_mark, of_private_subtag)
+    search (rules, of_primary, and_parts, of_extended, of_script, of_region, of_variant, of_extension_subtag, of_mark, of_private_subtag, of_one, singleton_alphanumeric)
 
 -- and so has one that may stand somewhere
 pub after_subtag : (stage : Stage) (s : List ℕ) (after : Stage) → after_stage stage s ≡ Some after → IsSubtag s

@@ -4,7 +4,7 @@ use Rattle.std.specs.Prelude.{Option, MatchOption}
 use Rattle.std.specs.Option.{option_map_or}
 use Rattle.std.proofs.lemmas.Bool.{both_ways}
 use Rattle.std.proofs.lemmas.Grind.{common_steps}
-use Rattle.langtag_scan.specs.Class.{is_primary, is_mark, is_private_subtag}
+use Rattle.langtag_scan.specs.Class.{is_primary, is_mark}
 use Rattle.langtag_scan.specs.Ends.{HasEnds}
 use Rattle.langtag_scan.specs.Found.{IsFoundOf}
 use Rattle.langtag_scan.specs.Machine.{all_at, end_at, index_after, found_by, outcome, outcome_of, IsRefused}
@@ -48,17 +48,10 @@ normal_outcome (s ∷ ss) stage e inside =
     ∙ one_more (λ after. outcome after (end_at after (index_after stage e s) e) ss) (λ after. runs after ss) (λ after. ends_after after (end_at after (index_after stage e s) e) ss) e (next_stage stage s)
     (λ after at. normal_outcome ss after (end_at after (index_after stage e s) e) (next_inside stage after s at))
 
--- a private use tag after its mark
-by_private :
-    (v : Bool) (found : Stage → Option Finding) (run : Stage → Bool) → found InPrivateTag ≡ found_if (run InPrivate) PrivateUse →
-    option_map_or found (cond v (Some InPrivateTag) None) None ≡ found_if (option_map_or run (cond v (Some InPrivate) None) false) PrivateUse
-by_private v found run same = grind (arith, common_steps)
-
 private_outcome : (ss : List (List ℕ)) (e : Ends) → outcome InPrivateTag e ss ≡ found_if (runs InPrivate ss) PrivateUse
 unfolding outcome runs
 private_outcome [] e = refl
-private_outcome (s ∷ ss) e =
-    grind (arith, common_steps, by_private (is_private_subtag s), private_outcome ss (end_at InPrivateTag (index_after InPrivateTag e s) e))
+private_outcome (s ∷ ss) e = grind (arith, common_steps, private_outcome ss (end_at InPrivateTag (index_after InPrivateTag e s) e))
 
 marked_outcome : (ss : List (List ℕ)) (e : Ends) → outcome AfterFirstMark e ss ≡ found_if (runs AfterMark ss) PrivateUse
 unfolding outcome runs

@@ -1,7 +1,6 @@
 -- What a position says is so: which tags may follow the bytes that led to it, and where their parts have ended.
-use Rattle.std.proofs.Common.{◌≡◌, ℕ, ◌+◌, ◌<◌, ◌≤◌, Bool, true, false, cond, eqb, eqb-true, ne_eqb, not, ◌&&◌, ◌||◌, List, [], ◌∷◌, ◌++◌, length, get_or, set, Option, Some, None, refl, arith, append_assoc, append-nil, sym, ap, subst, ◌∙◌}
+use Rattle.std.proofs.Common.{◌≡◌, ℕ, ◌+◌, ◌<◌, ◌≤◌, Bool, true, false, cond, eqb, eqb-true, ne_eqb, List, [], ◌∷◌, ◌++◌, length, get_or, set, Option, Some, None, refl, arith, append_assoc, append-nil, sym, ap, subst, ◌∙◌}
 use Rattle.std.specs.Prelude.{MatchOption, replicate}
-use Rattle.std.specs.List.{position, position_or_len}
 use Rattle.std.specs.Option.{option_map, option_map_or}
 use Rattle.std.proofs.Math.Bool.{and-true}
 use Rattle.std.proofs.lemmas.Bool.{cases_lt, and_parts, and_left, lt-ltb, ltb-true, both_ways}
@@ -14,7 +13,7 @@ use Rattle.langtag_scan.specs.Grandfathered.{grandfathered_tags, irregular_texts
 use Rattle.langtag_scan.specs.Irregular.{folded_texts, is_prefix, is_possible, folded_at}
 use Rattle.langtag_scan.specs.Kind.{kind_after, kind_of}
 use Rattle.langtag_scan.specs.Machine.{IsBegun, end_at, HasStopped, ends_at}
-use Rattle.langtag_scan.specs.Position.{Begun, fresh, nothing_read, is_start, may_grow, stage_after, begun_after, possible_index, irregular_after, position_after, position_of, place_of}
+use Rattle.langtag_scan.specs.Position.{Begun, fresh, nothing_read, may_grow, stage_after, begun_after, possible_index, irregular_after, position_after, position_of, place_of}
 use Rattle.langtag_scan.specs.Stage.{Stage, Start, after_stage}
 use Rattle.langtag_scan.specs.declared.ends.Ends.{Ends}
 use Rattle.langtag_scan.proofs.IrregularTexts.{is_prefix-push, seventeen_folded}
@@ -38,9 +37,6 @@ pub record IsMarked (places : List ℕ) (n : ℕ) (e : Ends) : Type 0 where
 placed : (places : List ℕ) (k n j : ℕ) → k < length places → get_or (set places k n) j 0 ≡ cond (eqb j k) n (get_or places j 0)
 placed places k n j within = grind (arith, common_steps)
 
-place_within : (stage : Stage) → place_of stage < 6
-place_within stage = grind (arith, common_steps)
-
 below_set : (places : List ℕ) (k n : ℕ) → k < length places → ((j : ℕ) → get_or places j 0 ≤ n) → (j : ℕ) → get_or (set places k n) j 0 ≤ n + 1
 below_set places k n within below j = let old = below j in grind (arith, common_steps, old)
 
@@ -53,7 +49,7 @@ ends_set : (places : List ℕ) (n : ℕ) (e : Ends) (after : Stage) → (after �
 ends_set places n e Start past m = absurd (past refl)
 ends_set places n e after past m =
     let k = place_of after in
-    let within : k < length places = omega (arith, m.six, place_within after) in
+    let within : k < length places = omega (arith, m.six) in
     rw (placed places k n 0 within, placed places k n 1 within, placed places k n 2 within, placed places k n 3 within, placed places k n 4 within)
     (ends_equal _ _
     (omega (arith, m.below 0, m.below 1, m.below 2, m.below 3, m.below 4, ap (λ (x : Ends). x.language) m.is))
@@ -64,7 +60,7 @@ ends_set places n e after past m =
     refl)
 
 pub marked_end : (places : List ℕ) (n : ℕ) (e : Ends) (after : Stage) → (after ≡ Start → ⊥) → IsMarked places n e → IsMarked (set places (place_of after) n) (n + 1) (end_at after n e)
-marked_end places n e after past m = grind (arith, common_steps, place_within, length-set, below_set, ends_set)
+marked_end places n e after past m = grind (arith, common_steps, length-set, below_set, ends_set)
 
 -- ---- the subtag that has begun
 
@@ -86,7 +82,7 @@ abbrev pub place_before : Option Begun → ℕ
 place_before o = option_map_or (λ s. cond (eqb s.size 0) (place_of s.stage) 5) o 5
 
 pub place_before_within : (o : Option Begun) → place_before o < 6
-place_before_within o = grind (arith, common_steps, place_within)
+place_before_within o = grind (arith, common_steps)
 
 pub tracks_nothing : Tracks [] (replicate 6 0) (Some (fresh Start))
 tracks_nothing = grind (arith, common_steps, reads_nothing, empty_begun Start)
@@ -102,18 +98,11 @@ module _ (q places : List ℕ) (s : Begun) (known : IsTracked q places s) where
   pub stage_is : stage_after s ≡ after_stage s.stage known.bytes
   stage_is = grind (arith, common_steps, classes_of-kind known.bytes known.part.begun.short known.part.begun.alphanumeric)
 
-  -- and so does whether it may go on with a byte
-  opened : (stage : Stage) (l d : Bool) → (l || d) ≡ true → (stage ≡ Start → l ≡ true) → (l || (d && not (is_start stage))) ≡ true
-  opened stage l d any first = grind (arith, common_steps, both_ways, and-true d)
-
-  closed : (stage : Stage) (l d : Bool) → (l || (d && not (is_start stage))) ≡ true → ((l || d) ≡ true) × (stage ≡ Start → l ≡ true)
-  closed stage l d h = grind (arith, common_steps, and-true d)
-
   grows_begun : (b : ℕ) → may_grow s b ≡ true → IsBegun s.stage (known.bytes ++ b ∷ [])
-  grows_begun b grows = grind (arith, common_steps, and_parts, closed, begun_push, ltb-true)
+  grows_begun b grows = grind (arith, common_steps, and_parts, begun_push, ltb-true, and-true)
 
   begun_grows : (b : ℕ) → IsBegun s.stage (known.bytes ++ b ∷ []) → may_grow s b ≡ true
-  begun_grows b begun = grind (arith, common_steps, begun_parts, and_parts, lt-ltb, length_push, opened)
+  begun_grows b begun = grind (arith, common_steps, begun_parts, and_parts, lt-ltb, length_push, both_ways, and-true)
 
   at_hyphen : (o : Option Stage) → stage_after s ≡ o → Tracks (q ++ 45 ∷ []) (set places (place_before (option_map fresh o)) (length q)) (option_map fresh o)
   at_hyphen None next = refused_stops known.part (sym stage_is ∙ next)
@@ -167,13 +156,9 @@ FollowsIrregular q o = MatchOption o ((k : ℕ) → k < 17 → is_possible q k �
 fold_text-push : (q : List ℕ) (b : ℕ) → fold_text (q ++ b ∷ []) ≡ fold_text q ++ fold_byte b ∷ []
 fold_text-push q b = map-append fold_byte q (b ∷ [])
 
--- where no element passes a test
-pub position-None : {X : Type 0} (p : X → Bool) (xs : List X) (k : ℕ) (d : X) → position p xs ≡ None → k < length xs → p (get_or xs k d) ≡ false
-position-None p xs k d none within = grind (arith, common_steps, cases_lt k (position_or_len p xs), fails_before_first p xs k d, lt-ltb)
-
 by_index : (q : List ℕ) (o : Option ℕ) → possible_index (fold_text q) ≡ o → FollowsIrregular q (option_map (λ k. fold_text q) o)
 by_index q o at =
-    grind (arith, common_steps, position-None (is_prefix (fold_text q)) folded_texts, seventeen_folded, position-Some (is_prefix (fold_text q)) folded_texts)
+    grind (arith, common_steps, seventeen_folded, position-Some (is_prefix (fold_text q)) folded_texts, cases_lt, fails_before_first, lt-ltb)
 
 pub irregular_push : (q : List ℕ) (b : ℕ) (o : Option (List ℕ)) → FollowsIrregular q o → FollowsIrregular (q ++ b ∷ []) (option_map_or (irregular_after b) o None)
 irregular_push q b None none = λ k within.

@@ -13,7 +13,7 @@ use Rattle.langtag_scan.proofs.Filling.{filled_found}
 use Rattle.langtag_scan.proofs.FoundLaws.{tag_found}
 use Rattle.langtag_scan.proofs.Outcomes.{decided, Decides}
 use Rattle.langtag_scan.proofs.Running.{found_after, segments-one, segments-hyphen, outcome-begun, outcome-ended}
-use Rattle.langtag_scan.proofs.StageLaws.{after_not_start, index_after-length, index_after-end}
+use Rattle.langtag_scan.proofs.StageLaws.{after_not_start, index_after-length}
 use Rattle.langtag_scan.proofs.TagLaws.{viable_from_tag}
 
 -- before the first byte
@@ -80,4 +80,4 @@ module _ {p s q : List ℕ} {stage : Stage} {e : Ends} (k : IsPartRead p s q sta
 
   -- after which a stage follows
   pub reads_after : (after : Stage) → after_stage stage s ≡ Some after → Reads (q ++ 45 ∷ []) after (end_at after (length q) e)
-  reads_after after next = grind (arith, common_steps, after_hyphen, index_after-end, length_push, after_not_start)
+  reads_after after next = grind (arith, common_steps, after_hyphen, length_push, after_not_start)

@@ -4,7 +4,7 @@ use Rattle.std.specs.List.{position}
 use Rattle.std.specs.Prelude.{replicate}
 use Rattle.std.specs.Option.{option_map_or, is_none}
 use Rattle.std.specs.Str.{bytes_eq}
-use Rattle.std.proofs.lemmas.Bool.{both_ways}
+use Rattle.std.proofs.lemmas.Bool.{both_ways, cases_lt, lt-ltb}
 use Rattle.std.proofs.lemmas.List.{take_more, take_all, length-take, get_or-replicate, set-get_or}
 use Rattle.std.proofs.lemmas.List.Quantifiers.{position-Some}
 use Rattle.std.proofs.lemmas.Slice.Eq.{bytes_eq-Decides}
@@ -17,16 +17,16 @@ use Rattle.langtag_scan.specs.Position.{Begun, position_of, stage_after, part_be
 use Rattle.langtag_scan.specs.Stage.{Stage, Start, may_end}
 use Rattle.langtag_scan.specs.Tag.{IsPrivate, IsIrregular, IsIrregularAt, IsTag}
 use Rattle.langtag_scan.specs.Viable.{IsViable, IsStop}
-use Rattle.langtag_scan.specs.declared.ends.Ends.{Ends}
 use Rattle.langtag_scan.specs.declared.finding.Finding.TheVariants as finding
 use Rattle.langtag_scan.specs.declared.state.Ending.{Ending}
 use Rattle.langtag_scan.specs.declared.state.Ending.TheVariants.{NoTag, Normal, PrivateUse, Irregular}
 use Rattle.langtag_scan.proofs.IrregularTexts.{seventeen_folded, irregular_from_fold, irregular_fold, possible_viable, possible_prefix}
 use Rattle.langtag_scan.proofs.Outcomes.{Decides, decided}
-use Rattle.langtag_scan.proofs.PositionLaws.{Tracks, IsTracked, FollowsIrregular, follows_irregular, place_before, place_before_within, tracks_nothing, tracks_push, stage_is, marked_end, position-None, position_of-push}
+use Rattle.langtag_scan.proofs.PositionLaws.{Tracks, IsTracked, FollowsIrregular, follows_irregular, place_before, place_before_within, tracks_nothing, tracks_push, stage_is, marked_end, position_of-push}
 use Rattle.langtag_scan.proofs.ReadingLaws.{reads_viable, reads_ended}
 use Rattle.langtag_scan.proofs.Running.{found_after}
 use Rattle.langtag_scan.proofs.StageLaws.{after_not_start}
+use Rattle.std.proofs.lemmas.List.Sums.{fails_before_first}
 use Rattle.langtag_scan.proofs.TagLaws.{tag_irregular, viable_from_tag, no_tag_dead, prefixes_viable, stop_at, stop_whole}
 
 -- ---- which prefixes are viable
@@ -80,7 +80,7 @@ module _ (t places : List ℕ) (refused : IsRefused t) where
   by_text : (o : Option ℕ) → position (bytes_eq (fold_text t)) folded_texts ≡ o → IsEnded t places (option_map_or Irregular o NoTag)
   unfolding IsIrregular
   by_text o at =
-      grind (arith, common_steps, no_tag, irregular_fold, position-None, seventeen_folded, both_ways, bytes_eq-Decides, position-Some, irregular_from_fold)
+      grind (arith, common_steps, no_tag, irregular_fold, seventeen_folded, both_ways, bytes_eq-Decides, position-Some, irregular_from_fold, cases_lt, fails_before_first, lt-ltb)
 
   -- what is neither normal nor for private use may be irregular
   refused_ended : (o : Option (List ℕ)) → FollowsIrregular t o → IsEnded t places (option_map_or irregular_ending o NoTag)
@@ -94,12 +94,9 @@ module _ (t places : List ℕ) (refused : IsRefused t) where
 stopped_refused : (t : List ℕ) → HasStopped t → IsRefused t
 stopped_refused t stopped = grind (arith, common_steps, append-nil t)
 
-whole-end : (after : Stage) (n : ℕ) (e : Ends) → (end_at after n e).whole ≡ n
-whole-end after n e = grind (arith, common_steps)
-
 module _ (t places : List ℕ) (s : Begun) (known : IsTracked t places s) (o : Option (List ℕ)) (follows : FollowsIrregular t o) where
   found : (stage : Stage) → (stage ≡ Start → ⊥) → IsFoundOf t (found_by stage (end_at stage (length t) known.ends)) → IsEnded t places (ending_after stage)
-  found stage past is = grind (arith, common_steps, marked_end places (length t) known.ends stage past known.marked, whole-end stage (length t) known.ends)
+  found stage past is = grind (arith, common_steps, marked_end places (length t) known.ends stage past known.marked)
 
   by_end :
       (stage : Stage) → (stage ≡ Start → ⊥) → (v : Bool) → Decides t (cond v (Some (found_by stage (end_at stage (length t) known.ends))) None) →

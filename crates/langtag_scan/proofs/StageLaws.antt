@@ -2,7 +2,7 @@
 use Rattle.std.proofs.Common.{◌≡◌, ℕ, ◌+◌, Bool, true, false, List, [], length, Some, arith}
 use Rattle.std.proofs.lemmas.Grind.{common_steps}
 use Rattle.langtag_scan.specs.Stage.{Stage, Start, AfterFirstMark, InPrivateTag, next_stage, after_stage}
-use Rattle.langtag_scan.specs.Machine.{end_at, index_after}
+use Rattle.langtag_scan.specs.Machine.{index_after}
 use Rattle.langtag_scan.specs.declared.ends.Ends.{Ends}
 use Rattle.langtag_scan.proofs.Steps.{may_follow, after_class, next_step}
 
@@ -36,7 +36,3 @@ after_not_start stage after s e first = grind (arith, common_steps, after_class 
 
 pub index_after-length : (stage : Stage) (e : Ends) (s : List ℕ) → index_after stage e s ≡ index_after stage e [] + length s
 index_after-length stage e s = grind (arith, common_steps)
-
--- after a hyphen the next subtag begins one byte on
-pub index_after-end : (after : Stage) (n : ℕ) (e : Ends) → (after ≡ Start → ⊥) → index_after after (end_at after n e) [] ≡ n + 1
-index_after-end after n e later = grind (arith, common_steps)

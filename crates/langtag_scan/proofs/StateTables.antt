@@ -15,7 +15,7 @@ use Rattle.langtag_scan.specs.Case.{fold_byte, fold_text}
 use Rattle.langtag_scan.specs.Class.{is_letter, is_digit, is_mark}
 use Rattle.langtag_scan.specs.Grandfathered.{grandfathered_tags, irregular_texts}
 use Rattle.langtag_scan.specs.Irregular.{folded_texts, folded_at, is_possible, is_prefix}
-use Rattle.langtag_scan.specs.Kind.{Kind, Empty, Mark, Letters, Digits, LetterFirst, DigitFirst, with_letter}
+use Rattle.langtag_scan.specs.Kind.{Kind, Empty, Mark, Letters, Digits, LetterFirst, DigitFirst}
 use Rattle.langtag_scan.specs.Position.{Begun, Position, begun_after, possible_index, irregular_after, position_after, position_of, part_before, ending_of, is_dead, nothing_read}
 use Rattle.langtag_scan.specs.Stage.{Stage, Start, Language, Extended, AfterScript, AfterRegion, AfterVariant, AfterSingleton, InExtension, AfterMark, InPrivate, AfterFirstMark, InPrivateTag}
 use Rattle.langtag_scan.specs.States.{states_of, states_along}
@@ -162,12 +162,9 @@ bytes_classed b within = agree_below_at (λ b. ltb (class_of b) 29 && is_alike_b
 pub class_within : (b : ℕ) → b < 256 → class_of b < 29
 class_within b within = ltb-true _ _ (and_parts (ltb (class_of b) 29) _ (bytes_classed b within)).0
 
-with_letter-same : (kind : Kind) (c b : ℕ) → is_mark c ≡ is_mark b → with_letter kind c ≡ with_letter kind b
-with_letter-same kind c b marks = grind (arith, common_steps)
-
 begun_after-same : (o : Option Begun) (c b : ℕ) → eqb c 45 ≡ eqb b 45 → is_letter c ≡ is_letter b → is_digit c ≡ is_digit b → is_mark c ≡ is_mark b →
     option_map_or (begun_after c) o None ≡ option_map_or (begun_after b) o None
-begun_after-same o c b hyphens letters digits marks = grind (arith, common_steps, with_letter-same)
+begun_after-same o c b hyphens letters digits marks = grind (arith, common_steps)
 
 -- no irregular text has another byte
 outside : (p : List ℕ) (c : ℕ) (o : Option ℕ) → is_text_byte c ≡ false → possible_index (p ++ c ∷ []) ≡ o → o ≡ None

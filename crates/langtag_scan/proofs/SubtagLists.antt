@@ -1,9 +1,7 @@
 -- Texts and the lists of subtags that stand between their hyphens: joining and splitting undo one another, and a list of
 -- members of a class is found again in its join.
-use Rattle.std.proofs.Common.{◌≡◌, ℕ, ◌<◌, ◌≤◌, ◌+◌, ◌-◌, List, length, drop, length-drop, get_or, arith, Bool, true, false, [], ◌∷◌, ◌++◌, refl, ap, ◌∙◌, Option, Bor, MatchOption, All, IsTrue}
+use Rattle.std.proofs.Common.{◌≡◌, ℕ, ◌<◌, ◌≤◌, ◌+◌, List, length, drop, length-drop, arith, Bool, true, false, [], ◌∷◌, ◌++◌, refl, ap, ◌∙◌, Option, Bor, MatchOption, All, IsTrue}
 use Rattle.std.proofs.lemmas.Bool.{and_parts}
-use Rattle.std.specs.Str.{IsUtf8, IsCharBoundary}
-use Rattle.std.proofs.lemmas.Str.{IsCharBoundary-after_ascii}
 use Rattle.std.specs.List.{onto_first, AllByRecursion, list_all}
 use Rattle.std.proofs.lemmas.List.Splits.{slice_split-cons_yes, slice_split-cons_no, slice_split_none, slice_split_at, length-slice_split, join_with_byte-slice_split}
 use Rattle.std.proofs.lemmas.List.Elements.{All-nil, All-cons, All-head, All-tail, All-from_recursion, All-weaker}
@@ -21,9 +19,6 @@ pub segments_left-first :
     MatchOption rest (text ≡ first) (λ r. text ≡ first ++ 45 ∷ r.now) → segments text ≡ first ∷ segments_left rest
 segments_left-first text first rest free joined = grind (arith, common_steps, slice_split_none, slice_split_at)
 
-pub onto_first-append : (b : ℕ) (prefix back : List (List ℕ)) → 0 < length prefix → onto_first b (prefix ++ back) ≡ onto_first b prefix ++ back
-onto_first-append b prefix back some = grind (arith, common_steps)
-
 -- the segments before and after any hyphen
 pub slice_split-append : (prefix back : List ℕ) → segments (prefix ++ 45 ∷ back) ≡ segments prefix ++ segments back
 slice_split-append [] back = refl
@@ -32,7 +27,7 @@ slice_split-append (b ∷ prefix) back = by_first (is_hyphen b) refl (slice_spli
     by_first :
         (cut : Bool) → is_hyphen b ≡ cut → segments (prefix ++ 45 ∷ back) ≡ segments prefix ++ segments back →
         segments (b ∷ prefix ++ 45 ∷ back) ≡ segments (b ∷ prefix) ++ segments back
-    by_first cut kept others = grind (arith, common_steps, slice_split-cons_yes, slice_split-cons_no, onto_first-append, length-slice_split)
+    by_first cut kept others = grind (arith, common_steps, slice_split-cons_yes, slice_split-cons_no, length-slice_split)
 
 -- one more segment, after a hyphen
 pub slice_split-push : (prefix last : List ℕ) → IsHyphenFree last → segments (prefix ++ 45 ∷ last) ≡ segments prefix ++ last ∷ []
@@ -117,7 +112,3 @@ pub length-after_first : (text : List ℕ) → length (drop 1 (subtags text)) �
 length-after_first text = omega (arith, length-drop 1 (subtags text), length-subtags text)
 
 -- ---- cuts
-
--- a text may be cut after a hyphen
-pub IsCharBoundary-after_hyphen : (text : List ℕ) (i : ℕ) → IsUtf8 text → 0 < i → i ≤ length text → get_or text (i - 1) 0 ≡ 45 → IsCharBoundary text i
-IsCharBoundary-after_hyphen text i utf8 some within hyphen = grind (arith, common_steps, IsCharBoundary-after_ascii text (i - 1) utf8)

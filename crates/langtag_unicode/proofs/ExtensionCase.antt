@@ -1,5 +1,5 @@
 -- The case of letters changes nothing in the forms of extensions but case.
-use Rattle.std.proofs.Common.{◌≡◌, ℕ, Bool, true, false, not, cond, ◌&&◌, ◌||◌, ◌==◌, leb, List, [], ◌∷◌, ◌++◌, length, map, Option, None, Some, option_map, unwrap_or, refl, sym, ap, ◌∙◌}
+use Rattle.std.proofs.Common.{◌≡◌, ℕ, Bool, true, false, not, cond, ◌&&◌, ◌||◌, ◌==◌, List, [], ◌∷◌, ◌++◌, map, Option, None, Some, option_map, unwrap_or, refl, sym, ap, ◌∙◌}
 use Rattle.std.proofs.lemmas.List.{map-append}
 use Rattle.std.specs.Prelude.{codes}
 use Rattle.std.specs.List.{AllByRecursion, flat_map, list_all, list_any}
@@ -20,7 +20,6 @@ use Rattle.langtag_scan.specs.Stage.{Classes}
 use Rattle.langtag_scan.specs.Subtags.{join, subtags}
 use Rattle.langtag_unicode.specs.Aliases.{subdivision_aliases, transform_type_aliases, unicode_type_aliases}
 use Rattle.langtag_unicode.specs.Alias.{alias_for, type_alias_for}
-use Rattle.langtag_unicode.specs.Edit.{is_unicode_key}
 use Rattle.langtag_unicode.specs.Form as form
 use Rattle.langtag_unicode.specs.Form.{IsExtensionsForm, after_one, are_different_variants, are_fields, extension_form, extensions_record, forms_after, has_subdivision, in_alphabet, language_form, is_language_id, is_language_or_none, is_of, is_transform, is_unicode_language, may_follow, one_of, subdivision, transform_form, transform_value, unicode_form, unicode_type, unicode_value, without_true}
 use Rattle.langtag_unicode.specs.Keywords.{before_key, is_key, value_of}

@@ -11,19 +11,17 @@ use Rattle.langtag_likely.specs.Likely.{Fields}
 use Rattle.langtag_likely.specs.Maximal.{subtag_of}
 use Rattle.langtag_scan.proofs.CaseLaw.{alike_parts}
 use Rattle.langtag_scan.specs.Case.{fold_byte, fold_text}
-use Rattle.langtag_scan.specs.Record.{Extension, IsWellFormed, IsWellFormedExtension, PrivateUse, Record, spell}
-use Rattle.langtag_unicode.specs.Form.{are_different_variants, are_fields, is_language_or_none, is_of, is_unicode_language}
-use Rattle.langtag_unicode.specs.Keywords.{before_key}
+use Rattle.langtag_scan.specs.Record.{Extension, IsWellFormed, IsWellFormedExtension, Record, spell}
+use Rattle.langtag_unicode.specs.Form.{is_of}
 use Rattle.langtag_unicode.specs.Locale.{IsLocale, is_locale_extension, is_locale_record}
-use Rattle.langtag_unicode.specs.LocaleForm.{IsLocaleForm, extension_at, extensions_in_order, identifier_fields, identifier_flat, identifier_form, identifier_variants, locale_extension_form, locale_record, locale_text, new_variants, record_fields, singletons, transform_language_form}
-use Rattle.langtag_unicode.specs.Transform.{is_field_key}
-use Rattle.langtag_unicode.proofs.FormTwice.{IsLanguageForm, after_language, fields-again, unicode-twice, variants-again, with-twice}
-use Rattle.langtag_unicode.proofs.IdentifierForms.{form_is, form_subtags}
+use Rattle.langtag_unicode.specs.LocaleForm.{IsLocaleForm, extension_at, extensions_in_order, identifier_form, locale_extension_form, locale_record, locale_text, record_fields, singletons, transform_language_form}
+use Rattle.langtag_unicode.proofs.FormTwice.{unicode-twice, with-twice}
+use Rattle.langtag_unicode.proofs.IdentifierForms.{form_is}
 use Rattle.langtag_unicode.proofs.IdentifierTwice.{identifier_form-twice, new_variants-twice}
 use Rattle.langtag_unicode.proofs.LocaleAgain.{form_singleton}
 use Rattle.langtag_unicode.proofs.LocaleCase.{locale-alike, text-alike}
 use Rattle.langtag_unicode.proofs.LocaleExtensions.{locale_form_by, locale_form_tested, transform_allowed}
-use Rattle.langtag_unicode.proofs.LocaleRecords.{all_allowed, different_variants, fields_good, locale_well_formed, new_variants_good}
+use Rattle.langtag_unicode.proofs.LocaleRecords.{all_allowed, locale_well_formed}
 use Rattle.langtag_unicode.proofs.LocaleSettled.{locale_settled, start-is_form}
 use Rattle.langtag_unicode.proofs.LocaleTables.{both, found_has, found_is}
 
