@@ -24,7 +24,8 @@ use Rattle.langtag_unicode.specs.Form as form
 use Rattle.langtag_unicode.specs.Form.{IsExtensionsForm, after_one, are_different_variants, are_fields, extension_form, extensions_record, forms_after, has_subdivision, in_alphabet, language_form, is_language_id, is_language_or_none, is_of, is_transform, is_unicode_language, may_follow, one_of, subdivision, transform_form, transform_value, unicode_form, unicode_type, unicode_value, without_true}
 use Rattle.langtag_unicode.specs.Keywords.{before_key, is_key, value_of}
 use Rattle.langtag_unicode.specs.Locale.{is_locale_extension, is_unicode_subtag}
-use Rattle.langtag_unicode.specs.LocaleForm.{extension_at, extensions_in_order, first_subtag, identifier_fields, identifier_flat, identifier_variants, locale_extension_form, locale_transform_form, singletons, transform_language_form}
+use Rattle.langtag_registry.specs.Canonical.{singletons}
+use Rattle.langtag_unicode.specs.LocaleForm.{extension_at, extensions_in_order, first_subtag, identifier_fields, identifier_flat, identifier_variants, locale_extension_form, locale_transform_form, transform_language_form}
 use Rattle.langtag_unicode.specs.Transform.{is_field_key}
 use Rattle.langtag_unicode.proofs.AlphabetTwice.{in_alphabet-alike}
 use Rattle.langtag_unicode.proofs.CanonicalKeywords.{key-fold, unicode_key-fold}

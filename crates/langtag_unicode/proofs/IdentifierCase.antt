@@ -94,14 +94,14 @@ unfolding form.variant_region
 variant_region-alike variants f g h = record {
   language = h.language;
   script = h.script;
-  region = or_other-alike f.region g.region (form.region_of variants list.variant_regions) h.region;
+  region = or_other-alike f.region g.region (form.variants_region variants list.variant_regions) h.region;
 }
 
 likely_region-alike : (f g : Fields) → AlikeFields f g → Alike (form.likely_region f) (form.likely_region g)
 unfolding form.likely_region
 likely_region-alike f g h =
     by_options (λ o p. Alike (option_map_or (λ most. most.region) o []) (option_map_or (λ most. most.region) p [])) refl (λ a b same. same.region) _ _
-    (added-alike (form.without_region f) (form.without_region g)
+    (added-alike (form.language_and_script f) (form.language_and_script g)
     (record { language = known-alike (codes "und") f.language g.language h.language; script = h.script; region = refl }))
 
 heir-alike : (a b : List ℕ) (regions : List (List ℕ)) → Alike a b → Alike (heir a regions) (heir b regions)
@@ -134,8 +134,8 @@ new_region-alike f g h =
     by_row None = by_same (λ o p. Alike (region_by f None o) (region_by g None p)) by_heirs _ _ (alias_for-alike list.region_heirs f.region g.region h.region)
     by_row (Some to) = refl
 
-region-alike : (f g : Fields) → AlikeFields f g → AlikeFields (form.region_replaced f) (form.region_replaced g)
-unfolding form.region_replaced
+region-alike : (f g : Fields) → AlikeFields f g → AlikeFields (form.with_new_region f) (form.with_new_region g)
+unfolding form.with_new_region
 region-alike f g h = record { language = h.language; script = h.script; region = new_region-alike f g h }
 
 or_same : (a b : List ℕ) → Alike a b → (o p : Option (List ℕ)) → o ≡ p → Alike (unwrap_or o a) (unwrap_or p b)
@@ -145,8 +145,8 @@ or_same a b alike = by_same (λ o p. Alike (unwrap_or o a) (unwrap_or p b)) by_f
     by_found None = alike
     by_found (Some new) = refl
 
-script-alike : (f g : Fields) → AlikeFields f g → AlikeFields (form.script_replaced f) (form.script_replaced g)
-unfolding form.script_replaced
+script-alike : (f g : Fields) → AlikeFields f g → AlikeFields (form.with_new_script f) (form.with_new_script g)
+unfolding form.with_new_script
 script-alike f g h = record {
   language = h.language;
   script = or_same f.script g.script h.script _ _ (alias_for-alike list.script_aliases f.script g.script h.script);
@@ -159,18 +159,18 @@ script-alike f g h = record {
 language-same : (v w : List (List ℕ)) (f : Fields) → AreAlike v w → form.variant_language v f ≡ form.variant_language w f
 unfolding form.variant_language
 language-same v w f alike =
-    ap (λ has. form.with_language f (fold (λ l (a : TypeAlias). cond (are_alike a.key l && has a.old) a.new l) f.language list.variant_languages)) (has-same v w alike)
+    ap (λ has. form.other_language f (fold (λ l (a : TypeAlias). cond (are_alike a.key l && has a.old) a.new l) f.language list.variant_languages)) (has-same v w alike)
 
 region-same : (v w : List (List ℕ)) (f : Fields) → AreAlike v w → form.variant_region v f ≡ form.variant_region w f
 unfolding form.variant_region
 region-same v w f alike =
-    ap (λ has. form.with_region f (or_other f.region (option_map_or (λ (a : Alias). a.new) (find (λ (a : Alias). has a.old) list.variant_regions) []))) (has-same v w alike)
+    ap (λ has. form.other_region f (or_other f.region (option_map_or (λ (a : Alias). a.new) (find (λ (a : Alias). has a.old) list.variant_regions) []))) (has-same v w alike)
 
 identifier-same : (v w : List (List ℕ)) (f : Fields) → AreAlike v w → identifier_form v f ≡ identifier_form w f
 unfolding identifier_form
 identifier-same v w f alike =
-    ap (λ x. form.script_replaced (form.sign_language (form.region_replaced (form.variant_region v (form.sign_language x))))) (language-same v w (language_replaced f) alike)
-    ∙ ap (λ x. form.script_replaced (form.sign_language (form.region_replaced x))) (region-same v w (form.sign_language (form.variant_language w (language_replaced f))) alike)
+    ap (λ x. form.with_new_script (form.sign_language (form.with_new_region (form.variant_region v (form.sign_language x))))) (language-same v w (language_replaced f) alike)
+    ∙ ap (λ x. form.with_new_script (form.sign_language (form.with_new_region x))) (region-same v w (form.sign_language (form.variant_language w (language_replaced f))) alike)
 
 -- identifiers that are equal but for case have forms that are
 pub identifier_form-alike : (v w : List (List ℕ)) (f g : Fields) → AreAlike v w → AlikeFields f g → AlikeFields (identifier_form v f) (identifier_form w g)

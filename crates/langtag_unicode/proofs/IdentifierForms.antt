@@ -154,10 +154,10 @@ sign_subtags f are =
     sign_cases AreSubtags f (λ none. are)
     (λ new found. record { language = sign_found is_unicode_language f new sign_languages_good found; script = are.script; region = refl })
 
-with_region-subtags : (f : Fields) (region : List ℕ) → AreSubtags f → is_region_field region ≡ true → AreSubtags (form.with_region f region)
-with_region-subtags f region are good = record { language = are.language; script = are.script; region = good }
+other_region-subtags : (f : Fields) (region : List ℕ) → AreSubtags f → is_region_field region ≡ true → AreSubtags (form.other_region f region)
+other_region-subtags f region are good = record { language = are.language; script = are.script; region = good }
 
-brought_good : (variants : List (List ℕ)) → is_region_field (form.region_of variants list.variant_regions) ≡ true
+brought_good : (variants : List (List ℕ)) → is_region_field (form.variants_region variants list.variant_regions) ≡ true
 brought_good variants = by_found (find (λ (alias : Alias). has_variant variants alias.old) list.variant_regions) refl
   where
     by_found : (o : Option Alias) → find (λ (alias : Alias). has_variant variants alias.old) list.variant_regions ≡ o → is_region_field (option_map_or (λ alias. alias.new) o []) ≡ true
@@ -167,7 +167,7 @@ brought_good variants = by_found (find (λ (alias : Alias). has_variant variants
 variant_region-subtags : (variants : List (List ℕ)) (f : Fields) → AreSubtags f → AreSubtags (form.variant_region variants f)
 unfolding form.variant_region
 variant_region-subtags variants f are =
-    with_region-subtags f _ are (either_good is_region_field f.region (form.region_of variants list.variant_regions) are.region (brought_good variants))
+    other_region-subtags f _ are (either_good is_region_field f.region (form.variants_region variants list.variant_regions) are.region (brought_good variants))
 
 looked_up_good : (f to : Fields) → looked_up likely_subtags f ≡ Some to → is_region_field to.region ≡ true
 looked_up_good f =
@@ -178,13 +178,13 @@ looked_up_good f =
 
 likely_region_good : (f : Fields) → is_region_field (form.likely_region f) ≡ true
 unfolding form.likely_region
-likely_region_good f = by_row (looked_up likely_subtags (form.without_region f)) refl
+likely_region_good f = by_row (looked_up likely_subtags (form.language_and_script f)) refl
   where
     by_row :
-        (o : Option Fields) → looked_up likely_subtags (form.without_region f) ≡ o →
-        is_region_field (option_map_or (λ most. most.region) (option_map (filled (form.without_region f)) o) []) ≡ true
+        (o : Option Fields) → looked_up likely_subtags (form.language_and_script f) ≡ o →
+        is_region_field (option_map_or (λ most. most.region) (option_map (filled (form.language_and_script f)) o) []) ≡ true
     by_row None none = refl
-    by_row (Some to) found = looked_up_good (form.without_region f) to found
+    by_row (Some to) found = looked_up_good (form.language_and_script f) to found
 
 new_region_good : (f : Fields) → AreSubtags f → is_region_field (form.new_region f) ≡ true
 unfolding form.new_region
@@ -207,12 +207,12 @@ new_region_good f are = by_row (likely_for region_replacements (region_alone f))
     by_row None none = by_heirs (alias_for list.region_heirs f.region) refl
     by_row (Some to) found = row_good (λ to. is_region_field to.region) region_replacements (region_alone f) to regions_good found
 
-region_subtags : (f : Fields) → AreSubtags f → AreSubtags (form.region_replaced f)
-unfolding form.region_replaced
-region_subtags f are = with_region-subtags f _ are (new_region_good f are)
+region_subtags : (f : Fields) → AreSubtags f → AreSubtags (form.with_new_region f)
+unfolding form.with_new_region
+region_subtags f are = other_region-subtags f _ are (new_region_good f are)
 
-script_subtags : (f : Fields) → AreSubtags f → AreSubtags (form.script_replaced f)
-unfolding form.script_replaced
+script_subtags : (f : Fields) → AreSubtags f → AreSubtags (form.with_new_script f)
+unfolding form.with_new_script
 script_subtags f are = record { language = are.language; script = by_found (alias_for list.script_aliases f.script) refl; region = are.region }
   where
     by_found : (o : Option (List ℕ)) → alias_for list.script_aliases f.script ≡ o → is_script_field (unwrap_or o f.script) ≡ true

@@ -138,7 +138,7 @@ sign-size f = sign_cases (λ x. fields_bytes x ≤ fields_bytes f) f (λ none. o
 -- `aaland` brings a region, and is left out itself
 variant_region-size : (variants : List (List ℕ)) (f : Fields) → fields_bytes (form.variant_region variants f) ≤ fields_bytes f + cond (has_variant variants (codes "aaland")) 7 0
 unfolding form.variant_region list.variant_regions
-variant_region-size variants f = grind (arith, common_steps, other-size f.region (form.region_of variants list.variant_regions), bytes)
+variant_region-size variants f = grind (arith, common_steps, other-size f.region (form.variants_region variants list.variant_regions), bytes)
 
 heir-size : (likely : List ℕ) (regions : List (List ℕ)) (n : ℕ) → list_all (λ region. leb (bytes region) n) regions ≡ true → bytes (form.heir likely regions) ≤ n
 heir-size likely [] n all = omega arith
@@ -166,18 +166,18 @@ region-size f = by_row (likely_for region_replacements (region_alone f)) refl
     by_row None none = by_heirs (find (λ (alias : Alias). are_alike alias.old f.region) list.region_heirs) refl
     by_row (Some to) found = grind (arith, common_steps, row_found, regions_short, leb-true, bytes, bytes-alike, both)
 
-region_replaced-size : (f : Fields) → fields_bytes (form.region_replaced f) ≤ fields_bytes f
-unfolding form.region_replaced
-region_replaced-size f = omega (arith, region-size f)
+with_new_region-size : (f : Fields) → fields_bytes (form.with_new_region f) ≤ fields_bytes f
+unfolding form.with_new_region
+with_new_region-size f = omega (arith, region-size f)
 
-script-size : (f : Fields) → fields_bytes (form.script_replaced f) ≤ fields_bytes f
-unfolding form.script_replaced list.script_aliases
+script-size : (f : Fields) → fields_bytes (form.with_new_script f) ≤ fields_bytes f
+unfolding form.with_new_script list.script_aliases
 script-size f = let short = alias-grows list.script_aliases (λ t. 0) f.script refl in omega (arith, short)
 
 fields-size : (variants : List (List ℕ)) (f : Fields) → 3 ≤ bytes f.language → fields_bytes (identifier_form variants f) ≤ fields_bytes f + 5 + cond (has_variant variants (codes "aaland")) 7 0
 unfolding identifier_form
 fields-size variants f some =
-    grind (arith, common_steps, replaced-size, variant_language-size, sign-size, variant_region-size, region_replaced-size, script-size)
+    grind (arith, common_steps, replaced-size, variant_language-size, sign-size, variant_region-size, with_new_region-size, script-size)
 
 -- ---- the variants
 

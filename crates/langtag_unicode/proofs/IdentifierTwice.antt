@@ -53,7 +53,7 @@ module _ (variants : List (List ℕ)) (f : Fields) where
   before_region = form.sign_language (form.variant_language variants (language_replaced f))
 
   abbrev after_region : Fields
-  after_region = form.region_replaced (form.variant_region variants before_region)
+  after_region = form.with_new_region (form.variant_region variants before_region)
 
   news-stay : AllByRecursion (Stays language) news
   news-stay =
@@ -66,7 +66,7 @@ module _ (variants : List (List ℕ)) (f : Fields) where
   -- ---- the language
 
   last_language : is_last_language final.language ≡ true
-  unfolding identifier_form form.script_replaced form.region_replaced form.variant_region form.variant_language
+  unfolding identifier_form form.with_new_script form.with_new_region form.variant_region form.variant_language
   last_language =
       sign-good is_last_language after_region signs
       (sign-good is_last_language (form.variant_language variants (language_replaced f)) signs
@@ -78,11 +78,11 @@ module _ (variants : List (List ℕ)) (f : Fields) where
           (λ alias last. (both (is_last_language alias.new) (not (are_alike alias.new (codes "sgn"))) last).0) list.sign_languages sign_languages_last
 
   last_sign : sign_for final ≡ None
-  unfolding identifier_form form.script_replaced
+  unfolding identifier_form form.with_new_script
   last_sign = sign-last after_region
 
   came : (a : TypeAlias) → is_old_language a ≡ true → are_alike a.key final.language ≡ true → are_alike a.key language ≡ true
-  unfolding identifier_form form.script_replaced form.region_replaced form.variant_region form.variant_language
+  unfolding identifier_form form.with_new_script form.with_new_region form.variant_region form.variant_language
   came a old is =
       let parts = both (is_some (type_alias_for list.variant_languages a.key a.old)) _ old in
       let others = both (list_all {X = TypeAlias} (λ b. not (are_alike a.key b.new) || are_alike a.key b.key) list.variant_languages) (list_all {X = Alias} (λ b. not (are_alike a.key b.new)) list.sign_languages) parts.1 in
@@ -104,15 +104,15 @@ module _ (variants : List (List ℕ)) (f : Fields) where
   -- ---- the region and the script
 
   after-last : is_last_region after_region.region ≡ true
-  unfolding form.region_replaced
+  unfolding form.with_new_region
   after-last = new_region-last (form.variant_region variants before_region)
 
   last_region : is_last_region final.region ≡ true
-  unfolding identifier_form form.script_replaced
+  unfolding identifier_form form.with_new_script
   last_region = sign-region after_region after-last
 
   last_script : is_last_script final.script ≡ true
-  unfolding identifier_form form.script_replaced
+  unfolding identifier_form form.with_new_script
   last_script = new_script-last (form.sign_language after_region)
 
   -- ---- each step
@@ -124,7 +124,7 @@ module _ (variants : List (List ℕ)) (f : Fields) where
 
   variant_again : form.variant_language news final ≡ final
   unfolding form.variant_language
-  variant_again = ap (form.with_language final) (fold_stays news list.variant_languages final.language languages_old none_left)
+  variant_again = ap (form.other_language final) (fold_stays news list.variant_languages final.language languages_old none_left)
 
   sign_again : form.sign_language final ≡ final
   unfolding form.sign_language
@@ -133,32 +133,32 @@ module _ (variants : List (List ℕ)) (f : Fields) where
   variant_region_again : form.variant_region news final ≡ final
   unfolding form.variant_region
   variant_region_again =
-      ap (λ o. form.with_region final (or_other final.region (option_map_or (λ (a : Alias). a.new) o [])))
+      ap (λ o. form.other_region final (or_other final.region (option_map_or (λ (a : Alias). a.new) o [])))
       (none_found (λ (a : Alias). not (is_last_variant a.old)) (λ (a : Alias). has_variant news a.old) list.variant_regions regions_dropped
       (λ a dropped. false_from_ne_true (has_variant news a.old) (λ has. false≢true (sym (not-true _ dropped) ∙ (new-stays a.old has).last))))
-      ∙ ap (form.with_region final) (or_none final.region)
+      ∙ ap (form.other_region final) (or_none final.region)
 
-  region_again : form.region_replaced final ≡ final
-  unfolding form.region_replaced form.new_region
+  region_again : form.with_new_region final ≡ final
+  unfolding form.with_new_region form.new_region
   region_again =
       let parts = both (is_none (likely_for region_replacements (region_alone final))) (is_none (alias_for list.region_heirs final.region)) last_region in
-      ap (λ o. form.with_region final (region_by final o (alias_for list.region_heirs final.region)))
+      ap (λ o. form.other_region final (region_by final o (alias_for list.region_heirs final.region)))
       (none_is (likely_for region_replacements (region_alone final)) parts.0)
-      ∙ ap (λ o. form.with_region final (region_by final None o)) (none_is (alias_for list.region_heirs final.region) parts.1)
+      ∙ ap (λ o. form.other_region final (region_by final None o)) (none_is (alias_for list.region_heirs final.region) parts.1)
 
-  script_again : form.script_replaced final ≡ final
-  unfolding form.script_replaced
+  script_again : form.with_new_script final ≡ final
+  unfolding form.with_new_script
   script_again = ap (λ o. record { language = final.language; script = unwrap_or o final.script; region = final.region }) (none_is (alias_for list.script_aliases final.script) last_script)
 
   -- the form of a language identifier is its own form
   pub identifier_form-twice : identifier_form news final ≡ final
   unfolding identifier_form
   identifier_form-twice =
-      ap (λ x. form.script_replaced (form.sign_language (form.region_replaced (form.variant_region news (form.sign_language (form.variant_language news x)))))) language_again
-      ∙ ap (λ x. form.script_replaced (form.sign_language (form.region_replaced (form.variant_region news (form.sign_language x))))) variant_again
-      ∙ ap (λ x. form.script_replaced (form.sign_language (form.region_replaced (form.variant_region news x)))) sign_again
-      ∙ ap (λ x. form.script_replaced (form.sign_language (form.region_replaced x))) variant_region_again
-      ∙ ap (λ x. form.script_replaced (form.sign_language x)) region_again ∙ ap form.script_replaced sign_again ∙ script_again
+      ap (λ x. form.with_new_script (form.sign_language (form.with_new_region (form.variant_region news (form.sign_language (form.variant_language news x)))))) language_again
+      ∙ ap (λ x. form.with_new_script (form.sign_language (form.with_new_region (form.variant_region news (form.sign_language x))))) variant_again
+      ∙ ap (λ x. form.with_new_script (form.sign_language (form.with_new_region (form.variant_region news x)))) sign_again
+      ∙ ap (λ x. form.with_new_script (form.sign_language (form.with_new_region x))) variant_region_again
+      ∙ ap (λ x. form.with_new_script (form.sign_language x)) region_again ∙ ap form.with_new_script sign_again ∙ script_again
 
   -- ---- the variants
 

@@ -19,7 +19,8 @@ use Rattle.langtag_unicode.specs.Edit.{is_unicode_key}
 use Rattle.langtag_unicode.specs.Form.{in_alphabet, is_before, is_of, unicode_form, unicode_value}
 use Rattle.langtag_unicode.specs.Keywords.{before_key, is_key, value_of}
 use Rattle.langtag_unicode.specs.Locale.{is_unicode_subtag}
-use Rattle.langtag_unicode.specs.LocaleForm.{extension_at, extensions_in_order, locale_extension_form, new_variants, singletons}
+use Rattle.langtag_registry.specs.Canonical.{singletons}
+use Rattle.langtag_unicode.specs.LocaleForm.{extension_at, extensions_in_order, locale_extension_form, new_variants}
 use Rattle.langtag_unicode.proofs.AlphabetLaws.{Rise, Under, before-itself, before-trans, rise-in_alphabet}
 use Rattle.langtag_unicode.proofs.AlphabetTwice.{lower-in_alphabet}
 use Rattle.langtag_unicode.proofs.CanonicalKeywords.{form-blocks, key-fold, values, values-are}

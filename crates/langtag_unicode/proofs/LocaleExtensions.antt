@@ -17,7 +17,8 @@ use Rattle.langtag_scan.specs.Class.{is_singleton}
 use Rattle.langtag_scan.specs.Record.{Extension, IsWellFormedExtension, extension_flat}
 use Rattle.langtag_unicode.specs.Form.{is_of, is_transform, unicode_form}
 use Rattle.langtag_unicode.specs.Locale.{is_locale_extension, is_unicode_subtag}
-use Rattle.langtag_unicode.specs.LocaleForm.{extension_at, locale_extension_form, locale_transform_form, singletons}
+use Rattle.langtag_registry.specs.Canonical.{singletons}
+use Rattle.langtag_unicode.specs.LocaleForm.{extension_at, locale_extension_form, locale_transform_form}
 
 -- these texts are left, and whether all extensions are allowed depends on them alone
 pub record AreAsked (all : List Extension) (texts : List (List ℕ)) : Type 0 where

@@ -32,7 +32,8 @@ use Rattle.langtag_unicode.specs.Form.{after_one, are_different_variants, are_fi
 use Rattle.langtag_unicode.specs.Keywords.{before_key}
 use Rattle.langtag_unicode.specs.Locale.{IsLocale, is_locale_extension, is_locale_record}
 use Rattle.langtag_unicode.specs.LocaleAliases as list
-use Rattle.langtag_unicode.specs.LocaleForm.{extension_at, first_subtag, has_variant, identifier_fields, identifier_flat, identifier_form, identifier_variants, is_pair_of, locale_extension_form, locale_record, locale_text, locale_transform_form, new_variants, record_fields, singletons, transform_language_form, variant_form}
+use Rattle.langtag_registry.specs.Canonical.{singletons}
+use Rattle.langtag_unicode.specs.LocaleForm.{extension_at, first_subtag, has_variant, identifier_fields, identifier_flat, identifier_form, identifier_variants, is_pair_of, locale_extension_form, locale_record, locale_text, locale_transform_form, new_variants, record_fields, transform_language_form, variant_form}
 use Rattle.langtag_unicode.specs.Transform.{is_field_key}
 use Rattle.langtag_unicode.proofs.Each.{each-alphabet}
 use Rattle.langtag_unicode.proofs.FormRecords.{Good, good-keywords, good-transform, good-unicode_form, some-transform, some-unicode_form}

@@ -12,7 +12,8 @@ use Rattle.langtag_scan.specs.Record.{Extension, IsWellFormed, IsWellFormedExten
 use Rattle.langtag_unicode.specs.Form.{are_different_variants, are_fields, is_language_or_none, is_of, is_transform, is_unicode_language, unicode_form}
 use Rattle.langtag_unicode.specs.Keywords.{before_key}
 use Rattle.langtag_unicode.specs.Locale.{is_locale_extension, is_locale_record, is_unicode_subtag}
-use Rattle.langtag_unicode.specs.LocaleForm.{extension_at, extensions_in_order, identifier_fields, identifier_flat, identifier_form, identifier_variants, locale_extension_form, locale_record, new_variants, record_fields, singletons, transform_language_form}
+use Rattle.langtag_registry.specs.Canonical.{singletons}
+use Rattle.langtag_unicode.specs.LocaleForm.{extension_at, extensions_in_order, identifier_fields, identifier_flat, identifier_form, identifier_variants, locale_extension_form, locale_record, new_variants, record_fields, transform_language_form}
 use Rattle.langtag_unicode.specs.Transform.{is_field_key}
 use Rattle.langtag_unicode.proofs.FormTwice.{IsLanguageForm, after_language, fields-again, variants-again, with-allowed}
 use Rattle.langtag_unicode.proofs.IdentifierForms.{form_subtags, record_subtags}

@@ -16,7 +16,8 @@ use Rattle.langtag_scan.specs.Record.{Extension, IsWellFormed, Record, Spells, e
 use Rattle.langtag_unicode.specs.Form.{are_fields, is_language_or_none, is_of}
 use Rattle.langtag_unicode.specs.Keywords.{before_key}
 use Rattle.langtag_unicode.specs.Locale.{IsLocale, is_locale_extension, is_locale_record}
-use Rattle.langtag_unicode.specs.LocaleForm.{extension_at, extensions_in_order, first_subtag, identifier_form, locale_extension_form, locale_record, locale_text, new_variants, record_fields, singletons, transform_language_form}
+use Rattle.langtag_registry.specs.Canonical.{singletons}
+use Rattle.langtag_unicode.specs.LocaleForm.{extension_at, extensions_in_order, first_subtag, identifier_form, locale_extension_form, locale_record, locale_text, new_variants, record_fields, transform_language_form}
 use Rattle.langtag_unicode.specs.Transform.{is_field_key}
 use Rattle.langtag_unicode.proofs.FormSizes.{are_apart, bytes, bytes-most, fields-size, flat-size, once, one-size, size, size-append, total, total-none, unicode-size}
 use Rattle.langtag_unicode.proofs.IdentifierForms.{record_subtags, same_length}

@@ -14,7 +14,8 @@ use Rattle.langtag_scan.specs.Case.{fold_byte, fold_text}
 use Rattle.langtag_scan.specs.Record.{Extension, IsWellFormed, IsWellFormedExtension, Record, spell}
 use Rattle.langtag_unicode.specs.Form.{is_of}
 use Rattle.langtag_unicode.specs.Locale.{IsLocale, is_locale_extension, is_locale_record}
-use Rattle.langtag_unicode.specs.LocaleForm.{IsLocaleForm, extension_at, extensions_in_order, identifier_form, locale_extension_form, locale_record, locale_text, record_fields, singletons, transform_language_form}
+use Rattle.langtag_registry.specs.Canonical.{singletons}
+use Rattle.langtag_unicode.specs.LocaleForm.{IsLocaleForm, extension_at, extensions_in_order, identifier_form, locale_extension_form, locale_record, locale_text, record_fields, transform_language_form}
 use Rattle.langtag_unicode.proofs.FormTwice.{unicode-twice, with-twice}
 use Rattle.langtag_unicode.proofs.IdentifierForms.{form_is}
 use Rattle.langtag_unicode.proofs.IdentifierTwice.{identifier_form-twice, new_variants-twice}

@@ -12,6 +12,7 @@ use Rattle.langtag_likely.specs.Likely.{Fields, add_likely, known, likely_for, o
 use Rattle.langtag_likely.specs.LikelySubtags.{likely_subtags}
 use Rattle.langtag_likely.specs.Matching.{language_replaced, region_alone}
 use Rattle.langtag_likely.specs.Maximal.{subtag_of}
+use Rattle.langtag_registry.specs.Canonical.{singletons}
 use Rattle.langtag_registry.specs.Fields.{preferred_tag}
 use Rattle.langtag_registry.specs.Registered.{is_registered_extlang}
 use Rattle.langtag_scan.specs.Case.{Alike, are_alike}
@@ -28,12 +29,12 @@ use Rattle.langtag_unicode.specs.Transform.{is_field_key}
 -- ---- the language, the script and the region
 
 -- the fields with another language
-abbrev pub with_language : Fields → List ℕ → Fields
-with_language f language = record { language = language; script = f.script; region = f.region }
+abbrev pub other_language : Fields → List ℕ → Fields
+other_language f language = record { language = language; script = f.script; region = f.region }
 
 -- the fields with another region
-abbrev pub with_region : Fields → List ℕ → Fields
-with_region f region = record { language = f.language; script = f.script; region = region }
+abbrev pub other_region : Fields → List ℕ → Fields
+other_region f region = record { language = f.language; script = f.script; region = region }
 
 -- whether a variant is among variants, ignoring case
 abbrev pub has_variant : List (List ℕ) → List ℕ → Bool
@@ -45,7 +46,7 @@ language_after variants language alias = if are_alike alias.key language && has_
 
 -- the language with a variant becomes a language, by each alias that fits: `hy-arevmda` becomes `hyw`
 unfoldable pub variant_language : List (List ℕ) → Fields → Fields
-variant_language variants f = with_language f (fold (language_after variants) f.language variant_languages)
+variant_language variants f = other_language f (fold (language_after variants) f.language variant_languages)
 
 -- the fields of a sign language, which takes the place of `sgn` and the region
 abbrev pub without_sgn : Fields → List ℕ → Fields
@@ -61,20 +62,20 @@ unfoldable pub sign_language : Fields → Fields
 sign_language f = option_map_or (without_sgn f) (sign_for f) f
 
 -- the region for which one of the variants stands, or the empty text
-abbrev pub region_of : List (List ℕ) → List Alias → List ℕ
-region_of variants aliases = option_map_or (λ alias. alias.new) (find (λ alias. has_variant variants alias.old) aliases) []
+abbrev pub variants_region : List (List ℕ) → List Alias → List ℕ
+variants_region variants aliases = option_map_or (λ alias. alias.new) (find (λ alias. has_variant variants alias.old) aliases) []
 
 -- a variant brings its region if there is no region: `aaland` brings `AX`
 unfoldable pub variant_region : List (List ℕ) → Fields → Fields
-variant_region variants f = with_region f (or_other f.region (region_of variants variant_regions))
+variant_region variants f = other_region f (or_other f.region (variants_region variants variant_regions))
 
 -- the language and the script; `und` counts as no language
-abbrev pub without_region : Fields → Fields
-without_region f = record { language = known (codes "und") f.language; script = f.script; region = [] }
+abbrev pub language_and_script : Fields → Fields
+language_and_script f = record { language = known (codes "und") f.language; script = f.script; region = [] }
 
 -- the likely region of the language and the script, or the empty text
 unfoldable pub likely_region : Fields → List ℕ
-likely_region f = option_map_or (λ most. most.region) (add_likely likely_subtags (without_region f)) []
+likely_region f = option_map_or (λ most. most.region) (add_likely likely_subtags (language_and_script f)) []
 
 -- the likely region if it is among these regions, and otherwise the first of them
 abbrev pub heir : List ℕ → List (List ℕ) → List ℕ
@@ -88,23 +89,23 @@ new_region f =
     (option_map (λ regions. heir (likely_region f) (segments regions)) (alias_for region_heirs f.region))) f.region
 
 -- the fields with that region
-unfoldable pub region_replaced : Fields → Fields
-region_replaced f = with_region f (new_region f)
+unfoldable pub with_new_region : Fields → Fields
+with_new_region f = other_region f (new_region f)
 
 -- a script becomes the script that replaces it: `Qaai` becomes `Zinh`
 abbrev pub new_script : Fields → List ℕ
 new_script f = unwrap_or (alias_for script_aliases f.script) f.script
 
 -- the fields with that script
-unfoldable pub script_replaced : Fields → Fields
-script_replaced f = record { language = f.language; script = new_script f; region = f.region }
+unfoldable pub with_new_script : Fields → Fields
+with_new_script f = record { language = f.language; script = new_script f; region = f.region }
 
 -- the seven steps. They replace the language, the language with a variant, and `sgn` with a region. They add the region of
 -- a variant, and replace the region. They replace `sgn` again, since the new region may fit, as in `sgn-DD`, and then the
 -- script
 unfoldable pub identifier_form : List (List ℕ) → Fields → Fields
 identifier_form variants f =
-    script_replaced (sign_language (region_replaced (variant_region variants (sign_language (variant_language variants (language_replaced f))))))
+    with_new_script (sign_language (with_new_region (variant_region variants (sign_language (variant_language variants (language_replaced f))))))
 
 -- ---- the variants
 
@@ -162,10 +163,6 @@ locale_extension_form e =
     if is_of 117 e then record { singleton = 117; subtags = unicode_form e.subtags }
     else if is_of 116 e then record { singleton = 116; subtags = locale_transform_form e.subtags }
     else e
-
--- the singletons, in order
-abbrev pub singletons : List ℕ
-singletons = codes "0123456789abcdefghijklmnopqrstuvwyz"
 
 -- the form of the extension with a singleton, or nothing if there is no such extension
 abbrev pub extension_at : List Extension → ℕ → List Extension

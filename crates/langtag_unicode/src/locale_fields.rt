@@ -24,7 +24,7 @@ pub(crate) fn identifier_form<'a>(fields: TagFields<'a>, variants: Option<&str>)
 {
     let fields = variant_language(language_replaced(fields), variants);
     let fields = variant_region(sign_language(fields), variants);
-    script_replaced(sign_language(region_replaced(fields)))
+    with_new_script(sign_language(with_new_region(fields)))
 }
 
 /// Returns the fields with another language if the language changes with one of the variants.
@@ -98,23 +98,23 @@ fn without_sgn<'a>(fields: TagFields<'a>, language: &'a [u8]) -> TagFields<'a>
 fn variant_region<'a>(fields: TagFields<'a>, variants: Option<&str>) -> TagFields<'a>
     ensures { field_texts result ≡ spec.variant_region (segments_left variants.entry) (field_texts fields.entry) }
 {
-    with_region(fields, brought_region(fields, variants))
+    other_region(fields, brought_region(fields, variants))
 }
 
 /// Returns the region of the fields or, if they have none, the region for which one of the variants stands.
 fn brought_region<'a>(fields: TagFields<'a>, variants: Option<&str>) -> &'a [u8]
-    ensures region { result.now ≡ or_other fields.entry.region.now (spec.region_of (segments_left variants.entry) list.variant_regions) }
+    ensures region { result.now ≡ or_other fields.entry.region.now (spec.variants_region (segments_left variants.entry) list.variant_regions) }
     ensures in_class { IsTrue (is_region_field result.now) }
 {
     if fields.region.is_empty() {
-        return region_of(variants);
+        return variants_region(variants);
     }
     fields.region
 }
 
 /// Returns the region for which one of the variants stands, or the empty text.
-fn region_of(variants: Option<&str>) -> &'static [u8]
-    ensures region { result.now ≡ spec.region_of (segments_left variants.entry) list.variant_regions }
+fn variants_region(variants: Option<&str>) -> &'static [u8]
+    ensures region { result.now ≡ spec.variants_region (segments_left variants.entry) list.variant_regions }
     ensures in_class { IsTrue (is_region_field result.now) }
 {
     let mut rows = variant_regions();
@@ -127,9 +127,9 @@ fn region_of(variants: Option<&str>) -> &'static [u8]
     b""
 }
 
-fn with_region<'a>(fields: TagFields<'a>, region: &'a [u8]) -> TagFields<'a>
+fn other_region<'a>(fields: TagFields<'a>, region: &'a [u8]) -> TagFields<'a>
     requires { IsTrue (is_region_field region.now) }
-    ensures { field_texts result ≡ spec.with_region (field_texts fields.entry) region.now }
+    ensures { field_texts result ≡ spec.other_region (field_texts fields.entry) region.now }
 {
     TagFields {
         language: fields.language,
@@ -139,11 +139,11 @@ fn with_region<'a>(fields: TagFields<'a>, region: &'a [u8]) -> TagFields<'a>
 }
 
 /// Returns the fields with the region that replaces their region, if there is one.
-#[tactic(auto, unfolding(crate::specs::LocaleForm::region_replaced))]
-fn region_replaced<'a>(fields: TagFields<'a>) -> TagFields<'a>
-    ensures { field_texts result ≡ spec.region_replaced (field_texts fields.entry) }
+#[tactic(auto, unfolding(crate::specs::LocaleForm::with_new_region))]
+fn with_new_region<'a>(fields: TagFields<'a>) -> TagFields<'a>
+    ensures { field_texts result ≡ spec.with_new_region (field_texts fields.entry) }
 {
-    with_region(fields, new_region(fields))
+    other_region(fields, new_region(fields))
 }
 
 /// Returns the region that replaces the region of the fields, or their region.
@@ -167,15 +167,15 @@ fn likely_region<'a>(fields: TagFields<'a>) -> &'a [u8]
     ensures region { result.now ≡ spec.likely_region (field_texts fields.entry) }
     ensures in_class { IsTrue (is_region_field result.now) }
 {
-    match add_likely(without_region(fields)) {
+    match add_likely(language_and_script(fields)) {
         Some(most) => most.region,
         None => b"",
     }
 }
 
 /// Returns the language and the script, for the look-up of likely subtags. `und` counts as no language.
-fn without_region<'a>(fields: TagFields<'a>) -> TagFields<'a>
-    ensures { field_texts result ≡ spec.without_region (field_texts fields.entry) }
+fn language_and_script<'a>(fields: TagFields<'a>) -> TagFields<'a>
+    ensures { field_texts result ≡ spec.language_and_script (field_texts fields.entry) }
 {
     let is_unknown = case_insensitive_eq(b"und", fields.language);
     TagFields {
@@ -197,9 +197,9 @@ fn heir<'a>(likely: &'a [u8], regions: &'static str) -> &'a [u8]
 }
 
 /// Returns the fields with the script that replaces their script, if there is one.
-#[tactic(auto, unfolding(crate::specs::LocaleForm::script_replaced))]
-fn script_replaced<'a>(fields: TagFields<'a>) -> TagFields<'a>
-    ensures { field_texts result ≡ spec.script_replaced (field_texts fields.entry) }
+#[tactic(auto, unfolding(crate::specs::LocaleForm::with_new_script))]
+fn with_new_script<'a>(fields: TagFields<'a>) -> TagFields<'a>
+    ensures { field_texts result ≡ spec.with_new_script (field_texts fields.entry) }
 {
     TagFields {
         language: fields.language,

@@ -70,6 +70,15 @@ fn on_one_side(set: SetName, a: TagFields<'_>, b: TagFields<'_>) -> bool {
     (set.is_inside(a) && set.is_inside(b)) || (set.is_outside(a) && set.is_outside(b))
 }
 
+/// A set of regions, as numbers in ascending order.
+#[derive(Clone, Copy)]
+struct RegionSet {
+    /// The regions of the set, and the groups whose countries are all in it.
+    inside: &'static [u32],
+    /// The groups with some countries in the set, but not all.
+    partly: &'static [u32],
+}
+
 /// The sets of regions that the rules name.
 #[derive(Clone, Copy)]
 pub(crate) enum SetName {
@@ -80,34 +89,35 @@ pub(crate) enum SetName {
 }
 
 impl SetName {
-    /// Returns the regions of the set, and the groups whose countries are all in it.
-    fn inside(self) -> &'static [u32] {
+    fn regions(self) -> RegionSet {
         match self {
-            SetName::Maghreb => &tables::MAGHREB_INSIDE,
-            SetName::UnitedStates => &tables::EN_US_INSIDE,
-            SetName::Americas => &tables::AMERICAS_INSIDE,
-            SetName::HongKongAndMacao => &tables::CNSAR_INSIDE,
-        }
-    }
-
-    /// Returns the groups with some countries in the set, but not all.
-    fn partly(self) -> &'static [u32] {
-        match self {
-            SetName::Maghreb => &tables::MAGHREB_PARTLY,
-            SetName::UnitedStates => &tables::EN_US_PARTLY,
-            SetName::Americas => &tables::AMERICAS_PARTLY,
-            SetName::HongKongAndMacao => &tables::CNSAR_PARTLY,
+            SetName::Maghreb => RegionSet {
+                inside: &tables::MAGHREB_INSIDE,
+                partly: &tables::MAGHREB_PARTLY,
+            },
+            SetName::UnitedStates => RegionSet {
+                inside: &tables::EN_US_INSIDE,
+                partly: &tables::EN_US_PARTLY,
+            },
+            SetName::Americas => RegionSet {
+                inside: &tables::AMERICAS_INSIDE,
+                partly: &tables::AMERICAS_PARTLY,
+            },
+            SetName::HongKongAndMacao => RegionSet {
+                inside: &tables::CNSAR_INSIDE,
+                partly: &tables::CNSAR_PARTLY,
+            },
         }
     }
 
     #[inline]
     fn is_inside(self, fields: TagFields<'_>) -> bool {
-        index_of(self.inside(), fields.region).is_some()
+        index_of(self.regions().inside, fields.region).is_some()
     }
 
     #[inline]
     fn is_partly_inside(self, fields: TagFields<'_>) -> bool {
-        index_of(self.partly(), fields.region).is_some()
+        index_of(self.regions().partly, fields.region).is_some()
     }
 
     #[inline]

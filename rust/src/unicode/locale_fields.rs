@@ -15,7 +15,7 @@ use crate::unicode::subtags::split_first;
 pub(crate) fn identifier_form<'a>(fields: TagFields<'a>, variants: Option<&str>) -> TagFields<'a> {
     let fields = variant_language(language_replaced(fields), variants);
     let fields = variant_region(sign_language(fields), variants);
-    script_replaced(sign_language(region_replaced(fields)))
+    with_new_script(sign_language(with_new_region(fields)))
 }
 
 /// Returns the fields with another language if the language changes with one of the variants.
@@ -74,20 +74,20 @@ fn without_sgn<'a>(fields: TagFields<'a>, language: &'a [u8]) -> TagFields<'a> {
 /// Returns the fields with the region for which one of the variants stands, if they have no region.
 #[inline]
 fn variant_region<'a>(fields: TagFields<'a>, variants: Option<&str>) -> TagFields<'a> {
-    with_region(fields, brought_region(fields, variants))
+    other_region(fields, brought_region(fields, variants))
 }
 
 /// Returns the region of the fields or, if they have none, the region for which one of the variants stands.
 #[inline]
 fn brought_region<'a>(fields: TagFields<'a>, variants: Option<&str>) -> &'a [u8] {
     if fields.region.is_empty() {
-        return region_of(variants);
+        return variants_region(variants);
     }
     fields.region
 }
 
 /// Returns the region for which one of the variants stands, or the empty text.
-fn region_of(variants: Option<&str>) -> &'static [u8] {
+fn variants_region(variants: Option<&str>) -> &'static [u8] {
     let mut rows = variant_regions();
     while let [(variant, region), others @ ..] = rows {
         if is_among(variants, variant.as_bytes()) {
@@ -99,7 +99,7 @@ fn region_of(variants: Option<&str>) -> &'static [u8] {
 }
 
 #[inline]
-fn with_region<'a>(fields: TagFields<'a>, region: &'a [u8]) -> TagFields<'a> {
+fn other_region<'a>(fields: TagFields<'a>, region: &'a [u8]) -> TagFields<'a> {
     TagFields {
         language: fields.language,
         script: fields.script,
@@ -109,8 +109,8 @@ fn with_region<'a>(fields: TagFields<'a>, region: &'a [u8]) -> TagFields<'a> {
 
 /// Returns the fields with the region that replaces their region, if there is one.
 #[inline]
-fn region_replaced<'a>(fields: TagFields<'a>) -> TagFields<'a> {
-    with_region(fields, new_region(fields))
+fn with_new_region<'a>(fields: TagFields<'a>) -> TagFields<'a> {
+    other_region(fields, new_region(fields))
 }
 
 /// Returns the region that replaces the region of the fields, or their region.
@@ -127,7 +127,7 @@ fn new_region<'a>(fields: TagFields<'a>) -> &'a [u8] {
 /// Returns the likely region of the language and the script, or the empty text.
 #[inline]
 fn likely_region<'a>(fields: TagFields<'a>) -> &'a [u8] {
-    match add_likely(without_region(fields)) {
+    match add_likely(language_and_script(fields)) {
         Some(most) => most.region,
         None => b"",
     }
@@ -135,7 +135,7 @@ fn likely_region<'a>(fields: TagFields<'a>) -> &'a [u8] {
 
 /// Returns the language and the script, for the look-up of likely subtags. `und` counts as no language.
 #[inline]
-fn without_region<'a>(fields: TagFields<'a>) -> TagFields<'a> {
+fn language_and_script<'a>(fields: TagFields<'a>) -> TagFields<'a> {
     let is_unknown = case_insensitive_eq(b"und", fields.language);
     TagFields {
         language: if is_unknown { b"" } else { fields.language },
@@ -156,7 +156,7 @@ fn heir<'a>(likely: &'a [u8], regions: &'static str) -> &'a [u8] {
 
 /// Returns the fields with the script that replaces their script, if there is one.
 #[inline]
-fn script_replaced<'a>(fields: TagFields<'a>) -> TagFields<'a> {
+fn with_new_script<'a>(fields: TagFields<'a>) -> TagFields<'a> {
     TagFields {
         language: fields.language,
         script: new_script(fields),

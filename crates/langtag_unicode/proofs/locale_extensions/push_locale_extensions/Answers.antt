@@ -3,7 +3,8 @@ use Rattle.std.proofs.lemmas.List.{at_drop_all, at_drop_more, nil_from_length}
 use Rattle.std.specs.List.{flat_map}
 use Rattle.langtag_registry.proofs.Pushed.{pushes_both, pushes_ended, pushes_same}
 use Rattle.langtag_scan.specs.Record.{extension_flat}
-use Rattle.langtag_unicode.specs.LocaleForm.{extension_at, extensions_in_order, singletons}
+use Rattle.langtag_registry.specs.Canonical.{singletons}
+use Rattle.langtag_unicode.specs.LocaleForm.{extension_at, extensions_in_order}
 use Rattle.langtag_unicode.proofs.LocaleExtensions.{at_nothing, each_singleton, flat_of_each, none_spelled, not_noted}
 use Rattle.langtag_unicode.proofs.locale_extensions.push_locale_extensions.Goals as goal
 

@@ -5,7 +5,8 @@ use Rattle.langtag_extension.specs.Text.{extensions_text}
 use Rattle.langtag_output.specs.declared.output.Output.{Output}
 use Rattle.langtag_output.specs.Output.{Pushes}
 use Rattle.langtag_scan.specs.Record as model
-use Rattle.langtag_unicode.specs.LocaleForm.{extension_at, singletons}
+use Rattle.langtag_registry.specs.Canonical.{singletons}
+use Rattle.langtag_unicode.specs.LocaleForm.{extension_at}
 use Rattle.langtag_unicode.proofs.locale_extensions.push_locale_extensions.Given as goal
 
 -- the extensions from this singleton on are put after those before it

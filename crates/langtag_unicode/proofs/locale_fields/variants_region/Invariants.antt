@@ -4,13 +4,13 @@ use Rattle.langtag_likely.specs.Good.{is_region_field}
 use Rattle.langtag_scan.specs.Subtags.{segments_left}
 use Rattle.langtag_unicode.specs.Alias.{Alias}
 use Rattle.langtag_unicode.specs.LocaleAliases.{variant_regions}
-use Rattle.langtag_unicode.specs.LocaleForm.{region_of}
-use Rattle.langtag_unicode.proofs.locale_fields.region_of.Given as goal
+use Rattle.langtag_unicode.specs.LocaleForm.{variants_region}
+use Rattle.langtag_unicode.proofs.locale_fields.variants_region.Given as goal
 
 -- no variant so far stands for a region, and each row brings a region
 abbrev pub invariant-loop-rows : goal.invariant-loop-rows
 invariant-loop-rows l = record {
-  so_far : region_of (segments_left l.variants) (map (λ row. record { old = row.0.now; new = row.1.now }) l.rows) ≡ region_of (segments_left l.variants) variant_regions;
+  so_far : variants_region (segments_left l.variants) (map (λ row. record { old = row.0.now; new = row.1.now }) l.rows) ≡ variants_region (segments_left l.variants) variant_regions;
   rows_good : list_all {X = Alias} (λ alias. is_region_field alias.new) (map (λ row. record { old = row.0.now; new = row.1.now }) l.rows) ≡ true;
 }
 
