@@ -36,7 +36,6 @@ IsAt-drop xs n x rest left =
     record { below = below; member = cc; later = cc }
 
 module _ {A : Type 0} (alike : A → A → Bool) where
-
   turn-by :
       (xs : List A) (n : ℕ) (x : A) (rest : List A) (seen : Bool) → repeat_index alike xs ≡ repeat_index_after alike (take n xs) (drop n xs) →
       drop n xs ≡ x ∷ rest → list_any (alike x) (take n xs) ≡ seen →
