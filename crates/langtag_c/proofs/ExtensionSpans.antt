@@ -30,8 +30,7 @@ join-left (Some rest) = join_with_byte-slice_split 45 rest.now
 texts-cut :
     (text first : List ℕ) (rest : Option (Bor (List ℕ))) → 0 < length text → MatchOption rest (text ≡ first) (λ r. text ≡ first ++ 45 ∷ r.now) →
     list_all goes_on (drop 1 (segments first)) ≡ true → opens (segments_left rest) ≡ true → extension_texts text ≡ first ∷ texts_left rest
-texts-cut [] first rest some joined one next = absurd (omega (arith, some))
-texts-cut (b ∷ text) first rest some joined one next = group_texts-split (b ∷ text) first rest joined one next
+texts-cut text first rest some joined one next = grind (arith, nat_tests, group_texts-split)
 
 -- so the first is the first extension, and the others spell the rest
 first-cut :

@@ -1,5 +1,5 @@
 -- The first extension of a singleton, by where it stands in a tag.
-use Rattle.std.proofs.Common.{◌≡◌, ℕ, slice_index, slice_index_or, ◌+◌, ◌-◌, ◌<◌, ◌≤◌, Bool, true, false, List, [], ◌∷◌, length, take, drop, map, find, Option, None, Some, Bor, refl, ap, sym, subst, ◌∙◌, arith}
+use Rattle.std.proofs.Common.{◌≡◌, ℕ, slice_index, slice_index_or, ◌+◌, ◌-◌, ◌<◌, ◌≤◌, true, false, List, [], ◌∷◌, length, take, drop, map, find, Option, None, Some, Bor, refl, ap, sym, subst, ◌∙◌, arith}
 use Rattle.std.specs.List.{AllByRecursion}
 use Rattle.std.specs.Option.{option_map, option_map_or}
 use Rattle.std.proofs.lemmas.List.{drop-drop, drop-take}
@@ -10,8 +10,8 @@ use Rattle.std.proofs.lemmas.List.Splits.{length-slice_split}
 use Rattle.langtag_scan.specs.Class.{is_extension_subtag}
 use Rattle.langtag_scan.specs.Ends.{HasEnds, ends_of}
 use Rattle.langtag_scan.specs.Parts.{extensions_part}
-use Rattle.langtag_scan.specs.Record.{EachRecord, Extension, Record, IsWellFormed, Spells}
-use Rattle.langtag_scan.specs.Subtags.{is_hyphen, join, subtags}
+use Rattle.langtag_scan.specs.Record.{EachRecord, Extension, Record, IsWellFormed}
+use Rattle.langtag_scan.specs.Subtags.{is_hyphen, subtags}
 use Rattle.langtag_scan.specs.Tag.{IsNormal}
 use Rattle.langtag_scan.specs.declared.ends.Ends.{Ends}
 use Rattle.langtag_scan.proofs.SpelledTexts.{ends_ordered, ends_whole}
@@ -67,9 +67,7 @@ pub extension-step :
     (text : List ℕ) (before after taken : Span) (part : Bor (List ℕ)) (len : ℕ) → IsExtensions (span_text text before) →
     HasBytes text before → part.now ≡ span_text text before → IsFirstExtension part.now len → taken ≡ record { start = before.start; len = len } →
     after ≡ span_between (before.start + len) (end_of before) → IsStep text before after taken
-extension-step text before after taken part len ([], spells) has is first taken_is after_is =
-    let none = ap length spells.joined in
-    absurd (omega (arith, none, length-span text before has, has.0))
+extension-step text before after taken part len ([], spells) has is first taken_is after_is = grind (arith, nat_tests, length-span text before has)
 extension-step text before after taken part len (e ∷ es, spells) has is first taken_is after_is =
     let cut = extension-taken text before after taken part len e es has is first taken_is after_is spells in
     record {
@@ -91,10 +89,7 @@ after-singleton text (e, spelled) = (
 )
   where
     by_subtags : (ss : List (List ℕ)) → e.subtags ≡ ss → 2 ≤ length text
-    by_subtags [] is = absurd (omega (arith, spelled.member.some, ap length is))
-    by_subtags (s ∷ ss) is =
-        let cut : text ≡ e.singleton ∷ 45 ∷ join (s ∷ ss) = sym spelled.joined ∙ ap (λ xs. join ((e.singleton ∷ []) ∷ xs)) is in
-        omega (arith, ap length cut)
+    by_subtags ss is = grind (arith, nat_tests)
 
 -- what stands behind them
 pub without-singleton : (text : List ℕ) (taken : Span) → 2 ≤ taken.len → span_text text (record { start = taken.start + 2; len = taken.len - 2 }) ≡ drop 2 (span_text text taken)
@@ -104,15 +99,13 @@ without-singleton text taken some = grind (arith, nat_tests, drop-drop 2 taken.s
 pub taken-some :
     (text : List ℕ) (before after taken : Span) (part : Bor (List ℕ)) (len : ℕ) → HasBytes text before → part.now ≡ span_text text before → len ≤ length part.now →
     taken ≡ record { start = before.start; len = len } → IsStep text before after taken → IsWithin text taken × (2 ≤ taken.len)
-taken-some text before after taken part len has is few taken_is step =
-    grind (arith, nat_tests, length-span text before has, after-singleton (span_text text taken) step.first, length-spanned text taken)
+taken-some text before after taken part len has is few taken_is step = grind (arith, nat_tests, length-span, after-singleton, length-spanned)
 
 -- its bytes
 pub taken-text :
     (text : List ℕ) (before taken : Span) (part : Bor (List ℕ)) (len : ℕ) → HasBytes text before → part.now ≡ span_text text before → len ≤ length part.now →
     taken ≡ record { start = before.start; len = len } → span_text text taken ≡ take len part.now
-taken-text text before taken part len has is few taken_is =
-    ap (span_text text) taken_is ∙ span-first text before len has (omega (arith, few, ap length is, length-span text before has)) ∙ ap (take len) (sym is)
+taken-text text before taken part len has is few taken_is = grind (arith, nat_tests, span-first text before len has, length-span text before has)
 
 -- whether it opens with the byte
 first-byte : (part : List ℕ) (len : ℕ) → 0 < len → slice_index (take len part) 0 ≡ slice_index_or part 0 0
@@ -145,13 +138,6 @@ subtags-none b text whole rest result same none empty es spells =
     (ap (λ t. find (opens_alike b) (extension_texts t)) (sym (nothing-in text rest none)) ∙ same
     ∙ ap (find (opens_alike b)) (extension_texts_spelled es (span_text text whole) spells) ∙ find_spellings b es)
 
--- the first text is found where it passes the test
-pub find-first : (test : List ℕ → Bool) (t : List ℕ) (ts : List (List ℕ)) → test t ≡ true → find test (t ∷ ts) ≡ Some t
-find-first test t ts is = rw is refl
-
-pub find-later : (test : List ℕ → Bool) (t : List ℕ) (ts : List (List ℕ)) → test t ≡ false → find test (t ∷ ts) ≡ find test ts
-find-later test t ts other = rw other refl
-
 -- ---- an extension that is there has subtags
 
 -- the first of a singleton, by its subtags
@@ -166,17 +152,6 @@ pub found-some :
     (es : List Extension) (b : ℕ) (f : List (List ℕ) → List ℕ) → 0 < length (option_map_or (λ e. e.subtags) (find_extension b es) []) →
     Some (f (option_map_or (λ e. e.subtags) (find_extension b es) [])) ≡ option_map (λ e. f e.subtags) (find_extension b es)
 found-some es b f some = grind (arith, nat_tests)
-
--- ---- a normal tag
-
-pub normal-record : (text : List ℕ) (r : Record) → Spells r text → IsNormal text
-unfolding IsNormal
-normal-record text r spells = (r, spells)
-
--- its extensions
-pub normal-extensions : (text : List ℕ) (span : Span) → IsNormal text → EachRecord text (λ r. span_text text span ≡ extensions_part r) → IsExtensions (span_text text span)
-unfolding IsNormal
-normal-extensions text span (r, spells) part = (r.extensions, record { members = spells.0.extensions; joined = sym (part r spells) })
 
 -- some bytes have a subtag
 pub some-in : (text : List ℕ) (span : Span) → 0 < span.len → IsWithin text span → 0 < length (subtags_in text span)

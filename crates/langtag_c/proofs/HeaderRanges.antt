@@ -26,18 +26,14 @@ abbrev IsAlone : List ℕ → Type 0
 IsAlone item = items item ≡ item ∷ []
 
 alone_onto : (b : ℕ) (parts : List (List ℕ)) → is_comma b ≡ false → 0 < length parts → AllByRecursion IsAlone parts → AllByRecursion IsAlone (onto_first b parts)
-alone_onto b [] other some all = absurd (omega (arith, some))
-alone_onto b (part ∷ parts) other some all = (slice_split-cons_no is_comma b part other ∙ ap (onto_first b) all.0, all.1)
+alone_onto b parts other some all = grind (arith, nat_tests, slice_split-cons_no is_comma b)
 
 all_alone : (text : List ℕ) → AllByRecursion IsAlone (items text)
 all_alone [] = (refl, tt)
 all_alone (b ∷ text) = by_first (is_comma b) refl (all_alone text)
   where
     by_first : (cut : Bool) → is_comma b ≡ cut → AllByRecursion IsAlone (items text) → AllByRecursion IsAlone (items (b ∷ text))
-    by_first true cut others = subst (AllByRecursion IsAlone) (sym (slice_split-cons_yes is_comma b text cut)) (refl, others)
-    by_first false kept others =
-        let some : 0 < length (items text) = omega (arith, length-slice_split is_comma text) in
-        subst (AllByRecursion IsAlone) (sym (slice_split-cons_no is_comma b text kept)) (alone_onto b (items text) kept some others)
+    by_first cut kept others = grind (arith, nat_tests, slice_split-cons_yes, length-slice_split, slice_split-cons_no, alone_onto)
 
 alone_at : (all : List (List ℕ)) (k : ℕ) (item : List ℕ) → AllByRecursion IsAlone all → slice_get all k ≡ Some item → IsAlone item
 alone_at [] k item alone is = absurd cc
@@ -106,16 +102,13 @@ length_wanted (item ∷ all) = by_option (wanted item (digits_behind all)) refl 
     by_option :
         (o : Option Element) → wanted item (digits_behind all) ≡ o → is_some (wanted item (digits_behind all)) ≡ has_range item → length (wanted_items all) ≡ range_count all →
         length (cons_option (wanted item (digits_behind all)) (wanted_items all)) ≡ range_count (item ∷ all)
-    by_option None none same others =
-        let lacks : has_range item ≡ false = sym same ∙ ap is_some none in
-        rw none (omega (arith, others, more ∙ ap (λ b. cond b 1 0 + range_count all) lacks))
+    by_option None none same others = grind (arith, nat_tests)
     by_option (Some e) some same others =
         let has : has_range item ≡ true = sym same ∙ ap is_some some in
         rw some (omega (arith, others, more ∙ ap (λ b. cond b 1 0 + range_count all) has))
 
 placed : (header : List ℕ) (place : ℕ) (o : Option Span) (end : Span) → place < range_count (items header) → (o ≡ None → range_count (items header) ≤ place) → IfSome o (IsRangeAt header place) → IsRangeAt header place (unwrap_or o end)
-placed header place None end within none some = absurd (omega (arith, within, none refl))
-placed header place (Some span) end within none some = some
+placed header place o end within none some = grind (arith, nat_tests)
 
 -- ---- what is said of the tag that is chosen
 

@@ -1,5 +1,5 @@
 -- A key and a value of a keyword are UTF-8, and a tag with a keyword set or removed is not empty.
-use Rattle.std.proofs.Common.{◌≡◌, ℕ, ◌+◌, ◌≤◌, true, List, [], ◌∷◌, drop, leb, length, Option, None, refl, ap, arith}
+use Rattle.std.proofs.Common.{◌≡◌, ℕ, ◌+◌, ◌≤◌, true, List, [], ◌∷◌, leb, length, Option, None, refl, arith}
 use Rattle.std.proofs.lemmas.Bool.{and_parts, false≢true}
 use Rattle.std.proofs.lemmas.Str.{IsUtf8-from_ascii}
 use Rattle.std.proofs.lemmas.Str.Ascii.{IsAscii-nil, IsAscii-cons}
@@ -14,7 +14,6 @@ use Rattle.langtag_scan.proofs.SubtagFacts.{IsSubtag, of_extension_subtag, of_pr
 use Rattle.langtag_scan.proofs.SubtagLists.{join-subtags}
 use Rattle.langtag_scan.proofs.TagLaws.{tag_normal}
 use Rattle.langtag_scan.specs.Class.{is_alphanumeric, is_extension_subtag, is_letter}
-use Rattle.langtag_scan.specs.Record.{flat}
 use Rattle.langtag_scan.specs.Subtags.{subtags}
 use Rattle.langtag_scan.specs.Tag.{IsNormal}
 use Rattle.langtag_unicode.specs.Edit.{edited_record, invalid_type, invalid_type_from, is_unicode_key, keyword_error}
@@ -53,8 +52,7 @@ IsUtf8-keyword_value key value none =
 
 pub some_edited : (key : List ℕ) (value : Option (List (List ℕ))) (old new : List ℕ) → IsNormal old → IsForm (edited_record key value) old new → 1 ≤ length new
 unfolding IsNormal edited_record
-some_edited key value old new (r, spells) is =
-    omega (arith, length-join r.primary (drop 1 (flat (edited_record key value r))), (of_primary r.primary spells.0.primary).some, ap length (is.parts r spells))
+some_edited key value old new (r, spells) is = grind (arith, nat_tests, length-join, of_primary)
 
 -- so its length is not 0
 pub some_written :

@@ -1,6 +1,7 @@
 -- The forms of a tag, and the tag of a name, are not empty.
 use Rattle.std.proofs.Common.{◌≡◌, ◌↔◌, ℕ, ◌≤◌, List, length, Option, None, Some, unwrap_or, refl, sym, subst, arith}
 use Rattle.std.specs.Prelude.{IfSome}
+use Rattle.std.proofs.lemmas.Bool.Decides.{nat_tests}
 use Rattle.langtag_output.specs.Writes.{Writes}
 use Rattle.langtag_scan.specs.Tag.{IsTag}
 use Rattle.langtag_registry.proofs.CanonicalParts as canonical
@@ -42,7 +43,5 @@ pub locale_none :
     (bytes text before after : List ℕ) (o : Option ℕ) (result : ℕ) → text ≡ bytes → IsTag bytes → result ≡ unwrap_or o 0 →
     IfSome o (λ len. Writes (λ form. IsWholeForm text (Some form)) before after len) → (o ≡ None → IsWholeForm text None) → (result ≡ 0) ↔ (IsTag bytes → IsWholeForm bytes None)
 locale_none bytes text before after None result same tag is written none = (λ _ _. subst (λ t. IsWholeForm t None) same (none refl), λ _. is)
-locale_none bytes text before after (Some len) result same tag is written none = (
-  λ zero _. absurd (omega (arith, zero, is, written.whole, some_locale text written.text written.is_so)),
-  λ whole. absurd (not_both text written.text written.is_so (subst (λ t. IsWholeForm t None) (sym same) (whole tag))),
-)
+locale_none bytes text before after (Some len) result same tag is written none =
+    grind (arith, nat_tests, some_locale text written.text written.is_so, not_both text written.text written.is_so)

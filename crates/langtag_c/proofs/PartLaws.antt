@@ -1,10 +1,11 @@
 -- A part of the library that is set: what it does to a tag its text does, and that is ASCII.
-use Rattle.std.proofs.Common.{◌≡◌, ℕ, ◌≤◌, List, [], ◌∷◌, length, Option, None, Some, MatchOption, unwrap_or, refl, sym, ap, ◌∙◌, arith}
+use Rattle.std.proofs.Common.{◌≡◌, ℕ, ◌≤◌, List, [], ◌∷◌, length, Option, None, Some, MatchOption, unwrap_or, refl, arith}
 use Rattle.std.specs.List.{AllByRecursion, flat_map}
 use Rattle.std.specs.Option.{option_map}
 use Rattle.std.specs.Str.{IsUtf8}
 use Rattle.std.proofs.lemmas.Str.{IsUtf8-from_ascii}
 use Rattle.std.proofs.lemmas.Grind.{common_steps}
+use Rattle.std.proofs.lemmas.Bool.Decides.{nat_tests}
 use Rattle.langtag_scan.specs.Class.{is_extended, is_variant}
 use Rattle.langtag_scan.specs.Record.{extension_flat}
 use Rattle.langtag_scan.specs.Subtags.{join}
@@ -14,7 +15,6 @@ use Rattle.langtag_scan.proofs.SubtagFacts.{IsSubtag, of_extended, of_primary, o
 use Rattle.langtag_scan.proofs.SubtagLists.{each_subtag}
 use Rattle.langtag_scan.proofs.TagLaws.{tag_private}
 use Rattle.langtag_private.proofs.Rules.{IsPrivate-from_test}
-use Rattle.langtag.specs.Edit.{SetsLanguage, SetsScript, SetsRegion, SetsVariants, SetsExtensions, SetsPrivateUse}
 use Rattle.langtag.specs.Edit as typed
 use Rattle.langtag.specs.Text.{part_text}
 use Rattle.langtag.specs.declared.part.Part.{Part}
@@ -25,15 +25,13 @@ use Rattle.langtag_c.proofs.TagLengths.{some_tag}
 -- ---- what a part does
 
 filled : (text : List ℕ) → 1 ≤ length text → some_text text ≡ Some text
-filled [] some = absurd (omega (arith, some))
-filled (b ∷ text) some = refl
+filled text some = grind (arith, nat_tests)
 
 -- a part that may be there is so by its text, since none of them is empty
 same_part :
     {A : Type 0} (text_of : A → List ℕ) → ((x : A) → 1 ≤ length (text_of x)) → (part : Option A) (text : List ℕ) →
     unwrap_or (option_map text_of part) [] ≡ text → option_map text_of part ≡ some_text text
-same_part text_of some None text is = ap some_text is
-same_part text_of some (Some x) text is = sym (filled (text_of x) (some x)) ∙ ap some_text is
+same_part text_of some part text is = grind (arith, nat_tests, filled)
 
 pub part_sets : (p : Part) (text old new : List ℕ) → part_text p ≡ text → typed.SetsPart p old new → SetsNamedPart (name_of p) text old new
 part_sets p text old new is set = grind (arith, common_steps, same_part, of_script, of_region, some_tag, tag_private, IsPrivate-from_test)

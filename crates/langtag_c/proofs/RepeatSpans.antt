@@ -1,5 +1,5 @@
 -- Where the variants and the singletons of a record stand in its text.
-use Rattle.std.proofs.Common.{◌≡◌, ℕ, zero, suc, ◌+◌, List, [], ◌∷◌, ◌++◌, length, take, drop, map, slice_get, Option, None, Some, is_some, refl, ap, sym, ◌∙◌, append_assoc, arith}
+use Rattle.std.proofs.Common.{◌≡◌, ℕ, zero, suc, ◌+◌, List, [], ◌∷◌, ◌++◌, length, take, drop, map, slice_get, Option, Some, is_some, refl, ap, sym, ◌∙◌, append_assoc, arith}
 use Rattle.std.specs.List.{flat_map, scan, sum_by}
 use Rattle.std.specs.Option.{option_and_then, option_map}
 use Rattle.std.proofs.lemmas.List.{length-append}
@@ -55,22 +55,19 @@ hyphenated-spellings (e ∷ es) =
 pub length-extensions :
     (r : Record) (es : List Extension) →
     length (join (to_variants r ++ flat_map extension_flat es)) ≡ (ends_of r).variants + length (hyphenated (map extension_spelling es))
-length-extensions r es =
-    length-join-append r.primary (drop 1 (to_variants r)) (flat_map extension_flat es) ∙ ap (λ t. (ends_of r).variants + length t) (hyphenated-spellings es)
+length-extensions r es = grind (arith, nat_tests, length-join-append r.primary (drop 1 (to_variants r)) (flat_map extension_flat es), hyphenated-spellings es)
 
 pub extensions_end : (r : Record) → (ends_of r).variants + sum_by width (map extension_spelling r.extensions) ≡ (ends_of r).extensions
 extensions_end r = grind (arith, nat_tests, length-flat_map, length-extensions r r.extensions, append_assoc)
 
 -- a span that no member changes
 pub option_map-same : {A B C : Type 0} (f : A → B) (z : C) (o : Option A) → option_map (λ _. z) (option_map f o) ≡ option_map (λ _. z) o
-option_map-same f z None = refl
-option_map-same f z (Some x) = refl
+option_map-same f z o = grind (arith, nat_tests)
 
 -- ---- a member is there where its span is
 
 is_some-map : {A B : Type 0} (f : A → B) (o : Option A) → is_some (option_map f o) ≡ is_some o
-is_some-map f None = refl
-is_some-map f (Some x) = refl
+is_some-map f o = grind (arith, nat_tests)
 
 -- also where it is asked of what is made of each member
 pub is_some-span :

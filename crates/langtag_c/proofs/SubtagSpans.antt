@@ -1,10 +1,11 @@
 -- The subtags of a span, one after another.
-use Rattle.std.proofs.Common.{◌≡◌, ℕ, zero, suc, ◌+◌, ◌-◌, ◌<◌, ◌≤◌, Bool, true, false, List, [], ◌∷◌, ◌++◌, length, take, drop, slice_index, inl, inr, refl, ap, sym, subst, ◌∙◌, arith}
+use Rattle.std.proofs.Common.{◌≡◌, ℕ, ◌+◌, ◌-◌, ◌<◌, ◌≤◌, Bool, false, List, [], ◌∷◌, ◌++◌, length, take, drop, slice_index, refl, ap, sym, subst, ◌∙◌, arith}
 use Rattle.std.specs.List.{AllByRecursion, list_any}
 use Rattle.std.proofs.lemmas.Bool.{cases_lt}
 use Rattle.std.proofs.lemmas.Grind.{common_steps}
 use Rattle.std.proofs.lemmas.List.{at_drop_more, drop-drop, take-append-drop, take-take, take_all, drop_all, length-take, length-drop}
 use Rattle.std.proofs.lemmas.List.Splits.{slice_split_at, slice_split_none}
+use Rattle.std.proofs.lemmas.Bool.Decides.{nat_tests}
 use Rattle.langtag_scan.specs.Subtags.{is_hyphen, IsHyphenFree, NoHyphenWithin, join, segments, subtags}
 use Rattle.langtag_scan.proofs.SubtagLists.{length-subtags, subtags-segments}
 use Rattle.langtag_unicode.specs.Keys.{length_with_hyphens}
@@ -21,8 +22,7 @@ AllSome ss = AllByRecursion (λ s. 1 ≤ length s) ss
 
 -- after a hyphen there is another subtag
 after-hyphen : (first text : List ℕ) → AllSome (first ∷ segments text) → segments text ≡ subtags text
-after-hyphen first [] some = absurd (omega (arith, some.1.0))
-after-hyphen first (b ∷ text) some = refl
+after-hyphen first text some = grind (arith, nat_tests)
 
 module _ (text : List ℕ) (len : ℕ) (within : len ≤ length text) (free : NoHyphenWithin text 0 len) where
   kept : IsHyphenFree (take len text)
@@ -39,14 +39,7 @@ module _ (text : List ℕ) (len : ℕ) (within : len ≤ length text) (free : No
 
   -- the first subtag, and those after its hyphen
   pub subtags-cut : 0 < length text → (len < length text → slice_index text len ≡ 45) → AllSome (subtags text) → subtags text ≡ take len text ∷ subtags (drop (len + 1) text)
-  subtags-cut some hyphen all = elim (cases_lt len (length text)) [
-    | inl below ↦
-        let parts = subtags-segments text some ∙ cut below (hyphen below) in
-        parts ∙ ap (λ ss. take len text ∷ ss) (after-hyphen (take len text) (drop (len + 1) text) (subst AllSome parts all))
-    | inr past ↦
-        let none = drop_all (len + 1) text (omega arith) in
-        subtags-segments text some ∙ last past ∙ ap (λ t. take len text ∷ subtags t) (sym none)
-  ]
+  subtags-cut some hyphen all = grind (arith, nat_tests, cases_lt, subtags-segments, cut, after-hyphen, drop_all, last)
 
 -- ---- the same of spans
 
@@ -65,10 +58,7 @@ module _
 
   -- the first subtag, and those that are left
   pub span-subtags : subtags_in text before ≡ take len part ∷ subtags_in text after
-  span-subtags =
-      ap subtags (sym is)
-      ∙ subtags-cut part len within free (omega (arith, size, has.0)) hyphen (subst (λ t. AllSome (subtags t)) (sym is) some.some)
-      ∙ ap (λ t. take len part ∷ subtags t) (sym after_text)
+  span-subtags = grind (arith, nat_tests, subtags-cut part len within free, size, after_text)
 
   -- which are not empty either
   pub span-left : end_of after ≡ end_of before → HasSubtags text after
@@ -81,22 +71,14 @@ module _
 
 -- how many bytes, and how many subtags, a span has at most
 pub length-spanned : (text : List ℕ) (span : Span) → IsWithin text span → (length (span_text text span) ≤ length text) × (length (span_text text span) ≤ span.len)
-length-spanned text span within =
-    let size = length-take (end_of span - span.start) (drop span.start text) in
-    (omega (arith, size, length-drop span.start text), omega (arith, size))
+length-spanned text span within = grind (arith, nat_tests, size, length-take (end_of span - span.start) (drop span.start text), length-drop span.start text)
 
 pub length-subtags_in : (text : List ℕ) (span : Span) → IsWithin text span → length (subtags_in text span) ≤ length text + 1
 length-subtags_in text span within = omega (arith, length-subtags (span_text text span), (length-spanned text span within).0)
 
--- one that is among the first, and one that is not
-pub any-found : (test : List ℕ → Bool) (n : ℕ) (s : List ℕ) (ss : List (List ℕ)) → 0 < n → test s ≡ true → list_any test (take n (s ∷ ss)) ≡ true
-any-found test zero s ss some is = absurd (omega (arith, some))
-any-found test (suc n) s ss some is = rw is refl
-
 pub any-passed :
     (test : List ℕ → Bool) (n : ℕ) (s : List ℕ) (ss : List (List ℕ)) → 0 < n → test s ≡ false → list_any test (take (n - 1) ss) ≡ list_any test (take n (s ∷ ss))
-any-passed test zero s ss some other = absurd (omega (arith, some))
-any-passed test (suc n) s ss some other = let before : suc n - 1 ≡ n = omega arith in rw (other, before) refl
+any-passed test n s ss some other = grind (arith, nat_tests)
 
 -- what is left after one more
 pub drop-next : (all : List (List ℕ)) (n : ℕ) (s : List ℕ) (ss : List (List ℕ)) → drop n all ≡ s ∷ ss → ss ≡ drop (n + 1) all

@@ -1,5 +1,5 @@
 -- What spans of a text are: tags, where the test says so.
-use Rattle.std.proofs.Common.{◌≡◌, ℕ, ◌+◌, ◌<◌, ◌≤◌, true, ltb, ◌&&◌, List, length, get_or, unwrap_or, Option, None, sym, subst, ◌∙◌, arith}
+use Rattle.std.proofs.Common.{◌≡◌, ℕ, ◌+◌, ◌<◌, ◌≤◌, true, ltb, ◌&&◌, List, length, get_or, unwrap_or, Option, None, arith}
 use Rattle.std.specs.Option.{ForSome}
 use Rattle.std.proofs.lemmas.Bool.{both_ways, and_parts, and_from, or_cases, or_left, or_right, ltb-true}
 use Rattle.std.proofs.lemmas.Bool.Decides.{nat_tests}
@@ -33,15 +33,13 @@ pub bytes_from_test : (text : List ℕ) (span : Span) → has_bytes text span �
 bytes_from_test text span test = grind (arith, common_steps, and_parts, ltb-true)
 
 pub test_from_bytes : (text : List ℕ) (span : Span) → HasBytes text span → has_bytes text span ≡ true
-test_from_bytes text span (some, within) =
-    and_from (ltb 0 span.len) (ltb (end_of span) (length text + 1)) (grind (arith, nat_tests)) (grind (arith, nat_tests))
+test_from_bytes text span h = grind (arith, nat_tests, and_from (ltb 0 span.len) (ltb (end_of span) (length text + 1)))
 
 has_tag : (text : List ℕ) (span : Span) → (has_bytes text span && is_tag (span_text text span)) ≡ true → HasTag text span
 has_tag text span test = grind (arith, common_steps, and_parts, bytes_from_test, tag_from_test)
 
 tag_test : (text : List ℕ) (span : Span) → HasTag text span → (has_bytes text span && is_tag (span_text text span)) ≡ true
-tag_test text span (bytes, tag) =
-    and_from (has_bytes text span) (is_tag (span_text text span)) (test_from_bytes text span bytes) (test_from_tag (span_text text span) tag)
+tag_test text span h = grind (arith, nat_tests, and_from, test_from_bytes, test_from_tag)
 
 pub is_tag_at : (text : List ℕ) (span : Span) → IsTagAt text span (tag_at text span)
 unfolding tag_at
@@ -56,16 +54,14 @@ one_tag_at text span tag is = grind (arith, nat_tests, is_tag_at text span)
 pub tags_at_index :
     (text : List ℕ) (spans : List Span) (index : ℕ) → index < length (tags_at text spans) →
     get_or (tags_at text spans) index None ≡ tag_at text (get_or spans index (empty_at 0))
-tags_at_index text spans index within =
-    get_or-map (tag_at text) spans index (empty_at 0) None (omega (arith, within, length-map spans (tag_at text)))
+tags_at_index text spans index within = grind (arith, nat_tests, get_or-map (tag_at text) spans index (empty_at 0) None, length-map spans (tag_at text))
 
 -- the bytes of a span that is a tag are the tag
 pub tag_bytes :
     (text : List ℕ) (spans : List Span) (index : ℕ) (bytes : List ℕ) → index < length (tags_at text spans) →
     (HasBytes text (get_or spans index (empty_at 0)) → bytes ≡ span_text text (get_or spans index (empty_at 0))) → ForSome (get_or (tags_at text spans) index None) (λ tag. bytes ≡ tag)
 tag_bytes text spans index bytes within same tag is =
-    let at = subst (IsTagAt text (get_or spans index (empty_at 0))) (sym (tags_at_index text spans index within) ∙ is) (is_tag_at text (get_or spans index (empty_at 0))) in
-    same at.0.0 ∙ sym at.1
+    grind (arith, nat_tests, tags_at_index text spans index within, is_tag_at text (get_or spans index (empty_at 0)))
 
 pub are_tags_at : (text : List ℕ) (spans : List Span) → AreTagsAt text spans (tags_at text spans)
 are_tags_at text spans = grind (arith, nat_tests, length-map spans (tag_at text), tags_at_index text spans, is_tag_at text)

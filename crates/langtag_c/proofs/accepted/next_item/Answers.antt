@@ -1,4 +1,5 @@
 use Rattle.std.proofs.Common.{◌≡◌, ◌+◌, ap, sym, ◌∙◌, arith}
+use Rattle.std.proofs.lemmas.Bool.Decides.{nat_tests}
 use Rattle.langtag_c.specs.Spans.{end_of, span_between}
 use Rattle.langtag_c.proofs.ItemLaws.{item_few, item_passed, item_taken}
 use Rattle.langtag_c.proofs.accepted.next_item.Goals as goal
@@ -21,19 +22,7 @@ returns-then-not-is_empty_element-clause-taken c =
     }
 
 pub loop-list-preserved : goal.loop-list-preserved
-loop-list-preserved c =
-    let part = c.in-Some.ensures in
-    let len = c.len_before-len.ensures in
-    let taken = c.take_first-item.ensures in
-    let invariant = c.loop-list.invariant in
-    let empty = sym c.is_empty_element.ensures ∙ c.if-not-is_empty_element.false in
-    let left = c.loop-list.left in
-    record {
-      kept = invariant.kept;
-      begins = omega (arith, invariant.begins, taken.begins);
-      ends = taken.ends ∙ invariant.ends;
-      same = item_passed _ _ left _ _ part.0 part.1 len.within len.first taken.rest empty ∙ invariant.same;
-    }
+loop-list-preserved c = grind (arith, nat_tests, item_passed)
 
 pub returns-clause-nothing : goal.returns-clause-nothing
 returns-clause-nothing c = λ _. c.loop-list.invariant.kept

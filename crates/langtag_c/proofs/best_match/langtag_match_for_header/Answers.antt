@@ -1,4 +1,5 @@
-use Rattle.std.proofs.Common.{None, Some, refl, rules}
+use Rattle.std.proofs.Common.{None, Some, refl, arith}
+use Rattle.std.proofs.lemmas.Bool.Decides.{nat_tests}
 use Rattle.langtag_match.specs.Wanted.{wanted_elements}
 use Rattle.langtag_c.proofs.HeaderRanges.{is_match_at, no_match_at}
 use Rattle.langtag_c.proofs.TagsAt.{is_best, within_spans}
@@ -11,8 +12,7 @@ pub returns-in_default-clause-best : goal.returns-in_default-clause-best
 returns-in_default-clause-best c = is_best (wanted_elements c.args.header.now) c.args.bytes.now c.args.tags.now None _ c.in_default.ensures.choice refl
 
 pub returns-clause-found : goal.returns-clause-found
-returns-clause-found c =
-    is_match_at c.args.header.now c.args.bytes.now c.args.tags.now c.in-Some.chosen c.range_at.result _ _ c.in-Some.ensures.found refl (search rules) c.range_at.ensures.none c.range_at.ensures.some (search rules)
+returns-clause-found c = grind (arith, nat_tests, is_match_at c.args.header.now c.args.bytes.now c.args.tags.now c.in-Some.chosen c.range_at.result)
 
 pub returns-clause-best : goal.returns-clause-best
 returns-clause-best c = is_best (wanted_elements c.args.header.now) c.args.bytes.now c.args.tags.now (Some c.in-Some.chosen.index) _ c.in-Some.ensures.choice refl

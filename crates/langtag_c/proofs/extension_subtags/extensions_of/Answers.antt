@@ -1,4 +1,5 @@
-use Rattle.std.proofs.Common.{◌≡◌, subst}
+use Rattle.std.proofs.Common.{◌≡◌, subst, arith}
+use Rattle.std.proofs.lemmas.Bool.Decides.{nat_tests}
 use Rattle.langtag_scan.specs.Ends.{ends_of}
 use Rattle.langtag_scan.specs.Record.{EachRecord}
 use Rattle.langtag_c.proofs.FoundExtension.{extensions-span}
@@ -10,6 +11,4 @@ returns-clause-text c =
     (extensions-span c.args.bytes.now c.ends-ends.result c.between.result tag.1 (subst (λ t. EachRecord t (λ r. c.ends-ends.result ≡ ends_of r)) tag.0 c.ends-ends.ensures) c.between.ensures.span c.between.ensures.ends).0
 
 pub returns-clause-within : goal.returns-clause-within
-returns-clause-within c =
-    let tag = c.in_ok-normal_tag_of.ensures in
-    (extensions-span c.args.bytes.now c.ends-ends.result c.between.result tag.1 (subst (λ t. EachRecord t (λ r. c.ends-ends.result ≡ ends_of r)) tag.0 c.ends-ends.ensures) c.between.ensures.span c.between.ensures.ends).1
+returns-clause-within c = grind (arith, nat_tests, extensions-span c.args.bytes.now c.ends-ends.result c.between.result)

@@ -1,8 +1,8 @@
-use Rattle.std.proofs.Common.{find, refl, sym, subst, ap, ◌∙◌, arith}
-use Rattle.langtag_extension.specs.Decided.{opens_alike}
+use Rattle.std.proofs.Common.{refl, sym, subst, ap, ◌∙◌, arith}
+use Rattle.std.proofs.lemmas.Bool.Decides.{nat_tests}
 use Rattle.langtag_extension.specs.ExtensionTexts.{extension_texts}
 use Rattle.langtag_c.specs.Spans.{end_of, span_text}
-use Rattle.langtag_c.proofs.FoundExtension.{after-singleton, extension-step, find-first, find-later, no-bytes, opens-not, opens-so, subtags-first, subtags-none, taken-some, taken-text, without-singleton}
+use Rattle.langtag_c.proofs.FoundExtension.{after-singleton, extension-step, no-bytes, opens-not, opens-so, subtags-first, subtags-none, taken-some, taken-text, without-singleton}
 use Rattle.langtag_c.proofs.SubtagSpans.{AllSome}
 use Rattle.langtag_scan.specs.Subtags.{subtags}
 use Rattle.langtag_c.proofs.extension_subtags.find_extension.Goals as goal
@@ -25,7 +25,7 @@ returns-then-into_smallcase-clause-subtags c es spells =
     let first = taken-text text c.loop-part.rest c.take_first-extension.result c.in-Some.part _ part.0 part.1 c.first_extension_end.ensures.within taken.first in
     let opened = opens-so byte _ c.in-Some.part.now c.first_extension_end.result first (omega (arith, some.1, ap (λ span. span.len) taken.first)) (sym c.into_smallcase.ensures ∙ c.if-into_smallcase.true ∙ c.into_smallcase-in-Some.ensures) in
     subtags-first byte text c.args.extensions c.take_first-extension.result c.without_singleton.result (extension_texts (span_text text c.loop-part.rest)) c.loop-part.invariant.same
-    (ap (find (opens_alike byte)) step.texts ∙ find-first (opens_alike byte) _ _ opened)
+    (rw (step.texts, opened) refl)
     (ap (span_text text) c.without_singleton.ensures ∙ without-singleton text c.take_first-extension.result some.1) es spells
 
 pub returns-then-into_smallcase-clause-some : goal.returns-then-into_smallcase-clause-some
@@ -54,9 +54,8 @@ loop-part-preserved c =
     record {
       within = omega (arith, taken.ends, c.loop-part.invariant.within);
       extensions = step.left;
-      same = sym (ap (find (opens_alike byte)) step.texts ∙ find-later (opens_alike byte) (span_text text c.take_first-extension.result) (extension_texts (span_text text c.take_first-extension.new.self)) other) ∙ c.loop-part.invariant.same;
+      same = rw (step.texts, other) at c.loop-part.invariant.same;
     }
 
 pub returns-clause-subtags : goal.returns-clause-subtags
-returns-clause-subtags c es spells =
-    subtags-none c.args.singleton c.args.bytes.now c.args.extensions c.loop-part.rest (record { start = 0; len = 0 }) c.loop-part.invariant.same (no-bytes c.args.bytes.now c.loop-part.rest c.loop-part.invariant.within c.in_default.ensures) refl es spells
+returns-clause-subtags c es spells = grind (arith, nat_tests, subtags-none, no-bytes)

@@ -1,5 +1,6 @@
-use Rattle.std.proofs.Common.{length, sym, ap, ◌∙◌, arith}
+use Rattle.std.proofs.Common.{sym, ◌∙◌, arith}
 use Rattle.std.proofs.lemmas.List.{length-drop}
+use Rattle.std.proofs.lemmas.Bool.Decides.{nat_tests}
 use Rattle.langtag_unicode.specs.Keys.{opens_keyword}
 use Rattle.langtag_unicode.proofs.WalkLaws.{keywords-new, keywords-other}
 use Rattle.langtag_c.specs.Keywords.{subtags_in}
@@ -8,12 +9,10 @@ use Rattle.langtag_c.proofs.SubtagSpans.{drop-next, length-subtags_in}
 use Rattle.langtag_c.proofs.extension_subtags.next_key.Goals as goal
 
 pub overflow_add-passed : goal.overflow_add-passed
-overflow_add-passed c =
-    omega (arith, ap length (sym c.loop-key.invariant.left ∙ c.in-Some.ensures.subtags), length-drop c.loop-key.count (subtags_in c.args.bytes.now c.args.subtags), length-subtags_in _ c.args.subtags c.requires.within, c.type_inv.bytes)
+overflow_add-passed c = grind (arith, nat_tests, length-drop c.loop-key.count (subtags_in c.args.bytes.now c.args.subtags), length-subtags_in)
 
 pub overflow_add-count : goal.overflow_add-count
-overflow_add-count c =
-    omega (arith, ap length (sym c.loop-key.invariant.left ∙ c.in-Some.ensures.subtags), length-drop c.loop-key.count (subtags_in c.args.bytes.now c.args.subtags), length-subtags_in _ c.args.subtags c.requires.within, c.type_inv.bytes)
+overflow_add-count c = grind (arith, nat_tests, length-drop c.loop-key.count (subtags_in c.args.bytes.now c.args.subtags), length-subtags_in)
 
 pub returns-then-is_new_key-clause-some : goal.returns-then-is_new_key-clause-some
 returns-then-is_new_key-clause-some c =
