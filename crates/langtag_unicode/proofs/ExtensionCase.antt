@@ -1,10 +1,10 @@
 -- The case of letters changes nothing in the forms of extensions but case.
-use Rattle.std.proofs.Common.{◌≡◌, ℕ, Bool, true, false, not, cond, ◌&&◌, ◌||◌, ◌==◌, List, [], ◌∷◌, ◌++◌, map, Option, None, Some, option_map, unwrap_or, refl, sym, ap, ◌∙◌}
+use Rattle.std.proofs.Common.{◌≡◌, ℕ, Bool, true, false, not, ◌&&◌, ◌||◌, ◌==◌, List, [], ◌∷◌, ◌++◌, map, Option, None, Some, option_map, unwrap_or, refl, sym, ap, ◌∙◌, arith}
 use Rattle.std.proofs.lemmas.List.{map-append}
-use Rattle.std.specs.Prelude.{codes}
 use Rattle.std.specs.List.{AllByRecursion, flat_map, list_all, list_any}
 use Rattle.std.specs.Option.{option_map_or}
 use Rattle.std.specs.Str.{bytes_eq}
+use Rattle.std.proofs.lemmas.Bool.Decides.{nat_tests}
 use Rattle.langtag_extension.specs.Spelling.{find_extension}
 use Rattle.langtag_likely.proofs.AlikeFields.{AlikeFields}
 use Rattle.langtag_likely.specs.Likely.{Fields}
@@ -12,16 +12,16 @@ use Rattle.langtag_likely.proofs.TextLaws.{alike_forms}
 use Rattle.langtag_likely.specs.Maximal.{subtag_of}
 use Rattle.langtag_likely.specs.MaximalLaws.{IsAlikeForm}
 use Rattle.langtag_scan.proofs.CaseLaw.{classes-fold, fold_byte-twice, fold_text-twice, join-fold, length-fold, map-twice}
-use Rattle.langtag_scan.specs.AlikeRecords.{AlikeRecords, fold_extension, fold_record}
+use Rattle.langtag_scan.specs.AlikeRecords.{AlikeRecords, fold_extension}
 use Rattle.langtag_scan.specs.Case.{Alike, are_alike, fold_byte, fold_text}
 use Rattle.langtag_scan.specs.Class.{is_region, is_script, is_variant}
 use Rattle.langtag_scan.specs.Record.{Extension, Record, one_flat}
 use Rattle.langtag_scan.specs.Stage.{Classes}
 use Rattle.langtag_scan.specs.Subtags.{join, subtags}
-use Rattle.langtag_unicode.specs.Aliases.{subdivision_aliases, transform_type_aliases, unicode_type_aliases}
-use Rattle.langtag_unicode.specs.Alias.{alias_for, type_alias_for}
+use Rattle.langtag_unicode.specs.Aliases.{transform_type_aliases}
+use Rattle.langtag_unicode.specs.Alias.{type_alias_for}
 use Rattle.langtag_unicode.specs.Form as form
-use Rattle.langtag_unicode.specs.Form.{IsExtensionsForm, after_one, are_different_variants, are_fields, extension_form, extensions_record, forms_after, has_subdivision, in_alphabet, language_form, is_language_id, is_language_or_none, is_of, is_transform, is_unicode_language, may_follow, one_of, subdivision, transform_form, transform_value, unicode_form, unicode_type, unicode_value, without_true}
+use Rattle.langtag_unicode.specs.Form.{IsExtensionsForm, after_one, are_different_variants, are_fields, extension_form, extensions_record, forms_after, language_form, is_language_or_none, is_of, is_transform, may_follow, one_of, subdivision, transform_form, transform_value, unicode_form, unicode_type, unicode_value, without_true}
 use Rattle.langtag_unicode.specs.Keywords.{before_key, is_key, value_of}
 use Rattle.langtag_unicode.specs.Locale.{is_locale_extension, is_unicode_subtag}
 use Rattle.langtag_registry.specs.Canonical.{singletons}
@@ -53,21 +53,11 @@ lower-twice = map-twice fold_text fold_text-twice
 module _ (opens : List ℕ → Bool) (opens-fold : (s : List ℕ) → opens (fold_text s) ≡ opens s) where
   before-fold : (ss : List (List ℕ)) → before_key opens (map fold_text ss) ≡ map fold_text (before_key opens ss)
   before-fold [] = refl
-  before-fold (s ∷ ss) = rw (opens-fold s, before-fold ss) (by_test (opens s))
-    where
-      by_test : (b : Bool) → cond b [] (fold_text s ∷ map fold_text (before_key opens ss)) ≡ map fold_text (cond b [] (s ∷ before_key opens ss))
-      by_test true = refl
-      by_test false = refl
+  before-fold (s ∷ ss) = grind (arith, nat_tests, before-fold ss)
 
   value-fold : (key : List ℕ) (ss : List (List ℕ)) → value_of opens key (map fold_text ss) ≡ option_map (map fold_text) (value_of opens key ss)
   value-fold key [] = refl
-  value-fold key (s ∷ ss) = rw (opens-fold s, fold_text-twice s) (by_test (opens s && are_alike s key) (value-fold key ss))
-    where
-      by_test :
-          (b : Bool) → value_of opens key (map fold_text ss) ≡ option_map (map fold_text) (value_of opens key ss) →
-          cond b (Some (before_key opens (map fold_text ss))) (value_of opens key (map fold_text ss)) ≡ option_map (map fold_text) (cond b (Some (before_key opens ss)) (value_of opens key ss))
-      by_test true later = ap (λ t. Some t) (before-fold ss)
-      by_test false later = later
+  value-fold key (s ∷ ss) = grind (arith, nat_tests, fold_text-twice s, value-fold key ss, before-fold ss)
 
   module _ (canonical : List ℕ → List ℕ → List ℕ) (canonical-fold : (key text : List ℕ) → Alike (canonical key (fold_text text)) (canonical key text)) where
     in_form-fold : (ss : List (List ℕ)) (key : List ℕ) → values_in_form opens canonical (map fold_text ss) key ≡ values_in_form opens canonical ss key
@@ -77,10 +67,7 @@ module _ (opens : List ℕ → Bool) (opens-fold : (s : List ℕ) → opens (fol
             (o : Option (List (List ℕ))) →
             option_map (λ w. map fold_text (subtags (canonical key (join w)))) (option_map (map fold_text) o) ≡ option_map (λ w. map fold_text (subtags (canonical key (join w)))) o
         by_value None = refl
-        by_value (Some w) =
-            ap (λ t. Some t)
-            (ap (λ t. map fold_text (subtags (canonical key t))) (join-fold w) ∙ sym (subtags-fold (canonical key (fold_text (join w)))) ∙ ap subtags (canonical-fold key (join w))
-            ∙ subtags-fold (canonical key (join w)))
+        by_value (Some w) = grind (arith, nat_tests, join-fold w, subtags-fold (canonical key (fold_text (join w))), subtags-fold (canonical key (join w)))
 
     keywords-fold : (ss : List (List ℕ)) → form.keywords_form opens canonical (map fold_text ss) ≡ form.keywords_form opens canonical ss
     keywords-fold ss =
@@ -101,21 +88,10 @@ or_fold (Some new) text = refl
 
 replaced-fold : (key text : List ℕ) → Alike (replaced key (fold_text text)) (replaced key text)
 unfolding subdivision unicode_type
-replaced-fold key text = by_test (has_subdivision key)
-  where
-    by_test : (b : Bool) → Alike (cond b (subdivision (fold_text text)) (unicode_type key (fold_text text))) (cond b (subdivision text) (unicode_type key text))
-    by_test true = ap (λ o. fold_text (unwrap_or o (fold_text text))) (alias_for-alike subdivision_aliases (fold_text text) text (fold_text-twice text)) ∙ or_fold (alias_for subdivision_aliases text) text
-    by_test false = ap (λ o. fold_text (unwrap_or o (fold_text text))) (type_alias_for-alike unicode_type_aliases key key (fold_text text) text refl (fold_text-twice text)) ∙ or_fold (type_alias_for unicode_type_aliases key text) text
+replaced-fold key text = grind (arith, nat_tests, alias_for-alike, fold_text-twice, or_fold, type_alias_for-alike)
 
 without-alike : (a b : List ℕ) → Alike a b → Alike (without_true a) (without_true b)
-without-alike a b alike = lower a ∙ ap (λ t. cond (bytes_eq t (fold_text (codes "true"))) [] t) alike ∙ sym (lower b)
-  where
-    lower : (text : List ℕ) → fold_text (without_true text) ≡ cond (are_alike text (codes "true")) [] (fold_text text)
-    lower text = by_test (are_alike text (codes "true"))
-      where
-        by_test : (t : Bool) → fold_text (cond t [] text) ≡ cond t [] (fold_text text)
-        by_test true = refl
-        by_test false = refl
+without-alike a b alike = grind (arith, nat_tests)
 
 unicode_value-fold : (key text : List ℕ) → Alike (unicode_value key (fold_text text)) (unicode_value key text)
 unicode_value-fold key text = without-alike (replaced key (fold_text text)) (replaced key text) (replaced-fold key text)
@@ -133,20 +109,10 @@ unicode-fold ss = rw (before-fold is_key key-fold ss, keywords-fold is_key key-f
 
 module _ (test : List ℕ → Bool) (test-fold : (s : List ℕ) → test (fold_text s) ≡ test s) where
   one-fold : (ss : List (List ℕ)) → first_subtag (one_of test (map fold_text ss)) ≡ fold_text (first_subtag (one_of test ss))
-  one-fold [] = refl
-  one-fold (s ∷ ss) = rw (test-fold s) (by_test (test s))
-    where
-      by_test : (b : Bool) → first_subtag (cond b (fold_text s ∷ []) []) ≡ fold_text (first_subtag (cond b (s ∷ []) []))
-      by_test true = refl
-      by_test false = refl
+  one-fold ss = grind (arith, nat_tests)
 
   after-fold : (ss : List (List ℕ)) → after_one test (map fold_text ss) ≡ map fold_text (after_one test ss)
-  after-fold [] = refl
-  after-fold (s ∷ ss) = rw (test-fold s) (by_test (test s))
-    where
-      by_test : (b : Bool) → cond b (map fold_text ss) (fold_text s ∷ map fold_text ss) ≡ map fold_text (cond b ss (s ∷ ss))
-      by_test true = refl
-      by_test false = refl
+  after-fold ss = grind (arith, nat_tests)
 
 script-fold : (s : List ℕ) → is_script (fold_text s) ≡ is_script s
 script-fold s = ap (λ (c : Classes). c.script) (classes-fold s)
@@ -161,17 +127,10 @@ variants-fold : (ss : List (List ℕ)) → identifier_variants (map fold_text ss
 variants-fold ss = ap (after_one is_region) (after-fold is_script script-fold ss) ∙ after-fold is_region region-fold (after_one is_script ss)
 
 fields-fold : (s : List ℕ) (ss : List (List ℕ)) → AlikeFields (identifier_fields (fold_text s) (map fold_text ss)) (identifier_fields s ss)
-fields-fold s ss = record {
-  language = fold_text-twice s;
-  script = ap fold_text (one-fold is_script script-fold ss) ∙ fold_text-twice (first_subtag (one_of is_script ss));
-  region =
-      ap (λ t. fold_text (first_subtag (one_of is_region t))) (after-fold is_script script-fold ss)
-      ∙ ap fold_text (one-fold is_region region-fold (after_one is_script ss)) ∙ fold_text-twice (first_subtag (one_of is_region (after_one is_script ss)));
-}
+fields-fold s ss = grind (arith, nat_tests, fold_text-twice, one-fold, script-fold, after-fold, region-fold)
 
 subtag-fold : (s : List ℕ) → map fold_text (one_flat (subtag_of s)) ≡ one_flat (subtag_of (fold_text s))
-subtag-fold [] = refl
-subtag-fold (b ∷ s) = refl
+subtag-fold s = grind (arith, nat_tests)
 
 lower-flat :
     (f : Fields) (vs : List (List ℕ)) →
@@ -185,8 +144,7 @@ flat-alike f g vs ws h same = rw (lower-flat f vs, lower-flat g ws, h.language, 
 language-fold : (ss : List (List ℕ)) → AreAlike (transform_language_form (map fold_text ss)) (transform_language_form ss)
 language-fold [] = refl
 language-fold (s ∷ ss) =
-    let variants : AreAlike (identifier_variants (map fold_text ss)) (identifier_variants ss) = ap (map fold_text) (variants-fold ss) ∙ lower-twice (identifier_variants ss) in
-    flat-alike _ _ _ _ (identifier_form-alike _ _ _ _ variants (fields-fold s ss)) (new_variants-alike _ _ _ _ variants (fields-fold s ss))
+    grind (arith, nat_tests, variants-fold ss, lower-twice (identifier_variants ss), flat-alike, identifier_form-alike, fields-fold s ss, new_variants-alike)
 
 -- ---- the extension `t`
 
@@ -221,15 +179,7 @@ is_transform-fold ss = rw (before-fold is_field_key field_key-fold ss, language_
 -- ---- the form of the extension `t`, with its case and the order of its variants changed alone
 
 language_form-fold : (ss : List (List ℕ)) → language_form (map fold_text ss) ≡ language_form ss
-language_form-fold [] = refl
-language_form-fold (s ∷ ss) =
-    let h = fields-fold s ss in
-    language-parts (fold_text s) (map fold_text ss)
-    ∙ ap (λ g. identifier_flat g (in_alphabet (identifier_variants (map fold_text ss))))
-    (same_fields (lower_fields (identifier_fields (fold_text s) (map fold_text ss))) (lower_fields (identifier_fields s ss)) h.language h.script h.region)
-    ∙ ap (identifier_flat (lower_fields (identifier_fields s ss)))
-    (in_alphabet-alike (identifier_variants (map fold_text ss)) (identifier_variants ss) (ap (map fold_text) (variants-fold ss) ∙ lower-twice (identifier_variants ss)))
-    ∙ sym (language-parts s ss)
+language_form-fold ss = grind (arith, nat_tests, fields-fold, language-parts, same_fields, lower_fields, in_alphabet-alike, variants-fold, lower-twice)
 
 transform_form-fold : (ss : List (List ℕ)) → transform_form (map fold_text ss) ≡ transform_form ss
 transform_form-fold ss =
@@ -266,13 +216,7 @@ extension-alike e =
 
 find-fold : (n : ℕ) (es : List Extension) → find_extension n (map fold_extension es) ≡ option_map fold_extension (find_extension n es)
 find-fold n [] = refl
-find-fold n (e ∷ es) = rw (fold_byte-twice e.singleton) (by_test (fold_byte e.singleton == fold_byte n) (find-fold n es))
-  where
-    by_test :
-        (b : Bool) → find_extension n (map fold_extension es) ≡ option_map fold_extension (find_extension n es) →
-        cond b (Some (fold_extension e)) (find_extension n (map fold_extension es)) ≡ option_map fold_extension (cond b (Some e) (find_extension n es))
-    by_test true later = refl
-    by_test false later = later
+find-fold n (e ∷ es) = grind (arith, nat_tests, fold_byte-twice e.singleton, find-fold n es)
 
 at-fold : (es : List Extension) (n : ℕ) → map fold_extension (extension_at (map fold_extension es) n) ≡ map fold_extension (extension_at es n)
 at-fold es n = ap (λ o. map fold_extension (option_map_or (λ e. locale_extension_form e ∷ []) o [])) (find-fold n es) ∙ by_found (find_extension n es)
@@ -315,9 +259,7 @@ with_extensions es r = record r { extensions = es }
 
 record-alike : (r q : Record) → AlikeRecords r q → AlikeRecords (extensions_record r) (extensions_record q)
 unfolding extensions_record
-record-alike r q alike =
-    let same = sym (forms-fold false false r.extensions) ∙ ap (λ x. map fold_extension (forms_after false false x.extensions)) alike ∙ forms-fold false false q.extensions in
-    ap (λ es. with_extensions es (fold_record r)) same ∙ ap (with_extensions (map fold_extension (forms_after false false q.extensions))) alike
+record-alike r q alike = grind (arith, nat_tests, forms-fold false false r.extensions, forms-fold false false q.extensions)
 
 -- tags that are alike have forms that are
 pub extensions_form-alike : (tag form : List ℕ) → IsExtensionsForm tag form → IsAlikeForm IsExtensionsForm tag form

@@ -1,24 +1,23 @@
 -- The form of a tag is a tag: its extensions are well-formed.
-use Rattle.std.proofs.Common.{◌≡◌, ℕ, ◌+◌, ◌<◌, ◌≤◌, ◌&&◌, ◌||◌, ◌==◌, not, Bool, true, false, cond, IsTrue, List, [], ◌∷◌, ◌++◌, length, map, find, Option, None, Some, unwrap_or, refl, sym, ap, subst, ◌∙◌, arith, eqb-true, get_or, length-append, zero-add}
+use Rattle.std.proofs.Common.{◌≡◌, ℕ, ◌+◌, ◌<◌, ◌≤◌, ◌&&◌, ◌||◌, ◌==◌, not, Bool, true, false, cond, IsTrue, List, [], ◌∷◌, ◌++◌, length, map, Some, unwrap_or, refl, sym, ap, subst, ◌∙◌, arith, eqb-true, get_or, length-append, zero-add}
 use Rattle.std.proofs.lemmas.Bool.{and_parts, false≢true}
 use Rattle.std.proofs.lemmas.Bool.Decides.{nat_tests}
 use Rattle.std.proofs.lemmas.List.FromFn.{get_or-range_with_len}
 use Rattle.std.specs.List.{AllByRecursion, flat_map, list_all, list_any, range_with_len}
-use Rattle.std.specs.Option.{option_map, option_map_or}
-use Rattle.std.specs.Prelude.{codes}
+use Rattle.std.specs.Option.{option_map_or}
 use Rattle.langtag_scan.proofs.CaseLaw.{fold_text-twice, classes-fold}
 use Rattle.langtag_scan.proofs.SubtagFacts.{of_extension_subtag}
 use Rattle.langtag_scan.proofs.SubtagLists.{each_from_test, each_subtag, subtags-joined, each-append}
 use Rattle.langtag_scan.specs.Case.{are_alike, fold_byte, fold_text}
 use Rattle.langtag_scan.specs.CaseLaws.{are_alike-decides}
-use Rattle.langtag_scan.specs.Class.{are_alphanumeric, has_length, is_alphanumeric, is_digit, is_extension_subtag, is_letter, is_mark, is_region, is_script, is_singleton}
+use Rattle.langtag_scan.specs.Class.{are_alphanumeric, has_length, is_alphanumeric, is_digit, is_extension_subtag, is_letter, is_mark, is_singleton}
 use Rattle.langtag_scan.specs.Record.{Extension, IsWellFormed, IsWellFormedExtension, Record}
 use Rattle.langtag_scan.specs.Subtags.{join, subtags}
 use Rattle.langtag_unicode.specs.Alias.{Alias, TypeAlias, alias_for, type_alias_for}
 use Rattle.langtag_unicode.specs.Aliases.{subdivision_aliases, transform_type_aliases, unicode_type_aliases}
 use Rattle.langtag_unicode.specs.Edit.{is_type}
 use Rattle.langtag_unicode.specs.Form as form
-use Rattle.langtag_unicode.specs.Form.{extension_form, extensions_record, forms_after, in_alphabet, is_before, is_of, is_transform, letters_and_digits, put_among, transform_form, transform_value, unicode_form, unicode_value}
+use Rattle.langtag_unicode.specs.Form.{extension_form, extensions_record, forms_after, in_alphabet, is_of, is_transform, letters_and_digits, put_among, transform_form, transform_value, unicode_form, unicode_value}
 use Rattle.langtag_unicode.specs.Keywords.{before_key, is_key, value_of}
 use Rattle.langtag_unicode.specs.Transform.{is_field_key}
 use Rattle.langtag_registry.proofs.PrefixLaws.{list_all_get}
@@ -47,12 +46,7 @@ good-alphabet = each-alphabet (λ s. IsTrue (is_extension_subtag s)) (λ s good.
 
 some-put : (x : List ℕ) (ss : List (List ℕ)) → 1 ≤ length (put_among x ss)
 some-put x [] = omega arith
-some-put x (s ∷ ss) = by_tests (is_before x s) (is_before s x)
-  where
-    by_tests : (a b : Bool) → 1 ≤ length (cond a (x ∷ s ∷ ss) (cond b (s ∷ put_among x ss) (s ∷ ss)))
-    by_tests true b = omega arith
-    by_tests false true = omega arith
-    by_tests false false = omega arith
+some-put x (s ∷ ss) = grind (arith, nat_tests)
 
 -- ---- values
 
@@ -61,12 +55,7 @@ good-before = each-before (λ s. IsTrue (is_extension_subtag s))
 
 pub good-value : (test : List ℕ → Bool) (key : List ℕ) (ss v : List (List ℕ)) → Good ss → value_of test key ss ≡ Some v → Good v
 good-value test key [] v good found = absurd cc
-good-value test key (s ∷ ss) v good found = by_test (test s && are_alike s key) (good-value test key ss v good.1) found
-  where
-    by_test :
-        (b : Bool) → (value_of test key ss ≡ Some v → Good v) → cond b (Some (before_key test ss)) (value_of test key ss) ≡ Some v → Good v
-    by_test true later found = let same : before_key test ss ≡ v = cc in subst Good same (good-before test ss good.1)
-    by_test false later found = later found
+good-value test key (s ∷ ss) v good found = grind (arith, nat_tests, good-value test key ss v good.1, good-before test ss good.1)
 
 -- the subtags of a text are those of an extension
 abbrev GoodText : List ℕ → Type 0
@@ -83,44 +72,23 @@ module _ (test : List ℕ → Bool) where
   pass-alias : (rows : List Alias) (text : List ℕ) → list_all (λ row. list_all test (subtags row.new)) rows ≡ true → Passes text → Passes (unwrap_or (alias_for rows text) text)
   pass-alias [] text all good = good
   pass-alias (row ∷ rows) text all good =
-      let parts = and_parts (list_all test (subtags row.new)) (list_all (λ r. list_all test (subtags r.new)) rows) all in
-      by_test (are_alike row.old text) (each_from_test test (subtags row.new) parts.0) (pass-alias rows text parts.1 good)
-    where
-      by_test :
-          (t : Bool) → Passes row.new → Passes (unwrap_or (alias_for rows text) text) →
-          Passes (unwrap_or (option_map (λ alias. alias.new) (cond t (Some row) (find (λ alias. are_alike alias.old text) rows))) text)
-      by_test true here later = here
-      by_test false here later = later
+      grind (arith, nat_tests, and_parts (list_all test (subtags row.new)), each_from_test test (subtags row.new), pass-alias rows text)
 
   pass-type :
       (rows : List TypeAlias) (key text : List ℕ) → list_all (λ row. list_all test (subtags row.new)) rows ≡ true → Passes text → Passes (unwrap_or (type_alias_for rows key text) text)
   pass-type [] key text all good = good
   pass-type (row ∷ rows) key text all good =
-      let parts = and_parts (list_all test (subtags row.new)) (list_all (λ r. list_all test (subtags r.new)) rows) all in
-      by_test (are_alike row.key key && are_alike row.old text) (each_from_test test (subtags row.new) parts.0) (pass-type rows key text parts.1 good)
-    where
-      by_test :
-          (t : Bool) → Passes row.new → Passes (unwrap_or (type_alias_for rows key text) text) →
-          Passes (unwrap_or (option_map (λ alias. alias.new) (cond t (Some row) (find (λ alias. are_alike alias.key key && are_alike alias.old text) rows))) text)
-      by_test true here later = here
-      by_test false here later = later
+      grind (arith, nat_tests, and_parts (list_all test (subtags row.new)), each_from_test test (subtags row.new), pass-type rows key text)
 
   pass-without : (t : List ℕ) → Passes t → Passes (form.without_true t)
-  pass-without t good = by_test (are_alike t (codes "true"))
-    where
-      by_test : (b : Bool) → Passes (cond b [] t)
-      by_test true = tt
-      by_test false = good
+  pass-without t good = grind (arith, nat_tests)
 
   pass-unicode :
       list_all (λ row. list_all test (subtags row.new)) subdivision_aliases ≡ true → list_all (λ row. list_all test (subtags row.new)) unicode_type_aliases ≡ true →
       (key value : List ℕ) → Passes value → Passes (unicode_value key value)
   unfolding form.subdivision form.unicode_type
-  pass-unicode subdivisions types key value good = pass-without _ (by_test (form.has_subdivision key))
-    where
-      by_test : (b : Bool) → Passes (cond b (form.subdivision value) (form.unicode_type key value))
-      by_test true = pass-alias subdivision_aliases value subdivisions good
-      by_test false = pass-type unicode_type_aliases key value types good
+  pass-unicode subdivisions types key value good =
+      grind (arith, nat_tests, pass-without, pass-alias subdivision_aliases value subdivisions good, pass-type unicode_type_aliases key value types good)
 
 good-unicode : (key value : List ℕ) → GoodText value → GoodText (unicode_value key value)
 unfolding subdivision_aliases unicode_type_aliases is_extension_subtag is_letter is_digit
@@ -138,9 +106,7 @@ good-transform key value good = pass-type is_extension_subtag transform_type_ali
 
 good-flat : (f : ℕ → List (List ℕ)) → ((a : ℕ) → is_alphanumeric a ≡ true → Good (f a)) → (xs : List ℕ) → are_alphanumeric xs ≡ true → Good (flat_map f xs)
 good-flat f good [] all = tt
-good-flat f good (a ∷ xs) all =
-    let parts = and_parts (is_alphanumeric a) (are_alphanumeric xs) all in
-    each-append _ (f a) (flat_map f xs) (good a parts.0) (good-flat f good xs parts.1)
+good-flat f good (a ∷ xs) all = grind (arith, nat_tests, and_parts (is_alphanumeric a) (are_alphanumeric xs) all, each-append, good-flat f good xs)
 
 letters_alphanumeric : are_alphanumeric letters_and_digits ≡ true
 unfolding is_letter is_digit
@@ -153,19 +119,7 @@ good-key a b one two = rw (one, two) refl
 -- a letter that is among some puts something
 some-flat : (f : ℕ → List (List ℕ)) (n : ℕ) (xs : List ℕ) → list_any (λ a. a == n) xs ≡ true → 1 ≤ length (f n) → 1 ≤ length (flat_map f xs)
 some-flat f n [] among some = absurd (false≢true among)
-some-flat f n (a ∷ xs) among some = by_test (a == n) refl (some-flat f n xs) among
-  where
-    by_test :
-        (t : Bool) → (a == n) ≡ t → (list_any (λ b. b == n) xs ≡ true → 1 ≤ length (f n) → 1 ≤ length (flat_map f xs)) → (t || list_any (λ b. b == n) xs) ≡ true →
-        1 ≤ length (f a ++ flat_map f xs)
-    by_test true is later among =
-        let here = subst (λ m. 1 ≤ length (f m)) (sym (eqb-true a n is)) some in
-        let both = length-append (f a) (flat_map f xs) in
-        omega (arith, here, both)
-    by_test false is later among =
-        let there = later among some in
-        let both = length-append (f a) (flat_map f xs) in
-        omega (arith, there, both)
+some-flat f n (a ∷ xs) among some = grind (arith, nat_tests, some-flat f n xs, eqb-true, length-append)
 
 -- the fold of a letter or a digit is among them
 abbrev is_among : ℕ → Bool
@@ -190,14 +144,7 @@ module _ (opens : List ℕ → Bool) (canonical : List ℕ → List ℕ → List
   good-keyword :
       ((key value : List ℕ) → GoodText value → GoodText (canonical key value)) → (ss : List (List ℕ)) → Good ss → (a b : ℕ) → is_alphanumeric a ≡ true → is_alphanumeric b ≡ true →
       Good (form.keyword_form opens canonical ss (a ∷ b ∷ []))
-  good-keyword keeps ss good a b one two = by_value (value_of opens (a ∷ b ∷ []) ss) refl
-    where
-      by_value :
-          (o : Option (List (List ℕ))) → value_of opens (a ∷ b ∷ []) ss ≡ o →
-          Good (option_map_or (λ v. (a ∷ b ∷ []) ∷ map fold_text (subtags (canonical (a ∷ b ∷ []) (join v)))) o [])
-      by_value None is = tt
-      by_value (Some v) is =
-          (good-key a b one two, good-lower (subtags (canonical (a ∷ b ∷ []) (join v))) (keeps (a ∷ b ∷ []) (join v) (good-joined v (good-value opens (a ∷ b ∷ []) ss v good is))))
+  good-keyword keeps ss good a b one two = grind (arith, nat_tests, good-key a b one two, good-lower, good-joined, good-value opens (a ∷ b ∷ []) ss)
 
   pub good-keywords :
       ((key value : List ℕ) → GoodText value → GoodText (canonical key value)) → (ss : List (List ℕ)) → Good ss → Good (form.keywords_form opens canonical ss)
@@ -266,31 +213,13 @@ some-unicode_form (s ∷ ss) good some = by_test (is_key s) refl
         one_part _ _ _ _ both first here
 
 good-one : (test : List ℕ → Bool) (ss : List (List ℕ)) → Good ss → Good (form.one_of test ss)
-good-one test [] good = tt
-good-one test (s ∷ ss) good = by_test (test s)
-  where
-    by_test : (b : Bool) → Good (cond b (s ∷ []) [])
-    by_test true = (good.0, tt)
-    by_test false = tt
+good-one test ss good = grind (arith, nat_tests)
 
 good-after : (test : List ℕ → Bool) (ss : List (List ℕ)) → Good ss → Good (form.after_one test ss)
-good-after test [] good = tt
-good-after test (s ∷ ss) good = by_test (test s)
-  where
-    by_test : (b : Bool) → Good (cond b ss (s ∷ ss))
-    by_test true = good.1
-    by_test false = good
+good-after test ss good = grind (arith, nat_tests)
 
 good-language : (ss : List (List ℕ)) → Good ss → Good (form.language_form ss)
-good-language [] good = tt
-good-language (s ∷ ss) good =
-    let after = form.after_one is_script ss in
-    let good_after = good-after is_script ss good.1 in (
-      good-fold s ∙ good.0,
-      each-append _ (map fold_text (form.one_of is_script ss)) _ (good-lower _ (good-one is_script ss good.1))
-          (each-append _ (map fold_text (form.one_of is_region after)) _ (good-lower _ (good-one is_region after good_after))
-          (good-alphabet (form.after_one is_region after) (good-after is_region after good_after))),
-    )
+good-language ss good = grind (arith, nat_tests, good-after, good-fold, each-append, good-lower, good-one, good-alphabet)
 
 good-transform_form : (ss : List (List ℕ)) → Good ss → Good (transform_form ss)
 good-transform_form ss good =
@@ -332,14 +261,4 @@ good-forms u t (e ∷ es) fits = (good-extension u t e fits.0, good-forms (u || 
 
 pub form_well_formed : (r : Record) → IsWellFormed r → IsWellFormed (extensions_record r)
 unfolding extensions_record
-form_well_formed r well = record {
-  primary = well.primary;
-  extended = well.extended;
-  few = well.few;
-  short = well.short;
-  script = well.script;
-  region = well.region;
-  variants = well.variants;
-  extensions = good-forms false false r.extensions well.extensions;
-  private_use = well.private_use;
-}
+form_well_formed r well = grind (arith, nat_tests, good-forms false false r.extensions well.extensions)

@@ -1,10 +1,9 @@
 -- The form of a language identifier is its own form, in any case of its letters.
-use Rattle.std.proofs.Common.{◌≡◌, ℕ, true, false, not, cond, List, [], ◌∷◌, ◌++◌, ◌&&◌, ◌||◌, None, option_map, unwrap_or, refl, sym, ap, subst, ◌∙◌}
+use Rattle.std.proofs.Common.{◌≡◌, ℕ, true, false, not, cond, List, [], ◌∷◌, ◌++◌, ◌&&◌, ◌||◌, None, option_map, unwrap_or, refl, sym, ap, ◌∙◌}
 use Rattle.std.proofs.lemmas.Bool.{false_from_ne_true, false≢true, not-true}
 use Rattle.std.specs.List.{AllByRecursion, list_all}
 use Rattle.std.specs.Option.{is_none, is_some, option_map_or}
 use Rattle.std.specs.Prelude.{codes}
-use Rattle.langtag_likely.proofs.AlikeFields.{AlikeFields}
 use Rattle.langtag_likely.specs.Aliases.{language_aliases, region_replacements}
 use Rattle.langtag_likely.specs.Likely.{Fields, language_alone, likely_for, or_other}
 use Rattle.langtag_likely.specs.Matching.{language_replaced, region_alone, with_language_from}
@@ -20,7 +19,7 @@ use Rattle.langtag_unicode.specs.LocaleForm as form
 use Rattle.langtag_unicode.specs.LocaleForm.{has_variant, identifier_form, is_pair_of, new_variants, sign_for, variant_form}
 use Rattle.langtag_unicode.proofs.AlphabetTwice.{in_alphabet-twice}
 use Rattle.langtag_unicode.proofs.Each.{each-alphabet}
-use Rattle.langtag_unicode.proofs.IdentifierCase.{AreAlike, identifier_form-alike, new_variants-alike, region_by, replaced_by, replacement, type_alias_for-alike}
+use Rattle.langtag_unicode.proofs.IdentifierCase.{region_by, replaced_by, replacement, type_alias_for-alike}
 use Rattle.langtag_unicode.proofs.IdentifierForms.{fold_good}
 use Rattle.langtag_unicode.proofs.IdentifierLast.{Stays, among, all_weaker, fold_stays, forms-stay, kept-fold, kept-sign, new_region-last, new_script-last, none_found, none_is, not_both, replaced-last, sign-good, sign-last, sign-region, stays-alike}
 use Rattle.langtag_unicode.proofs.IdentifierTables.{is_last_language, is_last_region, is_last_script, is_last_sign, is_last_variant, is_old_language, languages_old, pairs_replaced, regions_dropped, sign_languages_last, variant_languages_last}
@@ -187,14 +186,3 @@ module _ (variants : List (List ℕ)) (f : Fields) where
       ap (λ (x : Fields). in_alphabet (forms x.language news news)) language_again ∙ ap in_alphabet (forms-again news news-stay) ∙ in_alphabet-twice (forms language variants variants)
 
 -- ---- the form in any case
-
-pub identifier_form-again :
-    (variants ws : List (List ℕ)) (f g : Fields) → AreAlike ws (new_variants variants f) → AlikeFields g (identifier_form variants f) →
-    AlikeFields (identifier_form ws g) (identifier_form variants f)
-identifier_form-again variants ws f g alike h =
-    subst (AlikeFields (identifier_form ws g)) (identifier_form-twice variants f) (identifier_form-alike ws (new_variants variants f) g (identifier_form variants f) alike h)
-
-pub new_variants-again :
-    (variants ws : List (List ℕ)) (f g : Fields) → AreAlike ws (new_variants variants f) → AlikeFields g (identifier_form variants f) → new_variants ws g ≡ new_variants variants f
-new_variants-again variants ws f g alike h =
-    new_variants-alike ws (new_variants variants f) g (identifier_form variants f) alike h ∙ new_variants-twice variants f

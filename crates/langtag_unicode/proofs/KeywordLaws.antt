@@ -1,13 +1,13 @@
 -- What is set is read, what is removed is not, and other keys keep their values.
-use Rattle.std.proofs.Common.{◌≡◌, ℕ, ◌+◌, Bool, true, false, cond, ◌&&◌, leb, List, [], ◌∷◌, ◌++◌, length, find, Option, None, Some, option_map, unwrap_or, refl, sym, ap, ◌∙◌, arith, eqb-true}
+use Rattle.std.proofs.Common.{◌≡◌, ℕ, ◌+◌, Bool, true, false, cond, ◌&&◌, leb, List, [], ◌∷◌, ◌++◌, length, find, Option, None, Some, unwrap_or, refl, sym, ap, ◌∙◌, arith, eqb-true}
 use Rattle.std.proofs.lemmas.Bool.{and_parts, false≢true, leb-true}
 use Rattle.std.specs.List.{AllByRecursion}
 use Rattle.std.specs.Option.{is_some}
+use Rattle.std.proofs.lemmas.Bool.Decides.{nat_tests}
 use Rattle.langtag_scan.specs.Case.{are_alike, fold_text}
 use Rattle.langtag_scan.specs.CaseLaws.{are_alike-decides}
 use Rattle.langtag_scan.specs.Class.{is_extension_subtag}
 use Rattle.langtag_unicode.specs.Edit.{invalid_type, invalid_type_from, is_place, is_this_key, is_type, is_unicode_key, keyword_error, put_keyword, with_keyword, without_keyword, without_within}
-use Rattle.langtag_unicode.specs.declared.keyword_error.KeywordError.TheVariants.{Key, Value}
 use Rattle.langtag_unicode.specs.Form.{is_before}
 use Rattle.langtag_unicode.specs.Keywords.{before_key, is_key, value_of}
 
@@ -20,8 +20,7 @@ AreNoKeys value = AllByRecursion (λ s. is_key s ≡ false) value
 -- a value ends where the next key begins
 before-end : (value rest : List (List ℕ)) → AreNoKeys value → before_key is_key rest ≡ [] → before_key is_key (value ++ rest) ≡ value
 before-end [] rest all end = end
-before-end (s ∷ value) rest all end =
-    ap (λ b. cond b [] (s ∷ before_key is_key (value ++ rest))) all.0 ∙ ap (λ ss. s ∷ ss) (before-end value rest all.1 end)
+before-end (s ∷ value) rest all end = grind (arith, nat_tests, before-end value rest all.1 end)
 
 before-whole : (value : List (List ℕ)) → AreNoKeys value → before_key is_key value ≡ value
 before-whole [] all = refl
@@ -31,26 +30,12 @@ module _ (key : List ℕ) where
   -- nothing stands before the first key where a value went
   before-gone : (ss : List (List ℕ)) → before_key is_key (without_within key true ss) ≡ []
   before-gone [] = refl
-  before-gone (s ∷ ss) = by_key (is_key s) (are_alike s key) refl (before-gone ss)
-    where
-      by_key :
-          (is same : Bool) → is_key s ≡ is → before_key is_key (without_within key true ss) ≡ [] →
-          before_key is_key (cond (cond is same true) (without_within key true ss) (s ∷ without_within key false ss)) ≡ []
-      by_key true true key_is later = later
-      by_key true false key_is later = ap (λ b. cond b [] (s ∷ before_key is_key (without_within key false ss))) key_is
-      by_key false same key_is later = later
+  before-gone (s ∷ ss) = grind (arith, nat_tests, before-gone ss)
 
   -- and what stood there stays where none went
   pub before-kept : (ss : List (List ℕ)) → before_key is_key (without_keyword key ss) ≡ before_key is_key ss
   before-kept [] = refl
-  before-kept (s ∷ ss) = by_key (is_key s) (are_alike s key) refl (before-kept ss)
-    where
-      by_key :
-          (is same : Bool) → is_key s ≡ is → before_key is_key (without_keyword key ss) ≡ before_key is_key ss →
-          before_key is_key (cond (cond is same false) (without_within key true ss) (s ∷ without_within key false ss)) ≡ cond is [] (s ∷ before_key is_key ss)
-      by_key true true key_is later = before-gone ss
-      by_key true false key_is later = ap (λ b. cond b [] (s ∷ before_key is_key (without_within key false ss))) key_is
-      by_key false same key_is later = ap (λ b. cond b [] (s ∷ before_key is_key (without_within key false ss))) key_is ∙ ap (λ ts. s ∷ ts) later
+  before-kept (s ∷ ss) = grind (arith, nat_tests, before-kept ss, before-gone ss)
 
 -- ---- what is set is read
 
@@ -60,13 +45,7 @@ alike-itself a = (are_alike-decides a a).1 refl
 -- the key as it stands is the key
 pub standing-this : (key : List ℕ) (ss : List (List ℕ)) → is_key key ≡ true → is_this_key key (unwrap_or (find (is_this_key key) ss) key) ≡ true
 standing-this key [] is = ap (λ b. b && are_alike key key) is ∙ alike-itself key
-standing-this key (s ∷ ss) is = by_test (is_this_key key s) refl (standing-this key ss is)
-  where
-    by_test :
-        (b : Bool) → is_this_key key s ≡ b → is_this_key key (unwrap_or (find (is_this_key key) ss) key) ≡ true →
-        is_this_key key (unwrap_or (cond b (Some s) (find (is_this_key key) ss)) key) ≡ true
-    by_test true this later = this
-    by_test false this later = later
+standing-this key (s ∷ ss) is = grind (arith, nat_tests, standing-this key ss is)
 
 -- each subtag before the place of a key is another key, or no key
 abbrev pub ArePassed : List ℕ → Bool → List (List ℕ) → Type 0
@@ -78,12 +57,7 @@ passed-standing key (s ∷ ss) = ((λ is. is), passed-standing key ss)
 
 passed-absent : (key : List ℕ) (ss : List (List ℕ)) → find (is_this_key key) ss ≡ None → ArePassed key false ss
 passed-absent key [] none = tt
-passed-absent key (s ∷ ss) none = by_test (is_this_key key s) refl none (passed-absent key ss)
-  where
-    by_test :
-        (b : Bool) → is_this_key key s ≡ b → cond b (Some s) (find (is_this_key key) ss) ≡ None → (find (is_this_key key) ss ≡ None → ArePassed key false ss) → ArePassed key false (s ∷ ss)
-    by_test true is none later = absurd cc
-    by_test false is none later = ((λ place. is), later none)
+passed-absent key (s ∷ ss) none = grind (arith, nat_tests, passed-absent key ss)
 
 pub passed : (key : List ℕ) (ss : List (List ℕ)) (o : Option (List ℕ)) → find (is_this_key key) ss ≡ o → ArePassed key (is_some o) ss
 passed key ss None is = passed-absent key ss is
@@ -102,8 +76,7 @@ module _ (key k : List ℕ) (value : List (List ℕ)) (this : is_this_key key k 
           (b : Bool) → is_place key stands s ≡ b → before_key is_key (put_keyword key stands (k ∷ value) ss) ≡ before_key is_key ss →
           before_key is_key (cond b ((k ∷ value) ++ without_keyword key (s ∷ ss)) (s ∷ put_keyword key stands (k ∷ value) ss)) ≡ before_key is_key (s ∷ ss)
       by_place true place later =
-          let opens = (and_parts (is_key s) (cond stands (are_alike s key) (is_before (fold_text key) (fold_text s))) place).0 in
-          ap (λ b. cond b [] (k ∷ before_key is_key (value ++ without_keyword key (s ∷ ss)))) key-opens ∙ sym (ap (λ b. cond b [] (s ∷ before_key is_key ss)) opens)
+          grind (arith, nat_tests, and_parts (is_key s) (cond stands (are_alike s key) (is_before (fold_text key) (fold_text s))) place, key-opens)
       by_place false place later = ap (λ r. cond (is_key s) [] (s ∷ r)) later
 
   value-first : (rest : List (List ℕ)) → value_of is_key key (k ∷ rest) ≡ Some (before_key is_key rest)
@@ -122,19 +95,12 @@ module _ (key k : List ℕ) (value : List (List ℕ)) (this : is_this_key key k 
   -- where each subtag that is passed is another key, or no key
   value-put : (stands : Bool) (ss : List (List ℕ)) → ArePassed key stands ss → value_of is_key key (put_keyword key stands (k ∷ value) ss) ≡ Some value
   value-put stands [] passed = value-first value ∙ ap Some (before-whole value all)
-  value-put stands (s ∷ ss) passed = by_place (is_place key stands s) refl (value-put stands ss passed.1)
-    where
-      by_place :
-          (b : Bool) → is_place key stands s ≡ b → value_of is_key key (put_keyword key stands (k ∷ value) ss) ≡ Some value →
-          value_of is_key key (cond b ((k ∷ value) ++ without_keyword key (s ∷ ss)) (s ∷ put_keyword key stands (k ∷ value) ss)) ≡ Some value
-      by_place true place later = value-here stands s ss place
-      by_place false other later = value-skipped s (put_keyword key stands (k ∷ value) ss) (passed.0 other) ∙ later
+  value-put stands (s ∷ ss) passed =
+      grind (arith, nat_tests, value-put stands ss passed.1, value-here stands s ss, value-skipped s (put_keyword key stands (k ∷ value) ss))
 
 -- get after set
 pub value-with : (key : List ℕ) (value ss : List (List ℕ)) → is_key key ≡ true → AreNoKeys value → value_of is_key key (with_keyword key value ss) ≡ Some value
-value-with key value ss is all =
-    let standing = find (is_this_key key) ss in
-    value-put key (unwrap_or standing key) value (standing-this key ss is) all (is_some standing) ss (passed key ss standing refl)
+value-with key value ss is all = grind (arith, nat_tests, value-put key, standing-this key ss is, passed key ss)
 
 -- get after remove
 pub value-without : (key : List ℕ) (inside : Bool) (ss : List (List ℕ)) → value_of is_key key (without_within key inside ss) ≡ None
@@ -187,13 +153,7 @@ module _ (key other : List ℕ) (differ : are_alike key other ≡ false) where
           (is same : Bool) → is_key s ≡ is → are_alike s key ≡ same → (within : Bool) → value_of is_key other (without_within key true ss) ≡ value_of is_key other ss →
           value_of is_key other (without_within key false ss) ≡ value_of is_key other ss →
           value_of is_key other (cond (cond is same within) (without_within key true ss) (s ∷ without_within key false ss)) ≡ value_of is_key other (s ∷ ss)
-      by_key true true key_is same_is within gone kept = gone ∙ sym (other-skipped s ss (both-apart s key_is same_is))
-      by_key true false key_is same_is within gone kept =
-          ap (λ r. cond (is_key s && are_alike s other) (Some (before_key is_key (without_within key false ss))) r) kept
-          ∙ ap (λ r. cond (is_key s && are_alike s other) (Some r) (value_of is_key other ss)) (before-kept key ss)
-      by_key false same key_is same_is true gone kept = gone ∙ sym (other-skipped s ss (ap (λ b. b && are_alike s other) key_is))
-      by_key false same key_is same_is false gone kept =
-          other-skipped s (without_within key false ss) (ap (λ b. b && are_alike s other) key_is) ∙ kept ∙ sym (other-skipped s ss (ap (λ b. b && are_alike s other) key_is))
+      by_key is same key_is same_is within gone kept = grind (arith, nat_tests, other-skipped, both-apart, before-kept)
 
   module _ (k : List ℕ) (value : List (List ℕ)) (this : is_this_key key k ≡ true) (all : AreNoKeys value) (stands : Bool) where
     others-put : (ss : List (List ℕ)) → value_of is_key other (put_keyword key stands (k ∷ value) ss) ≡ value_of is_key other ss
@@ -216,11 +176,7 @@ module _ (key other : List ℕ) (differ : are_alike key other ≡ false) where
 -- ---- which values have no key
 
 not_key : (s : List ℕ) → leb 3 (length s) ≡ true → is_key s ≡ false
-not_key s long = by_test (is_key s) refl
-  where
-    by_test : (b : Bool) → is_key s ≡ b → is_key s ≡ false
-    by_test true is = absurd (omega (arith, eqb-true (length s) 2 is, leb-true 3 (length s) long))
-    by_test false is = is
+not_key s long = grind (arith, nat_tests, eqb-true (length s) 2, leb-true 3 (length s) long)
 
 pub type-no_key : (s : List ℕ) → is_type s ≡ true → is_key s ≡ false
 type-no_key s is = not_key s (and_parts (leb 3 (length s)) (is_extension_subtag s) is).0
@@ -229,13 +185,7 @@ type-no_key s is = not_key s (and_parts (leb 3 (length s)) (is_extension_subtag 
 pub types-each :
     (P : List ℕ → Type 0) → ((s : List ℕ) → is_type s ≡ true → P s) → (at : ℕ) (value : List (List ℕ)) → invalid_type_from at value ≡ None → AllByRecursion P value
 types-each P of_type at [] none = tt
-types-each P of_type at (s ∷ value) none = by_test (is_type s) refl none (types-each P of_type (at + (length s + 1)) value)
-  where
-    by_test :
-        (b : Bool) → is_type s ≡ b → cond b (invalid_type_from (at + (length s + 1)) value) (Some at) ≡ None →
-        (invalid_type_from (at + (length s + 1)) value ≡ None → AllByRecursion P value) → AllByRecursion P (s ∷ value)
-    by_test true is none later = (of_type s is, later none)
-    by_test false is none later = absurd cc
+types-each P of_type at (s ∷ value) none = grind (arith, nat_tests, types-each P of_type (at + (length s + 1)) value)
 
 key-two : (key : List ℕ) → is_unicode_key key ≡ true → is_key key ≡ true
 key-two [] is = absurd (false≢true is)
@@ -251,12 +201,7 @@ pub record Allowed (key : List ℕ) (value : List (List ℕ)) : Type 0 where
   pub types : invalid_type value ≡ None
 
 pub allowed_from : (key : List ℕ) (value : List (List ℕ)) → keyword_error key value ≡ None → Allowed key value
-allowed_from key value none = by_tests (is_unicode_key key) (invalid_type value) refl refl none
-  where
-    by_tests : (b : Bool) (o : Option ℕ) → is_unicode_key key ≡ b → invalid_type value ≡ o → cond b (option_map Value o) (Some Key) ≡ None → Allowed key value
-    by_tests true None is all none = record { key_fits = is; types = all }
-    by_tests true (Some n) is all none = absurd cc
-    by_tests false o is all none = absurd cc
+allowed_from key value none = grind (arith, nat_tests)
 
 -- only its first subtag is a key
 pub record Fits (key : List ℕ) (value : List (List ℕ)) : Type 0 where

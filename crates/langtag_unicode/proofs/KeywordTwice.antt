@@ -1,11 +1,12 @@
 -- A key that is set twice has the second value, and the tag is the one that the second call alone gives.
-use Rattle.std.proofs.Common.{◌≡◌, ℕ, ◌≤◌, Bool, true, false, cond, ◌&&◌, not, List, [], ◌∷◌, ◌++◌, length, find, Option, None, Some, unwrap_or, refl, sym, ap, subst, ◌∙◌, arith, append-nil, append_assoc}
+use Rattle.std.proofs.Common.{◌≡◌, ℕ, ◌≤◌, Bool, true, false, cond, ◌&&◌, not, List, [], ◌∷◌, ◌++◌, length, find, Option, None, Some, unwrap_or, refl, sym, ap, ◌∙◌, arith, append-nil, append_assoc}
 use Rattle.std.proofs.lemmas.Bool.{and_parts, false≢true}
 use Rattle.std.specs.Option.{is_some}
+use Rattle.std.proofs.lemmas.Bool.Decides.{nat_tests}
 use Rattle.langtag_extension.specs.Spelling.{find_extension}
 use Rattle.langtag_scan.specs.Case.{are_alike, fold_byte, fold_text}
 use Rattle.langtag_scan.specs.Record.{Extension, Record}
-use Rattle.langtag_unicode.specs.Edit.{at_place, belongs, changed_from, edited_record, extension_of, is_place, is_place_of_u, is_this_key, keyword_error, put_keyword, with_changed_u, with_keyword, without_keyword, without_within}
+use Rattle.langtag_unicode.specs.Edit.{at_place, changed_from, edited_record, extension_of, is_place, is_place_of_u, is_this_key, keyword_error, put_keyword, with_changed_u, with_keyword, without_keyword, without_within}
 use Rattle.langtag_unicode.specs.Form.{is_before, is_of}
 use Rattle.langtag_unicode.specs.Keywords.{is_key}
 use Rattle.langtag_unicode.proofs.KeywordEdits.{put-here, put-later, without-gone, without-kept}
@@ -17,8 +18,7 @@ module _ (key : List ℕ) where
   -- within a keyword of the key, a value goes
   pub without-value : (value rest : List (List ℕ)) → AreNoKeys value → without_within key true (value ++ rest) ≡ without_within key true rest
   without-value [] rest all = refl
-  without-value (s ∷ value) rest all =
-      without-gone key s (value ++ rest) true true (sym (ap (λ b. cond b (are_alike s key) true) all.0)) refl ∙ without-value value rest all.1
+  without-value (s ∷ value) rest all = grind (arith, nat_tests, without-gone key s (value ++ rest) true true, without-value value rest all.1)
 
   without-twice : (i inside : Bool) (ss : List (List ℕ)) → (i && not inside) ≡ false → without_within key i (without_within key inside ss) ≡ without_within key inside ss
   without-twice i inside [] within = refl
@@ -26,8 +26,7 @@ module _ (key : List ℕ) where
       by_key (is_key s) (are_alike s key) refl refl i inside within (λ j. without-twice j true ss (and_false j)) (without-twice false false ss refl)
     where
       and_false : (j : Bool) → (j && false) ≡ false
-      and_false true = refl
-      and_false false = refl
+      and_false j = grind (arith, nat_tests)
 
       by_key :
           (is same : Bool) → is_key s ≡ is → are_alike s key ≡ same → (i inside : Bool) → (i && not inside) ≡ false →
@@ -35,20 +34,14 @@ module _ (key : List ℕ) where
           without_within key i (cond (cond is same inside) (without_within key true ss) (s ∷ without_within key false ss))
           ≡ cond (cond is same inside) (without_within key true ss) (s ∷ without_within key false ss)
       by_key true true key_is same_is i inside within gone kept = gone i
-      by_key true false key_is same_is i inside within gone kept =
-          without-kept key s (without_within key false ss) i false (sym (ap (λ b. cond b (are_alike s key) i) key_is ∙ same_is)) refl ∙ ap (λ t. s ∷ t) kept
+      by_key true false key_is same_is i inside within gone kept = grind (arith, nat_tests, without-kept key s (without_within key false ss) i false)
       by_key false same key_is same_is i true within gone kept = gone i
       by_key false same key_is same_is true false within gone kept = absurd (false≢true (sym within))
-      by_key false same key_is same_is false false within gone kept =
-          without-kept key s (without_within key false ss) false false (sym (ap (λ b. cond b (are_alike s key) false) key_is)) refl ∙ ap (λ t. s ∷ t) kept
+      by_key false same key_is same_is false false within gone kept = grind (arith, nat_tests, without-kept key s (without_within key false ss) false false)
 
   -- before a key, nothing depends on what came before
   without-key : (s : List ℕ) (ss : List (List ℕ)) → is_key s ≡ true → without_within key true (without_keyword key (s ∷ ss)) ≡ without_keyword key (s ∷ ss)
-  without-key s ss is =
-      let same : without_within key true (s ∷ ss) ≡ without_keyword key (s ∷ ss) =
-      ap (λ b. cond (cond b (are_alike s key) true) (without_within key true ss) (s ∷ without_within key false ss)) is
-      ∙ sym (ap (λ b. cond (cond b (are_alike s key) false) (without_within key true ss) (s ∷ without_within key false ss)) is) in
-      ap (without_within key true) (sym same) ∙ without-twice true true (s ∷ ss) refl ∙ same
+  without-key s ss is = grind (arith, nat_tests, without-twice true true (s ∷ ss) refl)
 
 -- ---- what is set twice
 
@@ -58,24 +51,12 @@ module _ (key k : List ℕ) (v w : List (List ℕ)) (this : is_this_key key k �
   find-first rest = ap (λ b. cond b (Some k) (find (is_this_key key) rest)) this
 
   again-first : (rest : List (List ℕ)) → put_keyword key true (k ∷ w) ((k ∷ v) ++ rest) ≡ (k ∷ w) ++ without_within key true rest
-  again-first rest =
-      put-here key k (v ++ rest) true (k ∷ w) this
-      ∙ ap (λ t. (k ∷ w) ++ t) (without-gone key k (v ++ rest) false true (sym (in_key (and_parts (is_key k) (are_alike k key) this).0)) refl ∙ without-value key v rest all)
-    where
-      in_key : is_key k ≡ true → belongs key false k ≡ true
-      in_key is = ap (λ b. cond b (are_alike k key) false) is ∙ (and_parts (is_key k) (are_alike k key) this).1
+  again-first rest = grind (arith, nat_tests, put-here, without-gone, and_parts, without-value)
 
   module _ (stands : Bool) where
     find-put : (ss : List (List ℕ)) → ArePassed key stands ss → find (is_this_key key) (put_keyword key stands (k ∷ v) ss) ≡ Some k
     find-put [] passed = find-first v
-    find-put (s ∷ ss) passed = by_place (is_place key stands s) refl (find-put ss passed.1)
-      where
-        by_place :
-            (b : Bool) → is_place key stands s ≡ b → find (is_this_key key) (put_keyword key stands (k ∷ v) ss) ≡ Some k →
-            find (is_this_key key) (cond b ((k ∷ v) ++ without_keyword key (s ∷ ss)) (s ∷ put_keyword key stands (k ∷ v) ss)) ≡ Some k
-        by_place true is later = find-first (v ++ without_keyword key (s ∷ ss))
-        by_place false is later =
-            ap (λ b. cond b (Some s) (find (is_this_key key) (put_keyword key stands (k ∷ v) ss))) (passed.0 is) ∙ later
+    find-put (s ∷ ss) passed = grind (arith, nat_tests, find-put ss passed.1, find-first (v ++ without_keyword key (s ∷ ss)))
 
     put-twice : (ss : List (List ℕ)) → ArePassed key stands ss → put_keyword key true (k ∷ w) (put_keyword key stands (k ∷ v) ss) ≡ put_keyword key stands (k ∷ w) ss
     put-twice [] passed = ap (put_keyword key true (k ∷ w)) (sym (append-nil (k ∷ v))) ∙ again-first [] ∙ append-nil (k ∷ w)
@@ -104,15 +85,10 @@ with-twice key v w ss is all =
 -- there are subtags with a keyword
 pub some-put : (key k : List ℕ) (stands : Bool) (v ss : List (List ℕ)) → 1 ≤ length (put_keyword key stands (k ∷ v) ss)
 some-put key k stands v [] = omega arith
-some-put key k stands v (s ∷ ss) = by_place (is_place key stands s)
-  where
-    by_place : (b : Bool) → 1 ≤ length (cond b ((k ∷ v) ++ without_keyword key (s ∷ ss)) (s ∷ put_keyword key stands (k ∷ v) ss))
-    by_place true = omega arith
-    by_place false = omega arith
+some-put key k stands v (s ∷ ss) = grind (arith, nat_tests)
 
 pub extension-some : (n : ℕ) (ss : List (List ℕ)) → 1 ≤ length ss → extension_of n ss ≡ record { singleton = n; subtags = ss } ∷ []
-extension-some n [] some = absurd (omega (arith, some))
-extension-some n (s ∷ ss) some = refl
+extension-some n ss some = grind (arith, nat_tests)
 
 pub u_is_u : (ss : List (List ℕ)) → is_of 117 (record { singleton = 117; subtags = ss }) ≡ true
 unfolding fold_byte
@@ -126,16 +102,12 @@ module _ (one two : List (List ℕ) → List (List ℕ)) (some : (ss : List (Lis
   -- the `u` that was changed is changed again
   again-here : (n : ℕ) (ss : List (List ℕ)) (es : List Extension) → is_of 117 (record { singleton = n; subtags = one ss }) ≡ true →
       changed_from two true (extension_of n (one ss) ++ es) ≡ extension_of n (two ss) ++ es
-  again-here n ss es is =
-      ap (λ x. changed_from two true (x ++ es)) (extension-some n (one ss) (some ss))
-      ∙ ap (λ b. cond b (extension_of n (two (one ss)) ++ es) (record { singleton = n; subtags = one ss } ∷ changed_from two true es)) is ∙ ap (λ t. extension_of n t ++ es) (twice ss)
+  again-here n ss es is = grind (arith, nat_tests, extension-some n (one ss) (some ss))
 
   find-here :
       (n : ℕ) (ss : List (List ℕ)) (es : List Extension) → is_of 117 (record { singleton = n; subtags = one ss }) ≡ true →
       is_some (find (is_of 117) (extension_of n (one ss) ++ es)) ≡ true
-  find-here n ss es is =
-      ap (λ x. is_some (find (is_of 117) (x ++ es))) (extension-some n (one ss) (some ss))
-      ∙ ap (λ b. is_some (cond b (Some (record { singleton = n; subtags = one ss })) (find (is_of 117) es))) is
+  find-here n ss es is = grind (arith, nat_tests, extension-some n (one ss) (some ss))
 
   -- each extension that is passed is no `u`
   abbrev AreOthers : Bool → List Extension → Type 0
@@ -150,8 +122,7 @@ module _ (one two : List (List ℕ) → List (List ℕ)) (some : (ss : List (Lis
           (t b : Bool) → is_place_of_u t e ≡ b → (is_place_of_u t e ≡ false → is_of 117 e ≡ false) → is_some (find (is_of 117) (changed_from one t es)) ≡ true →
           is_some (find (is_of 117) (cond b (at_place one t e ++ es) (e ∷ changed_from one t es))) ≡ true
       by_place true true is other later = find-here e.singleton e.subtags es is
-      by_place false true is other later =
-          ap (λ x. is_some (find (is_of 117) x)) (append_assoc (extension_of 117 (one [])) (e ∷ []) es) ∙ find-here 117 [] (e ∷ es) (u_is_u (one []))
+      by_place false true is other later = grind (arith, nat_tests, append_assoc (extension_of 117 (one [])) (e ∷ []) es, find-here 117, u_is_u (one []))
       by_place t false is other later = ap (λ b. is_some (cond b (Some e) (find (is_of 117) (changed_from one t es)))) (other is) ∙ later
 
   changed-twice : (stands : Bool) (es : List Extension) → AreOthers stands es → changed_from two true (changed_from one stands es) ≡ changed_from two stands es
@@ -174,21 +145,14 @@ module _ (one two : List (List ℕ) → List (List ℕ)) (some : (ss : List (Lis
 
   others-absent : (es : List Extension) → find (is_of 117) es ≡ None → AreOthers false es
   others-absent [] none = tt
-  others-absent (e ∷ es) none = by_test (is_of 117 e) refl none (others-absent es)
-    where
-      by_test : (b : Bool) → is_of 117 e ≡ b → cond b (Some e) (find (is_of 117) es) ≡ None → (find (is_of 117) es ≡ None → AreOthers false es) → AreOthers false (e ∷ es)
-      by_test true is none later = absurd cc
-      by_test false is none later = ((λ place. is), later none)
+  others-absent (e ∷ es) none = grind (arith, nat_tests, others-absent es)
 
   others-by : (es : List Extension) (o : Option Extension) → find (is_of 117) es ≡ o → AreOthers (is_some o) es
   others-by es None is = others-absent es is
   others-by es (Some e) is = others-standing es
 
   u-twice : (es : List Extension) → with_changed_u two (with_changed_u one es) ≡ with_changed_u two es
-  u-twice es =
-      let stands = is_some (find_extension 117 es) in
-      let others = subst (λ o. AreOthers (is_some o) es) (sym (find_u es)) (others-by es (find (is_of 117) es) refl) in
-      ap (λ b. changed_from two b (with_changed_u one es)) (ap is_some (find_u (with_changed_u one es)) ∙ find-changed stands es others) ∙ changed-twice stands es others
+  u-twice es = grind (arith, nat_tests, find_u es, others-by es (find (is_of 117) es) refl, find_u (with_changed_u one es), find-changed, changed-twice)
 
 -- ---- the record
 

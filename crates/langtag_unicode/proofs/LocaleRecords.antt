@@ -1,11 +1,9 @@
 -- The form of a Unicode locale identifier is a tag.
 use Rattle.std.proofs.Common.{◌≡◌, ℕ, ◌≤◌, Bool, true, false, not, cond, ◌&&◌, ◌||◌, ◌==◌, List, [], ◌∷◌, ◌++◌, length, Option, Some, None, map, option_map, unwrap_or, inl, inr, refl, sym, ap, subst, ◌∙◌, arith}
-use Rattle.std.proofs.lemmas.Bool.{false≢true}
 use Rattle.std.proofs.lemmas.Bool.Decides.{nat_tests}
 use Rattle.std.specs.Prelude.{IfSome, IsTrue, find}
 use Rattle.std.specs.List.{AllByRecursion, flat_map, list_all, list_any}
 use Rattle.std.specs.Option.{is_none, is_some, option_map_or}
-use Rattle.langtag.specs.Part.{PartOf}
 use Rattle.langtag.specs.Repeat.{are_alike_bytes, repeat}
 use Rattle.langtag_case.proofs.RecommendedLaws.{recommended_alike}
 use Rattle.langtag_extension.proofs.ExtensionLookUp.{extension_found}
@@ -17,7 +15,6 @@ use Rattle.langtag_likely.specs.Matching.{language_replaced}
 use Rattle.langtag_likely.specs.Maximal.{subtag_of}
 use Rattle.langtag_scan.proofs.CaseLaw.{alike_tag, classes-fold}
 use Rattle.langtag_scan.proofs.Disjoint.{region_two_three, script_four, variant_long}
-use Rattle.langtag_scan.proofs.NormalTexts.{normal_or_not}
 use Rattle.langtag_scan.proofs.SubtagFacts.{IsSubtag, of_primary, of_region, of_script, of_variant}
 use Rattle.langtag_scan.proofs.SubtagLists.{each-append}
 use Rattle.langtag_scan.specs.Case.{are_alike}
@@ -30,7 +27,7 @@ use Rattle.langtag_tables.proofs.Letters.{primary_length}
 use Rattle.langtag_unicode.specs.Alias.{Alias, TypeAlias, alias_for, type_alias_for}
 use Rattle.langtag_unicode.specs.Form.{after_one, are_different_variants, are_fields, is_language_or_none, is_of, is_transform, is_unicode_language, keywords_form, one_of, transform_value}
 use Rattle.langtag_unicode.specs.Keywords.{before_key}
-use Rattle.langtag_unicode.specs.Locale.{IsLocale, is_locale_extension, is_locale_record}
+use Rattle.langtag_unicode.specs.Locale.{is_locale_extension, is_locale_record}
 use Rattle.langtag_unicode.specs.LocaleAliases as list
 use Rattle.langtag_registry.specs.Canonical.{singletons}
 use Rattle.langtag_unicode.specs.LocaleForm.{extension_at, first_subtag, has_variant, identifier_fields, identifier_flat, identifier_form, identifier_variants, is_pair_of, locale_extension_form, locale_record, locale_text, locale_transform_form, new_variants, record_fields, transform_language_form, variant_form}
@@ -206,16 +203,6 @@ region_part [] is = tt
 region_part (b ∷ s) is = is
 
 -- ---- which texts are Unicode locale identifiers
-
-pub locale_from : (tag : List ℕ) → PartOf tag is_locale_record false true → IsLocale tag
-unfolding IsNormal
-locale_from tag is = elim (normal_or_not tag) [
-  | inl normal ↦ (normal.0, normal.1, sym (is.part normal.0 normal.1))
-  | inr other ↦ absurd (false≢true (sym (is.absent other)))
-]
-
-pub not_locale : (tag : List ℕ) → PartOf tag is_locale_record false false → IsLocale tag → ⊥
-not_locale tag is (r, spells, locale) = false≢true (is.part r spells ∙ locale)
 
 pub all_allowed : (r : Record) → is_locale_record r ≡ true → list_all is_locale_extension r.extensions ≡ true
 all_allowed r locale =

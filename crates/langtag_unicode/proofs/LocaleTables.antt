@@ -7,9 +7,9 @@ use Rattle.langtag_likely.specs.Good.{is_language_field, is_region_field, is_scr
 use Rattle.langtag_scan.specs.Case.{are_alike, fold_byte}
 use Rattle.langtag_scan.specs.Class.{is_digit, is_letter, is_primary, is_region, is_script}
 use Rattle.langtag_scan.specs.Subtags.{segments}
-use Rattle.langtag_unicode.specs.Alias.{Alias, TypeAlias}
+use Rattle.langtag_unicode.specs.Alias.{Alias}
 use Rattle.langtag_unicode.specs.LocaleAliases as list
-use Rattle.langtag_unicode.specs.LocaleForm.{has_variant, heir, language_after}
+use Rattle.langtag_unicode.specs.LocaleForm.{heir}
 use Rattle.langtag_unicode.specs.declared.locale_tables.TheConstants as table
 
 pub variant_language_rows : map (λ row. record { key = row.0.now; old = row.1.now; new = row.2.now }) table.VARIANT_LANGUAGES ≡ list.variant_languages
@@ -107,11 +107,3 @@ heir_good good likely (first ∷ others) one none all = by_test (list_any (are_a
     by_test : (b : Bool) → good first ≡ true → good (cond b likely first) ≡ true
     by_test true is = one
     by_test false is = is
-
--- one step of the fold over languages with variants
-pub language_kept : (variants : List (List ℕ)) (language : List ℕ) (alias : TypeAlias) → is_language_field language ≡ true → is_language_field alias.new ≡ true → is_language_field (language_after variants language alias) ≡ true
-language_kept variants language alias one two = by_test (are_alike alias.key language && has_variant variants alias.old)
-  where
-    by_test : (b : Bool) → is_language_field (cond b alias.new language) ≡ true
-    by_test true = two
-    by_test false = one

@@ -1,8 +1,8 @@
 -- The form of an allowed `t` is allowed: its language is a unicode_language_id, and each field has a value.
-use Rattle.std.proofs.Common.{◌≡◌, ℕ, ◌≤◌, leb, Bool, true, false, not, cond, ◌&&◌, ◌||◌, List, [], ◌∷◌, ◌++◌, length, map, find, Option, Some, None, option_map, unwrap_or, inl, inr, refl, sym, ap, subst, ◌∙◌, append-nil, append_assoc, arith}
+use Rattle.std.proofs.Common.{◌≡◌, ℕ, ◌≤◌, leb, Bool, true, false, cond, ◌&&◌, ◌||◌, List, [], ◌∷◌, ◌++◌, length, map, find, Option, Some, None, option_map, unwrap_or, refl, sym, ap, subst, ◌∙◌, append-nil, append_assoc, arith}
 use Rattle.std.proofs.lemmas.Bool.{false≢true, leb-true}
 use Rattle.std.specs.List.{AllByRecursion, flat_map, list_all, list_any}
-use Rattle.std.specs.Option.{option_map_or}
+use Rattle.std.proofs.lemmas.Bool.Decides.{nat_tests}
 use Rattle.langtag_likely.specs.Good.{is_region_field, is_script_field}
 use Rattle.langtag_likely.specs.Likely.{Fields}
 use Rattle.langtag_likely.specs.Maximal.{subtag_of}
@@ -12,7 +12,7 @@ use Rattle.langtag_scan.proofs.SubtagFacts.{of_extension_subtag}
 use Rattle.langtag_scan.proofs.SubtagLists.{each-append, each_from_test, each_subtag, subtags-joined}
 use Rattle.langtag_scan.specs.Case.{are_alike, fold_text}
 use Rattle.langtag_scan.specs.CaseLaws.{are_alike-decides}
-use Rattle.langtag_scan.specs.Class.{are_letters, is_digit, is_extension_subtag, is_letter, is_region, is_script, is_variant}
+use Rattle.langtag_scan.specs.Class.{are_letters, is_extension_subtag, is_region, is_script, is_variant}
 use Rattle.langtag_scan.specs.Record.{one_flat}
 use Rattle.langtag_scan.specs.Subtags.{join, subtags}
 use Rattle.langtag_tables.proofs.Letters.{primary_letters}
@@ -37,27 +37,10 @@ abbrev pub AreNoFields : List (List ℕ) → Type 0
 AreNoFields ss = AllByRecursion (λ s. is_field_key s ≡ false) ss
 
 letters-no_field : (s : List ℕ) → are_letters s ≡ true → is_field_key s ≡ false
-letters-no_field [] is = refl
-letters-no_field (a ∷ []) is = refl
-letters-no_field (a ∷ b ∷ []) is = by_digit (is_digit b) refl
-  where
-    letter : is_letter b ≡ true
-    letter = (both (is_letter b) true (both (is_letter a) (is_letter b && true) is).1).0
-
-    by_digit : (t : Bool) → is_digit b ≡ t → (is_letter a && is_digit b) ≡ false
-    by_digit true digit = absurd (letter_no_digit b letter digit)
-    by_digit false digit = rw digit (by_letter (is_letter a))
-      where
-        by_letter : (t : Bool) → (t && false) ≡ false
-        by_letter true = refl
-        by_letter false = refl
-letters-no_field (a ∷ b ∷ c ∷ s) is = refl
+letters-no_field s is = grind (arith, nat_tests, both, letter_no_digit)
 
 long-no_field : (s : List ℕ) → 3 ≤ length s → is_field_key s ≡ false
-long-no_field [] long = refl
-long-no_field (a ∷ []) long = refl
-long-no_field (a ∷ b ∷ []) long = absurd (omega (arith, long))
-long-no_field (a ∷ b ∷ c ∷ s) long = refl
+long-no_field s long = grind (arith, nat_tests)
 
 script-no_field : (s : List ℕ) → is_script_field s ≡ true → AreNoFields (one_flat (subtag_of s))
 script-no_field [] is = tt
@@ -65,70 +48,36 @@ script-no_field (b ∷ s) is = (letters-no_field (b ∷ s) (script_four (b ∷ s
 
 region-no_field : (s : List ℕ) → is_region_field s ≡ true → AreNoFields (one_flat (subtag_of s))
 region-no_field [] is = tt
-region-no_field (b ∷ s) is = (one, tt)
-  where
-    one : is_field_key (b ∷ s) ≡ false
-    one = elim (region_two_three (b ∷ s) is) [
-      | inl two ↦ letters-no_field (b ∷ s) two.1
-      | inr three ↦ long-no_field (b ∷ s) (omega (arith, three.0))
-    ]
+region-no_field (b ∷ s) is = grind (arith, nat_tests, region_two_three (b ∷ s) is, letters-no_field (b ∷ s), long-no_field (b ∷ s))
 
 variant_four : (v : List ℕ) → is_variant v ≡ true → 4 ≤ length v
-variant_four v is = elim (variant_long v is) [
-  | inl five ↦ omega (arith, five.0)
-  | inr four ↦ omega (arith, four.0)
-]
+variant_four v is = grind (arith, nat_tests, variant_long v is)
 
 variants-no_field : (vs : List (List ℕ)) → AreVariants vs → AreNoFields vs
 variants-no_field [] are = tt
 variants-no_field (v ∷ vs) are = let four = variant_four v are.0 in (long-no_field v (omega (arith, four)), variants-no_field vs are.1)
 
 pub identifier-no_field : (f : Fields) (vs : List (List ℕ)) → AreSubtags f → AreVariants vs → AreNoFields (identifier_flat f vs)
-identifier-no_field f vs subtags variants = (
-  letters-no_field f.language (primary_letters f.language (language_primary f subtags)),
-  each-append _ (one_flat (subtag_of f.script)) (one_flat (subtag_of f.region) ++ vs) (script-no_field f.script subtags.script)
-      (each-append _ (one_flat (subtag_of f.region)) vs (region-no_field f.region subtags.region) (variants-no_field vs variants)),
-)
+identifier-no_field f vs subtags variants =
+    grind (arith, nat_tests, letters-no_field, primary_letters, language_primary, each-append, script-no_field, region-no_field, variants-no_field)
 
 -- ---- the parts of a language identifier are found again
 
 pub variant-no_script : (v : List ℕ) → is_variant v ≡ true → is_script v ≡ false
-variant-no_script v is = by_test (is_script v) refl
-  where
-    by_test : (b : Bool) → is_script v ≡ b → is_script v ≡ false
-    by_test true script =
-        let four = script_four v script in
-        elim (variant_long v is) [
-          | inl five ↦ absurd (omega (arith, five.0, four.0))
-          | inr digit ↦ absurd (first_no_digit v four.1 digit.2)
-        ]
-    by_test false other = other
+variant-no_script v is = grind (arith, nat_tests, script_four v, variant_long v is, first_no_digit v)
 
 pub variant-no_region : (v : List ℕ) → is_variant v ≡ true → is_region v ≡ false
-variant-no_region v is = by_test (is_region v) refl
-  where
-    by_test : (b : Bool) → is_region v ≡ b → is_region v ≡ false
-    by_test true region = let three = region_short v region in let four = variant_four v is in absurd (omega (arith, three, four))
-    by_test false other = other
+variant-no_region v is = grind (arith, nat_tests, region_short v, variant_four v is)
 
 pub region-no_script : (s : List ℕ) → is_region s ≡ true → is_script s ≡ false
-region-no_script s is = by_test (is_script s) refl
-  where
-    by_test : (b : Bool) → is_script s ≡ b → is_script s ≡ false
-    by_test true script = let three = region_short s is in let four = (script_four s script).0 in absurd (omega (arith, three, four))
-    by_test false other = other
+region-no_script s is = grind (arith, nat_tests, region_short s is, script_four s)
 
 pub after_region : (s : List ℕ) (vs : List (List ℕ)) → is_region_field s ≡ true → AreVariants vs → after_one is_region (one_flat (subtag_of s) ++ vs) ≡ vs
-after_region (b ∷ s) vs is variants = ap (λ t. cond t vs ((b ∷ s) ∷ vs)) is
-after_region [] [] is variants = refl
-after_region [] (v ∷ vs) is variants = ap (λ t. cond t vs (v ∷ vs)) (variant-no_region v variants.0)
+after_region s vs is variants = grind (arith, nat_tests, variant-no_region)
 
 pub after_script : (s r : List ℕ) (vs : List (List ℕ)) → is_script_field s ≡ true → is_region_field r ≡ true → AreVariants vs →
     after_one is_script (one_flat (subtag_of s) ++ (one_flat (subtag_of r) ++ vs)) ≡ one_flat (subtag_of r) ++ vs
-after_script (b ∷ s) r vs is region variants = ap (λ t. cond t (one_flat (subtag_of r) ++ vs) ((b ∷ s) ∷ (one_flat (subtag_of r) ++ vs))) is
-after_script [] (b ∷ r) vs is region variants = ap (λ t. cond t vs ((b ∷ r) ∷ vs)) (region-no_script (b ∷ r) region)
-after_script [] [] [] is region variants = refl
-after_script [] [] (v ∷ vs) is region variants = ap (λ t. cond t vs (v ∷ vs)) (variant-no_script v variants.0)
+after_script s r vs is region variants = grind (arith, nat_tests, region-no_script, variant-no_script)
 
 none-alike : (v : List ℕ) (vs : List (List ℕ)) → AllByRecursion (λ y. are_alike y v ≡ false) vs → list_any (are_alike v) vs ≡ false
 none-alike v [] apart = refl
@@ -136,16 +85,12 @@ none-alike v (y ∷ ys) apart = ap (λ b. b || list_any (are_alike v) ys) (alike
 
 different : (vs : List (List ℕ)) → AreVariants vs → Apart are_alike vs → are_different_variants vs ≡ true
 different [] variants apart = refl
-different (v ∷ vs) variants apart =
-    ap (λ b. b && not (list_any (are_alike v) vs) && are_different_variants vs) variants.0
-    ∙ ap (λ b. not b && are_different_variants vs) (none-alike v vs apart.0) ∙ different vs variants.1 apart.1
+different (v ∷ vs) variants apart = grind (arith, nat_tests, none-alike v vs apart.0, different vs variants.1 apart.1)
 
 pub identifier-variants :
     (f : Fields) (vs : List (List ℕ)) → AreSubtags f → AreVariants vs → Apart are_alike vs →
     are_different_variants (after_one is_region (after_one is_script (one_flat (subtag_of f.script) ++ (one_flat (subtag_of f.region) ++ vs)))) ≡ true
-identifier-variants f vs subtags variants apart =
-    ap (λ ss. are_different_variants (after_one is_region ss)) (after_script f.script f.region vs subtags.script subtags.region variants)
-    ∙ ap are_different_variants (after_region f.region vs subtags.region variants) ∙ different vs variants apart
+identifier-variants f vs subtags variants apart = grind (arith, nat_tests, after_script, after_region, different)
 
 -- ---- fields have values
 
@@ -157,37 +102,22 @@ record IsValue (ss : List (List ℕ)) : Type 0 where
 -- the subtags of a field after the first one
 fields-long : (ss : List (List ℕ)) → are_fields true false ss ≡ true → AllByRecursion (λ s. leb 3 (length s) ≡ true) (before_key is_field_key ss)
 fields-long [] are = tt
-fields-long (s ∷ ss) are = by_test (is_field_key s) are (fields-long ss)
-  where
-    by_test :
-        (t : Bool) → (cond t true (leb 3 (length s)) && are_fields true t ss) ≡ true →
-        (are_fields true false ss ≡ true → AllByRecursion (λ s. leb 3 (length s) ≡ true) (before_key is_field_key ss)) →
-        AllByRecursion (λ s. leb 3 (length s) ≡ true) (cond t [] (s ∷ before_key is_field_key ss))
-    by_test true are later = tt
-    by_test false are later = let parts = both (leb 3 (length s)) (are_fields true false ss) are in (parts.0, later parts.1)
+fields-long (s ∷ ss) are = grind (arith, nat_tests, fields-long ss, both)
 
 -- the subtags after a key
 fields-value : (ss : List (List ℕ)) → are_fields true true ss ≡ true → IsValue (before_key is_field_key ss)
 fields-value [] are = absurd (false≢true are)
-fields-value (s ∷ ss) are = by_test (is_field_key s) are
-  where
-    by_test : (t : Bool) → (cond t false (leb 3 (length s)) && are_fields true t ss) ≡ true → IsValue (cond t [] (s ∷ before_key is_field_key ss))
-    by_test true are = absurd (false≢true are)
-    by_test false are = let parts = both (leb 3 (length s)) (are_fields true false ss) are in record { some = omega arith; long = (parts.0, fields-long ss parts.1) }
+fields-value (s ∷ ss) are = grind (arith, nat_tests, false≢true, both (leb 3 (length s)), fields-long ss)
 
 pub field_key-fold : (s : List ℕ) → is_field_key (fold_text s) ≡ is_field_key s
-field_key-fold [] = refl
-field_key-fold (a ∷ []) = refl
-field_key-fold (a ∷ b ∷ []) = rw (is_letter-fold a, is_digit-fold b) refl
-field_key-fold (a ∷ b ∷ c ∷ s) = refl
+field_key-fold s = grind (arith, nat_tests, is_letter-fold, is_digit-fold)
 
 record FoundField (key : List ℕ) (w : List (List ℕ)) : Type 0 where
   opens : is_field_key key ≡ true
   value : IsValue w
 
 or_true : (b : Bool) → (b || true) ≡ true
-or_true true = refl
-or_true false = refl
+or_true b = grind (arith, nat_tests)
 
 found-field : (inside after : Bool) (key : List ℕ) (ss w : List (List ℕ)) → are_fields inside after ss ≡ true → value_of is_field_key key ss ≡ Some w → FoundField key w
 found-field inside after key [] w are found = absurd cc
@@ -245,30 +175,20 @@ record IsField (ss : List (List ℕ)) : Type 0 where
 long-fields :
     (v rest : List (List ℕ)) → AllByRecursion (λ s. leb 3 (length s) ≡ true) v → ((b : Bool) → are_fields b false rest ≡ true) → are_fields true false (v ++ rest) ≡ true
 long-fields [] rest long later = later true
-long-fields (s ∷ v) rest long later =
-    ap (λ b. cond b true (leb 3 (length s)) && are_fields true b (v ++ rest)) (long-no_field s (leb-true _ _ long.0))
-    ∙ ap (λ b. b && are_fields true false (v ++ rest)) long.0 ∙ long-fields v rest long.1 later
+long-fields (s ∷ v) rest long later = grind (arith, nat_tests, long-no_field s, leb-true, long-fields v rest long.1 later)
 
 value-fields : (v rest : List (List ℕ)) → IsValue v → ((b : Bool) → are_fields b false rest ≡ true) → are_fields true true (v ++ rest) ≡ true
 value-fields [] rest value later = let some = value.some in absurd (omega (arith, some))
-value-fields (s ∷ v) rest value later =
-    ap (λ b. cond b false (leb 3 (length s)) && are_fields true b (v ++ rest)) (long-no_field s (leb-true _ _ value.long.0))
-    ∙ ap (λ b. b && are_fields true false (v ++ rest)) value.long.0 ∙ long-fields v rest value.long.1 later
+value-fields (s ∷ v) rest value later = grind (arith, nat_tests, long-no_field s, leb-true, long-fields v rest value.long.1 later)
 
 field : (key : List ℕ) (v : List (List ℕ)) → is_field_key key ≡ true → IsValue v → IsField (key ∷ v)
-field key v opens value = record {
-  follows = λ inside rest later.
-      ap (λ b. cond b true (not inside || leb 3 (length key)) && are_fields (inside || b) b (v ++ rest)) opens
-      ∙ ap (λ b. are_fields b true (v ++ rest)) (or_true inside) ∙ value-fields v rest value later;
-}
+field key v opens value = grind (arith, nat_tests, or_true, value-fields v)
 
 nothing : IsField []
 nothing = record { follows = λ inside rest later. later inside }
 
 pair : (xs ys : List (List ℕ)) → IsField xs → IsField ys → IsField (xs ++ ys)
-pair xs ys one two = record {
-  follows = λ inside rest later. ap (are_fields inside false) (append_assoc xs ys rest) ∙ one.follows inside (ys ++ rest) (λ b. two.follows b rest later);
-}
+pair xs ys one two = grind (arith, nat_tests, append_assoc xs ys)
 
 all-fields : (f : ℕ → List (List ℕ)) → ((n : ℕ) → IsField (f n)) → (ns : List ℕ) → IsField (flat_map f ns)
 all-fields f are [] = nothing
@@ -276,13 +196,8 @@ all-fields f are (n ∷ ns) = pair (f n) (flat_map f ns) (are n) (all-fields f a
 
 module _ (ss : List (List ℕ)) (good : Good ss) (are : are_fields false false ss ≡ true) where
   keyword-field : (key : List ℕ) → IsField (form.keyword_form is_field_key transform_value ss key)
-  keyword-field key = by_value (value_of is_field_key key ss) refl
-    where
-      by_value : (o : Option (List (List ℕ))) → value_of is_field_key key ss ≡ o → IsField (option_map_or (λ v. key ∷ map fold_text (subtags (transform_value key (join v)))) o [])
-      by_value None none = nothing
-      by_value (Some w) found =
-          let this = found-field false false key ss w are found in
-          field key _ this.opens (lower-value _ (transform-value key w (good-value is_field_key key ss w good found) this.value))
+  keyword-field key =
+      grind (arith, nat_tests, nothing, found-field false false key ss, field key, lower-value, transform-value key, good-value is_field_key key ss)
 
   fields : IsField (form.keywords_form is_field_key transform_value ss)
   fields = all-fields _ (λ a. all-fields _ (λ b. keyword-field (a ∷ b ∷ [])) letters_and_digits) letters_and_digits
@@ -294,12 +209,8 @@ module _ (ss : List (List ℕ)) (good : Good ss) (are : are_fields false false s
       by_value :
           (o : Option (List (List ℕ))) → value_of is_field_key key ss ≡ o → option_map (λ w. map fold_text (subtags (transform_value key (join w)))) o ≡ Some v →
           (is_field_key key ≡ true) × AreNoFields v
-      by_value None none is = absurd cc
-      by_value (Some w) found is =
-          let this = found-field false false key ss w are found in
-          let value = lower-value _ (transform-value key w (good-value is_field_key key ss w good found) this.value) in
-          let same : map fold_text (subtags (transform_value key (join w))) ≡ v = cc in
-          (this.opens, subst AreNoFields same (value-no_field _ value.long))
+      by_value o found is =
+          grind (arith, nat_tests, found-field false false key ss, lower-value, transform-value key, good-value is_field_key key ss, value-no_field)
 
   -- after subtags of a language
   pub are-fields : (language : List (List ℕ)) → AreNoFields language → are_fields false false (language ++ form.keywords_form is_field_key transform_value ss) ≡ true

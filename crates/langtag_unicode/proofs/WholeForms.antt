@@ -1,13 +1,13 @@
 -- The form of any tag is the form of the Unicode locale identifier that takes the place of the tag.
-use Rattle.std.proofs.Common.{◌≡◌, ℕ, ◌+◌, ◌≤◌, Bool, true, false, cond, leb, List, [], ◌∷◌, ◌++◌, drop, length, Option, Some, None, inl, inr, ◌⊎◌, refl, sym, ap, subst, ◌∙◌, arith, append_assoc}
+use Rattle.std.proofs.Common.{◌≡◌, ℕ, ◌+◌, ◌≤◌, Bool, true, false, leb, List, [], ◌∷◌, ◌++◌, drop, length, Option, Some, None, inl, inr, ◌⊎◌, refl, sym, ap, ◌∙◌, arith, append_assoc}
 use Rattle.std.proofs.lemmas.Bool.{and_parts, false≢true, leb-true}
 use Rattle.std.proofs.Math.Seq.{get_or-append_seam}
 use Rattle.std.proofs.lemmas.List.{drop_at, length-append, length_push}
 use Rattle.std.proofs.lemmas.Option.{none-some, same_Some}
 use Rattle.std.proofs.lemmas.Str.{IsCharBoundary-after_ascii}
 use Rattle.std.specs.Str.{IsCharBoundary, IsUtf8}
-use Rattle.std.specs.List.{AllByRecursion, flat_map, list_all}
-use Rattle.std.specs.Prelude.{IsTrue}
+use Rattle.std.specs.List.{flat_map, list_all}
+use Rattle.std.proofs.lemmas.Bool.Decides.{nat_tests}
 use Rattle.langtag.specs.Part.{PartOf}
 use Rattle.langtag.specs.Registered.{IsGrandfathered}
 use Rattle.langtag_language.proofs.Rules.{subtags-extension}
@@ -19,7 +19,6 @@ use Rattle.langtag_registry.specs.Fields.{preferred_tag}
 use Rattle.langtag_registry.specs.Registered.{is_registered_extlang}
 use Rattle.langtag_registry.specs.Subtags.{tag_preferred}
 use Rattle.langtag_scan.proofs.NormalTexts.{normal_or_not, spelled_once}
-use Rattle.langtag_scan.specs.Case.{are_alike}
 use Rattle.langtag_scan.specs.Class.{is_extended}
 use Rattle.langtag_scan.specs.Record.{EachRecord, IsWellFormed, Record, Spells, extension_flat, one_flat, private_part_flat}
 use Rattle.langtag_scan.specs.Subtags.{join}
@@ -33,20 +32,7 @@ use Rattle.langtag_unicode.proofs.LocaleSizes.{locale_length, plain_length}
 
 -- a text of three letters is the only extended subtag
 pub only_one : (extended : List (List ℕ)) (text : List ℕ) → SpellsLanguageExtension extended text → is_extended text ≡ true → extended ≡ text ∷ []
-only_one extended text spells is =
-    sym (subtags-extension extended text spells) ∙ subtags-extension (text ∷ []) text (record { members = (is, tt); some = omega arith; few = omega arith; joined = refl })
-
--- two extended subtags, or three, stay
-pub several_stay : (extended : List (List ℕ)) (text : List ℕ) (r : Record) → SpellsLanguageExtension extended text → is_extended text ≡ false → replace_language extended r ≡ r
-several_stay [] text r spells other = refl
-several_stay (e ∷ []) text r spells other = absurd (false≢true (sym other ∙ sym (ap is_extended spells.joined) ∙ spells.members.0))
-several_stay (e ∷ f ∷ extended) text r spells other = refl
-
-pub none_stay : (extended : List (List ℕ)) (r : Record) → extended ≡ [] → replace_language extended r ≡ r
-none_stay extended r none = rw none refl
-
-pub other_stays : (extended : List (List ℕ)) (extlang : List ℕ) (r : Record) → extended ≡ extlang ∷ [] → is_registered_extlang extlang ≡ false → replace_language extended r ≡ r
-other_stays extended extlang r one other = rw (one, other) refl
+only_one extended text spells is = grind (arith, nat_tests, subtags-extension extended text spells, subtags-extension (text ∷ []) text)
 
 -- the record from the extended language on
 abbrev from : List ℕ → Record → Record
@@ -60,17 +46,7 @@ after_first x y ys =
     ap (drop (length x + 1)) (sym (append_assoc x (45 ∷ []) (join (y ∷ ys)))) ∙ drop_at (x ++ 45 ∷ []) (join (y ∷ ys)) (length x + 1) (length_push x 45)
 
 from_well_formed : (r : Record) (extlang : List ℕ) → IsWellFormed r → is_extended extlang ≡ true → IsWellFormed (from extlang r)
-from_well_formed r extlang fits is = record {
-  primary = extended_primary extlang is;
-  extended = tt;
-  few = omega arith;
-  short = inr refl;
-  script = fits.script;
-  region = fits.region;
-  variants = fits.variants;
-  extensions = fits.extensions;
-  private_use = fits.private_use;
-}
+from_well_formed r extlang fits is = grind (arith, nat_tests, extended_primary extlang is)
 
 -- the subtags after it
 abbrev others : Record → List (List ℕ)
@@ -84,35 +60,25 @@ pub rest_spelled :
     (r : Record) (text extension extlang primary rest : List ℕ) → Spells r text → SpellsLanguageExtension r.extended extension → extlang ≡ extension → is_extended extlang ≡ true →
     is_registered_extlang extlang ≡ true → primary ≡ r.primary → rest ≡ drop (length primary + 1) text → Spells (extlang_replaced r) rest
 rest_spelled r text extension extlang primary rest spells members whole_extension is known same cut =
-    let one = only_one r.extended extlang (subst (SpellsLanguageExtension r.extended) (sym whole_extension) members) is in
-    let whole = cut ∙ ap (λ p. drop (length p + 1) text) same ∙ ap (drop (length r.primary + 1)) (cut_text r extlang text spells one) ∙ after_first r.primary extlang (others r) in
-    subst (λ p. Spells p rest) (sym (replaced_from r.extended extlang r one known)) (from_well_formed r extlang spells.0 is, sym whole)
+    grind (arith, nat_tests, only_one, cut_text, after_first, replaced_from, from_well_formed)
 
 -- the tag may be cut there
 pub rest_boundary :
     (r : Record) (text extlang primary : List ℕ) → Spells r text → SpellsLanguageExtension r.extended extlang → is_extended extlang ≡ true → primary ≡ r.primary → IsUtf8 text →
     IsCharBoundary text (length primary + 1)
 rest_boundary r text extlang primary spells members is same utf8 =
-    let cut = cut_text r extlang text spells (only_one r.extended extlang members is) in
-    let after = join (extlang ∷ others r) in
-    IsCharBoundary-after_ascii text (length primary) utf8 (rw (cut, same) (omega (arith, length-append r.primary (45 ∷ after)))) (rw (cut, same) (rw (get_or-append_seam r.primary 45 after 0) (omega arith)))
+    grind (arith, nat_tests, cut_text, only_one, IsCharBoundary-after_ascii, length-append, get_or-append_seam)
 
 -- ---- the form of a Unicode locale identifier
 
 record_form-none : (r : Record) → (is_locale_record r ≡ true → ⊥) → None ≡ record_form r
-record_form-none r outside = by_test (is_locale_record r) outside
-  where
-    by_test : (b : Bool) → (b ≡ true → ⊥) → None ≡ cond b (Some (locale_text r)) None
-    by_test true outside = absurd (outside refl)
-    by_test false outside = refl
+record_form-none r outside = grind (arith, nat_tests)
 
 pub none_form : (tag : List ℕ) → (IsLocale tag → ⊥) → IsLocaleForm tag None
 none_form tag outside = record { part = λ r spells. record_form-none r (λ locale. outside (r, spells, locale)); absent = λ other. refl }
 
 form_from : (tag form : List ℕ) (is : IsLocale tag) → IsLocaleForm tag (Some form) → form ≡ locale_text is.0
-form_from tag form (r, spells, locale) of =
-    let same : Some form ≡ Some (locale_text r) = of.part r spells ∙ ap (λ b. cond b (Some (locale_text r)) None) locale in
-    cc
+form_from tag form is of = grind (arith, nat_tests)
 
 -- ---- the form of any tag
 
@@ -120,37 +86,18 @@ pub own_form : (tag : List ℕ) (form : Option (List ℕ)) → IsLocale tag → 
 own_form tag form is of = record { locale = λ _. of; whole = λ outside. absurd (outside is); kept = λ outside. absurd (outside is); parts = λ outside. absurd (outside is) }
 
 pub value_form : (tag value : List ℕ) (form : Option (List ℕ)) → (IsLocale tag → ⊥) → preferred_tag tag ≡ Some value → IsLocaleForm value form → IsWholeForm tag form
-value_form tag value form outside found of = record {
-  locale = λ is. absurd (outside is);
-  whole = λ _ other same. subst (λ t. IsLocaleForm t form) (same_Some value other (sym found ∙ same)) of;
-  kept = λ _ none. absurd (none-some value (sym none ∙ found));
-  parts = λ _ none. absurd (none-some value (sym none ∙ found));
-}
-
-pub kept_form : (tag : List ℕ) → (IsLocale tag → ⊥) → preferred_tag tag ≡ None → IsGrandfathered tag → IsWholeForm tag None
-kept_form tag outside none old = record {
-  locale = λ is. absurd (outside is);
-  whole = λ _ value same. absurd (none-some value (sym none ∙ same));
-  kept = λ _ _ _. refl;
-  parts = λ _ _ new. absurd (new old);
-}
+value_form tag value form outside found of = grind (arith, nat_tests, same_Some value, none-some value)
 
 abbrev IsPartsForm : List ℕ → Option (List ℕ) → Type 0
 IsPartsForm tag form = PartOf tag (λ r. record_form (extlang_replaced r)) None form
 
 parts_form : (tag : List ℕ) (form : Option (List ℕ)) → (IsLocale tag → ⊥) → preferred_tag tag ≡ None → (IsGrandfathered tag → ⊥) → IsPartsForm tag form → IsWholeForm tag form
-parts_form tag form outside none new of = record {
-  locale = λ is. absurd (outside is);
-  whole = λ _ value same. absurd (none-some value (sym none ∙ same));
-  kept = λ _ _ old. absurd (new old);
-  parts = λ _ _ _. of;
-}
+parts_form tag form outside none new of = grind (arith, nat_tests, none-some)
 
 pub rest_form :
     (tag rest : List ℕ) (form : Option (List ℕ)) → (IsLocale tag → ⊥) → preferred_tag tag ≡ None → (IsGrandfathered tag → ⊥) → IsNormal tag →
     EachRecord tag (λ r. Spells (extlang_replaced r) rest) → IsLocaleForm rest form → IsWholeForm tag form
-rest_form tag rest form outside none new normal spelled of =
-    parts_form tag form outside none new (record { part = λ r spells. of.part (extlang_replaced r) (spelled r spells); absent = λ other. absurd (other normal) })
+rest_form tag rest form outside none new normal spelled of = grind (arith, nat_tests, parts_form tag form outside none new)
 
 -- a tag that stays as it is has no form
 pub stays_none : (tag : List ℕ) → (IsLocale tag → ⊥) → preferred_tag tag ≡ None → (IsGrandfathered tag → ⊥) → EachRecord tag (λ r. extlang_replaced r ≡ r) → IsWholeForm tag None
@@ -163,8 +110,7 @@ stays_none tag outside none new stays =
 -- ---- how long it may be
 
 pub own_bounded : (tag old form : List ℕ) → IsLocale tag → length tag ≤ length old → IsLocaleForm tag (Some form) → length form ≤ length old + 32
-own_bounded tag old form (r, spells, locale) short of =
-    let is = ap length (form_from tag form (r, spells, locale) of) in omega (arith, is, locale_length r spells.0 locale, ap length spells.1, short)
+own_bounded tag old form (r, spells, locale) short of = grind (arith, nat_tests, form_from tag form (r, spells, locale) of, locale_length r spells.0 locale)
 
 -- no Preferred-Value is much longer than its tag, and it has no extensions, which would grow
 values_follow : list_all (λ (e : Entry). leb (length e.value) (length e.subtag + 26)) tag_preferred ≡ true
@@ -175,18 +121,7 @@ value_long :
     (list : List Entry) (text value : List ℕ) → list_all (λ (e : Entry). leb (length e.value) (length e.subtag + 26)) list ≡ true → value_for list text ≡ Some value →
     length value ≤ length text + 26
 value_long [] text value all found = absurd cc
-value_long (e ∷ list) text value all found =
-    let parts = and_parts (leb (length e.value) (length e.subtag + 26)) (list_all (λ (e : Entry). leb (length e.value) (length e.subtag + 26)) list) all in
-    by_test (are_alike e.subtag text) refl found (leb-true _ _ parts.0) (value_long list text value parts.1)
-  where
-    by_test :
-        (b : Bool) → are_alike e.subtag text ≡ b → cond b (Some e.value) (value_for list text) ≡ Some value → length e.value ≤ length e.subtag + 26 →
-        (value_for list text ≡ Some value → length value ≤ length text + 26) → length value ≤ length text + 26
-    by_test true alike is short later =
-        let same : e.value ≡ value = cc in
-        let as_long = alike_length e.subtag text alike in
-        omega (arith, short, ap length same, as_long)
-    by_test false alike is short later = later is
+value_long (e ∷ list) text value all found = grind (arith, nat_tests, and_parts, leb-true, value_long list text, alike_length)
 
 pub value_bounded : (tag value form : List ℕ) → preferred_tag tag ≡ Some value → IsLocale value → IsLocaleForm value (Some form) → length form ≤ length tag + 32
 unfolding preferred_tag
@@ -200,11 +135,7 @@ value_bounded tag value form found (r, spells, locale) of =
 -- ---- a form is that of a Unicode locale identifier
 
 record_form-some : (r : Record) (form : List ℕ) → Some form ≡ record_form r → (is_locale_record r ≡ true) × (form ≡ locale_text r)
-record_form-some r form is = by_test (is_locale_record r) refl is
-  where
-    by_test : (b : Bool) → is_locale_record r ≡ b → Some form ≡ cond b (Some (locale_text r)) None → (is_locale_record r ≡ true) × (form ≡ locale_text r)
-    by_test true locale is = (locale, cc)
-    by_test false other is = absurd cc
+record_form-some r form is = grind (arith, nat_tests)
 
 -- the record of which a text is the form
 abbrev pub IsOfRecord : List ℕ → Type 0
@@ -220,16 +151,7 @@ part_of_record text form new fits of = elim (normal_or_not text) [
 ]
 
 replaced_well_formed : (r : Record) → IsWellFormed r → IsWellFormed (extlang_replaced r)
-replaced_well_formed r fits = by_list r.extended refl fits.extended
-  where
-    by_list : (es : List (List ℕ)) → r.extended ≡ es → AllByRecursion (λ s. IsTrue (is_extended s)) es → IsWellFormed (replace_language es r)
-    by_list [] same each = fits
-    by_list (e ∷ []) same each = by_test (is_registered_extlang e)
-      where
-        by_test : (b : Bool) → IsWellFormed (cond b (from e r) r)
-        by_test true = from_well_formed r e fits each.0
-        by_test false = fits
-    by_list (e ∷ f ∷ es) same each = fits
+replaced_well_formed r fits = grind (arith, nat_tests, from_well_formed r)
 
 pub locale_or_not : (tag : List ℕ) → IsLocale tag ⊎ (IsLocale tag → ⊥)
 unfolding IsNormal
@@ -244,10 +166,7 @@ locale_or_not tag = by_normal (normal_or_not tag)
 
     by_normal : IsNormal tag ⊎ (IsNormal tag → ⊥) → IsLocale tag ⊎ (IsLocale tag → ⊥)
     by_normal (inl (r, spells)) = by_test r spells (is_locale_record r) refl
-    by_normal (inr other) = inr unlike
-      where
-        unlike : IsLocale tag → ⊥
-        unlike (q, also, locale) = other (q, also)
+    by_normal (inr other) = grind (arith, nat_tests)
 
 pub whole_of_record : (tag form : List ℕ) → IsWholeForm tag (Some form) → IsOfRecord form
 whole_of_record tag form of = elim (locale_or_not tag) [
@@ -262,10 +181,7 @@ whole_of_record tag form of = elim (locale_or_not tag) [
 -- no tag has a form and none
 part_once : (text form : List ℕ) (f : Record → Option (List ℕ)) → PartOf text f None (Some form) → PartOf text f None None → ⊥
 unfolding IsNormal
-part_once text form f p q = elim (normal_or_not text) [
-  | inl (r, spells) ↦ none-some form (q.part r spells ∙ sym (p.part r spells))
-  | inr other ↦ none-some form (sym (p.absent other))
-]
+part_once text form f p q = grind (arith, nat_tests, normal_or_not text, none-some form)
 
 pub not_both : (tag form : List ℕ) → IsWholeForm tag (Some form) → IsWholeForm tag None → ⊥
 not_both tag form p q = elim (locale_or_not tag) [
