@@ -1,11 +1,10 @@
 -- The extension `u` in canonical form stays in that form when a canonical keyword is set, or a key is removed.
-use Rattle.std.proofs.Common.{◌≡◌, ℕ, ◌==◌, ◌&&◌, leb, Bool, true, false, cond, IsTrue, List, [], ◌∷◌, ◌++◌, length, map, find, Option, None, Some, option_map, unwrap_or, refl, sym, ap, subst, ◌∙◌, arith}
+use Rattle.std.proofs.Common.{◌≡◌, ℕ, ◌==◌, ◌&&◌, Bool, true, false, cond, IsTrue, List, [], ◌∷◌, ◌++◌, map, find, Option, None, Some, option_map, unwrap_or, refl, sym, ap, subst, ◌∙◌, arith}
 use Rattle.std.proofs.lemmas.Bool.{and_parts, false≢true}
 use Rattle.std.proofs.lemmas.Bool.Decides.{nat_tests}
 use Rattle.std.proofs.lemmas.Grind.{flat_map-append}
 use Rattle.std.specs.List.{AllByRecursion}
 use Rattle.std.specs.Option.{is_some, option_map_or}
-use Rattle.std.specs.Str.{bytes_eq}
 use Rattle.langtag_likely.proofs.RowsFound.{alike_length}
 use Rattle.langtag_scan.proofs.CaseLaw.{fold_text-twice, is_digit-fold, is_letter-fold, length-fold}
 use Rattle.langtag_scan.proofs.SubtagFacts.{of_extension_subtag}
@@ -51,10 +50,7 @@ found-value key (s ∷ ss) w found = by_test (is_key s && are_alike s key) refl 
 
 type_from : (s : List ℕ) → is_extension_subtag s ≡ true → is_key s ≡ false → is_type s ≡ true
 unfolding is_extension_subtag
-type_from s good other =
-    let parts = and_parts (has_length 2 8 s) (are_alphanumeric s) good in
-    let long : leb 3 (length s) ≡ true = grind (arith, nat_tests, parts.0, other) in
-    ap (λ b. b && is_extension_subtag s) long ∙ good
+type_from s good other = grind (arith, nat_tests, and_parts (has_length 2 8 s) (are_alphanumeric s) good)
 
 types-from : (ss : List (List ℕ)) → Good ss → AreNoKeys ss → AllByRecursion (λ s. IsTrue (is_type s)) ss
 types-from [] good all = tt
@@ -183,16 +179,10 @@ removed_lower key ss fits lower good own =
 
 without-fold : (key : List ℕ) (inside : Bool) (ss : List (List ℕ)) → without_within (fold_text key) inside ss ≡ without_within key inside ss
 without-fold key inside [] = refl
-without-fold key inside (s ∷ ss) =
-    ap (λ k. cond (cond (is_key s) (bytes_eq (fold_text s) k) inside) (without_within (fold_text key) true ss) (s ∷ without_within (fold_text key) false ss)) (fold_text-twice key)
-    ∙ ap (λ t. cond (cond (is_key s) (are_alike s key) inside) t (s ∷ without_within (fold_text key) false ss)) (without-fold key true ss)
-    ∙ ap (λ t. cond (cond (is_key s) (are_alike s key) inside) (without_within key true ss) (s ∷ t)) (without-fold key false ss)
+without-fold key inside (s ∷ ss) = grind (arith, nat_tests, fold_text-twice key, without-fold key true ss, without-fold key false ss)
 
 pub unicode_key-fold : (key : List ℕ) → is_unicode_key (fold_text key) ≡ is_unicode_key key
-unicode_key-fold [] = refl
-unicode_key-fold (a ∷ []) = refl
-unicode_key-fold (a ∷ b ∷ []) = rw (is_letter-fold a, is_digit-fold a, is_letter-fold b) refl
-unicode_key-fold (a ∷ b ∷ c ∷ key) = refl
+unicode_key-fold key = grind (arith, nat_tests, is_letter-fold, is_digit-fold)
 
 pub canonical_removal : (key : List ℕ) (ss : List (List ℕ)) → keyword_error key [] ≡ None → Good ss → unicode_form ss ≡ ss → unicode_form (without_keyword key ss) ≡ without_keyword key ss
 canonical_removal key ss none good own =

@@ -1,11 +1,12 @@
 -- All keys of two letters or digits, in order: a key, those before it and those after it.
-use Rattle.std.proofs.Common.{◌≡◌, ℕ, ◌==◌, ◌||◌, ◌&&◌, Bool, true, false, List, [], ◌∷◌, ◌++◌, map, refl, sym, ap, subst, ◌∙◌, eqb-true}
+use Rattle.std.proofs.Common.{◌≡◌, ℕ, ◌==◌, ◌||◌, ◌&&◌, Bool, true, false, List, [], ◌∷◌, ◌++◌, map, refl, sym, ap, subst, ◌∙◌, eqb-true, arith}
 use Rattle.std.proofs.lemmas.Bool.{and_parts, false≢true}
 use Rattle.std.proofs.lemmas.Grind.{flat_map-append}
 use Rattle.std.proofs.lemmas.List.Folds.{list_any-append}
 use Rattle.std.proofs.lemmas.Slice.Eq.{bytes_eq-Decides}
 use Rattle.std.specs.List.{AllByRecursion, flat_map, list_all, list_any}
 use Rattle.std.specs.Str.{bytes_eq}
+use Rattle.std.proofs.lemmas.Bool.Decides.{nat_tests}
 use Rattle.langtag_scan.specs.Case.{are_alike, fold_byte, fold_text}
 use Rattle.langtag_scan.specs.CaseLaws.{are_alike-decides}
 use Rattle.langtag_scan.specs.Class.{is_alphanumeric, is_digit, is_letter}
@@ -29,11 +30,7 @@ rise_by_test (s ∷ t ∷ ss) is = let parts = and_parts (is_before s t) (rises 
 
 under-each : (s : List ℕ) (ss : List (List ℕ)) → Under s ss → Rise ss → AllByRecursion (λ t. is_before s t ≡ true) ss
 under-each s [] under rise = tt
-under-each s (t ∷ ss) under rise = (under, under-each s ss (next ss rise.0) rise.1)
-  where
-    next : (rest : List (List ℕ)) → Under t rest → Under s rest
-    next [] below = tt
-    next (u ∷ rest) below = before-trans s t u under below
+under-each s (t ∷ ss) under rise = grind (arith, nat_tests, under-each s ss, before-trans s t)
 
 -- a text among others that rise: those before it, and those after it
 pub record Split (key : List ℕ) (keys : List (List ℕ)) : Type 0 where
@@ -75,9 +72,7 @@ all_keys = flat_map (λ a. map (λ b. a ∷ b ∷ []) letters_and_digits) letter
 
 lower_by_test : (keys : List (List ℕ)) → list_all (λ k. bytes_eq (fold_text k) k) keys ≡ true → AllByRecursion (λ k. fold_text k ≡ k) keys
 lower_by_test [] all = tt
-lower_by_test (k ∷ keys) all =
-    let parts = and_parts (bytes_eq (fold_text k) k) (list_all (λ j. bytes_eq (fold_text j) j) keys) all in
-    ((bytes_eq-Decides (fold_text k) k).0 parts.0, lower_by_test keys parts.1)
+lower_by_test (k ∷ keys) all = grind (arith, nat_tests, and_parts (bytes_eq (fold_text k) k), bytes_eq-Decides (fold_text k) k, lower_by_test keys)
 
 pub all_lower : AllByRecursion (λ k. fold_text k ≡ k) all_keys
 unfolding fold_byte
@@ -93,9 +88,7 @@ flat-seconds f a (b ∷ ys) = ap (λ t. f (a ∷ b ∷ []) ++ t) (flat-seconds f
 
 pub flat-pairs : (f : List ℕ → List (List ℕ)) (xs ys : List ℕ) → flat_map (λ a. flat_map (λ b. f (a ∷ b ∷ [])) ys) xs ≡ flat_map f (flat_map (λ a. map (λ b. a ∷ b ∷ []) ys) xs)
 flat-pairs f [] ys = refl
-flat-pairs f (a ∷ xs) ys =
-    ap (λ t. t ++ flat_map (λ c. flat_map (λ b. f (c ∷ b ∷ [])) ys) xs) (flat-seconds f a ys) ∙ ap (λ t. flat_map f (map (λ b. a ∷ b ∷ []) ys) ++ t) (flat-pairs f xs ys)
-    ∙ sym (flat_map-append f (map (λ b. a ∷ b ∷ []) ys) (flat_map (λ c. map (λ b. c ∷ b ∷ []) ys) xs))
+flat-pairs f (a ∷ xs) ys = grind (arith, nat_tests, flat-seconds f a ys, flat-pairs f xs ys, flat_map-append f)
 
 either_left : (s t : Bool) → s ≡ true → (s || t) ≡ true
 either_left s t is = ap (λ u. u || t) is
@@ -112,10 +105,7 @@ any-second a b (y ∷ ys) among = by_test (y == b) refl (any-second a b ys) amon
     by_test :
         (t : Bool) → (y == b) ≡ t → (list_any (λ z. z == b) ys ≡ true → list_any (bytes_eq (a ∷ b ∷ [])) (map (λ z. a ∷ z ∷ []) ys) ≡ true) →
         (t || list_any (λ z. z == b) ys) ≡ true → (bytes_eq (a ∷ b ∷ []) (a ∷ y ∷ []) || list_any (bytes_eq (a ∷ b ∷ [])) (map (λ z. a ∷ z ∷ []) ys)) ≡ true
-    by_test true same later among =
-        ap (λ t. t || list_any (bytes_eq (a ∷ b ∷ [])) (map (λ z. a ∷ z ∷ []) ys))
-        ((bytes_eq-Decides (a ∷ b ∷ []) (a ∷ y ∷ [])).1 (ap (λ z. a ∷ z ∷ []) (sym (eqb-true y b same))))
-    by_test false other later among = either_right _ _ (later among)
+    by_test t other later among = grind (arith, nat_tests, bytes_eq-Decides (a ∷ b ∷ []) (a ∷ y ∷ []), eqb-true y b, either_right)
 
 any-first : (a b : ℕ) (xs ys : List ℕ) → list_any (λ x. x == a) xs ≡ true → list_any (λ y. y == b) ys ≡ true → list_any (bytes_eq (a ∷ b ∷ [])) (flat_map (λ x. map (λ y. x ∷ y ∷ []) ys) xs) ≡ true
 any-first a b [] ys among second = absurd (false≢true among)
@@ -126,9 +116,7 @@ any-first a b (x ∷ xs) ys among second =
         (t : Bool) → (x == a) ≡ t →
         (list_any (λ z. z == a) xs ≡ true → list_any (bytes_eq (a ∷ b ∷ [])) (flat_map (λ z. map (λ y. z ∷ y ∷ []) ys) xs) ≡ true) → (t || list_any (λ z. z == a) xs) ≡ true →
         (list_any (bytes_eq (a ∷ b ∷ [])) (map (λ y. x ∷ y ∷ []) ys) || list_any (bytes_eq (a ∷ b ∷ [])) (flat_map (λ z. map (λ y. z ∷ y ∷ []) ys) xs)) ≡ true
-    by_test true same later among =
-        either_left _ _ (subst (λ n. list_any (bytes_eq (a ∷ b ∷ [])) (map (λ y. n ∷ y ∷ []) ys) ≡ true) (sym (eqb-true x a same)) (any-second a b ys second))
-    by_test false other later among = either_right _ _ (later among)
+    by_test t other later among = grind (arith, nat_tests, either_left, eqb-true x a, any-second a b ys second, either_right)
 
 letter_alphanumeric : (b : ℕ) → is_letter b ≡ true → is_alphanumeric b ≡ true
 letter_alphanumeric b is = ap (λ t. t || is_digit b) is

@@ -1,16 +1,15 @@
 -- The form of a Unicode locale identifier is a tag.
-use Rattle.std.proofs.Common.{◌≡◌, ℕ, ◌≤◌, Bool, true, false, not, cond, ◌&&◌, ◌||◌, ◌==◌, List, [], ◌∷◌, ◌++◌, length, Option, Some, None, map, option_map, unwrap_or, inl, inr, refl, sym, ap, subst, ◌∙◌, arith}
+use Rattle.std.proofs.Common.{◌≡◌, ℕ, ◌≤◌, Bool, true, false, not, ◌&&◌, List, [], ◌∷◌, length, Option, Some, None, inl, inr, refl, sym, ap, subst, ◌∙◌, arith}
 use Rattle.std.proofs.lemmas.Bool.Decides.{nat_tests}
-use Rattle.std.specs.Prelude.{IfSome, IsTrue, find}
+use Rattle.std.specs.Prelude.{IfSome, IsTrue}
 use Rattle.std.specs.List.{AllByRecursion, flat_map, list_all, list_any}
-use Rattle.std.specs.Option.{is_none, is_some, option_map_or}
-use Rattle.langtag.specs.Repeat.{are_alike_bytes, repeat}
+use Rattle.std.specs.Option.{option_map_or}
 use Rattle.langtag_case.proofs.RecommendedLaws.{recommended_alike}
 use Rattle.langtag_extension.proofs.ExtensionLookUp.{extension_found}
 use Rattle.langtag_extension.specs.Spelling.{find_extension}
 use Rattle.langtag_likely.proofs.FieldClasses.{from_region, from_script}
 use Rattle.langtag_likely.specs.Good.{is_region_field, is_script_field}
-use Rattle.langtag_likely.specs.Likely.{Fields, or_else}
+use Rattle.langtag_likely.specs.Likely.{Fields}
 use Rattle.langtag_likely.specs.Matching.{language_replaced}
 use Rattle.langtag_likely.specs.Maximal.{subtag_of}
 use Rattle.langtag_scan.proofs.CaseLaw.{alike_tag, classes-fold}
@@ -24,13 +23,13 @@ use Rattle.langtag_scan.specs.Record.{Extension, IsWellFormed, IsWellFormedExten
 use Rattle.langtag_scan.specs.Stage.{Classes}
 use Rattle.langtag_scan.specs.Tag.{IsNormal, IsTag}
 use Rattle.langtag_tables.proofs.Letters.{primary_length}
-use Rattle.langtag_unicode.specs.Alias.{Alias, TypeAlias, alias_for, type_alias_for}
-use Rattle.langtag_unicode.specs.Form.{after_one, are_different_variants, are_fields, is_language_or_none, is_of, is_transform, is_unicode_language, keywords_form, one_of, transform_value}
+use Rattle.langtag_unicode.specs.Alias.{Alias, TypeAlias}
+use Rattle.langtag_unicode.specs.Form.{are_different_variants, are_fields, is_language_or_none, is_of, is_transform, is_unicode_language, keywords_form, one_of, transform_value}
 use Rattle.langtag_unicode.specs.Keywords.{before_key}
 use Rattle.langtag_unicode.specs.Locale.{is_locale_extension, is_locale_record}
 use Rattle.langtag_unicode.specs.LocaleAliases as list
 use Rattle.langtag_registry.specs.Canonical.{singletons}
-use Rattle.langtag_unicode.specs.LocaleForm.{extension_at, first_subtag, has_variant, identifier_fields, identifier_flat, identifier_form, identifier_variants, is_pair_of, locale_extension_form, locale_record, locale_text, locale_transform_form, new_variants, record_fields, transform_language_form, variant_form}
+use Rattle.langtag_unicode.specs.LocaleForm.{extension_at, first_subtag, identifier_fields, identifier_flat, identifier_form, locale_extension_form, locale_record, locale_text, locale_transform_form, new_variants, record_fields, transform_language_form, variant_form}
 use Rattle.langtag_unicode.specs.Transform.{is_field_key}
 use Rattle.langtag_unicode.proofs.Each.{each-alphabet}
 use Rattle.langtag_unicode.proofs.FormRecords.{Good, good-keywords, good-transform, good-unicode_form, some-transform, some-unicode_form}
@@ -55,28 +54,7 @@ aliases_good = refl
 
 variant_good : (language : List ℕ) (variants : List (List ℕ)) (v : List ℕ) → is_variant v ≡ true → AreVariants (one_flat (subtag_of (variant_form language variants v)))
 unfolding variant_form
-variant_good language variants v is = by_dropped (is_some (type_alias_for list.variant_languages language v) || has_variant list.dropped_variants v)
-  where
-    by_alias : (o : Option (List ℕ)) → alias_for list.variant_aliases v ≡ o → is_variant (unwrap_or o v) ≡ true
-    by_alias None none = is
-    by_alias (Some new) found = found_good is_variant (λ alias. are_alike alias.old v) list.variant_aliases new aliases_good found
-
-    by_pair :
-        (o : Option TypeAlias) → find (is_pair_of variants v) list.variant_pairs ≡ o →
-        is_variant (unwrap_or (or_else (option_map (λ alias. alias.new) o) (alias_for list.variant_aliases v)) v) ≡ true
-    by_pair None none = by_alias (alias_for list.variant_aliases v) refl
-    by_pair (Some a) found = found_has (λ (alias : TypeAlias). is_variant alias.new) (is_pair_of variants v) list.variant_pairs a pairs_good found
-
-    one : (text : List ℕ) → is_variant text ≡ true → AreVariants (one_flat (subtag_of text))
-    one [] is = tt
-    one (b ∷ text) is = (is, tt)
-
-    by_dropped :
-        (b : Bool) →
-        AreVariants
-        (one_flat (subtag_of (cond b [] (unwrap_or (or_else (option_map (λ alias. alias.new) (find (is_pair_of variants v) list.variant_pairs)) (alias_for list.variant_aliases v)) v))))
-    by_dropped true = tt
-    by_dropped false = one _ (by_pair (find (is_pair_of variants v) list.variant_pairs) refl)
+variant_good language variants v is = grind (arith, nat_tests, found_good is_variant, aliases_good, found_has, pairs_good)
 
 forms_good : (language : List ℕ) (variants vs : List (List ℕ)) → AreVariants vs → AreVariants (forms language variants vs)
 forms_good language variants [] are = tt
@@ -103,47 +81,22 @@ script_good (b ∷ s) is = let four = (script_four (b ∷ s) is).0 in (long_good
 
 region_good : (s : List ℕ) → is_region_field s ≡ true → Good (one_flat (subtag_of s))
 region_good [] is = tt
-region_good (b ∷ s) is = (long_good (b ∷ s) (of_region (b ∷ s) is) long, tt)
-  where
-    long : 2 ≤ length (b ∷ s)
-    long = elim (region_two_three (b ∷ s) is) [
-      | inl two ↦ omega (arith, two.0)
-      | inr three ↦ omega (arith, three.0)
-    ]
+region_good (b ∷ s) is = grind (arith, nat_tests, long_good (b ∷ s) (of_region (b ∷ s) is), of_region (b ∷ s) is, region_two_three (b ∷ s) is)
 
 variants_good : (vs : List (List ℕ)) → AreVariants vs → Good vs
 variants_good [] are = tt
-variants_good (v ∷ vs) are = (long_good v (of_variant v are.0) long, variants_good vs are.1)
-  where
-    long : 2 ≤ length v
-    long = elim (variant_long v are.0) [
-      | inl five ↦ omega (arith, five.0)
-      | inr four ↦ omega (arith, four.0)
-    ]
+variants_good (v ∷ vs) are = grind (arith, nat_tests, long_good v (of_variant v are.0), of_variant v are.0, variants_good vs are.1, variant_long v are.0)
 
 identifier_good : (f : Fields) (vs : List (List ℕ)) → AreSubtags f → AreVariants vs → Good (identifier_flat f vs)
-identifier_good f vs subtags variants = (
-  primary_good f.language (language_primary f subtags),
-  each-append _ (one_flat (subtag_of f.script)) (one_flat (subtag_of f.region) ++ vs) (script_good f.script subtags.script)
-      (each-append _ (one_flat (subtag_of f.region)) vs (region_good f.region subtags.region) (variants_good vs variants)),
-)
+identifier_good f vs subtags variants = grind (arith, nat_tests, primary_good, language_primary, each-append, script_good, region_good, variants_good)
 
 -- ---- the language of `t`
 
 first_good : (test good : List ℕ → Bool) → good [] ≡ true → ((s : List ℕ) → test s ≡ true → good s ≡ true) → (ss : List (List ℕ)) → good (first_subtag (one_of test ss)) ≡ true
-first_good test good none some [] = none
-first_good test good none some (s ∷ ss) = by_test (test s) refl
-  where
-    by_test : (b : Bool) → test s ≡ b → good (first_subtag (cond b (s ∷ []) [])) ≡ true
-    by_test true is = some s is
-    by_test false is = none
+first_good test good none some ss = grind (arith, nat_tests)
 
 pub fields_good : (s : List ℕ) (ss : List (List ℕ)) → is_unicode_language s ≡ true → AreSubtags (identifier_fields s ss)
-fields_good s ss is = record {
-  language = is;
-  script = first_good is_script is_script_field refl from_script ss;
-  region = first_good is_region is_region_field refl from_region (after_one is_script ss);
-}
+fields_good s ss is = grind (arith, nat_tests, first_good, from_script, from_region)
 
 pub different_variants : (vs : List (List ℕ)) → are_different_variants vs ≡ true → AreVariants vs
 different_variants [] are = tt
@@ -152,12 +105,7 @@ different_variants (v ∷ vs) are =
     ((both (is_variant v) (not (list_any (are_alike v) vs)) parts.0).0, different_variants vs parts.1)
 
 transform_language_good : (ss : List (List ℕ)) → is_language_or_none ss ≡ true → Good (transform_language_form ss)
-transform_language_good [] is = tt
-transform_language_good (s ∷ ss) is =
-    let f : Fields = identifier_fields s ss in
-    let vs = identifier_variants ss in
-    let parts = both (is_unicode_language s) (are_different_variants vs) is in
-    identifier_good (identifier_form vs f) (new_variants vs f) (form_subtags vs f (fields_good s ss parts.0)) (new_variants_good vs f (different_variants vs parts.1))
+transform_language_good ss is = grind (arith, nat_tests, both, identifier_good, form_subtags, fields_good, new_variants_good, different_variants)
 
 transform_good : (ss : List (List ℕ)) → Good ss → is_transform ss ≡ true → Good (locale_transform_form ss)
 transform_good ss good is =
@@ -205,10 +153,7 @@ region_part (b ∷ s) is = is
 -- ---- which texts are Unicode locale identifiers
 
 pub all_allowed : (r : Record) → is_locale_record r ≡ true → list_all is_locale_extension r.extensions ≡ true
-all_allowed r locale =
-    (both
-    (is_unicode_language r.primary && length r.extended == 0 && is_none (repeat are_alike r.variants) && is_none (repeat are_alike_bytes (map (λ e. e.singleton) r.extensions)))
-    (list_all is_locale_extension r.extensions) locale).1
+all_allowed r locale = grind (arith, nat_tests, both)
 
 pub locale_well_formed : (r : Record) → IsWellFormed r → is_locale_record r ≡ true → IsWellFormed (locale_record r)
 unfolding locale_record
