@@ -1,6 +1,5 @@
 -- Ranges as they are read: "_" as "-", and without each "-*".
-use Rattle.std.proofs.Common.{◌≡◌, ℕ, ◌-◌, ◌≤◌, Bool, true, false, not, ◌==◌, List, [], ◌∷◌, length, length-drop, length-take, take, drop, filter, refl, sym, ap, ◌∙◌, arith}
-use Rattle.std.specs.Prelude.{◌&&◌, ◌||◌, codes}
+use Rattle.std.proofs.Common.{◌≡◌, ℕ, ◌-◌, ◌≤◌, Bool, true, false, not, ◌==◌, List, [], ◌∷◌, length, length-drop, length-take, take, drop, filter, refl, sym, ap, ◌∙◌, arith, ◌&&◌, ◌||◌, codes}
 use Rattle.std.proofs.lemmas.Bool.Decides.{nat_tests}
 use Rattle.std.proofs.lemmas.Grind.{common_steps}
 use Rattle.langtag_scan.specs.Case.{are_alike, fold_byte}

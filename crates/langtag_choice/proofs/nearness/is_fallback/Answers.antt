@@ -1,5 +1,4 @@
-use Rattle.std.proofs.Common.{sym, ap, ◌∙◌, length}
-use Rattle.std.specs.Prelude.{◌&&◌, ◌==◌, ◌||◌, not}
+use Rattle.std.proofs.Common.{sym, ap, ◌∙◌, length, ◌&&◌, ◌==◌, ◌||◌, not}
 use Rattle.langtag_match.specs.Basic.{ends_subtag}
 use Rattle.langtag_match.specs.Fallback.{ends_in_single}
 use Rattle.langtag_match.specs.Wanted.{hyphened}

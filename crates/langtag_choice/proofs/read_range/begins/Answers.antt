@@ -1,5 +1,4 @@
-use Rattle.std.proofs.Common.{sym, ap, ◌∙◌}
-use Rattle.std.specs.Prelude.{◌&&◌}
+use Rattle.std.proofs.Common.{sym, ap, ◌∙◌, ◌&&◌}
 use Rattle.langtag_match.specs.Basic.{ends_subtag}
 use Rattle.langtag_choice.proofs.ReadRanges.{range_begins}
 use Rattle.langtag_choice.proofs.read_range.begins.Goals as goal
