@@ -132,19 +132,15 @@ module _ (one : List ℕ) (letters : ℕ × ℕ) (begins : first_two one ≡ Som
       let leads = and_parts (ltb 0 (length row.to.language)) (list_all (λ row. ltb 0 (length row.to.language)) rows) lead in
       by_tests (are_alike_fields row.from key) (length row.from.language == 2) refl refl leads.0 apart (alias_other rows leads.1 key to two)
     where
-      later_row : are_alike_fields row.from key ≡ false → likely_for rows key ≡ Some to
-      later_row here = sym (ap (λ b. cond b (Some row.to) (likely_for rows key)) here) ∙ is
-
       by_tests :
           (b t : Bool) → are_alike_fields row.from key ≡ b → (length row.from.language == 2) ≡ t → ltb 0 (length row.to.language) ≡ true →
           is_among (cond t (row.to.language ∷ replacing rows) (replacing rows)) one ≡ false →
           (likely_for rows key ≡ Some to → is_among (replacing rows) one ≡ false → IsOther one to.language) → IsOther one to.language
-      by_tests false true here from leads apart later = later (later_row here) (or_parts (are_alike row.to.language one) (is_among (replacing rows) one) apart).1
-      by_tests false false here from leads apart later = later (later_row here) apart
+      by_tests false true here from leads apart later = later (cc) (or_parts (are_alike row.to.language one) (is_among (replacing rows) one) apart).1
+      by_tests false false here from leads apart later = later (cc) apart
       by_tests true false here from leads apart later =
           absurd (eqb-false (length row.from.language) 2 from (alike_length row.from.language key.language (and_parts (are_alike row.from.language key.language) _ here).0 ∙ two))
       by_tests true true here from leads apart later =
-          let same : Some row.to ≡ Some to = sym (ap (λ b. cond b (Some row.to) (likely_for rows key)) here) ∙ is in
           let to_is : row.to ≡ to = cc in
           rw (← to_is) (record {
             other = λ alike. both_ways _ (or_parts (are_alike row.to.language one) (is_among (replacing rows) one) apart).0 ((are_alike-decides row.to.language one).1 (sym alike));
