@@ -1,6 +1,5 @@
 -- The answer to a line, by what is found of it, as the code puts it together.
-use Rattle.std.proofs.Common.{◌≡◌, ◌∙◌, ℕ, Option, Some, List, [], ◌++◌, slice_get, inl, inr, ap, append_assoc, append-nil, subst}
-use Rattle.std.specs.Prelude.{codes}
+use Rattle.std.proofs.Common.{arith, ◌≡◌, ◌∙◌, ℕ, Option, Some, List, [], ◌++◌, slice_get, ap, append_assoc, append-nil, subst, codes}
 use Rattle.std.specs.Io.KnownBytes.{Appends}
 use Rattle.langtag_scan.specs.Record.{EachRecord}
 use Rattle.langtag_scan.specs.Tag.{IsTag, IsNormal}
@@ -22,11 +21,6 @@ Appends-fault a b what subtag form =
     = simp (append_assoc, append-nil) in
     subst (λ text. Appends a b (ended text)) same
 
-pub Appends-same_fault : (a b : Option (List ℕ)) (fault other form : List ℕ) → fault ≡ other →
-    Appends a b (ended (codes "invalid " ++ fault ++ codes " canonical=" ++ form)) →
-    Appends a b (ended (codes "invalid " ++ other ++ codes " canonical=" ++ form))
-Appends-same_fault a b fault other form same = subst (λ text. Appends a b (ended (codes "invalid " ++ text ++ codes " canonical=" ++ form))) same
-
 pub answer_valid :
     (line tag form text : List ℕ) → tag ≡ line → IsValid tag → IsCanonicalForm tag form → text ≡ form →
     IsCheckAnswer line (codes "valid canonical=" ++ (text ++ []))
@@ -36,11 +30,7 @@ answer_valid line tag form text same is by spelled =
 -- a tag that is not valid is a normal one
 normal_of_invalid : (tag : List ℕ) → IsTag tag → ¬ (IsValid tag) → IsNormal tag
 unfolding IsTag
-normal_of_invalid tag (inl normal) not = normal
-normal_of_invalid tag (inr (inl private)) not =
-    absurd (not (valid_of_other tag (tag_private tag private) (λ normal. normal_no_private tag normal private)))
-normal_of_invalid tag (inr (inr irregular)) not =
-    absurd (not (valid_of_other tag (tag_of_irregular tag irregular) (λ normal. normal_no_irregular tag normal irregular)))
+normal_of_invalid tag is not = grind (arith, valid_of_other tag, tag_private, tag_of_irregular, normal_no_private, normal_no_irregular)
 
 pub answer_invalid :
     (line tag form text : List ℕ) (fault : Told) → tag ≡ line → IsTag tag → ¬ (IsValid tag) →

@@ -1,7 +1,6 @@
 -- What is chosen does not change with the case of letters.
-use Rattle.std.proofs.Common.{◌≡◌, ℕ, Bool, cond, not, ◌&&◌, nat_lt, List, [], ◌∷◌, map, length, take, drop, Option, None, Some, option_map, refl, sym, ap, subst, ◌∙◌, true, false, arith}
+use Rattle.std.proofs.Common.{◌≡◌, ℕ, Bool, cond, not, ◌&&◌, nat_lt, List, [], ◌∷◌, map, length, take, drop, Option, None, Some, option_map, refl, sym, ap, subst, ◌∙◌, true, false, arith, slice_get}
 use Rattle.std.proofs.lemmas.List.{take-map, drop-map}
-use Rattle.std.specs.List.{slice_get}
 use Rattle.std.proofs.lemmas.Option.{slice_get-map}
 use Rattle.std.proofs.lemmas.Bool.Decides.{nat_tests}
 use Rattle.std.proofs.lemmas.Grind.{common_steps}
@@ -92,13 +91,9 @@ module _ (elements es : List Element) (tags ts : List (Option (List ℕ))) (same
     where
       by_found : (element : Element) (tag : List ℕ) → slice_get es pair.place ≡ Some element → folded pair.element ≡ folded element → slice_get ts pair.index ≡ Some (Some tag) → fold_text pair.tag ≡ fold_text tag → IsPairAlike pair
       by_found element tag wanted same there alike =
-          let served : serves element tag ≡ true =
-          sym (serves-fold element tag) ∙ ap (λ e. serves e (fold_text tag)) (sym same) ∙ ap (serves (folded pair.element)) (sym alike) ∙ serves-fold pair.element pair.tag ∙ pair.served in
-          let free : is_refused es tag ≡ false =
-          sym (is_refused-fold es tag) ∙ ap (λ e. is_refused e (fold_text tag)) (sym same_elements) ∙ ap (is_refused (map folded elements)) (sym alike) ∙ is_refused-fold elements pair.tag ∙ pair.unrefused in
-          let ranks : rank pair.place element pair.index tag ≡ rank pair.place pair.element pair.index pair.tag =
-          sym (rank-fold pair.place element pair.index tag) ∙ ap (λ e. rank pair.place e pair.index (fold_text tag)) (sym same)
-          ∙ ap (rank pair.place (folded pair.element) pair.index) (sym alike) ∙ rank-fold pair.place pair.element pair.index pair.tag in
+          let served : serves element tag ≡ true = cc (serves-fold element tag, serves-fold pair.element pair.tag, pair.served) in
+          let free : is_refused es tag ≡ false = cc (is_refused-fold es tag, is_refused-fold elements pair.tag, pair.unrefused) in
+          let ranks : rank pair.place element pair.index tag ≡ rank pair.place pair.element pair.index pair.tag = cc (rank-fold pair.place element pair.index tag, rank-fold pair.place pair.element pair.index pair.tag) in
           (record { place = pair.place; element = element; wanted = wanted; index = pair.index; tag = tag; there = there; served = served; unrefused = free }, refl, ranks)
 
       by_tag : (o : Option (List ℕ)) × (slice_get ts pair.index ≡ Some o) × (Some (fold_text pair.tag) ≡ option_map fold_text o) → IsPairAlike pair

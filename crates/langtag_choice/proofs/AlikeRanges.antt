@@ -1,6 +1,5 @@
 -- The matching form of a text, and how far another is, do not change with the case of letters.
-use Rattle.std.proofs.Common.{◌≡◌, ℕ, ◌+◌, true, false, Bool, cond, List, [], ◌∷◌, map, Option, None, Some, option_map, refl, sym, ap, ◌∙◌, arith}
-use Rattle.std.specs.Prelude.{codes}
+use Rattle.std.proofs.Common.{◌≡◌, ℕ, ◌+◌, true, false, Bool, cond, List, [], ◌∷◌, map, Option, None, Some, option_map, refl, sym, ap, ◌∙◌, arith, codes}
 use Rattle.std.specs.Option.{option_map_or}
 use Rattle.std.proofs.lemmas.Bool.Decides.{nat_tests}
 use Rattle.langtag_scan.specs.Case.{Alike, are_alike, fold_text}
@@ -19,24 +18,15 @@ use Rattle.langtag_choice.specs.Nearness.{is_form, unlikely, unlikely_form}
 use Rattle.langtag_likely.specs.TextFields.{text_fields, fields_of_subtags, counted, counts, last_language, after_language, script_of, after_script, region_of}
 use Rattle.langtag_likely.proofs.AlikeFields.{AlikeFields, AlikeOptions, are_alike-right, suffices-alike, by_options, are_alike-left}
 use Rattle.langtag_choice.proofs.DistanceCase.{forms-alike, matching-alike}
-use Rattle.langtag_scan.specs.Stage.{Classes}
 
 -- ---- bytes and subtags
 
 hyphened-alike : (a b : List ℕ) → Alike a b → Alike (hyphened a) (hyphened b)
 hyphened-alike a b alike = sym (hyphened-fold a) ∙ ap hyphened alike ∙ hyphened-fold b
 
-is_primary-fold : (s : List ℕ) → is_primary (fold_text s) ≡ is_primary s
-is_primary-fold s = ap (λ (c : Classes). c.primary) (classes-fold s)
-
-is_extended-fold : (s : List ℕ) → is_extended (fold_text s) ≡ is_extended s
-is_extended-fold s = ap (λ (c : Classes). c.extended) (classes-fold s)
-
-is_script-fold : (s : List ℕ) → is_script (fold_text s) ≡ is_script s
-is_script-fold s = ap (λ (c : Classes). c.script) (classes-fold s)
-
-is_region-fold : (s : List ℕ) → is_region (fold_text s) ≡ is_region s
-is_region-fold s = ap (λ (c : Classes). c.region) (classes-fold s)
+classes-alike : (s : List ℕ) →
+    (is_primary (fold_text s) ≡ is_primary s) × (is_extended (fold_text s) ≡ is_extended s) × (is_script (fold_text s) ≡ is_script s) × (is_region (fold_text s) ≡ is_region s)
+classes-alike s = let alike = classes-fold s in (ap (λ c. c.primary) alike, ap (λ c. c.extended) alike, ap (λ c. c.script) alike, ap (λ c. c.region) alike)
 
 -- ---- the fields of subtags
 
@@ -46,23 +36,23 @@ cond-map f false x y = refl
 
 last_language-fold : (language : List ℕ) (subtags : List (List ℕ)) → last_language (fold_text language) (map fold_text subtags) ≡ fold_text (last_language language subtags)
 last_language-fold language [] = refl
-last_language-fold language (s ∷ others) = rw (is_extended-fold s, last_language-fold s others) (cond-map fold_text (is_extended s) (last_language s others) language)
+last_language-fold language (s ∷ others) = rw ((classes-alike s).1, last_language-fold s others) (cond-map fold_text (is_extended s) (last_language s others) language)
 
 after_language-fold : (subtags : List (List ℕ)) → after_language (map fold_text subtags) ≡ map fold_text (after_language subtags)
 after_language-fold [] = refl
-after_language-fold (s ∷ others) = rw (is_extended-fold s, after_language-fold others) (cond-map (map fold_text) (is_extended s) (after_language others) (s ∷ others))
+after_language-fold (s ∷ others) = rw ((classes-alike s).1, after_language-fold others) (cond-map (map fold_text) (is_extended s) (after_language others) (s ∷ others))
 
 script_of-fold : (subtags : List (List ℕ)) → script_of (map fold_text subtags) ≡ fold_text (script_of subtags)
 script_of-fold [] = refl
-script_of-fold (s ∷ others) = rw (is_script-fold s) (cond-map fold_text (is_script s) s [])
+script_of-fold (s ∷ others) = rw (classes-alike s).2 (cond-map fold_text (is_script s) s [])
 
 after_script-fold : (subtags : List (List ℕ)) → after_script (map fold_text subtags) ≡ map fold_text (after_script subtags)
 after_script-fold [] = refl
-after_script-fold (s ∷ others) = rw (is_script-fold s) (cond-map (map fold_text) (is_script s) others (s ∷ others))
+after_script-fold (s ∷ others) = rw (classes-alike s).2 (cond-map (map fold_text) (is_script s) others (s ∷ others))
 
 region_of-fold : (subtags : List (List ℕ)) → region_of (map fold_text subtags) ≡ fold_text (region_of subtags)
 region_of-fold [] = refl
-region_of-fold (s ∷ others) = rw (is_region-fold s) (cond-map fold_text (is_region s) s [])
+region_of-fold (s ∷ others) = rw (classes-alike s).3 (cond-map fold_text (is_region s) s [])
 
 known-fold : (unknown text : List ℕ) → known unknown (fold_text text) ≡ fold_text (known unknown text)
 known-fold unknown text = rw (are_alike-right unknown (fold_text text) text (fold_text-twice text)) (cond-map fold_text (are_alike unknown text) [] text)
@@ -82,20 +72,10 @@ fields_of_subtags-fold : (subtags : List (List ℕ)) → fields_of_subtags (map 
 fields_of_subtags-fold [] = refl
 fields_of_subtags-fold (s ∷ others) =
     let n = counted others in
-    let all = counted-fold others in
-    let language =
-    ap (last_language (known (codes "und") (fold_text s))) all
-    ∙ ap (λ l. last_language l (map fold_text n)) (known-fold (codes "und") s) ∙ last_language-fold (known (codes "und") s) n in
-    let script =
-    ap (λ t. known (codes "Zzzz") (script_of (after_language t))) all
-    ∙ ap (λ t. known (codes "Zzzz") (script_of t)) (after_language-fold n) ∙ ap (known (codes "Zzzz")) (script_of-fold (after_language n)) ∙ known-fold (codes "Zzzz") (script_of (after_language n)) in
-    let region =
-    ap (λ t. known (codes "ZZ") (region_of (after_script (after_language t)))) all
-    ∙ ap (λ t. known (codes "ZZ") (region_of (after_script t))) (after_language-fold n)
-    ∙ ap (λ t. known (codes "ZZ") (region_of t)) (after_script-fold (after_language n))
-    ∙ ap (known (codes "ZZ")) (region_of-fold (after_script (after_language n)))
-    ∙ known-fold (codes "ZZ") (region_of (after_script (after_language n))) in
-    rw (is_primary-fold s, language, script, region) (cond-map (option_map fold_fields) (is_primary s) (Some _) None)
+    let l = after_language n in
+    rw (classes-alike s).0 (rw (counted-fold others, known-fold (codes "und") s, last_language-fold (known (codes "und") s) n, after_language-fold n)
+    (rw (script_of-fold l, known-fold (codes "Zzzz") (script_of l), after_script-fold l, region_of-fold (after_script l), known-fold (codes "ZZ") (region_of (after_script l)))
+    (cond-map (option_map fold_fields) (is_primary s) (Some _) None)))
 
 text_fields-fold : (text : List ℕ) → text_fields (fold_text text) ≡ option_map fold_fields (text_fields text)
 unfolding text_fields

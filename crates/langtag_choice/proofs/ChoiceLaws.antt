@@ -10,19 +10,13 @@ use Rattle.langtag_choice.specs.Found.{IsBestFound, IsBestOf, IsFor, IsUnrefused
 use Rattle.langtag_choice.specs.declared.candidate.Candidate.{Candidate}
 use Rattle.langtag_choice.proofs.Ranks.{both_at_most}
 
-rank_index : (place : ℕ) (element : Element) (index : ℕ) (tag : List ℕ) → get_or (rank place element index tag) 6 0 ≡ index
-unfolding rank
-rank_index place element index tag = refl
-
 module _ (elements : List Element) (tags : List (Option (List ℕ))) where
   -- pairs that are at most each other have one index
   pub same_index :
       (a b : Pair elements tags) → IsAtMost (rank_of_pair elements tags a) (rank_of_pair elements tags b) → IsAtMost (rank_of_pair elements tags b) (rank_of_pair elements tags a) →
       a.index ≡ b.index
-  same_index a b one other =
-      sym (rank_index a.place a.element a.index a.tag)
-      ∙ ap (λ ranks. get_or ranks 6 0) (both_at_most (rank_of_pair elements tags a) (rank_of_pair elements tags b) one other)
-      ∙ rank_index b.place b.element b.index b.tag
+  unfolding rank
+  same_index a b one other = ap (λ ranks. get_or ranks 6 0) (both_at_most (rank_of_pair elements tags a) (rank_of_pair elements tags b) one other)
 
   same_choice : (a b : Option ℕ) → IsChoice elements tags a → IsChoice elements tags b → b ≡ a
   same_choice None None none also = refl

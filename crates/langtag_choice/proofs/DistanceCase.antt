@@ -1,6 +1,5 @@
 -- The distance does not change with the case of letters.
-use Rattle.std.proofs.Common.{◌≡◌, ℕ, cond, List, [], ◌∷◌, Option, refl, ap, ◌∙◌, arith, rules}
-use Rattle.std.specs.Prelude.{◌&&◌, codes}
+use Rattle.std.proofs.Common.{◌≡◌, ℕ, cond, List, [], ◌∷◌, Option, refl, ap, ◌∙◌, arith, rules, ◌&&◌, codes}
 use Rattle.std.specs.Option.{option_map_or}
 use Rattle.std.proofs.lemmas.Bool.Decides.{nat_tests}
 use Rattle.std.proofs.lemmas.Grind.{common_steps}
@@ -64,11 +63,8 @@ side-alike set a b c d h k =
 british-alike : (a b c d : List ℕ) → Alike a b → Alike c d → Distance.is_british a c ≡ Distance.is_british b d
 british-alike a b c d h k = rw (are_alike-right (codes "GB") a b h, outside-alike Distance.en_us c d k) refl
 
-english-alike : (a b c d : List ℕ) → Alike a b → Alike c d → Distance.english a c ≡ Distance.english b d
-english-alike a b c d h k = grind (arith, nat_tests, british-alike a b c d h k, british-alike c d a b k h, side-alike Distance.en_us a b c d h k)
-
 by_language-alike : (a b c d : Fields) → AlikeFields a b → AlikeFields c d → Distance.by_language a c ≡ Distance.by_language b d
-by_language-alike a b c d h k = grind (arith, common_steps, are_alike-right, side-alike, english-alike)
+by_language-alike a b c d h k = grind (arith, common_steps, are_alike-right, side-alike, nat_tests, british-alike)
 
 languages-alike : (a b c d : Fields) → AlikeFields a b → AlikeFields c d → Distance.language_distance a c ≡ Distance.language_distance b d
 unfolding Distance.language_distance

@@ -40,8 +40,7 @@ module _ (d s : Fields) where
       n ≡ option_map_or (λ i. get_or (map distance_of language_rules) i 0) o 80 → n ≡ language_distance d s
   language_found o n keys number other dl sl small keys_are number_is is value =
       language_other n other
-      (value ∙ ap (λ o. option_map_or (λ i. get_or (map distance_of language_rules) i 0) o 80) (is ∙ ap (λ list. first_index list number) keys_are ∙ ap (first_index (map language_rule_number language_rules)) number_is)
-      ∙ distance_by_number language_rule_number is_language_rule (language_pair d s) (language_alone d) (language_alone s) (language_pair-tells d s dl sl small) 80 language_rules language_rules_good)
+      (cc (distance_by_number language_rule_number is_language_rule (language_pair d s) (language_alone d) (language_alone s) (language_pair-tells d s dl sl small) 80 language_rules language_rules_good))
 
   -- ---- scripts
 
@@ -61,6 +60,5 @@ module _ (d s : Fields) where
       n ≡ option_map_or (λ i. get_or (map distance_of script_rules) i 0) o 50 → n ≡ script_distance d s
   script_found o n keys number other dp sp small keys_are number_is is value =
       script_other n other
-      (value ∙ ap (λ o. option_map_or (λ i. get_or (map distance_of script_rules) i 0) o 50) (is ∙ ap (λ list. first_index list number) keys_are ∙ ap (first_index (map script_rule_number script_rules)) number_is)
-      ∙ distance_by_number script_rule_number is_script_rule (script_pair (without_region d) (without_region s)) (without_region d) (without_region s)
-      (script_pair-tells (without_region d) (without_region s) dp sp small) 50 script_rules script_rules_good)
+      (cc (distance_by_number script_rule_number is_script_rule (script_pair (without_region d) (without_region s)) (without_region d) (without_region s)
+      (script_pair-tells (without_region d) (without_region s) dp sp small) 50 script_rules script_rules_good))

@@ -1,20 +1,17 @@
 -- A tag that is the first range of the greatest weight is chosen.
-use Rattle.std.proofs.Common.{◌≡◌, ℕ, ◌-◌, ◌<◌, ◌≤◌, false, IsTrue, List, [], ◌∷◌, length, length-take, take, Option, Some, None, ap, refl, sym, ◌∙◌, arith}
-use Rattle.std.specs.List.{slice_get}
-use Rattle.std.proofs.lemmas.Bool.{and_parts}
-use Rattle.std.proofs.lemmas.Bool.Decides.{nat_tests}
-use Rattle.std.proofs.lemmas.Grind.{common_steps}
+use Rattle.std.proofs.Common.{◌≡◌, ℕ, ◌-◌, ◌<◌, ◌≤◌, false, IsTrue, List, length, length-take, take, Option, Some, None, ap, refl, sym, ◌∙◌, arith}
+use Rattle.std.proofs.lemmas.Bool.{and_parts, ltb-false}
+use Rattle.std.proofs.lemmas.Bool.Decides.{nat_tests, eqb_tells}
 use Rattle.langtag_scan.specs.Case.{Alike}
 use Rattle.langtag_scan.specs.CaseLaws.{are_alike-decides}
 use Rattle.langtag_match.specs.AcceptLanguage.{Element}
 use Rattle.langtag_match.specs.Range.{is_star}
-use Rattle.langtag_choice.specs.Best.{IsAtMost, IsChoice, Pair, is_refused, is_wish, rank, rank_of_pair, reach, serves}
+use Rattle.langtag_choice.specs.Best.{IsAtMost, IsChoice, Pair, is_wish, rank, rank_of_pair, reach, serves}
 use Rattle.langtag_choice.specs.ChoiceLaws.{IsHeaviest, IsFirstAlike, AnswersEqual}
-use Rattle.langtag_choice.specs.Nearness.{kept, unlikely}
+use Rattle.langtag_choice.specs.Nearness.{kept}
 use Rattle.langtag_choice.proofs.AlikeRanges.{distance-none, unlikely-alike}
 use Rattle.langtag_choice.proofs.ChoiceLaws.{same_index}
 use Rattle.langtag_choice.proofs.LookUpAnswers.{whole_fallback}
-use Rattle.langtag_choice.proofs.Ranks.{le_then}
 use Rattle.std.proofs.Math.Seq.{take-length}
 use Rattle.langtag_match.proofs.Prefixes.{length-alike}
 
@@ -42,28 +39,10 @@ module _ (elements : List Element) (all : List (Option (List ℕ))) (place : ℕ
   unfolding serves
   own_pair = grind (arith, nat_tests, reach_none)
 
-  abbrev own_rank : List ℕ
-  own_rank = 0 ∷ (1000 - element.weight) ∷ place ∷ 0 ∷ (length element.range - kept element.range first.tag) ∷ unlikely first.tag ∷ index ∷ []
-
-  is_own_rank : rank place element index first.tag ≡ own_rank
-  unfolding rank
-  is_own_rank = let near = reach_none in rw near refl
-
-  -- for the range itself
-  own_range : (tag : List ℕ) (k : ℕ) → slice_get all k ≡ Some (Some tag) → is_refused elements tag ≡ false → IsAtMost own_rank (rank place element k tag)
-  unfolding rank
-  own_range tag k there free = grind (arith, common_steps, le_then, lost_none, alike_kept, unlikely-alike)
-
-  -- for any range
-  none_before :
-      (other : Element) (p : ℕ) (tag : List ℕ) (k : ℕ) → slice_get elements p ≡ Some other → slice_get all k ≡ Some (Some tag) → is_refused elements tag ≡ false →
-      IsAtMost own_rank (rank p other k tag)
-  unfolding rank
-  none_before other p tag k range_there there free =
-      grind (arith, nat_tests, own_range tag k there free, heaviest.first p other range_there, heaviest.most p other range_there, heaviest.there, le_then)
-
   leads : (other : Pair elements all) → IsAtMost (rank place element index first.tag) (rank_of_pair elements all other)
-  leads other = rw is_own_rank (none_before other.element other.place other.tag other.index other.wanted other.there other.unrefused)
+  unfolding rank
+  leads other =
+      grind (arith, nat_tests, reach_none, heaviest.first other.place, heaviest.most other.place, heaviest.there, lost_none, alike_kept, unlikely-alike, ltb-false, eqb_tells)
 
   is_answer : (answer : Option ℕ) → IsChoice elements all answer → answer ≡ Some index
   unfolding own_pair

@@ -1,13 +1,12 @@
 -- What loops over ranges and over tags have found.
-use Rattle.std.proofs.Common.{◌≡◌, ◌⊎◌, inl, inr, ℕ, ◌+◌, ◌-◌, ◌<◌, true, false, List, [], ◌∷◌, suc, length, get_or, Option, Some, None, below_more, refl, sym, subst, ap, ◌∙◌, arith}
-use Rattle.std.specs.List.{slice_get}
+use Rattle.std.proofs.Common.{◌≡◌, ◌⊎◌, inl, inr, ℕ, ◌+◌, ◌-◌, ◌<◌, true, false, List, [], ◌∷◌, suc, length, get_or, Option, Some, None, below_more, sym, subst, ap, ◌∙◌, arith, slice_get}
 use Rattle.std.specs.Option.{ForSome, MatchOption}
 use Rattle.std.proofs.lemmas.Bool.{cases_lt}
 use Rattle.std.proofs.lemmas.Option.{get_or_from_slice_get, slice_get-get_or, slice_get_within}
 use Rattle.std.proofs.lemmas.Bool.Decides.{nat_tests}
 use Rattle.langtag_match.specs.AcceptLanguage.{Element}
-use Rattle.langtag_choice.specs.Best.{Pair, is_refused, rank, rank_of_pair, serves}
-use Rattle.langtag_choice.specs.Found.{AreOpen, Covers, CoversOpen, CoversRanges, CoversTags, IsAt, IsBestFound, IsBestOf, IsFor, IsOldOrAt, IsOf, IsUnrefusedAt, IsReal, IsNotAfter, Keeps, Takes, wish_element}
+use Rattle.langtag_choice.specs.Best.{is_refused, rank, serves}
+use Rattle.langtag_choice.specs.Found.{AreOpen, Covers, CoversOpen, CoversRanges, CoversTags, IsBestFound, IsOldOrAt, IsOf, IsUnrefusedAt, IsReal, IsNotAfter, Keeps, Takes, wish_element}
 use Rattle.langtag_choice.specs.declared.candidate.Candidate.{Candidate}
 use Rattle.langtag_choice.specs.declared.wish.Wish.{Wish}
 use Rattle.langtag_choice.proofs.ChoiceLaws.{least_chosen}
@@ -30,7 +29,6 @@ pub one_more_range :
 one_more_range elements tags place element old new so_far keeps wanted here =
     below_more _ _ (λ k below other index tag at there served. keeps (rank k other index tag) (so_far k below other index tag at there served))
     (λ other index tag at there served.
-    let both : Some element ≡ Some other = sym wanted ∙ at in
     let same : element ≡ other = cc in
     subst (λ e. IsNotAfter new (rank place e index tag)) same (here index (slice_get_within tags index (Some tag) there) tag there (subst (λ e. serves e tag ≡ true) (sym same) served)))
 
@@ -40,7 +38,6 @@ pub one_more_range_for_tag :
 one_more_range_for_tag elements tag index place element old new so_far keeps wanted here =
     below_more _ _ (λ k below other at served. keeps (rank k other index tag) (so_far k below other at served))
     (λ other at served.
-    let both : Some element ≡ Some other = sym wanted ∙ at in
     let same : element ≡ other = cc in
     subst (λ e. IsNotAfter new (rank place e index tag)) same (here (subst (λ e. serves e tag ≡ true) (sym same) served)))
 
@@ -53,25 +50,15 @@ one_more_open elements tags index old new so_far keeps here =
 
 -- ---- where it comes from
 
--- the candidate of a text for a range is one for a list that has the range at its place
-pub of_is_at :
-    (elements : List Element) (wish : Wish) (tag : List ℕ) (index : ℕ) (c : Candidate) → slice_get elements wish.place ≡ Some (wish_element wish) → IsOf wish tag index c → IsAt elements tag index c
-of_is_at elements wish tag index c wanted of = grind (arith, nat_tests)
-
-at_is_for :
-    (elements : List Element) (tags : List (Option (List ℕ))) (tag : List ℕ) (index : ℕ) (c : Candidate) → index < length tags → ((other : List ℕ) → slice_get tags index ≡ Some (Some other) → tag ≡ other) →
-    IsAt elements tag index c → IsFor elements tags c
-at_is_for elements tags tag index c inside there at = grind (arith, nat_tests)
-
 pub real_from :
     (elements : List Element) (tags : List (Option (List ℕ))) (tag : List ℕ) (index : ℕ) (old new : Option Candidate) → index < length tags → ((other : List ℕ) → slice_get tags index ≡ Some (Some other) → tag ≡ other) →
     IsReal elements tags old → IsOldOrAt elements tag index old new → IsReal elements tags new
-real_from elements tags tag index old new inside there real changed = grind (arith, nat_tests, at_is_for elements tags tag index)
+real_from elements tags tag index old new inside there real changed = grind (arith, nat_tests)
 
 pub from_of :
     (elements : List Element) (wish : Wish) (tag : List ℕ) (index : ℕ) (old new : Option Candidate) → slice_get elements wish.place ≡ Some (wish_element wish) →
     (new ≡ old) ⊎ MatchOption new ⊥ (IsOf wish tag index) → IsOldOrAt elements tag index old new
-from_of elements wish tag index old new wanted changed = grind (arith, nat_tests, of_is_at elements wish tag index)
+from_of elements wish tag index old new wanted changed = grind (arith, nat_tests)
 
 -- from one step to the next
 pub from_later :
@@ -94,34 +81,21 @@ takes_covers tags element place wish text index old new same_element same_place 
 
 -- ---- what is first of all
 
-module _ (elements : List Element) (tags : List (Option (List ℕ))) (found : Option Candidate) where
-  pub none_first : found ≡ None → Covers elements tags (length elements) found → Pair elements tags → ⊥
-  none_first is covers pair =
-      subst (λ o. IsNotAfter o (rank_of_pair elements tags pair)) is
-      (covers pair.place (slice_get_within elements pair.place pair.element pair.wanted) pair.element pair.index pair.tag pair.wanted pair.there pair.served)
-
-  pub first_chosen : (c : Candidate) → found ≡ Some c → Covers elements tags (length elements) found → IsReal elements tags found → IsUnrefusedAt elements tags c.index → IsBestOf elements tags c
-  first_chosen c is covers real here =
-      least_chosen elements tags c (subst (IsReal elements tags) is real) here
-      (λ pair. subst (λ o. IsNotAfter o (rank_of_pair elements tags pair)) is
-      (covers pair.place (slice_get_within elements pair.place pair.element pair.wanted) pair.element pair.index pair.tag pair.wanted pair.there pair.served))
-
-  pub none_open : found ≡ None → CoversOpen elements tags (length tags) found → Pair elements tags → ⊥
-  none_open is covers pair =
-      subst (λ o. IsNotAfter o (rank_of_pair elements tags pair)) is
-      (covers pair.index (slice_get_within tags pair.index (Some pair.tag) pair.there) pair.place pair.element pair.tag pair.wanted pair.there pair.unrefused pair.served)
-
-  pub open_chosen : (c : Candidate) → found ≡ Some c → CoversOpen elements tags (length tags) found → IsReal elements tags found → AreOpen elements tags found → IsBestOf elements tags c
-  open_chosen c is covers real here =
-      least_chosen elements tags c (subst (IsReal elements tags) is real) (subst (AreOpen elements tags) is here)
-      (λ pair. subst (λ o. IsNotAfter o (rank_of_pair elements tags pair)) is
-      (covers pair.index (slice_get_within tags pair.index (Some pair.tag) pair.there) pair.place pair.element pair.tag pair.wanted pair.there pair.unrefused pair.served))
-
 pub first_open :
     (elements : List Element) (tags : List (Option (List ℕ))) (found : Option Candidate) → CoversOpen elements tags (length tags) found → IsReal elements tags found → AreOpen elements tags found →
     IsBestFound elements tags found
-first_open elements tags None covers real here = none_open elements tags None refl covers
-first_open elements tags (Some c) covers real here = open_chosen elements tags (Some c) c refl covers real here
+first_open elements tags None covers real here = λ pair. covers pair.index (slice_get_within tags _ _ pair.there) pair.place pair.element pair.tag pair.wanted pair.there pair.unrefused pair.served
+first_open elements tags (Some c) covers real here =
+    least_chosen elements tags c real here
+    (λ pair. covers pair.index (slice_get_within tags _ _ pair.there) pair.place pair.element pair.tag pair.wanted pair.there pair.unrefused pair.served)
+
+-- a candidate that is at most all pairs is at most those of tags that are not refused
+pub first_best :
+    (elements : List Element) (tags : List (Option (List ℕ))) (found o : Option Candidate) → found ≡ o → Covers elements tags (length elements) found → IsReal elements tags found →
+    AreOpen elements tags o → IsBestFound elements tags o
+first_best elements tags found o is covers real here =
+    first_open elements tags o (λ index below place element tag wanted there free served. subst (λ o. IsNotAfter o (rank place element index tag)) is
+    (covers place (slice_get_within elements place element wanted) element index tag wanted there served)) (subst (IsReal elements tags) is real) here
 
 -- ---- what a walk has left
 

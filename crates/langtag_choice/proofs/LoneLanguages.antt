@@ -1,6 +1,5 @@
 -- A text that begins otherwise than a lone language, and not as `und` does, is far from it, and is not what it falls back to.
-use Rattle.std.proofs.Common.{◌≡◌, ℕ, ◌<◌, ◌≤◌, Bool, true, false, cond, ltb, not, ◌==◌, List, [], ◌∷◌, get_or, length, length-take, map, take, drop, Option, Some, None, option_map, refl, sym, ap, ◌∙◌, arith, rules}
-use Rattle.std.specs.Prelude.{◌&&◌, codes}
+use Rattle.std.proofs.Common.{◌≡◌, ℕ, ◌<◌, ◌≤◌, Bool, true, false, cond, ltb, not, ◌==◌, List, [], ◌∷◌, get_or, length, length-take, map, take, drop, Option, Some, None, option_map, refl, sym, ap, ◌∙◌, arith, rules, ◌&&◌, codes}
 use Rattle.std.specs.List.{after_first, before_first, list_all, position_or_len}
 use Rattle.std.proofs.lemmas.Bool.{and_from, and_parts, both_ways, eq-eqb, false_from_ne_true, ltb-true, or_parts, eqb-false, not-true}
 use Rattle.std.proofs.lemmas.List.Sums.{take_while-cons}
@@ -12,15 +11,15 @@ use Rattle.langtag_scan.specs.Class.{is_extended, is_letter, is_primary}
 use Rattle.langtag_tables.proofs.Letters.{primary_length}
 use Rattle.langtag_match.specs.Listed.{basic_text}
 use Rattle.langtag_match.specs.Wanted.{hyphened, is_separator}
-use Rattle.langtag_choice.specs.Lone.{HasNoExtended, begins_counted, IsShort, first_two, is_lone, lone_head, replacing}
+use Rattle.langtag_choice.specs.Lone.{HasNoExtended, IsShort, first_two, is_lone, lone_head, replacing}
 use Rattle.langtag_choice.specs.Distance.{distance_of_texts, is_among, language_distance}
 use Rattle.langtag_likely.specs.Likely.{Fields, Likely, are_alike_fields, known, language_alone, likely_for}
 use Rattle.langtag_likely.specs.Matching.{language_replaced, matching_fields, matching_form}
 use Rattle.langtag_choice.specs.MatchingData.{language_rules}
 use Rattle.langtag_likely.specs.Aliases.{language_aliases}
-use Rattle.langtag_choice.specs.Nearness.{is_fallback, kept}
+use Rattle.langtag_choice.specs.Nearness.{kept}
 use Rattle.langtag_choice.specs.Rules.{Rule, distance_by}
-use Rattle.langtag_likely.specs.TextFields.{counts, last_language, counted_parts, text_fields}
+use Rattle.langtag_likely.specs.TextFields.{last_language, counted_parts, text_fields}
 use Rattle.langtag_likely.proofs.AlikeFields.{by_options}
 use Rattle.langtag_choice.proofs.AlikeRanges.{matching_form-alike}
 use Rattle.langtag_likely.proofs.AliasTables.{aliases_lead}
@@ -96,11 +95,8 @@ extended_mark text long other = grind (arith, common_steps, longer)
 
 -- ---- the language of a text
 
-first_counts : (b : ℕ) (text : List ℕ) → begins_counted (b ∷ text) ≡ true → counts (before_first is_separator (b ∷ text)) ≡ true
-first_counts b text is = grind (arith, common_steps, or_parts, not-true, unmarked, some_length)
-
 no_extended : (text : List ℕ) → HasNoExtended text → (language : List ℕ) → last_language language (counted_parts text) ≡ language
-no_extended text none language = grind (arith, nat_tests, next_part, first_counts)
+no_extended text none language = grind (arith, nat_tests, next_part, or_parts, not-true, unmarked, some_length)
 
 -- a language that is there and is not that one
 record IsOther (one language : List ℕ) : Type 0 where
@@ -136,19 +132,15 @@ module _ (one : List ℕ) (letters : ℕ × ℕ) (begins : first_two one ≡ Som
       let leads = and_parts (ltb 0 (length row.to.language)) (list_all (λ row. ltb 0 (length row.to.language)) rows) lead in
       by_tests (are_alike_fields row.from key) (length row.from.language == 2) refl refl leads.0 apart (alias_other rows leads.1 key to two)
     where
-      later_row : are_alike_fields row.from key ≡ false → likely_for rows key ≡ Some to
-      later_row here = sym (ap (λ b. cond b (Some row.to) (likely_for rows key)) here) ∙ is
-
       by_tests :
           (b t : Bool) → are_alike_fields row.from key ≡ b → (length row.from.language == 2) ≡ t → ltb 0 (length row.to.language) ≡ true →
           is_among (cond t (row.to.language ∷ replacing rows) (replacing rows)) one ≡ false →
           (likely_for rows key ≡ Some to → is_among (replacing rows) one ≡ false → IsOther one to.language) → IsOther one to.language
-      by_tests false true here from leads apart later = later (later_row here) (or_parts (are_alike row.to.language one) (is_among (replacing rows) one) apart).1
-      by_tests false false here from leads apart later = later (later_row here) apart
+      by_tests false true here from leads apart later = later (cc) (or_parts (are_alike row.to.language one) (is_among (replacing rows) one) apart).1
+      by_tests false false here from leads apart later = later (cc) apart
       by_tests true false here from leads apart later =
           absurd (eqb-false (length row.from.language) 2 from (alike_length row.from.language key.language (and_parts (are_alike row.from.language key.language) _ here).0 ∙ two))
       by_tests true true here from leads apart later =
-          let same : Some row.to ≡ Some to = sym (ap (λ b. cond b (Some row.to) (likely_for rows key)) here) ∙ is in
           let to_is : row.to ≡ to = cc in
           rw (← to_is) (record {
             other = λ alike. both_ways _ (or_parts (are_alike row.to.language one) (is_among (replacing rows) one) apart).0 ((are_alike-decides row.to.language one).1 (sym alike));
@@ -200,31 +192,17 @@ form_alone range tag f some none = false_from_ne_true (are_alike range tag) (λ 
     by_options (λ a b. a ≡ Some f → b ≡ None → ⊥) (λ is not. cc) (λ a b alike is not. cc) _ _
     (matching_form-alike range tag ((are_alike-decides range tag).0 yes)) some none)
 
-lone_language : (f : Fields) (letters : ℕ × ℕ) → lone_head (Some f) ≡ Some letters → (is_lone f.language ≡ true) × (first_two f.language ≡ Some letters)
-lone_language f letters is = grind (arith, nat_tests)
-
 pub far_from_lone :
     (letters : ℕ × ℕ) (range tag : List ℕ) → lone_head (matching_form range) ≡ Some letters → IsShort tag → (first_two tag ≡ Some letters → ⊥) →
     50 ≤ distance_of_texts range tag
 unfolding distance_of_texts is_lone
 far_from_lone letters range tag lone short other =
-    grind (arith, nat_tests, form_alone range tag, language_far, form_other, lone_language, and_parts, or_parts, not-true)
+    grind (arith, nat_tests, form_alone range tag, language_far, form_other, and_parts, or_parts, not-true)
 
 -- ---- what look-up keeps
-
-head_length : (text : List ℕ) (letters : ℕ × ℕ) → first_two text ≡ Some letters → 2 ≤ length text
-head_length text letters is = grind (arith, nat_tests)
-
-pub starts_alike : (range tag : List ℕ) → 2 ≤ length tag → are_alike (take (length tag) range) tag ≡ true → first_two range ≡ first_two tag
-starts_alike range tag long is =
-    grind (arith, nat_tests, length-alike (take (length tag) range) tag, head-take (length tag) range, head-alike (take (length tag) range) tag)
-
--- what a range falls back to begins as the range does
-fallback_begins : (range tag : List ℕ) → 2 ≤ length tag → is_fallback range tag ≡ true → first_two range ≡ first_two tag
-fallback_begins range tag long fallback = grind (arith, common_steps, and_parts, starts_alike)
 
 pub nothing_kept :
     (letters begin : ℕ × ℕ) (range tag : List ℕ) → first_two range ≡ Some letters → first_two tag ≡ Some begin → (first_two tag ≡ Some letters → ⊥) → kept range tag ≡ 0
 unfolding kept
 nothing_kept letters begin range tag starts is other =
-    grind (arith, nat_tests, fallback_begins range tag (head_length tag begin is), head_length tag begin is)
+    grind (arith, nat_tests, and_parts, length-alike, head-take, head-alike)

@@ -1,7 +1,5 @@
 -- Where look-up finds a tag, one is chosen.
-use Rattle.std.proofs.Common.{◌≡◌, inl, inr, ℕ, zero, suc, ◌-◌, ◌<◌, ◌==◌, true, false, cond, not, nat_lt, List, [], ◌∷◌, ◌++◌, length, map, get_or, filter, Option, ap, refl, sym, ◌∙◌, arith}
-use Rattle.std.specs.List.{All}
-use Rattle.std.proofs.lemmas.Bool.{lt-ltb, eq-eqb}
+use Rattle.std.proofs.Common.{◌≡◌, inl, inr, ℕ, zero, suc, ◌-◌, ◌<◌, ◌==◌, true, false, cond, not, nat_lt, List, [], ◌∷◌, ◌++◌, length, map, get_or, filter, Option, ap, refl, sym, ◌∙◌, arith, All, lt-ltb, eq-eqb}
 use Rattle.std.proofs.lemmas.Bool.Decides.{eqb_tells, nat_tests}
 use Rattle.std.proofs.Math.Bool.{or-true}
 use Rattle.std.proofs.lemmas.List.{length-map}
@@ -14,7 +12,7 @@ use Rattle.langtag_match.specs.AcceptLanguage.{Element}
 use Rattle.langtag_match.specs.Fallback.{before_hyphens, ends_in_single, fallbacks}
 use Rattle.langtag_match.specs.Range.{is_star}
 use Rattle.langtag_choice.specs.Best.{IsChoice, is_wish, reach, serves}
-use Rattle.langtag_choice.specs.ChoiceLaws.{FallsBackTo, AnswersLookUp}
+use Rattle.langtag_choice.specs.ChoiceLaws.{AnswersLookUp}
 use Rattle.langtag_choice.specs.Nearness.{is_fallback, kept}
 use Rattle.std.proofs.Math.Seq.{take-append_seam, drop-append_seam, take-length, drop-length}
 use Rattle.langtag_match.proofs.Prefixes.{length-alike}
@@ -71,9 +69,6 @@ all_fall range =
     shorter_fallback range _ tag (All-filter (λ text. not (ends_in_single text)) (IsBefore range) (before_hyphens range) (all_before range) k d inside)
     (filter_passes (λ text. not (ends_in_single text)) (before_hyphens range) k d inside) alike)
 
-looked_up : (range tag : List ℕ) → FallsBackTo range tag → is_fallback range tag ≡ true
-looked_up range tag found = grind (arith, nat_tests, all_fall range)
-
 -- ---- that tag may serve the range
 
 some_kept : (range tag : List ℕ) → 0 < length tag → is_fallback range tag ≡ true → nat_lt 0 (kept range tag) ≡ true
@@ -87,4 +82,4 @@ served_by_look_up element tag wish star some = rw (wish, star, some, or-true (na
 
 pub look_up_answered : (elements : List Element) (tags : List (Option (List ℕ))) (answer : Option ℕ) → IsChoice elements tags answer → AnswersLookUp elements tags answer
 look_up_answered elements tags answer some place element index tag range_there wish star there free long found =
-    grind (arith, common_steps, served_by_look_up, some_kept, looked_up)
+    grind (arith, common_steps, served_by_look_up, some_kept, nat_tests, all_fall)

@@ -1,9 +1,8 @@
 -- The tables of language matching have the rows of the lists: by computation.
 use Rattle.std.proofs.Common.{◌≡◌, true, ltb, length, map, refl}
 use Rattle.std.specs.List.{list_all}
-use Rattle.langtag_scan.specs.Case.{fold_byte}
+use Rattle.langtag_scan.specs.Case.{fold_byte, folded_number}
 use Rattle.langtag_scan.specs.Class.{is_letter, is_digit}
-use Rattle.langtag_scan.specs.Case.{folded_number}
 use Rattle.langtag_tables.specs.Numbers.{letter_number}
 use Rattle.langtag_choice.specs.declared.matching_tables.TheConstants as table
 use Rattle.langtag_choice.specs.Distance.{maghreb, en_us, americas, cnsar}

@@ -1,6 +1,5 @@
 -- The numbers of two languages, and of two with their scripts, tell them apart but for case.
-use Rattle.std.proofs.Common.{◌≡◌, ℕ, ◌+◌, ◌*◌, ◌<◌, true, ◌==◌, Bool, ltb, ap, ◌∙◌, arith}
-use Rattle.std.specs.Prelude.{◌&&◌}
+use Rattle.std.proofs.Common.{◌≡◌, ℕ, ◌+◌, ◌*◌, ◌<◌, true, ◌==◌, Bool, ltb, ap, ◌∙◌, arith, ◌&&◌}
 use Rattle.std.proofs.lemmas.Bool.{and_parts, ltb-true, eq-eqb, ne_eqb}
 use Rattle.std.proofs.lemmas.Bool.Decides.{eqb_tells, nat_tests}
 use Rattle.langtag_scan.specs.Class.{are_letters}

@@ -1,9 +1,7 @@
 -- How ranks compare.
-use Rattle.std.proofs.Common.{◌≡◌, ℕ, ◌-◌, ◌==◌, ◌≤◌, true, false, ◌&&◌, ◌||◌, nat_lt, List, ap, refl, sym, ◌∙◌, arith}
+use Rattle.std.proofs.Common.{◌≡◌, ℕ, ◌-◌, ◌==◌, ◌≤◌, true, false, ◌&&◌, ◌||◌, nat_lt, List, ap, refl, sym, ◌∙◌, arith, Ordering, Less, Equal, Greater}
 use Rattle.std.specs.Cmp.Lexicographic.{bytes_decides, slice_cmp, texts_ties}
-use Rattle.std.specs.Ordering.{is_eq, is_gt, nat_cmp, ordering_reverse, ordering_then}
-use Rattle.std.specs.declared.cmp.Ordering.{Ordering}
-use Rattle.std.specs.declared.cmp.Ordering.TheVariants.{Less, Equal, Greater}
+use Rattle.std.specs.Ordering.{is_eq, is_gt, nat_cmp, ordering_reverse}
 use Rattle.std.proofs.lemmas.Bool.{and_parts, eqb-true, ltb-false, ltb-true, or_cases}
 use Rattle.std.proofs.lemmas.Bool.Decides.{eqb_tells, nat_tests}
 use Rattle.std.proofs.lemmas.Cmp.{nat_list_cmp_total}
@@ -27,10 +25,6 @@ both_at_most a b one other =
 
 -- ---- numbers in order
 
--- where the first numbers are not the other way round, and the rest is not either where they are equal
-pub le_then : (x y : ℕ) (rest : Ordering) → x ≤ y → (x ≡ y → is_gt rest ≡ false) → is_gt (ordering_then (nat_cmp x y) rest) ≡ false
-le_then x y rest le later = grind (arith, nat_tests, ltb-false, eqb_tells)
-
 -- ---- what was found
 
 pub reach_most : (range tag : List ℕ) → reach range tag ≤ 50
@@ -42,7 +36,7 @@ pub settled :
     (c : Candidate) (place : ℕ) (element : Element) (index : ℕ) (tag : List ℕ) → service_number c.rank.service ≤ service (reach element.range tag) →
     (nat_lt c.rank.lack (1000 - element.weight) || ((c.rank.lack == (1000 - element.weight)) && nat_lt c.rank.place place)) ≡ true → IsAtMost (rank_of c) (rank place element index tag)
 unfolding rank
-settled c place element index tag serves before = grind (arith, common_steps, or_cases, ltb-true, le_then, and_parts, eqb-true)
+settled c place element index tag serves before = grind (arith, common_steps, or_cases, ltb-true, and_parts, eqb-true, nat_tests, ltb-false, eqb_tells)
 
 -- a tag that is far, and that look-up does not find, does not serve
 pub cannot_serve : (element : Element) (tag : List ℕ) → 50 ≤ distance_of_texts element.range tag → kept element.range tag ≡ 0 → serves element tag ≡ false

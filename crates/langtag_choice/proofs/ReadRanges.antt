@@ -1,6 +1,5 @@
 -- Ranges as they are read: "_" as "-", and without each "-*".
-use Rattle.std.proofs.Common.{◌≡◌, ℕ, ◌-◌, ◌≤◌, Bool, true, false, not, ◌==◌, List, [], ◌∷◌, length, length-drop, length-take, take, drop, filter, refl, sym, ap, ◌∙◌, arith}
-use Rattle.std.specs.Prelude.{◌&&◌, ◌||◌, codes}
+use Rattle.std.proofs.Common.{◌≡◌, ℕ, true, not, ◌==◌, List, [], ◌∷◌, length, length-drop, length-take, take, drop, filter, refl, sym, ap, ◌∙◌, arith, ◌&&◌, ◌||◌, codes}
 use Rattle.std.proofs.lemmas.Bool.Decides.{nat_tests}
 use Rattle.std.proofs.lemmas.Grind.{common_steps}
 use Rattle.langtag_scan.specs.Case.{are_alike, fold_byte}
@@ -91,19 +90,9 @@ range_starts range tag left rest is = ap (λ p. length p.1 == 0) is ∙ sym (tag
 module _ (range tag left rest : List ℕ) (plain : BeginsPlain left) (is : (basic_text left, rest) ≡ after_common (basic_text range) tag) where
   -- a tag is what look-up falls back to if the range begins with it
   pub tag_begins : is_fallback (basic_text range) tag ≡ ((length rest == 0) && (ends_subtag (hyphened left) && ((length left == 0) || not (ends_in_single tag))))
-  tag_begins = by_test (length rest == 0) (tag_left (basic_text range) tag ∙ ap (λ p. length p.1 == 0) (sym is)) refl
-    where
-      by_test :
-          (test : Bool) → are_alike (take (length tag) (basic_text range)) tag ≡ (length rest == 0) → (length rest == 0) ≡ test →
-          is_fallback (basic_text range) tag ≡ (test && (ends_subtag (hyphened left) && ((length left == 0) || not (ends_in_single tag))))
-      by_test false alike some = rw (alike, some) refl
-      by_test true alike none =
-          let dropped : drop (length tag) (basic_text range) ≡ basic_text left = tag_dropped (basic_text range) tag (ap (λ p. length p.1 == 0) (sym is) ∙ none) ∙ ap (λ p. p.0) (sym is) in
-          let long = length-alike (take (length tag) (basic_text range)) tag ((are_alike-decides (take (length tag) (basic_text range)) tag).0 (alike ∙ none)) in
-          let within : length tag ≤ length (basic_text range) = omega (arith, long, length-take (length tag) (basic_text range)) in
-          let more : length (basic_text range) - length tag ≡ length (basic_text left) = sym (length-drop (length tag) (basic_text range)) ∙ ap length dropped in
-          let same : (length tag == length (basic_text range)) ≡ (length (basic_text left) == 0) = grind (arith, nat_tests) in
-          rw (alike, none, dropped, ends_read left plain, same, nothing_read left plain) refl
+  tag_begins =
+      let begin = take (length tag) (basic_text range) in
+      grind (arith, nat_tests, tag_left, tag_dropped, ends_read left plain, nothing_read left plain, length-alike begin tag, are_alike-decides begin tag, length-take, length-drop)
 
   -- a tag begins with a range, and ends or goes on with a hyphen
   pub range_begins : (are_alike (basic_text range) (take (length (basic_text range)) tag) && ends_subtag (drop (length (basic_text range)) tag)) ≡ ((length left == 0) && ends_subtag rest)

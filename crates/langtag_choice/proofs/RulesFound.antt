@@ -1,20 +1,17 @@
 -- A rule is found by the number of what it is for, and a text among others by its own.
-use Rattle.std.proofs.Common.{◌≡◌, ℕ, ◌<◌, true, false, ◌==◌, Bool, cond, ltb, List, [], ◌∷◌, length, get_or, map, refl, ap, ◌∙◌, arith, rules}
+use Rattle.std.proofs.Common.{◌≡◌, ℕ, ◌<◌, true, false, ◌==◌, Bool, ltb, List, [], ◌∷◌, length, get_or, map, refl, arith, rules, ◌&&◌, is_some}
 use Rattle.std.specs.Option.{option_map_or}
-use Rattle.std.specs.Prelude.{◌&&◌, is_some}
 use Rattle.std.specs.List.{list_all}
 use Rattle.std.proofs.lemmas.Bool.{and_parts, ltb-true, false_from_ne_true}
 use Rattle.std.proofs.lemmas.Grind.{common_steps}
 use Rattle.langtag_scan.specs.Case.{folded_number}
 use Rattle.langtag_scan.specs.Class.{are_alphanumeric}
-use Rattle.langtag_scan.specs.Case.{folded_number}
 use Rattle.langtag_scan.proofs.FoldedNumbers.{folded_number-tells}
 use Rattle.langtag_choice.specs.Distance.{is_among}
 use Rattle.langtag_likely.specs.Likely.{Fields, are_alike_fields}
 use Rattle.langtag_likely.specs.Numbers.{first_index}
 use Rattle.langtag_choice.specs.Rules.{Rule, fits, distance_by}
 use Rattle.langtag_likely.proofs.RowsFound.{alike_length}
-use Rattle.std.proofs.Math.Bool.{and-false}
 use Rattle.std.proofs.lemmas.Bool.Decides.{nat_tests}
 
 abbrev pub distance_of : Rule → ℕ
@@ -40,18 +37,12 @@ long_apart a b long short = grind (arith, common_steps, false_from_ne_true, alik
 pub long_desired : (otherwise : ℕ) (rules : List Rule) (desired supported : Fields) → 3 < length desired.language → list_all is_short rules ≡ true → distance_by rules otherwise desired supported ≡ otherwise
 long_desired otherwise [] desired supported long all = refl
 long_desired otherwise (rule ∷ rules) desired supported long all =
-    let k = and_parts (is_short rule) (list_all is_short rules) all in
-    ap (λ b. cond b rule.distance (distance_by rules otherwise desired supported)) (ap (λ b. b && are_alike_fields rule.supported supported) (long_apart rule.desired desired long (and_parts (ltb (length rule.desired.language) 4) (ltb (length rule.supported.language) 4) k.0).0))
-    ∙ long_desired otherwise rules desired supported long k.1
+    grind (arith, nat_tests, and_parts, long_apart rule.desired desired long, long_desired otherwise rules desired supported long)
 
 pub long_supported : (otherwise : ℕ) (rules : List Rule) (desired supported : Fields) → 3 < length supported.language → list_all is_short rules ≡ true → distance_by rules otherwise desired supported ≡ otherwise
 long_supported otherwise [] desired supported long all = refl
 long_supported otherwise (rule ∷ rules) desired supported long all =
-    let k = and_parts (is_short rule) (list_all is_short rules) all in
-    let s = and_parts (ltb (length rule.desired.language) 4) (ltb (length rule.supported.language) 4) k.0 in
-    ap (λ b. cond b rule.distance (distance_by rules otherwise desired supported))
-    (ap (λ b. are_alike_fields rule.desired desired && b) (long_apart rule.supported supported long s.1) ∙ and-false (are_alike_fields rule.desired desired))
-    ∙ long_supported otherwise rules desired supported long k.1
+    grind (arith, nat_tests, and_parts, long_apart rule.supported supported long, long_supported otherwise rules desired supported long)
 
 -- ---- a text among others
 

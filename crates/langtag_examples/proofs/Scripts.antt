@@ -1,7 +1,6 @@
 -- A script that is set and set back.
-use Rattle.std.proofs.Common.{◌≡◌, ℕ, List, Option, Some, None, Result, Ok, Err, sym, ap, ◌∙◌}
+use Rattle.std.proofs.Common.{◌≡◌, ℕ, List, Option, Some, None, Result, Ok, Err, sym, ap, ◌∙◌, OnOk, OnErr}
 use Rattle.std.specs.Option.{option_or}
-use Rattle.std.specs.Result.{OnOk, OnErr}
 use Rattle.langtag.specs.Edit.{with_script}
 use Rattle.langtag.specs.Record.{EachRecord, Spells, spell}
 use Rattle.langtag.specs.Tag.{IsNormal}
@@ -26,10 +25,6 @@ pub found_second : (first second found : Option (List ℕ)) → first ≡ None �
 found_second first second found none is = is ∙ sym (ap (λ o. option_or o second) none)
 
 -- what holds however a call ends holds where it succeeds, and where it fails
-pub OnOk-anyway : {T E P : Type 0} (result : Result T E) → P → OnOk result P
-OnOk-anyway (Ok value) p = p
-OnOk-anyway (Err error) p = tt
-
-pub OnErr-anyway : {T E P : Type 0} (result : Result T E) → P → OnErr result P
-OnErr-anyway (Ok value) p = tt
-OnErr-anyway (Err error) p = p
+pub holds_anyway : {T E P : Type 0} (result : Result T E) → P → OnOk result P × OnErr result P
+holds_anyway (Ok value) p = (p, tt)
+holds_anyway (Err error) p = (tt, p)

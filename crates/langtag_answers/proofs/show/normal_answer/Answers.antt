@@ -1,8 +1,8 @@
-use Rattle.std.proofs.Common.{◌∙◌, ap}
+use Rattle.std.proofs.Common.{◌∙◌, ap, refl, sym}
 use Rattle.langtag_scan.proofs.SpelledTexts.{offsets_kept}
 use Rattle.langtag_scan.specs.Tag.{IsNormal}
 use Rattle.langtag_answers.specs.ShowAnswer.{part_or_nothing}
-use Rattle.langtag_answers.proofs.KindAnswers.{answer_normal, said_yes, said_no}
+use Rattle.langtag_answers.proofs.KindAnswers.{answer_normal}
 use Rattle.langtag_answers.proofs.show.normal_answer.Goals as goal
 use Rattle.langtag_answers.proofs.show.normal_answer.Goals.{then-has_repeats, else-has_repeats}
 
@@ -19,6 +19,6 @@ returns c =
     (c.as_str-3.ensures.same_text ∙ c.extensions.ensures r is)
     (c.private_use_or_nothing.ensures ∙ ap part_or_nothing (c.private_use.ensures r is))
     (elim c.if-has_repeats.branch [
-      | then-has_repeats w ↦ rw w.result-is (said_yes _ _ w.if-has_repeats.true repeats)
-      | else-has_repeats w ↦ rw w.result-is (said_no _ _ w.if-has_repeats.false repeats)
+      | then-has_repeats w ↦ rw (w.result-is, sym repeats ∙ w.if-has_repeats.true) refl
+      | else-has_repeats w ↦ rw (w.result-is, sym repeats ∙ w.if-has_repeats.false) refl
     ])

@@ -1,12 +1,13 @@
-use Rattle.langtag_choice.proofs.FoundLaws.{first_chosen, first_open, none_first}
+use Rattle.std.proofs.Common.{None, Some}
+use Rattle.langtag_choice.proofs.FoundLaws.{first_best, first_open}
 use Rattle.langtag_choice.proofs.best.best.Goals as goal
 
 pub returns-in_default : goal.returns-in_default
-returns-in_default g c = λ pair. none_first _ _ _ c.in_default.is c.first_by_ranges-has_zero.ensures.least pair
+returns-in_default g c = first_best _ _ _ None c.in_default.is c.first_by_ranges-has_zero.ensures.least c.first_by_ranges-has_zero.ensures.real tt
 
 pub returns-then-is_chosen : goal.returns-then-is_chosen
 returns-then-is_chosen g c =
-    first_chosen _ _ _ c.in-Some.found c.in-Some.is c.first_by_ranges-has_zero.ensures.least c.first_by_ranges-has_zero.ensures.real (c.is_chosen.ensures c.if-is_chosen.true)
+    first_best _ _ _ (Some c.in-Some.found) c.in-Some.is c.first_by_ranges-has_zero.ensures.least c.first_by_ranges-has_zero.ensures.real (c.is_chosen.ensures c.if-is_chosen.true)
 
 pub returns : goal.returns
 returns g c = first_open _ _ _ c.first_by_tags.ensures.least c.first_by_tags.ensures.real c.first_by_tags.ensures.unrefused

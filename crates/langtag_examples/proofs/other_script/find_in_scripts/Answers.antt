@@ -1,5 +1,4 @@
-use Rattle.std.proofs.Common.{◌≡◌, Some, None, sym, ap, ◌∙◌, inl, subst, arith}
-use Rattle.std.specs.Option.{option_map}
+use Rattle.std.proofs.Common.{◌≡◌, Some, None, sym, ap, ◌∙◌, inl, subst, arith, option_map}
 use Rattle.std.proofs.lemmas.Result.{IfOk-weaker}
 use Rattle.std.proofs.lemmas.Grind.{common_steps}
 use Rattle.langtag.specs.Edit.{with_script}
@@ -9,7 +8,7 @@ use Rattle.langtag.specs.Tag.{IsNormal}
 use Rattle.langtag.specs.Text.{normal_lang_tag_buf_text}
 use Rattle.langtag_examples.specs.Catalogue.{text_for}
 use Rattle.langtag.proofs.TagLaws.{tag_normal}
-use Rattle.langtag_examples.proofs.Scripts.{script_set_back, found_first, found_second, OnOk-anyway, OnErr-anyway}
+use Rattle.langtag_examples.proofs.Scripts.{script_set_back, found_first, found_second, holds_anyway}
 use Rattle.langtag_examples.proofs.other_script.find_in_scripts.Goals as goal
 
 pub returns-in-Some-clause-found : goal.returns-in-Some-clause-found
@@ -32,7 +31,7 @@ returns c =
           (λ text other. λ r spells. found_second _ _ _ (ap (text_for c.args.catalogue.now) spells.1 ∙ none)
           (other (tag_normal c.as_str-2.result.now c.as_str-2.ensures.in_class) ∙ ap (text_for c.args.catalogue.now) (c.as_str-2.ensures.same_text ∙ sym (c.in_ok-old.ensures.set r spells).1)))
           c.find-text.ensures.found;
-      set_back = OnOk-anyway c.find-text.result back;
-      not_lost = OnErr-anyway c.find-text.result (inl back);
-      without_script = OnErr-anyway c.find-text.result (λ r spells none. back);
+      set_back = (holds_anyway c.find-text.result back).0;
+      not_lost = (holds_anyway c.find-text.result (inl back)).1;
+      without_script = (holds_anyway c.find-text.result (λ r spells none. back)).1;
     }

@@ -1,5 +1,5 @@
-use Rattle.std.proofs.Common.{List, ℕ, Option, Some, None, IfSome, All, Contains, inl, inr, sym, subst}
-use Rattle.std.proofs.lemmas.List.{take_all}
+use Rattle.std.proofs.Common.{arith, List, ℕ, Option, IfSome, All, Contains, sym, subst, take_all}
+use Rattle.std.proofs.lemmas.Grind.{common_steps}
 use Rattle.std.proofs.lemmas.List.Elements.{All-more, Contains-get_or}
 use Rattle.langtag.specs.Text.{lang_tag_text}
 use Rattle.langtag.specs.declared.lang_tag.LangTag.{LangTag}
@@ -8,9 +8,7 @@ use Rattle.langtag_examples.proofs.prefix.longest_prefix.Goals as goal
 
 found_from : (tags : List LangTag) (wanted : List ℕ) (old : Option LangTag) (tag : LangTag) (new : Option LangTag) →
     Contains tags tag → IfSome old (IsPrefixAmong tags wanted) → IfSome new (IsFrom wanted old tag) → IfSome new (IsPrefixAmong tags wanted)
-found_from tags wanted old tag None among before from = tt
-found_from tags wanted old tag (Some t) among before (inl is) = let P : Option LangTag → Type 0 = λ o. IfSome o (IsPrefixAmong tags wanted) in subst P is before
-found_from tags wanted old tag (Some t) among before (inr (is, prefix)) = let P : LangTag → Type 0 = IsPrefixAmong tags wanted in subst P (sym is) (among, prefix)
+found_from tags wanted old tag new among before from = grind (arith, common_steps)
 
 pub loop-tag-preserved : goal.loop-tag-preserved
 loop-tag-preserved c =

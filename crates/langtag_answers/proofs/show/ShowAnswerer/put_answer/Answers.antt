@@ -1,7 +1,7 @@
-use Rattle.std.proofs.Common.{◌≡◌, ◌∙◌, false, true, refl}
+use Rattle.std.proofs.Common.{◌≡◌, ◌∙◌, ◌++◌, [], codes, false, flat_map, true, refl, subst}
 use Rattle.std.proofs.lemmas.Result.{on_ok_weaker}
-use Rattle.langtag_answers.specs.ShowAnswer.{refused}
-use Rattle.langtag_answers.proofs.KindAnswers.{answer_same, answer_private, answer_irregular}
+use Rattle.langtag_answers.specs.ShowAnswer.{IsShowAnswer, refused}
+use Rattle.langtag_answers.proofs.KindAnswers.{answer_private, answer_irregular}
 use Rattle.langtag_lines.proofs.Written.{Answers-one}
 use Rattle.langtag_answers.proofs.show.ShowAnswerer.put_answer.Goals as goal
 
@@ -11,7 +11,7 @@ returns-in_default-clause-ok g c =
 
 pub returns-in-Normal-clause-ok : goal.returns-in-Normal-clause-ok
 returns-in-Normal-clause-ok g c =
-    let is = answer_same _ _ _ (c.in-Normal.ensures ∙ c.in-Ok.ensures.same_text) c.normal_answer.ensures in
+    let is = subst (λ line. IsShowAnswer line (flat_map (λ piece. piece.now) c.normal_answer.result)) (c.in-Normal.ensures ∙ c.in-Ok.ensures.same_text) c.normal_answer.ensures in
     on_ok_weaker c.put_line-in-Normal.result (λ gained. Answers-one _ _ _ _ is gained) c.put_line-in-Normal.ensures.ok
 
 pub returns-in-PrivateUse-clause-ok : goal.returns-in-PrivateUse-clause-ok
@@ -21,5 +21,5 @@ returns-in-PrivateUse-clause-ok g c =
 
 pub returns-in-Grandfathered-clause-ok : goal.returns-in-Grandfathered-clause-ok
 returns-in-Grandfathered-clause-ok g c =
-    let is = answer_same _ _ _ c.in-Ok.ensures.same_text (answer_irregular _ _ _ c.in-Grandfathered.ensures c.as_str-in-Grandfathered.ensures) in
+    let is = subst (λ line. IsShowAnswer line (codes "irregular " ++ (c.as_str-in-Grandfathered.result.now ++ []))) c.in-Ok.ensures.same_text (answer_irregular _ _ _ c.in-Grandfathered.ensures c.as_str-in-Grandfathered.ensures) in
     on_ok_weaker c.put_line-in-Grandfathered.result (λ gained. Answers-one _ _ _ _ is gained) c.put_line-in-Grandfathered.ensures.ok
