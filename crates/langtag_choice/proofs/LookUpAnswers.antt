@@ -1,5 +1,5 @@
 -- Where look-up finds a tag, one is chosen.
-use Rattle.std.proofs.Common.{◌≡◌, inl, inr, ℕ, zero, suc, ◌-◌, ◌<◌, ◌==◌, true, false, cond, not, nat_lt, List, [], ◌∷◌, ◌++◌, length, map, get_or, filter, Option, ap, refl, sym, ◌∙◌, arith, All, lt-ltb, eq-eqb}
+use Rattle.std.proofs.Common.{◌≡◌, inl, inr, ℕ, ◌-◌, ◌<◌, ◌==◌, true, false, cond, not, nat_lt, List, [], ◌∷◌, ◌++◌, length, map, get_or, filter, Option, ap, refl, sym, ◌∙◌, arith, All, lt-ltb, eq-eqb}
 use Rattle.std.proofs.lemmas.Bool.Decides.{eqb_tells, nat_tests}
 use Rattle.std.proofs.Math.Bool.{or-true}
 use Rattle.std.proofs.lemmas.List.{length-map}
@@ -14,6 +14,7 @@ use Rattle.langtag_match.specs.Range.{is_star}
 use Rattle.langtag_choice.specs.Best.{IsChoice, is_wish, reach, serves}
 use Rattle.langtag_choice.specs.ChoiceLaws.{AnswersLookUp}
 use Rattle.langtag_choice.specs.Nearness.{is_fallback, kept}
+use Rattle.std.proofs.Math.ListN.{get_or-map}
 use Rattle.std.proofs.Math.Seq.{take-append_seam, drop-append_seam, take-length, drop-length}
 use Rattle.langtag_match.proofs.Prefixes.{length-alike}
 
@@ -36,14 +37,9 @@ all_before (b ∷ text) =
     (All-map (IsBefore (b ∷ text)) (λ t. b ∷ t) (before_hyphens text) (λ k d inside. let before = all_before text k d inside in (before.0, ap (λ t. b ∷ t) (before.1))))
     (hyphen_here b text)
 
-get_or-fold : (text : List ℕ) (k : ℕ) → get_or (fold_text text) k 0 ≡ fold_byte (get_or text k 0)
-unfolding fold_byte
-get_or-fold [] k = refl
-get_or-fold (b ∷ text) zero = refl
-get_or-fold (b ∷ text) (suc k) = get_or-fold text k
-
 pub ends_in_single-fold : (text : List ℕ) → ends_in_single (fold_text text) ≡ ends_in_single text
-ends_in_single-fold text = rw (length-map text fold_byte, get_or-fold text (length text - 2), hyphen-fold (get_or text (length text - 2) 0)) refl
+unfolding fold_byte
+ends_in_single-fold text = rw (length-map text fold_byte, get_or-map fold_byte text (length text - 2) 0, hyphen-fold (get_or text (length text - 2) 0)) refl
 
 pub ends_in_single-alike : (a b : List ℕ) → Alike a b → ends_in_single a ≡ ends_in_single b
 ends_in_single-alike a b alike = sym (ends_in_single-fold a) ∙ ap ends_in_single alike ∙ ends_in_single-fold b
