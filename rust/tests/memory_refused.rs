@@ -110,7 +110,10 @@ fn tags_in_another_form() {
         refuse_each("maximized", || is_memory(maximized(tag)));
         refuse_each("minimized", || is_memory(minimized(tag)));
         refuse_each("form of extensions", || is_memory(extensions_form(tag)));
-        refuse_each("form as a locale", || is_memory(locale_form(tag)));
+        // A tag without a form, such as x-a, requests no memory.
+        if locale_form(tag).unwrap().is_some() {
+            refuse_each("form as a locale", || is_memory(locale_form(tag)));
+        }
         refuse_each("recommended case", || {
             is_memory(tag.try_to_recommended_case())
         });
