@@ -13,8 +13,8 @@ HEAD = """# Unicode's cases of the canonical form of a locale identifier (UTS #3
 # testData/localeIdentifiers/{name} of CLDR {version}, Copyright (c) 1991-2025 Unicode, Inc.
 # SPDX-License-Identifier: Unicode-3.0 (the notice: unicode/LICENSE-UNICODE). Written by unicode/generate.py. Do not edit.
 #
-# CLDR writes `_` for the hyphen. {count} rows have another language than CLDR: it makes Norwegian Sign Language, `sgn-NO`, the Nigerian
-# `nsi`, and IANA's registry makes it `nsl`.
+# CLDR writes `_` for the hyphen. In {count} rows the language differs from CLDR's: for Norwegian Sign Language, `sgn-NO`, CLDR has `nsi`,
+# which is Nigerian, and IANA's registry has `nsl`.
 #
 #     locale-form TAG    the canonical form of a Unicode locale identifier
 """
