@@ -21,7 +21,6 @@ use langtag_range::is_range;
 ///
 /// ```
 /// use langtag::LangTag;
-use langtag_range::is_range;
 /// use langtag_match::{look_up, LanguageRange};
 ///
 /// let ranges = [LanguageRange::new("nl")?, LanguageRange::new("zh-Hant-CN")?];
