@@ -16,9 +16,9 @@ use crate::forms::tag_of;
 use crate::modifiers::{modifier_script, modifier_variant, script_of};
 use crate::posix_error::PosixError;
 use langtag::{LangTag, LangTagBuf, Part, write_part};
-use langtag_range::locale_place;
 use langtag_output::write_text;
 use langtag_place::{Script, Variants};
+use langtag_range::locale_place;
 use langtag_scan::{split_at_byte, split_at_either};
 use std::alloc::{AllocError, Global};
 

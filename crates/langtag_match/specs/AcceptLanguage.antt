@@ -1,7 +1,6 @@
 -- The Accept-Language header (RFC 9110 section 12.5.4): #( language-range [ weight ] ).
-use Rattle.std.specs.Prelude.{◌≡◌, ℕ, ◌+◌, ◌≤◌, ◌==◌, Bool, false, ◌||◌, if◌then◌else◌, IsTrue, List, [], ◌∷◌, ◌++◌, Option, Some, None, is_some, reverse, filter, map, nat_lt, length, count_by, take, slice_get}
-use Rattle.std.specs.List.{slice_range, list_all, list_any, slice_split, before_first, after_first, filter_map}
-use Rattle.std.specs.Option.{option_map}
+use Rattle.std.specs.Prelude.{◌≡◌, ℕ, ◌+◌, ◌≤◌, Bool, false, ◌||◌, if◌then◌else◌, IsTrue, List, ◌++◌, Some, is_some, filter, map, nat_lt, length, count_by, take, slice_get}
+use Rattle.std.specs.List.{slice_range, list_all, filter_map}
 use Rattle.std.specs.Borrow.{Bor}
 use Rattle.langtag_range.specs.Element.{Element, is_ows, is_comma, items, element, range_of}
 use Rattle.langtag_range.specs.Range.{is_basic_range}

@@ -14,8 +14,8 @@ use crate::prefixes::extlang_prefix;
 use crate::tables::VARIANT_PREFIXES;
 use langtag::NormalLangTag;
 use langtag_language::ExtendedLangTag;
-use langtag_range::matches_extended;
 use langtag_place::Variant;
+use langtag_range::matches_extended;
 use langtag_scan::folded_number;
 
 /// Returns the first variant of a tag that follows none of its prefixes (the field Prefix, RFC 5646 section 3.1.8).
