@@ -54,6 +54,7 @@ mod repeats;
 mod text_of_parts;
 mod typed_lang_tag;
 mod variant_blocks;
+mod written;
 
 pub use edit_error::EditError;
 pub use grandfathered::{GRANDFATHERED, GrandfatheredLangTag, InvalidGrandfatheredTag};
@@ -93,5 +94,6 @@ pub use refusal::{Refusal, RefusalKind};
 pub use repeats::is_among_first;
 pub use typed_lang_tag::TypedLangTag;
 
-// For langtag_likely and langtag_c.
+// For langtag_registry, langtag_likely, langtag_unicode and langtag_c.
 pub use part::write_part;
+pub use written::tag_of;

@@ -1,7 +1,6 @@
 //! The maximal and minimal forms of a tag (UTS #35, part 1, section 'Likely Subtags').
 ghost use Rattle.std.specs.Prelude.{◌≡◌, ◌+◌, ◌-◌, ◌^◌, length, min, IfOk};
 ghost use Rattle.langtag.specs.Text.{lang_tag_text, lang_tag_buf_text};
-ghost use Rattle.langtag_scan.specs.Tag.{IsTag};
 ghost use Rattle.langtag_output.specs.Writes.{Writes};
 ghost use Rattle.langtag_likely.specs.Maximal.{IsMaximalForm, IsMinimalForm, IsOnlyForm, maximal_record, minimal_record};
 ghost use Rattle.langtag_likely.specs.MaximalLaws.{IsAlikeForm, KeepsOthers, TellsAsMaximal, UndoesMaximal, UndoesMinimal};
@@ -9,7 +8,7 @@ ghost use Rattle.langtag_likely.specs.MaximalLaws.{IsAlikeForm, KeepsOthers, Tel
 use crate::likely::{add_likely, remove_likely};
 use crate::put::write_changed;
 use crate::tag_fields::TagFields;
-use langtag::{LangTag, LangTagBuf};
+use langtag::{LangTag, LangTagBuf, tag_of};
 use langtag_output::write_text;
 use std::alloc::{AllocError, Global};
 
@@ -131,18 +130,4 @@ fn minimal_bytes(alloc: Global, tag: LangTag<'_>) -> Result<Vec<u8>, AllocError>
     let len = write_minimized(tag, &mut bytes);
     bytes.truncate(len);
     Ok(bytes)
-}
-
-/// Converts bytes that are known to be a tag into that tag.
-pub(crate) fn tag_of(bytes: Vec<u8>) -> LangTagBuf
-    requires { IsTag bytes.items }
-    ensures { lang_tag_buf_text result ≡ bytes.items }
-{
-    let Ok(text) = String::from_utf8(bytes) else {
-        unreachable!()
-    };
-    let Ok(form) = LangTagBuf::new(text) else {
-        unreachable!()
-    };
-    form
 }

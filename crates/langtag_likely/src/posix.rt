@@ -12,10 +12,9 @@ ghost use Rattle.langtag_output.specs.Writes.{Writes};
 ghost use Rattle.langtag_likely.specs.Maximal.{IsForm};
 ghost use Rattle.langtag_likely.specs.Posix.{IsLocalePlace, IsRefusal, IsTagOfName, NamesTag, modifier_of, script_behind, with_said_script, with_said_variant};
 
-use crate::forms::tag_of;
 use crate::modifiers::{modifier_script, modifier_variant, script_of};
 use crate::posix_error::PosixError;
-use langtag::{LangTag, LangTagBuf, Part, write_part};
+use langtag::{LangTag, LangTagBuf, Part, tag_of, write_part};
 use langtag_output::write_text;
 use langtag_place::{Script, Variants};
 use langtag_range::locale_place;

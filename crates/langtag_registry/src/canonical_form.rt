@@ -14,7 +14,7 @@ ghost use Rattle.langtag_output.specs.Writes.{Writes};
 use crate::canonical_parts::put_canonical_parts;
 use crate::form::{Form, form_of};
 use crate::preferred::preferred_for;
-use langtag::{LangTag, LangTagBuf, NormalLangTag};
+use langtag::{LangTag, LangTagBuf, NormalLangTag, tag_of};
 use langtag_output::write_text;
 use std::alloc::{AllocError, Global};
 
@@ -136,13 +136,7 @@ fn parts_as_tag(
     requires { IsCanonicalAs (lang_tag_text tag) (Parts normal) }
     ensures { IfOk result (λ form. IsCanonicalForm (lang_tag_text tag.entry) (lang_tag_buf_text form)) }
 {
-    let Ok(text) = String::from_utf8(parts_as_bytes(alloc, tag, normal)?) else {
-        unreachable!()
-    };
-    let Ok(form) = LangTagBuf::new(text) else {
-        unreachable!()
-    };
-    Ok(form)
+    Ok(tag_of(parts_as_bytes(alloc, tag, normal)?))
 }
 
 /// Returns the bytes of the canonical form, as [`parts_as_tag`] describes it.

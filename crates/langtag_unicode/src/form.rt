@@ -13,7 +13,6 @@ ghost use Rattle.langtag_private.specs.Text.{private_use_text};
 ghost use Rattle.langtag_scan.proofs.SubtagFacts.{IsSubtag};
 ghost use Rattle.langtag_scan.specs.Record as model;
 ghost use Rattle.langtag_scan.specs.Subtags.{join, subtags};
-ghost use Rattle.langtag_scan.specs.Tag.{IsTag};
 ghost use Rattle.langtag_unicode.specs.Form as spec;
 ghost use Rattle.langtag_unicode.specs.FormLaws.{OrderChangesNothing};
 ghost use Rattle.langtag_unicode.specs.Keywords.{is_key};
@@ -26,7 +25,7 @@ use crate::keyword_form::push_keywords;
 use crate::subtags::preceding;
 use crate::transform_form::{is_transform, push_transform};
 use langtag::{
-    Extension, Extensions, LangTag, LangTagBuf, NormalLangTag, PrivateUse, into_smallcase,
+    Extension, Extensions, LangTag, LangTagBuf, NormalLangTag, PrivateUse, into_smallcase, tag_of,
 };
 use langtag_output::{Output, write_text};
 use std::alloc::{AllocError, Global};
@@ -65,20 +64,6 @@ pub fn extensions_form(alloc: Global, tag: LangTag<'_>) -> Result<LangTagBuf, Al
     ensures alike { IfOk result (λ form. IsAlikeForm spec.IsExtensionsForm (lang_tag_text tag.entry) (lang_tag_buf_text form)) }
 {
     Ok(tag_of(form_bytes(alloc, tag)?))
-}
-
-/// Converts bytes that are known to be a tag into that tag.
-pub(crate) fn tag_of(bytes: Vec<u8>) -> LangTagBuf
-    requires { IsTag bytes.items }
-    ensures { lang_tag_buf_text result ≡ bytes.items }
-{
-    let Ok(text) = String::from_utf8(bytes) else {
-        unreachable!()
-    };
-    let Ok(form) = LangTagBuf::new(text) else {
-        unreachable!()
-    };
-    form
 }
 
 /// Returns the bytes of the form.

@@ -9,12 +9,11 @@ ghost use Rattle.langtag_scan.specs.Tag.{IsNormal};
 ghost use Rattle.langtag_unicode.specs.Edit as spec;
 ghost use Rattle.langtag_unicode.specs.EditText.{edited_record_by, is_allowed};
 
-use crate::form::tag_of;
 use crate::keyword_edit::KeywordEdit;
 use crate::keyword_error::KeywordError;
 use crate::keyword_setters::{keyword_error, put_parts};
 use crate::set_keyword_error::SetKeywordError;
-use langtag::{LangTagBuf, NormalLangTag};
+use langtag::{LangTagBuf, NormalLangTag, tag_of};
 use std::alloc::{AllocError, Global};
 
 /// Sets the value of a key of the extension `u` (RFC 6067 section 2.1): with `buddhist` for `ca`, `de-x-a` becomes

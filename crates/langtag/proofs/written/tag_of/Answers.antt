@@ -1,7 +1,7 @@
 use Rattle.std.proofs.Common.{IsOk, subst}
 use Rattle.std.proofs.lemmas.Bool.{false≢true}
 use Rattle.langtag_scan.proofs.Ascii.{IsUtf8-tag}
-use Rattle.langtag_likely.proofs.forms.tag_of.Goals as goal
+use Rattle.langtag.proofs.written.tag_of.Goals as goal
 
 pub unreachable-requires : goal.unreachable-requires
 unreachable-requires c = false≢true (subst IsOk c.in_default.is (c.from_utf8.ensures.succeeds (IsUtf8-tag _ c.requires)))
