@@ -14,7 +14,7 @@ use Rattle.langtag_registry.specs.Canonical.{singletons, in_order, canonical_pri
 use Rattle.langtag_registry.specs.Fields.{preferred_region, preferred_variant, preferred_tag}
 use Rattle.langtag_registry.specs.Subtags.{tag_preferred}
 use Rattle.langtag_registry.proofs.ReplacedSubtags.{replaced, replaced-alike, IgnoresCase, value_for-alike, language-alike, region-alike, variant-alike, extlang-alike, registered_extlang-alike}
-use Rattle.langtag_registry.proofs.TwiceLaws.{Way, as_whole, as_it_is, by_parts, way_of}
+use Rattle.langtag_registry.proofs.TwiceLaws.{Way, as_whole, as_it_is, by_parts, way_of, form_of}
 use Rattle.langtag_registry.proofs.ExtensionOrder.{those_of}
 
 -- ---- what is folded once is folded
@@ -35,32 +35,18 @@ region-fold o = grind (arith, common_steps, replaced-alike preferred_region regi
 
 variants-fold : (vs : List (List ℕ)) → map fold_text (canonical_variants (map fold_text vs)) ≡ map fold_text (canonical_variants vs)
 variants-fold [] = refl
-variants-fold (v ∷ vs) =
-    ap (λ z. z ∷ map fold_text (canonical_variants (map fold_text vs))) (replaced-alike preferred_variant variant-alike (fold_text v) v (fold_text-twice v))
-    ∙ ap (λ zs. fold_text (replaced preferred_variant v) ∷ zs) (variants-fold vs)
+variants-fold (v ∷ vs) = grind (arith, common_steps, replaced-alike preferred_variant variant-alike (fold_text v) v, fold_text-twice v, variants-fold vs)
 
 of_singleton-fold :
     (b : ℕ) (es : List Extension) → map fold_extension (those_of b (map fold_extension es)) ≡ map fold_extension (those_of b es)
 of_singleton-fold b [] = refl
-of_singleton-fold b (e ∷ es) =
-    let folded = those_of b (map fold_extension es) in
-    ap (λ c. map fold_extension (cond (fold_byte b == c) (fold_extension e ∷ folded) folded)) (fold_byte-twice e.singleton)
-    ∙ by_test (are_alike_bytes b e.singleton) folded (those_of b es) (of_singleton-fold b es)
-  where
-    by_test :
-        (t : Bool) (folded others : List Extension) → map fold_extension folded ≡ map fold_extension others →
-        map fold_extension (cond t (fold_extension e ∷ folded) folded) ≡ map fold_extension (cond t (e ∷ others) others)
-    by_test t folded others later = grind (arith, common_steps, fold_byte-twice, map-twice, fold_text-twice)
+of_singleton-fold b (e ∷ es) = grind (arith, common_steps, fold_byte-twice, map-twice, fold_text-twice, of_singleton-fold b es)
 
 of_singletons-fold :
     (bs : List ℕ) (es : List Extension) →
     map fold_extension (flat_map (λ b. those_of b (map fold_extension es)) bs) ≡ map fold_extension (flat_map (λ b. those_of b es) bs)
 of_singletons-fold [] es = refl
-of_singletons-fold (b ∷ bs) es =
-    map-append fold_extension (those_of b (map fold_extension es)) _
-    ∙ ap (λ z. z ++ map fold_extension (flat_map (λ c. those_of c (map fold_extension es)) bs)) (of_singleton-fold b es)
-    ∙ ap (λ z. map fold_extension (those_of b es) ++ z) (of_singletons-fold bs es)
-    ∙ sym (map-append fold_extension (those_of b es) _)
+of_singletons-fold (b ∷ bs) es = grind (arith, common_steps, map-append fold_extension, of_singleton-fold b es, of_singletons-fold bs es)
 
 in_order-fold : (es : List Extension) → map fold_extension (in_order (map fold_extension es)) ≡ map fold_extension (in_order es)
 unfolding in_order

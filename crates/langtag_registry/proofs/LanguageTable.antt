@@ -90,12 +90,7 @@ language_from_bit text letters from =
 pub long_apart : (text : List ℕ) (list : List (List ℕ)) → 3 < length text → list_all is_short list ≡ true → list_any (are_alike text) list ≡ false
 long_apart text [] long all = refl
 long_apart text (first ∷ list) long all =
-    let k = and_parts (is_short first) (list_all is_short list) all in
-    let short = leb-true (length first) 3 k.0 in
-    let apart : are_alike text first ≡ false = false_from_ne_true (are_alike text first) (λ yes.
-    let same = ap length ((are_alike-decides text first).0 yes) in
-    omega (arith, short, long, same, length-map text fold_byte, length-map first fold_byte)) in
-    rw (apart, long_apart text list long k.1) refl
+    grind (arith, common_steps, and_parts, leb-true, are_alike-decides text first, length-map text fold_byte, length-map first fold_byte, long_apart text list)
 
 pub long_language : (text : List ℕ) → 3 < length text → is_registered_language text ≡ false
 unfolding is_registered_language
