@@ -1,6 +1,6 @@
 -- How the lines of an input grow as bytes are added at its end.
-use Rattle.std.proofs.Common.{◌≡◌, ◌∙◌, ℕ, ◌+◌, ◌<◌, Bool, true, false, eqb-true, None, Some, List, [], ◌∷◌, ◌++◌, take, drop, get_or, refl, sym, ap, append_assoc, length-append, take-append-drop, get_or-take, arith}
-use Rattle.std.specs.List.{onto_first, flat_map, AllByRecursion, position}
+use Rattle.std.proofs.Common.{◌≡◌, ◌∙◌, ℕ, ◌+◌, Bool, true, false, eqb-true, None, Some, List, [], ◌∷◌, ◌++◌, take, drop, get_or, refl, sym, ap, append_assoc, length-append, take-append-drop, get_or-take, arith}
+use Rattle.std.specs.List.{flat_map, AllByRecursion, position}
 use Rattle.std.proofs.lemmas.Grind.{common_steps}
 use Rattle.std.proofs.lemmas.List.{take_at, get_or_at, take_more}
 use Rattle.std.proofs.lemmas.List.Elements.{All-nil, All-cons}

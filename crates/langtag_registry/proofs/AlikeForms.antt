@@ -1,20 +1,19 @@
 -- The canonical forms of alike texts are alike.
-use Rattle.std.proofs.Common.{◌≡◌, ℕ, ◌==◌, Bool, cond, List, [], ◌∷◌, ◌++◌, map, Option, option_map, ◌⊎◌, refl, sym, ap, ◌∙◌, arith, rules}
+use Rattle.std.proofs.Common.{◌≡◌, ℕ, List, [], ◌∷◌, map, Option, option_map, ◌⊎◌, refl, sym, ap, ◌∙◌, arith, rules}
 use Rattle.std.specs.List.{flat_map}
 use Rattle.std.proofs.lemmas.List.{map-append}
 use Rattle.std.proofs.lemmas.Grind.{common_steps}
 use Rattle.langtag_scan.specs.AlikeRecords.{fold_extension, fold_private_use, fold_record, AlikeRecords}
-use Rattle.langtag_scan.specs.Case.{fold_byte, fold_text, Alike}
+use Rattle.langtag_scan.specs.Case.{fold_text, Alike}
 use Rattle.langtag_scan.specs.Record.{Extension, PrivateUse, Record, spell}
 use Rattle.langtag_scan.specs.Tag.{IsNormal}
 use Rattle.langtag_scan.proofs.CaseLaw.{alike_normal, alike_parts, fold_byte-twice, fold_text-twice, map-twice, spelled_alike}
 use Rattle.langtag.specs.Registered.{IsGrandfathered, IsGrandfatheredAt}
-use Rattle.langtag.specs.Repeat.{are_alike_bytes}
 use Rattle.langtag_registry.specs.Canonical.{singletons, in_order, canonical_primary, canonical_extended, canonical_region, canonical_variants, canonical_record, IsCanonicalForm}
 use Rattle.langtag_registry.specs.Fields.{preferred_region, preferred_variant, preferred_tag}
 use Rattle.langtag_registry.specs.Subtags.{tag_preferred}
-use Rattle.langtag_registry.proofs.ReplacedSubtags.{replaced, replaced-alike, IgnoresCase, value_for-alike, language-alike, region-alike, variant-alike, extlang-alike, registered_extlang-alike}
-use Rattle.langtag_registry.proofs.TwiceLaws.{Way, as_whole, as_it_is, by_parts, way_of, form_of}
+use Rattle.langtag_registry.proofs.ReplacedSubtags.{replaced-alike, IgnoresCase, value_for-alike, language-alike, region-alike, variant-alike, extlang-alike, registered_extlang-alike}
+use Rattle.langtag_registry.proofs.TwiceLaws.{Way, as_whole, as_it_is, by_parts, way_of}
 use Rattle.langtag_registry.proofs.ExtensionOrder.{those_of}
 
 -- ---- what is folded once is folded

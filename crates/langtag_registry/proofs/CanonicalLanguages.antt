@@ -1,6 +1,6 @@
 -- The canonical form of a language with its extended subtags.
 use Rattle.std.proofs.lemmas.Grind.{common_steps}
-use Rattle.std.proofs.Common.{◌≡◌, ◌↔◌, ℕ, true, false, ◌||◌, Bool, List, [], ◌∷◌, cond, None, Some, refl, sym, ap, ◌∙◌, arith}
+use Rattle.std.proofs.Common.{◌≡◌, ◌↔◌, ℕ, true, false, Bool, List, [], ◌∷◌, None, Some, refl, sym, ap, arith}
 use Rattle.std.specs.Prelude.{unwrap_or, find}
 use Rattle.std.specs.List.{list_all, list_any}
 use Rattle.std.specs.Str.{bytes_eq}

@@ -7,7 +7,7 @@ use Rattle.langtag_scan.proofs.NormalTexts.{spelled_once}
 use Rattle.langtag.specs.Registered.{IsGrandfathered}
 use Rattle.langtag_registry.specs.Canonical.{canonical_primary, canonical_extended, canonical_region, canonical_variants, in_order, canonical_record, canonical_text, IsCanonicalForm}
 use Rattle.langtag_registry.specs.Fields.{preferred_tag}
-use Rattle.langtag_registry.proofs.TwiceLaws.{whole_settled, preferred_record_stays, Way, as_whole, as_it_is, by_parts, way_of, form_of, Form, whole_form, own_form, parts_form, again_form}
+use Rattle.langtag_registry.proofs.TwiceLaws.{whole_settled, preferred_record_stays, form_of, Form, whole_form, own_form, parts_form, again_form}
 use Rattle.langtag_registry.proofs.WellFormedForms.{canonical_record_well_formed}
 use Rattle.langtag_registry.proofs.WholeTags.{record_of, preferred_spelled, preferred_is_tag}
 

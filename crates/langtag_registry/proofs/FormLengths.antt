@@ -1,12 +1,12 @@
 -- How long the canonical form of a tag may be.
-use Rattle.std.proofs.Common.{◌≡◌, ℕ, ◌+◌, ◌*◌, ◌≤◌, true, leb, List, [], ◌∷◌, length, map, Option, Some, unwrap_or, IfSome, IsTrue, refl, ap, arith, length-append}
+use Rattle.std.proofs.Common.{◌≡◌, ℕ, ◌+◌, ◌*◌, ◌≤◌, true, leb, List, [], ◌∷◌, length, map, Option, Some, IfSome, IsTrue, refl, ap, arith, length-append}
 use Rattle.std.specs.List.{list_all, AllByRecursion, flat_map, sum_by}
 use Rattle.std.proofs.lemmas.Bool.{leb-true}
 use Rattle.std.proofs.lemmas.Bool.Decides.{nat_tests}
 use Rattle.std.proofs.lemmas.List.Sums.{sum_by-cons}
 use Rattle.std.proofs.lemmas.Grind.{common_steps}
 use Rattle.langtag_scan.specs.Class.{is_region, is_variant}
-use Rattle.langtag_scan.specs.Record.{Extension, Record, IsWellFormed, Spells, extension_flat, one_flat, spell}
+use Rattle.langtag_scan.specs.Record.{Extension, Record, IsWellFormed, extension_flat, one_flat, spell}
 use Rattle.langtag_scan.proofs.Joins.{hyphenated, length-hyphenated}
 use Rattle.langtag_scan.proofs.SubtagFacts.{of_primary, of_variant}
 use Rattle.langtag_registry.specs.Canonical.{canonical_record, canonical_primary, canonical_extended, canonical_region, canonical_variants, in_order, canonical_bound, IsCanonicalForm}
@@ -14,7 +14,7 @@ use Rattle.langtag_registry.specs.Fields.{preferred_tag}
 use Rattle.langtag_registry.specs.Subtags.{tag_preferred}
 use Rattle.langtag_registry.proofs.OrderLaws.{in_order-weight}
 use Rattle.langtag_registry.proofs.ReplacedSubtags.{extlang_cases}
-use Rattle.langtag_registry.proofs.TwiceLaws.{Way, as_whole, as_it_is, by_parts, way_of, form_of, Form, whole_form, own_form, parts_form, again_form}
+use Rattle.langtag_registry.proofs.TwiceLaws.{form_of, Form, whole_form, own_form, parts_form, again_form}
 use Rattle.langtag_registry.proofs.Values.{value_good}
 use Rattle.langtag_registry.proofs.WellFormedForms.{canonical_record_well_formed}
 use Rattle.langtag_scan.proofs.Disjoint.{region_short}

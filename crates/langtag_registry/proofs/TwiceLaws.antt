@@ -11,7 +11,7 @@ use Rattle.langtag_scan.proofs.NormalTexts.{spelled_once, normal_or_not}
 use Rattle.langtag.specs.Registered.{IsGrandfathered, text_of}
 use Rattle.langtag.specs.declared.grandfathered.TheConstants.{GRANDFATHERED}
 use Rattle.langtag.proofs.RegisteredLaws.{first_alike_found, none_alike}
-use Rattle.langtag_registry.specs.Canonical.{canonical_primary, canonical_extended, canonical_region, canonical_variants, canonical_record, IsCanonicalForm, canonical_text}
+use Rattle.langtag_registry.specs.Canonical.{canonical_primary, canonical_extended, canonical_region, canonical_variants, canonical_record, IsCanonicalForm}
 use Rattle.langtag_registry.specs.Fields.{preferred_language, preferred_region, preferred_variant, preferred_tag}
 use Rattle.langtag_registry.specs.Subtags.{language_preferred, region_preferred, variant_preferred, tag_preferred}
 use Rattle.langtag_registry.proofs.OrderLaws.{in_order-twice, in_order-risen}

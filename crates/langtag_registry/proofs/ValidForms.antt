@@ -1,14 +1,14 @@
 -- The canonical form of a valid tag is valid where no two variants become the same, and only there.
-use Rattle.std.proofs.Common.{◌≡◌, ℕ, ◌-◌, ◌/◌, ◌%◌, ◌≤◌, ◌==◌, true, Bool, ◌&&◌, leb, ltb, List, [], length, get_or, map, Option, None, Some, is_none, unwrap_or, IsTrue, inl, inr, refl, sym, ap, subst, ◌∙◌, arith, rules}
+use Rattle.std.proofs.Common.{◌≡◌, ℕ, ◌-◌, ◌/◌, ◌%◌, ◌≤◌, ◌==◌, true, Bool, ◌&&◌, leb, ltb, List, [], length, get_or, map, Option, None, Some, is_none, IsTrue, inl, inr, refl, sym, ap, subst, ◌∙◌, arith, rules}
 use Rattle.std.proofs.lemmas.Bool.Decides.{nat_tests}
 use Rattle.std.proofs.lemmas.Grind.{common_steps}
 use Prim.Native.Nat.{◌^◌}
 use Rattle.std.specs.List.{list_all, AllByRecursion}
 use Rattle.std.specs.Option.{option_map_or}
-use Rattle.std.proofs.lemmas.Bool.{and_parts, leb-true, ltb-true}
+use Rattle.std.proofs.lemmas.Bool.{and_parts}
 use Rattle.langtag_scan.specs.Case.{fold_byte, are_alike}
 use Rattle.langtag_scan.specs.Class.{is_letter, are_letters}
-use Rattle.langtag_scan.specs.Record.{Record, IsWellFormed, Spells, EachRecord, spell}
+use Rattle.langtag_scan.specs.Record.{Record, IsWellFormed, Spells, EachRecord}
 use Rattle.langtag_scan.specs.Tag.{IsTag, IsNormal}
 use Rattle.langtag_scan.proofs.NormalTexts.{spelled_once}
 use Rattle.langtag_scan.proofs.SubtagLists.{each_from_test}
@@ -24,7 +24,7 @@ use Rattle.langtag_registry.proofs.FewVariants.{preferred_apart, grandfathered_a
 use Rattle.langtag_registry.proofs.LanguageTable.{language_bit_at, language_from_bit}
 use Rattle.langtag_registry.proofs.ReplacedSubtags.{replaced, replaced-holds, if_some-map, each-map, extlang_cases, found_good}
 use Rattle.langtag_registry.proofs.SingletonsOnce.{in_order-once}
-use Rattle.langtag_registry.proofs.TwiceLaws.{canonical_record-twice, Way, as_whole, as_it_is, by_parts, way_of, Form, whole_form, own_form, parts_form, form_of, again_form, each_from_one}
+use Rattle.langtag_registry.proofs.TwiceLaws.{canonical_record-twice, Form, whole_form, own_form, parts_form, form_of, again_form, each_from_one}
 use Rattle.langtag_registry.proofs.Values.{value_good}
 use Rattle.langtag_registry.proofs.WellFormedForms.{canonical_record_well_formed}
 use Rattle.langtag_registry.proofs.WholeTags.{record_of, simple_record, preferred_spelled, if_some_from_test}

@@ -1,6 +1,5 @@
-use Rattle.std.proofs.Common.{◌≡◌, ◌∙◌, [], ◌++◌, length, take, length-take, ap, append-nil, arith, ◌≤◌, Err}
+use Rattle.std.proofs.Common.{◌≡◌, ◌∙◌, [], ◌++◌, length, take, length-take, ap, append-nil, arith, ◌≤◌}
 use Rattle.std.proofs.lemmas.Result.{err_from_is_err_and, on_ok_weaker}
-use Rattle.langtag_lines.specs.declared.run_error.RunError.TheVariants.{Memory}
 use Rattle.std.proofs.KnownBytes.{Consumes-nil, Consumes-trans, Consumes-whole}
 use Rattle.langtag_lines.specs.Lines.{complete_lines, rest_of, lines_of}
 use Rattle.langtag_lines.specs.Report.{AnswersBy, read_len}
