@@ -52,9 +52,7 @@ keys-spelled (e ∷ es) = ap (λ b. fold_byte b ∷ keys (spellings es)) (first_
 
 with_spellings : (text : List ℕ) (es : List Extension) → fold with_subtag text (spellings es) ≡ fold with_subtag text (flat_map extension_flat es)
 with_spellings text [] = refl
-with_spellings text (e ∷ es) =
-    ap (λ t. fold with_subtag t (spellings es)) (with_joined text (e.singleton ∷ []) e.subtags (omega arith))
-    ∙ with_spellings (fold with_subtag text (extension_flat e)) es ∙ sym (fold-append with_subtag text (extension_flat e) (flat_map extension_flat es))
+with_spellings text (e ∷ es) = grind (arith, common_steps, with_joined text (e.singleton ∷ []) e.subtags, with_spellings (fold with_subtag text (extension_flat e)) es, fold-append with_subtag text (extension_flat e))
 
 pub spelled_in_order :
     (es : List Extension) (old new : Output) → Pushes (by_singletons singletons (spellings es)) old new → Pushes (flat_map extension_flat (in_order es)) old new
@@ -80,7 +78,7 @@ all_in_order (e ∷ es) text old new spells some same these =
 pub of_singleton-next :
     (s : ℕ) (texts rest : List (List ℕ)) (x : List ℕ) (b : Bool) → texts ≡ x ∷ rest → are_alike_bytes s (slice_index x 0) ≡ b →
     of_singleton s texts ≡ cond b (x ∷ of_singleton s rest) (of_singleton s rest)
-of_singleton-next s texts rest x b first is = ap (of_singleton s) first ∙ ap (λ t. cond t (x ∷ of_singleton s rest) (of_singleton s rest)) is
+of_singleton-next s texts rest x b first is = grind (arith, common_steps)
 
 -- they stand in order where their singletons rise, and only there
 pub rise_in_order :

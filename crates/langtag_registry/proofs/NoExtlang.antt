@@ -1,4 +1,5 @@
 -- The canonical form of a valid tag has no extended language, but for the grandfathered `zh-min`.
+use Rattle.langtag_registry.proofs.Members.{member_passes}
 use Rattle.std.proofs.Common.{◌≡◌, ℕ, zero, suc, true, false, Bool, not, ◌||◌, List, [], ◌∷◌, map, codes, None, Some, is_some, slice_get, inl, inr, refl, sym, ◌∙◌, arith}
 use Rattle.std.specs.List.{list_all}
 use Rattle.std.proofs.lemmas.Bool.{and_parts, or_cases, both_ways, not-true}
@@ -38,11 +39,6 @@ all_fit : list_all is_fit grandfathered_tags ≡ true
 unfolding grandfathered_tags tag_preferred preferred_tag fold_byte is_extended is_letter
 all_fit = refl
 
-entry_fit : (list : List Grandfathered) (k : ℕ) (entry : Grandfathered) → list_all is_fit list ≡ true → slice_get list k ≡ Some entry → is_fit entry ≡ true
-entry_fit [] k entry all at = absurd cc
-entry_fit (e ∷ list) zero entry all at = grind (arith, common_steps, and_parts (is_fit e) (list_all is_fit list) all)
-entry_fit (e ∷ list) (suc k) entry all at = entry_fit list k entry (and_parts (is_fit e) (list_all is_fit list) all).1 at
-
 second_of_flat : (r : Record) (e : List ℕ) (es : List (List ℕ)) → r.extended ≡ e ∷ es → second_is_extended (flat r) ≡ is_extended e
 second_of_flat r e es is = rw is
 
@@ -62,7 +58,7 @@ none_folded (s ∷ ss) none = absurd cc
 grandfathered_none : (old : List ℕ) → preferred_tag old ≡ None → (Alike (codes "zh-min") old → ⊥) → IsGrandfathered old → EachRecord old HasNone
 unfolding IsGrandfathered IsGrandfatheredAt
 grandfathered_none old none other (k, (entry, at, alike)) = λ r spells.
-    grind (arith, common_steps, alike_parts old entry.text (sym alike) r spells, entry_fit grandfathered_tags k entry all_fit at, or_cases, both_ways, preferred_tag-alike entry.text old alike, are_alike-decides (codes "zh-min") entry.text, not-true, none_extended, none_folded)
+    grind (arith, common_steps, alike_parts old entry.text (sym alike) r spells, member_passes is_fit grandfathered_tags k entry all_fit at, or_cases, both_ways, preferred_tag-alike entry.text old alike, are_alike-decides (codes "zh-min") entry.text, not-true, none_extended, none_folded)
 
 -- ---- every valid tag
 
