@@ -1,8 +1,7 @@
 -- A tag that is registered as a whole has at most one variant.
 use Rattle.langtag_registry.proofs.Members.{member_passes}
-use Rattle.std.proofs.lemmas.Bool.Decides.{nat_tests}
 use Rattle.langtag_scan.specs.CaseLaws.{are_alike-decides}
-use Rattle.std.proofs.Common.{◌≡◌, ℕ, ◌≤◌, true, Bool, leb, cond, List, [], ◌∷◌, length, map, filter, None, Some, slice_get, IsTrue, refl, sym, ap, ◌∙◌, arith, zero, suc, length-append, rules}
+use Rattle.std.proofs.Common.{◌≡◌, ℕ, ◌≤◌, true, Bool, leb, List, [], ◌∷◌, length, map, filter, None, Some, IsTrue, refl, sym, ap, ◌∙◌, arith, length-append}
 use Rattle.std.specs.List.{list_all, AllByRecursion}
 use Rattle.std.proofs.lemmas.Bool.{and_parts, leb-true}
 use Rattle.std.proofs.lemmas.List.{length-map}
@@ -10,7 +9,7 @@ use Rattle.std.proofs.lemmas.List.Elements.{filter-append}
 use Rattle.std.proofs.lemmas.Grind.{common_steps}
 use Rattle.langtag_scan.specs.Case.{fold_text, Alike, are_alike}
 use Rattle.langtag_scan.specs.Class.{is_letter, is_digit, is_variant}
-use Rattle.langtag_scan.specs.Grandfathered.{Grandfathered, grandfathered_tags}
+use Rattle.langtag_scan.specs.Grandfathered.{grandfathered_tags}
 use Rattle.langtag_scan.specs.Record.{Record, EachRecord, flat}
 use Rattle.langtag_scan.specs.Subtags.{segments}
 use Rattle.langtag_scan.proofs.CaseLaw.{alike_parts}

@@ -1,8 +1,8 @@
 -- The canonical form of a valid tag has no extended language, but for the grandfathered `zh-min`.
 use Rattle.langtag_registry.proofs.Members.{member_passes}
-use Rattle.std.proofs.Common.{◌≡◌, ℕ, zero, suc, true, false, Bool, not, ◌||◌, List, [], ◌∷◌, map, codes, None, Some, is_some, slice_get, inl, inr, refl, sym, ◌∙◌, arith}
+use Rattle.std.proofs.Common.{◌≡◌, ℕ, true, false, Bool, not, ◌||◌, List, [], ◌∷◌, map, codes, None, Some, is_some, inl, inr, refl, sym, ◌∙◌, arith}
 use Rattle.std.specs.List.{list_all}
-use Rattle.std.proofs.lemmas.Bool.{and_parts, or_cases, both_ways, not-true}
+use Rattle.std.proofs.lemmas.Bool.{or_cases, both_ways, not-true}
 use Rattle.std.proofs.lemmas.Grind.{common_steps}
 use Rattle.langtag_scan.specs.Case.{fold_byte, fold_text, Alike, are_alike}
 use Rattle.langtag_scan.specs.CaseLaws.{are_alike-decides}
