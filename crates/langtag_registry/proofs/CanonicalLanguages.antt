@@ -17,7 +17,7 @@ use Rattle.langtag_registry.specs.Subtags.{extlang_subtags}
 use Rattle.langtag_registry.specs.Canonical.{canonical_language, preferred_extlang, canonical_primary, canonical_extended}
 use Rattle.langtag_output.specs.declared.output.Output.{Output}
 use Rattle.langtag_output.specs.Output.{Pushes}
-use Rattle.langtag_registry.proofs.Pushed.{pushes_both, pushes_same, pushes_joined}
+use Rattle.langtag_output.proofs.Pushed.{pushes_both, pushes_same, pushes_joined}
 
 -- ---- extended subtags are registered in small letters
 
