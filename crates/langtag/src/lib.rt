@@ -46,6 +46,7 @@ mod normal_lang_tag;
 mod normal_lang_tag_buf;
 mod part;
 mod private_use_lang_tag;
+mod push;
 mod recognise_text;
 mod recognised;
 mod recommended_case;
@@ -96,4 +97,5 @@ pub use typed_lang_tag::TypedLangTag;
 
 // For langtag_registry, langtag_likely, langtag_unicode and langtag_c.
 pub use part::write_part;
+pub use push::push_private_use;
 pub use written::tag_of;

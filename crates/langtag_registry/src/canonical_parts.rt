@@ -1,16 +1,15 @@
 //! The canonical forms of a tag's parts (RFC 5646 section 4.5), written to an output in their order.
-ghost use Rattle.std.specs.Prelude.{◌≡◌, ◌∷◌, [], List, Option, map};
+ghost use Rattle.std.specs.Prelude.{◌≡◌, ◌∷◌, [], List, map};
 ghost use Rattle.std.specs.List.{flat_map};
 ghost use Rattle.std.specs.Option.{option_map};
 ghost use Rattle.langtag_scan.specs.Case.{fold_text};
 ghost use Rattle.langtag_scan.specs.Record as model;
-ghost use Rattle.langtag_scan.specs.Subtags.{join, subtags};
+ghost use Rattle.langtag_scan.specs.Subtags.{subtags};
 ghost use Rattle.langtag_language.specs.Language.{EachLanguageSpelling};
 ghost use Rattle.langtag_language.specs.Text.{language_text, extended_lang_tag_text};
 ghost use Rattle.langtag_place.specs.Text.{script_text, region_text, variants_text};
 ghost use Rattle.langtag_extension.specs.Spelling.{SpellsExtensions, extension_spelling};
 ghost use Rattle.langtag_extension.specs.Text.{extensions_text};
-ghost use Rattle.langtag_private.specs.Text.{private_use_text};
 ghost use Rattle.langtag.specs.Text.{normal_lang_tag_text};
 ghost use Rattle.langtag_registry.specs.Canonical.{canonical_record, canonical_language, canonical_primary, canonical_extended, canonical_region, canonical_variants, in_order};
 ghost use Rattle.langtag_registry.specs.Noted.{of_singleton};
@@ -20,12 +19,11 @@ use crate::extension_order::{SINGLETONS, are_in_order, folded_singleton, singlet
 use crate::language_fields::preferred_language;
 use crate::preferred::{preferred_region, preferred_variant};
 use crate::subtags::is_registered_extlang;
-use langtag::NormalLangTag;
+use langtag::{NormalLangTag, push_private_use};
 use langtag_extension::Extensions;
 use langtag_language::{ExtendedLangTag, Language, PrimaryLanguage};
 use langtag_output::Output;
 use langtag_place::{Region, Script, Variants};
-use langtag_private::PrivateUse;
 use langtag_scan::into_smallcase;
 
 /// Writes a tag with its parts in their canonical forms into a buffer, as far as it fits, and returns the length of
@@ -155,15 +153,5 @@ fn push_extensions_of(out: &mut Output<'_>, extensions: Extensions<'_>, singleto
             continue;
         }
         out.push_subtag(extension.as_bytes());
-    }
-}
-
-fn push_private_use(out: &mut Output<'_>, private_use: Option<PrivateUse<'_>>)
-    ensures same_buffer { out.new.buffer.ghost_name ≡ out.old.buffer.ghost_name }
-    ensures pushed { (part : Option model.PrivateUse) → option_map private_use_text private_use.entry
-        ≡ option_map (λ p. join (model.private_use_flat p)) part → Pushes (model.private_part_flat part) out.old out.new }
-{
-    if let Some(private_use) = private_use {
-        out.push_subtag(private_use.as_bytes());
     }
 }

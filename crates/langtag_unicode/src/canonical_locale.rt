@@ -13,11 +13,12 @@ ghost use Rattle.langtag_scan.specs.Record as model;
 ghost use Rattle.langtag_unicode.specs.Locale as identifier;
 ghost use Rattle.langtag_unicode.specs.LocaleForm as spec;
 
-use crate::form::push_private_use;
 use crate::locale_extensions::{push_identifier, push_locale_extensions};
 use crate::locale_for::locale_for;
 use crate::subtags::nonempty;
-use langtag::{LangTag, LangTagBuf, Language, NormalLangTag, Region, Script, tag_of};
+use langtag::{
+    LangTag, LangTagBuf, Language, NormalLangTag, Region, Script, push_private_use, tag_of,
+};
 use langtag_case::make_recommended_case;
 use langtag_likely::TagFields;
 use langtag_output::Output;

@@ -1,17 +1,15 @@
 //! The canonical form of a tag's extensions `u` and `t` (UTS #35, part 1, Annex C).
-ghost use Rattle.std.specs.Prelude.{◌≡◌, ◌≤◌, ◌<◌, ◌+◌, ◌∷◌, ◌&&◌, ◌||◌, length, not, [], IfOk, IfSome, List, None, Option, false};
+ghost use Rattle.std.specs.Prelude.{◌≡◌, ◌≤◌, ◌<◌, ◌+◌, ◌∷◌, ◌&&◌, ◌||◌, length, not, [], IfOk, IfSome, List, None, false};
 ghost use Rattle.std.specs.List.{AllByRecursion, flat_map};
-ghost use Rattle.std.specs.Option.{option_map};
 ghost use Rattle.langtag.specs.Text.{lang_tag_buf_text, lang_tag_text, normal_lang_tag_text};
 ghost use Rattle.langtag_extension.specs.Spelling.{SpellsExtension, SpellsExtensions};
 ghost use Rattle.langtag_extension.specs.Text.{extension_text, extensions_text};
 ghost use Rattle.langtag.specs.Form.{IsOnlyForm, IsAlikeForm};
 ghost use Rattle.langtag_output.specs.Output.{IsCounted, Pushes};
 ghost use Rattle.langtag_output.specs.Writes.{Writes};
-ghost use Rattle.langtag_private.specs.Text.{private_use_text};
 ghost use Rattle.langtag_scan.proofs.SubtagFacts.{IsSubtag};
 ghost use Rattle.langtag_scan.specs.Record as model;
-ghost use Rattle.langtag_scan.specs.Subtags.{join, subtags};
+ghost use Rattle.langtag_scan.specs.Subtags.{subtags};
 ghost use Rattle.langtag_unicode.specs.Form as spec;
 ghost use Rattle.langtag_unicode.specs.FormLaws.{OrderChangesNothing};
 ghost use Rattle.langtag_unicode.specs.Keywords.{is_key};
@@ -24,7 +22,8 @@ use crate::keyword_form::push_keywords;
 use crate::subtags::preceding;
 use crate::transform_form::{is_transform, push_transform};
 use langtag::{
-    Extension, Extensions, LangTag, LangTagBuf, NormalLangTag, PrivateUse, into_smallcase, tag_of,
+    Extension, Extensions, LangTag, LangTagBuf, NormalLangTag, into_smallcase, push_private_use,
+    tag_of,
 };
 use langtag_output::{Output, write_text};
 use std::alloc::{AllocError, Global};
@@ -223,14 +222,4 @@ pub(crate) fn is_of(singleton: u8, extension: Extension<'_>) -> bool
     ensures { (e : model.Extension) → SpellsExtension e (extension_text extension.entry) → result ≡ spec.is_of singleton e }
 {
     into_smallcase(extension.singleton().unwrap()) == singleton
-}
-
-pub(crate) fn push_private_use(out: &mut Output<'_>, private_use: Option<PrivateUse<'_>>)
-    ensures same_buffer { out.new.buffer.ghost_name ≡ out.old.buffer.ghost_name }
-    ensures pushed { (part : Option model.PrivateUse) → option_map private_use_text private_use.entry
-        ≡ option_map (λ p. join (model.private_use_flat p)) part → Pushes (model.private_part_flat part) out.old out.new }
-{
-    if let Some(private_use) = private_use {
-        out.push_subtag(private_use.as_bytes());
-    }
 }

@@ -15,11 +15,11 @@ ghost use Rattle.langtag_unicode.specs.Form.{extensions_record, unicode_form};
 ghost use Rattle.langtag_unicode.specs.Keywords.{is_key, value_of};
 ghost use Rattle.langtag_unicode.specs.EditText.{edited_record_by};
 
-use crate::form::{push_head, push_private_use};
+use crate::form::push_head;
 use crate::keyword_check::{invalid_type, is_unicode_key};
 use crate::keyword_edit::{KeywordEdit, push_edited};
 use crate::keyword_error::KeywordError;
-use langtag::{LangTag, NormalLangTag};
+use langtag::{LangTag, NormalLangTag, push_private_use};
 use langtag_output::Output;
 
 /// Writes a tag with a value of a key of the extension `u` (RFC 6067 section 2.1) to a buffer, and returns its length
