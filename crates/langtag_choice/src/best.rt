@@ -128,10 +128,8 @@ pub fn match_among<'a, R: RangeList<'a>, T: TagList>(ranges: R, tags: &T) -> Opt
     ensures found { spec.IsMatch (R.elements ranges) (T.texts tags.now) result }
     ensures choice { spec.IsChoice (R.elements ranges) (T.texts tags.now) (option_map (λ found. found.index) result) }
 {
-    match best(ranges, tags) {
-        Some(found) => Some(match_of(found)),
-        None => None,
-    }
+    let found = best(ranges, tags)?;
+    Some(match_of(found))
 }
 
 /// Converts the chosen candidate to a [`BestMatch`].

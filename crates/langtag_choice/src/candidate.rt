@@ -136,8 +136,5 @@ impl Candidate<'_, '_> {
 pub(crate) fn index_of(found: Option<Candidate<'_, '_>>) -> Option<usize>
     ensures { result ≡ option_map (λ c. c.index) found.entry }
 {
-    match found {
-        Some(found) => Some(found.index),
-        None => None,
-    }
+    Some(found?.index)
 }

@@ -12,10 +12,7 @@ use crate::tag_fields::TagFields;
 pub fn add_likely<'a>(fields: TagFields<'a>) -> Option<TagFields<'a>>
     ensures { option_map field_texts result ≡ add_likely likely_subtags (field_texts fields.entry) }
 {
-    match looked_up(fields) {
-        Some(likely) => Some(fields.filled(likely)),
-        None => None,
-    }
+    Some(fields.filled(looked_up(fields)?))
 }
 
 /// Returns the right side of the first row that fits.
@@ -24,26 +21,17 @@ fn looked_up(fields: TagFields<'_>) -> Option<TagFields<'static>>
     ensures { option_map (filled (field_texts fields.entry)) (option_map field_texts result)
         ≡ option_map (filled (field_texts fields.entry)) (looked_up likely_subtags (field_texts fields.entry)) }
 {
-    if let Some(likely) = likely_for(fields) {
-        return Some(likely);
-    }
-    if let Some(likely) = likely_for(fields.without_region()) {
-        return Some(likely);
-    }
-    if let Some(likely) = likely_for(fields.without_script()) {
-        return Some(likely);
-    }
-    likely_for(fields.language_alone())
+    likely_for(fields)
+        .or_else(|| likely_for(fields.without_region()))
+        .or_else(|| likely_for(fields.without_script()))
+        .or_else(|| likely_for(fields.language_alone()))
 }
 
 /// Returns the fewest fields that have the same maximal form, or `None` if no row fits.
 pub(crate) fn remove_likely<'a>(fields: TagFields<'a>) -> Option<TagFields<'a>>
     ensures { option_map field_texts result ≡ remove_likely likely_subtags (field_texts fields.entry) }
 {
-    match add_likely(fields) {
-        Some(most) => Some(least(most)),
-        None => None,
-    }
+    Some(least(add_likely(fields)?))
 }
 
 /// Returns the fewest fields of a maximal form that have the same maximal form. A region is preferred to a script.
@@ -67,8 +55,5 @@ fn least<'a>(most: TagFields<'a>) -> TagFields<'a>
 pub fn suffices(most: TagFields<'_>, few: TagFields<'_>) -> bool
     ensures { result ≡ suffices likely_subtags (field_texts most.entry) (field_texts few.entry) }
 {
-    match add_likely(few) {
-        Some(form) => most.are_alike(form),
-        None => false,
-    }
+    add_likely(few).is_some_and(|form| most.are_alike(form))
 }

@@ -15,10 +15,7 @@ use crate::tag_fields::TagFields;
 pub fn matching_form(text: &[u8]) -> Option<TagFields<'_>>
     ensures { option_map field_texts result ≡ spec.matching_form text.now }
 {
-    match replaced_form(text) {
-        Some(fields) => Some(completed(fields)),
-        None => None,
-    }
+    Some(completed(replaced_form(text)?))
 }
 
 /// Returns the fields of a text, with its language replaced if CLDR replaces it.
@@ -29,10 +26,7 @@ pub fn replaced_form(text: &[u8]) -> Option<TagFields<'_>>
     if are_alike(text, b"und") {
         return None;
     }
-    match TagFields::of_text(text) {
-        Some(fields) => Some(language_replaced(fields)),
-        None => None,
-    }
+    Some(language_replaced(TagFields::of_text(text)?))
 }
 
 /// Returns the fields with a deprecated region replaced, and with likely subtags added.

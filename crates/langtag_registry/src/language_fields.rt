@@ -26,14 +26,12 @@ use langtag_place::Script;
 pub fn preferred_language(language: PrimaryLanguage<'_>) -> Option<PrimaryLanguage<'static>>
     ensures { option_map primary_language_text result ≡ field.preferred_language (primary_language_text language.entry) }
 {
-    match value_of(
+    let text = value_of(
         &PREFERRED_LANGUAGE_KEYS,
         &PREFERRED_LANGUAGE_VALUES,
         language.as_bytes(),
-    ) {
-        Some(text) => Some(PrimaryLanguage::from_checked(text)),
-        None => None,
-    }
+    )?;
+    Some(PrimaryLanguage::from_checked(text))
 }
 
 /// Returns the script that tags of this language should leave out (the field Suppress-Script, RFC 5646 section 3.1.9):
@@ -50,14 +48,12 @@ pub fn preferred_language(language: PrimaryLanguage<'_>) -> Option<PrimaryLangua
 pub fn suppress_script(language: PrimaryLanguage<'_>) -> Option<Script<'static>>
     ensures { option_map script_text result ≡ field.suppress_script (primary_language_text language.entry) }
 {
-    match value_of(
+    let text = value_of(
         &SUPPRESS_SCRIPT_KEYS,
         &SUPPRESS_SCRIPT_VALUES,
         language.as_bytes(),
-    ) {
-        Some(text) => Some(Script::from_checked(text)),
-        None => None,
-    }
+    )?;
+    Some(Script::from_checked(text))
 }
 
 /// Returns the macrolanguage of a language (the field Macrolanguage, RFC 5646 section 3.1.10): `zh` for `yue`. Returns
@@ -73,12 +69,10 @@ pub fn suppress_script(language: PrimaryLanguage<'_>) -> Option<Script<'static>>
 pub fn macrolanguage(language: PrimaryLanguage<'_>) -> Option<PrimaryLanguage<'static>>
     ensures { option_map primary_language_text result ≡ field.macrolanguage (primary_language_text language.entry) }
 {
-    match value_of(
+    let text = value_of(
         &MACROLANGUAGE_KEYS,
         &MACROLANGUAGE_VALUES,
         language.as_bytes(),
-    ) {
-        Some(text) => Some(PrimaryLanguage::from_checked(text)),
-        None => None,
-    }
+    )?;
+    Some(PrimaryLanguage::from_checked(text))
 }

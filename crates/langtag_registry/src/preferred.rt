@@ -29,14 +29,12 @@ use langtag_scan::{case_insensitive_eq, folded_number};
 pub fn preferred_region(region: Region<'_>) -> Option<Region<'static>>
     ensures { option_map region_text result ≡ field.preferred_region (region_text region.entry) }
 {
-    match value_of(
+    let text = value_of(
         &PREFERRED_REGION_KEYS,
         &PREFERRED_REGION_VALUES,
         region.as_bytes(),
-    ) {
-        Some(text) => Some(Region::from_checked(text)),
-        None => None,
-    }
+    )?;
+    Some(Region::from_checked(text))
 }
 
 /// Returns the variant that replaces a deprecated variant (the field Preferred-Value, RFC 5646 section 3.1.7):
@@ -52,14 +50,12 @@ pub fn preferred_region(region: Region<'_>) -> Option<Region<'static>>
 pub fn preferred_variant(variant: Variant<'_>) -> Option<Variant<'static>>
     ensures { option_map variant_text result ≡ field.preferred_variant (variant_text variant.entry) }
 {
-    match value_of(
+    let text = value_of(
         &PREFERRED_VARIANT_KEYS,
         &PREFERRED_VARIANT_VALUES,
         variant.as_bytes(),
-    ) {
-        Some(text) => Some(Variant::from_checked(text)),
-        None => None,
-    }
+    )?;
+    Some(Variant::from_checked(text))
 }
 
 /// Returns the tag that replaces a whole grandfathered or redundant tag (the field Preferred-Value,
@@ -83,10 +79,8 @@ pub fn preferred_tag(tag: LangTag<'_>) -> Option<LangTag<'static>>
 pub(crate) fn preferred_for(text: &[u8]) -> Option<LangTag<'static>>
     ensures { option_map lang_tag_text result ≡ field.preferred_tag text.now }
 {
-    match value_beside(&PREFERRED_TAG_KEYS, &PREFERRED_TAGS, text) {
-        Some(text) => Some(LangTag::from_checked(text)),
-        None => None,
-    }
+    let text = value_beside(&PREFERRED_TAG_KEYS, &PREFERRED_TAGS, text)?;
+    Some(LangTag::from_checked(text))
 }
 
 /// Finds the pair whose first text equals the bytes, ignoring case, and returns its second text. `keys` has the number

@@ -30,12 +30,10 @@ pub fn extlang_prefix(extlang: ExtendedLangTag<'_>) -> Option<PrimaryLanguage<'s
 pub(crate) fn prefix_of_language(language: PrimaryLanguage<'_>) -> Option<PrimaryLanguage<'static>>
     ensures { option_map primary_language_text result ≡ field.extlang_prefix (primary_language_text language.entry) }
 {
-    match value_of(
+    let text = value_of(
         &EXTLANG_PREFIX_KEYS,
         &EXTLANG_PREFIX_VALUES,
         language.as_bytes(),
-    ) {
-        Some(text) => Some(PrimaryLanguage::from_checked(text)),
-        None => None,
-    }
+    )?;
+    Some(PrimaryLanguage::from_checked(text))
 }

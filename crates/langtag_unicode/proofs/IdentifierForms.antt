@@ -195,7 +195,7 @@ new_region_good f are = by_row (likely_for region_replacements (region_alone f))
         is_region_field (unwrap_or (option_map (λ regions. form.heir (form.likely_region f) (segments regions)) o) f.region) ≡ true
     by_heirs None none = are.region
     by_heirs (Some regions) found =
-        heir_good is_region_field (form.likely_region f) (segments regions) (likely_region_good f) refl
+        heir_good is_region_field (form.likely_region f) (segments regions) (λ has. likely_region_good f) refl
         (found_good (λ text. list_all is_region_field (segments text)) (λ alias. are_alike alias.old f.region) list.region_heirs regions region_heirs_good found)
 
     by_row :

@@ -22,7 +22,7 @@ use Rattle.langtag_unicode.specs.LocaleForm.{has_variant, heir, is_pair_of, lang
 use Rattle.langtag_unicode.proofs.IdentifierCase.{alias_for-alike, has_variant-alike, is_gone, region_by, replaced_by, replacement, type_alias_for-alike}
 use Rattle.langtag_unicode.proofs.IdentifierForms.{row_good, sign_cases, sign_found}
 use Rattle.langtag_unicode.proofs.IdentifierTables.{heirs_last, is_last_language, is_last_region, is_last_script, is_last_sign, is_last_variant, is_old_language, no_region_last, pairs_last, replaced_last, replacements_last, scripts_last, sign_languages_last, stays_always, variants_last}
-use Rattle.langtag_unicode.proofs.LocaleTables.{both, found_good, found_has}
+use Rattle.langtag_unicode.proofs.LocaleTables.{both, found_good, found_has, heir_good}
 use Rattle.langtag_unicode.proofs.VariantForms.{forms}
 
 -- ---- what is not found
@@ -190,14 +190,6 @@ region_last-alike a b alike is =
     (likely_for-alike region_replacements (record { language = []; script = []; region = b }) (record { language = []; script = []; region = a }) (record { language = refl; script = refl; region = alike }))
     ∙ ap (λ o. is_none (likely_for region_replacements (record { language = []; script = []; region = a })) && is_none o) (alias_for-alike list.region_heirs b a alike) ∙ is
 
-heir-last : (likely : List ℕ) (regions : List (List ℕ)) → list_all is_last_region regions ≡ true → is_last_region (heir likely regions) ≡ true
-heir-last likely [] all = no_region_last
-heir-last likely (first ∷ others) all = by_test (has_variant (first ∷ others) likely) refl
-  where
-    by_test : (b : Bool) → has_variant (first ∷ others) likely ≡ b → is_last_region (cond b likely first) ≡ true
-    by_test true has = among (λ r. IsTrue (is_last_region r)) region_last-alike (first ∷ others) (each_from_test is_last_region (first ∷ others) all) likely has
-    by_test false other = (both (is_last_region first) (list_all is_last_region others) all).0
-
 pub new_region-last : (f : Fields) → is_last_region (form.new_region f) ≡ true
 unfolding form.new_region
 new_region-last f = by_row (likely_for region_replacements (region_alone f)) refl
@@ -205,8 +197,9 @@ new_region-last f = by_row (likely_for region_replacements (region_alone f)) ref
     by_heirs : (o : Option (List ℕ)) → likely_for region_replacements (region_alone f) ≡ None → alias_for list.region_heirs f.region ≡ o → is_last_region (region_by f None o) ≡ true
     by_heirs None stays none = ap (λ o. is_none o && is_none (alias_for list.region_heirs f.region)) stays ∙ ap (λ o. is_none o) none
     by_heirs (Some regions) stays found =
-        heir-last (form.likely_region f) (segments regions)
-        (found_good (λ text. list_all is_last_region (segments text)) (λ (alias : Alias). are_alike alias.old f.region) list.region_heirs regions heirs_last found)
+        let all = found_good (λ text. list_all is_last_region (segments text)) (λ (alias : Alias). are_alike alias.old f.region) list.region_heirs regions heirs_last found in
+        heir_good is_last_region (form.likely_region f) (segments regions)
+        (among (λ r. IsTrue (is_last_region r)) region_last-alike (segments regions) (each_from_test is_last_region (segments regions) all) (form.likely_region f)) no_region_last all
 
     by_row : (o : Option Fields) → likely_for region_replacements (region_alone f) ≡ o → is_last_region (region_by f o (alias_for list.region_heirs f.region)) ≡ true
     by_row None none = by_heirs (alias_for list.region_heirs f.region) none refl

@@ -28,7 +28,7 @@ use Rattle.langtag_unicode.proofs.FormSizes.{alias-grows, alphabet-size, bytes, 
 use Rattle.langtag_unicode.proofs.IdentifierCase.{region_by}
 use Rattle.langtag_unicode.proofs.IdentifierForms.{AreSubtags, form_subtags, language_primary, row_found, sign_cases}
 use Rattle.langtag_unicode.proofs.IdentifierLast.{among}
-use Rattle.langtag_unicode.proofs.LocaleTables.{both, found_good, found_has, found_is}
+use Rattle.langtag_unicode.proofs.LocaleTables.{both, found_good, found_has, found_is, heir_good}
 use Rattle.langtag_unicode.proofs.VariantForms.{forms}
 
 -- the bytes of fields, each with a hyphen
@@ -141,15 +141,12 @@ unfolding form.variant_region list.variant_regions
 variant_region-size variants f = grind (arith, common_steps, other-size f.region (form.variants_region variants list.variant_regions), bytes)
 
 heir-size : (likely : List ℕ) (regions : List (List ℕ)) (n : ℕ) → list_all (λ region. leb (bytes region) n) regions ≡ true → bytes (form.heir likely regions) ≤ n
-heir-size likely [] n all = omega arith
-heir-size likely (r ∷ regions) n all = by_test (has_variant (r ∷ regions) likely) refl
-  where
-    by_test : (b : Bool) → has_variant (r ∷ regions) likely ≡ b → bytes (cond b likely r) ≤ n
-    by_test true has =
-        leb-true _ _
-        (among (λ text. IsTrue (leb (bytes text) n)) (λ a b alike short. ap (λ k. leb k n) (bytes-alike b a ((are_alike-decides b a).1 alike)) ∙ short) (r ∷ regions)
-        (each_from_test (λ region. leb (bytes region) n) (r ∷ regions) all) likely has)
-    by_test false none = leb-true (bytes r) n (both (leb (bytes r) n) (list_all (λ region. leb (bytes region) n) regions) all).0
+heir-size likely regions n all =
+    leb-true _ _
+    (heir_good (λ text. leb (bytes text) n) likely regions
+    (among (λ text. IsTrue (leb (bytes text) n)) (λ a b alike short. ap (λ k. leb k n) (bytes-alike b a ((are_alike-decides b a).1 alike)) ∙ short) regions
+    (each_from_test (λ region. leb (bytes region) n) regions all) likely)
+    refl all)
 
 region-size : (f : Fields) → bytes (form.new_region f) ≤ bytes f.region
 unfolding form.new_region

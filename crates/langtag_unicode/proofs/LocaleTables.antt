@@ -9,7 +9,7 @@ use Rattle.langtag_scan.specs.Class.{is_digit, is_letter, is_primary, is_region,
 use Rattle.langtag_scan.specs.Subtags.{segments}
 use Rattle.langtag_unicode.specs.Alias.{Alias}
 use Rattle.langtag_unicode.specs.LocaleAliases as list
-use Rattle.langtag_unicode.specs.LocaleForm.{heir}
+use Rattle.langtag_unicode.specs.LocaleForm.{has_variant, heir}
 use Rattle.langtag_unicode.specs.declared.locale_tables.TheConstants as table
 
 pub variant_language_rows : map (λ row. record { key = row.0.now; old = row.1.now; new = row.2.now }) table.VARIANT_LANGUAGES ≡ list.variant_languages
@@ -100,10 +100,13 @@ found_good good test aliases new all is = by_found (find test aliases) refl is
     by_found None found is = absurd cc
     by_found (Some a) found is = let same : a.new ≡ new = cc in ap good (sym same) ∙ found_has (λ (alias : Alias). good alias.new) test aliases a all found
 
-pub heir_good : (good : List ℕ → Bool) (likely : List ℕ) (regions : List (List ℕ)) → good likely ≡ true → good [] ≡ true → list_all good regions ≡ true → good (heir likely regions) ≡ true
+-- the heir is good if the likely region is good where it is among the regions
+pub heir_good :
+    (good : List ℕ → Bool) (likely : List ℕ) (regions : List (List ℕ)) → (has_variant regions likely ≡ true → good likely ≡ true) → good [] ≡ true → list_all good regions ≡ true →
+    good (heir likely regions) ≡ true
 heir_good good likely [] one none all = none
-heir_good good likely (first ∷ others) one none all = by_test (list_any (are_alike likely) (first ∷ others)) (both (good first) (list_all good others) all).0
+heir_good good likely (first ∷ others) one none all = by_test (has_variant (first ∷ others) likely) refl
   where
-    by_test : (b : Bool) → good first ≡ true → good (cond b likely first) ≡ true
-    by_test true is = one
-    by_test false is = is
+    by_test : (b : Bool) → has_variant (first ∷ others) likely ≡ b → good (cond b likely first) ≡ true
+    by_test true has = one has
+    by_test false none = (both (good first) (list_all good others) all).0

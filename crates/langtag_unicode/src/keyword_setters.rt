@@ -128,10 +128,7 @@ pub(crate) fn keyword_error(key: &str, value: &str) -> Option<KeywordError>
     if !is_unicode_key(key.as_bytes()) {
         return Some(KeywordError::Key);
     }
-    match invalid_type(value) {
-        Some(offset) => Some(KeywordError::Value(offset)),
-        None => None,
-    }
+    Some(KeywordError::Value(invalid_type(value)?))
 }
 
 /// Writes a tag with a keyword set or removed.

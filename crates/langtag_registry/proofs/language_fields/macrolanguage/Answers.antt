@@ -1,5 +1,4 @@
-use Rattle.std.proofs.Common.{arith}
-use Rattle.std.proofs.lemmas.Grind.{common_steps}
+use Rattle.std.proofs.Common.{Some, sym, ap, ◌∙◌}
 use Rattle.langtag_registry.specs.Fields.{macrolanguage}
 use Rattle.langtag_registry.specs.Subtags.{language_macrolanguage}
 use Rattle.langtag_registry.proofs.FieldTables.{macro_table, macro_good}
@@ -7,12 +6,12 @@ use Rattle.langtag_registry.proofs.language_fields.macrolanguage.Goals as goal
 
 pub from_checked-requires : goal.from_checked-requires
 unfolding macrolanguage
-from_checked-requires c = grind (arith, common_steps, c.value_of.ensures language_macrolanguage macro_table, macro_good)
+from_checked-requires c = macro_good _ _ (sym (c.in_ok-text.ensures language_macrolanguage macro_table ∙ ap macrolanguage c.as_bytes.ensures))
 
-pub returns-in-Some : goal.returns-in-Some
+pub returns : goal.returns
 unfolding macrolanguage
-returns-in-Some c = grind (arith, common_steps, c.value_of.ensures language_macrolanguage macro_table)
+returns c = ap Some c.from_checked.ensures ∙ c.in_ok-text.ensures language_macrolanguage macro_table ∙ ap macrolanguage c.as_bytes.ensures
 
-pub returns-in-None : goal.returns-in-None
+pub returns-in_err-text : goal.returns-in_err-text
 unfolding macrolanguage
-returns-in-None c = grind (arith, common_steps, c.value_of.ensures language_macrolanguage macro_table)
+returns-in_err-text c = c.in_err-text.ensures language_macrolanguage macro_table ∙ ap macrolanguage c.as_bytes.ensures

@@ -5,4 +5,4 @@ use Rattle.langtag_registry.proofs.WholeTags.{preferred_is_tag}
 use Rattle.langtag_registry.proofs.preferred.preferred_for.Goals as goal
 
 pub from_checked-requires : goal.from_checked-requires
-from_checked-requires c = grind (arith, common_steps, preferred_is_tag c.args.text.now c.in-Some.text.now, tag_entries)
+from_checked-requires c = grind (arith, common_steps, preferred_is_tag c.args.text.now c.in_ok-text.text.now, tag_entries)

@@ -1,5 +1,4 @@
-use Rattle.std.proofs.Common.{arith}
-use Rattle.std.proofs.lemmas.Grind.{common_steps}
+use Rattle.std.proofs.Common.{Some, sym, ap, ◌∙◌}
 use Rattle.langtag_registry.specs.Fields.{extlang_prefix}
 use Rattle.langtag_registry.specs.Subtags.{extlang_prefixes}
 use Rattle.langtag_registry.proofs.FieldTables.{prefix_table, prefix_good}
@@ -7,12 +6,12 @@ use Rattle.langtag_registry.proofs.prefixes.prefix_of_language.Goals as goal
 
 pub from_checked-requires : goal.from_checked-requires
 unfolding extlang_prefix
-from_checked-requires c = grind (arith, common_steps, c.value_of.ensures extlang_prefixes prefix_table, prefix_good)
+from_checked-requires c = prefix_good _ _ (sym (c.in_ok-text.ensures extlang_prefixes prefix_table ∙ ap extlang_prefix c.as_bytes.ensures))
 
-pub returns-in-Some : goal.returns-in-Some
+pub returns : goal.returns
 unfolding extlang_prefix
-returns-in-Some c = grind (arith, common_steps, c.value_of.ensures extlang_prefixes prefix_table)
+returns c = ap Some c.from_checked.ensures ∙ c.in_ok-text.ensures extlang_prefixes prefix_table ∙ ap extlang_prefix c.as_bytes.ensures
 
-pub returns-in-None : goal.returns-in-None
+pub returns-in_err-text : goal.returns-in_err-text
 unfolding extlang_prefix
-returns-in-None c = grind (arith, common_steps, c.value_of.ensures extlang_prefixes prefix_table)
+returns-in_err-text c = c.in_err-text.ensures extlang_prefixes prefix_table ∙ ap extlang_prefix c.as_bytes.ensures
