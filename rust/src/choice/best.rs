@@ -126,10 +126,8 @@ pub fn match_for_header<'a>(header: &'a [u8], tags: &[LangTag<'_>]) -> Option<Be
 /// ```
 #[inline]
 pub fn match_among<'a, R: RangeList<'a>, T: TagList>(ranges: R, tags: &T) -> Option<BestMatch<'a>> {
-    match best(ranges, tags) {
-        Some(found) => Some(match_of(found)),
-        None => None,
-    }
+    let found = best(ranges, tags)?;
+    Some(match_of(found))
 }
 
 /// Converts the chosen candidate to a [`BestMatch`].

@@ -10,9 +10,7 @@ use crate::output::write_text;
 use crate::shim::{try_vec, AllocError};
 use crate::tag::LangTag;
 #[cfg(feature = "alloc")]
-use crate::tag::LangTagBuf;
-#[cfg(feature = "alloc")]
-use alloc::string::String;
+use crate::tag::{tag_of, LangTagBuf};
 #[cfg(feature = "alloc")]
 use alloc::vec::Vec;
 
@@ -131,16 +129,4 @@ fn minimal_bytes(tag: LangTag<'_>) -> Result<Vec<u8>, AllocError> {
     let len = write_minimized(tag, &mut bytes);
     bytes.truncate(len);
     Ok(bytes)
-}
-
-/// Converts bytes that are known to be a tag into that tag.
-#[cfg(feature = "alloc")]
-pub(crate) fn tag_of(bytes: Vec<u8>) -> LangTagBuf {
-    let Ok(text) = String::from_utf8(bytes) else {
-        unreachable!()
-    };
-    let Ok(form) = LangTagBuf::new(text) else {
-        unreachable!()
-    };
-    form
 }

@@ -8,34 +8,22 @@ use crate::likely::tag_fields::TagFields;
 /// Returns the fields with the likely subtag in place of each empty field, or `None` if no row fits.
 #[inline]
 pub fn add_likely<'a>(fields: TagFields<'a>) -> Option<TagFields<'a>> {
-    match looked_up(fields) {
-        Some(likely) => Some(fields.filled(likely)),
-        None => None,
-    }
+    Some(fields.filled(looked_up(fields)?))
 }
 
 /// Returns the right side of the first row that fits.
 #[inline(always)]
 fn looked_up(fields: TagFields<'_>) -> Option<TagFields<'static>> {
-    if let Some(likely) = likely_for(fields) {
-        return Some(likely);
-    }
-    if let Some(likely) = likely_for(fields.without_region()) {
-        return Some(likely);
-    }
-    if let Some(likely) = likely_for(fields.without_script()) {
-        return Some(likely);
-    }
-    likely_for(fields.language_alone())
+    likely_for(fields)
+        .or_else(|| likely_for(fields.without_region()))
+        .or_else(|| likely_for(fields.without_script()))
+        .or_else(|| likely_for(fields.language_alone()))
 }
 
 /// Returns the fewest fields that have the same maximal form, or `None` if no row fits.
 #[inline]
 pub(crate) fn remove_likely<'a>(fields: TagFields<'a>) -> Option<TagFields<'a>> {
-    match add_likely(fields) {
-        Some(most) => Some(least(most)),
-        None => None,
-    }
+    Some(least(add_likely(fields)?))
 }
 
 /// Returns the fewest fields of a maximal form that have the same maximal form. A region is preferred to a script.
@@ -56,8 +44,5 @@ fn least<'a>(most: TagFields<'a>) -> TagFields<'a> {
 /// Returns whether the fields `few` have the maximal form `most`.
 #[inline]
 pub fn suffices(most: TagFields<'_>, few: TagFields<'_>) -> bool {
-    match add_likely(few) {
-        Some(form) => most.are_alike(form),
-        None => false,
-    }
+    add_likely(few).is_some_and(|form| most.are_alike(form))
 }

@@ -2,8 +2,6 @@
 
 //! The tag for a POSIX locale name.
 
-#[cfg(feature = "alloc")]
-use crate::likely::forms::tag_of;
 use crate::likely::modifiers::{modifier_script, modifier_variant, script_of};
 #[cfg(feature = "alloc")]
 use crate::likely::posix_error::PosixError;
@@ -14,7 +12,7 @@ use crate::scan::{split_at_byte, split_at_either};
 #[cfg(feature = "alloc")]
 use crate::shim::{try_vec, AllocError};
 #[cfg(feature = "alloc")]
-use crate::tag::LangTagBuf;
+use crate::tag::{tag_of, LangTagBuf};
 use crate::tag::{write_part, LangTag, Part};
 #[cfg(feature = "alloc")]
 use alloc::vec::Vec;

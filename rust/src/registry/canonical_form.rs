@@ -9,10 +9,8 @@ use crate::registry::preferred::preferred_for;
 #[cfg(feature = "alloc")]
 use crate::shim::{try_vec, AllocError};
 #[cfg(feature = "alloc")]
-use crate::tag::LangTagBuf;
+use crate::tag::{tag_of, LangTagBuf};
 use crate::tag::{LangTag, NormalLangTag};
-#[cfg(feature = "alloc")]
-use alloc::string::String;
 #[cfg(feature = "alloc")]
 use alloc::vec::Vec;
 
@@ -125,14 +123,9 @@ fn form_as_tag(tag: LangTag<'_>) -> Result<LangTagBuf, AllocError> {
 /// Returns the canonical form of a tag: its parts in their canonical forms, or the Preferred-Value of the tag that
 /// these parts make up.
 #[cfg(feature = "alloc")]
+#[inline]
 fn parts_as_tag(tag: LangTag<'_>, normal: NormalLangTag<'_>) -> Result<LangTagBuf, AllocError> {
-    let Ok(text) = String::from_utf8(parts_as_bytes(tag, normal)?) else {
-        unreachable!()
-    };
-    let Ok(form) = LangTagBuf::new(text) else {
-        unreachable!()
-    };
-    Ok(form)
+    Ok(tag_of(parts_as_bytes(tag, normal)?))
 }
 
 /// Returns the bytes of the canonical form, as [`parts_as_tag`] describes it.

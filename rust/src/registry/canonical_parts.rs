@@ -6,13 +6,12 @@ use crate::extension::Extensions;
 use crate::language::{ExtendedLangTag, Language, PrimaryLanguage};
 use crate::output::Output;
 use crate::place::{Region, Script, Variants};
-use crate::private::PrivateUse;
 use crate::registry::extension_order::{are_in_order, folded_singleton, singletons_of, SINGLETONS};
 use crate::registry::language_fields::preferred_language;
 use crate::registry::preferred::{preferred_region, preferred_variant};
 use crate::registry::subtags::is_registered_extlang;
 use crate::scan::into_smallcase;
-use crate::tag::NormalLangTag;
+use crate::tag::{push_private_use, NormalLangTag};
 
 /// Writes a tag with its parts in their canonical forms into a buffer, as far as it fits, and returns the length of
 /// the form.
@@ -114,12 +113,5 @@ fn push_extensions_of(out: &mut Output<'_>, extensions: Extensions<'_>, singleto
             continue;
         }
         out.push_subtag(extension.as_bytes());
-    }
-}
-
-#[inline]
-fn push_private_use(out: &mut Output<'_>, private_use: Option<PrivateUse<'_>>) {
-    if let Some(private_use) = private_use {
-        out.push_subtag(private_use.as_bytes());
     }
 }

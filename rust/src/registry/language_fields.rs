@@ -24,15 +24,14 @@ use crate::registry::tables::{
 /// ```
 ///
 /// [RFC 5646 section 3.1.7]: https://www.rfc-editor.org/rfc/rfc5646#section-3.1.7
+#[inline]
 pub fn preferred_language(language: PrimaryLanguage<'_>) -> Option<PrimaryLanguage<'static>> {
-    match value_of(
+    let text = value_of(
         &PREFERRED_LANGUAGE_KEYS,
         &PREFERRED_LANGUAGE_VALUES,
         language.as_bytes(),
-    ) {
-        Some(text) => Some(PrimaryLanguage::from_checked(text)),
-        None => None,
-    }
+    )?;
+    Some(PrimaryLanguage::from_checked(text))
 }
 
 /// Returns the script that tags of this language should leave out (the field Suppress-Script, [RFC 5646 section 3.1.9]):
@@ -50,15 +49,14 @@ pub fn preferred_language(language: PrimaryLanguage<'_>) -> Option<PrimaryLangua
 /// ```
 ///
 /// [RFC 5646 section 3.1.9]: https://www.rfc-editor.org/rfc/rfc5646#section-3.1.9
+#[inline]
 pub fn suppress_script(language: PrimaryLanguage<'_>) -> Option<Script<'static>> {
-    match value_of(
+    let text = value_of(
         &SUPPRESS_SCRIPT_KEYS,
         &SUPPRESS_SCRIPT_VALUES,
         language.as_bytes(),
-    ) {
-        Some(text) => Some(Script::from_checked(text)),
-        None => None,
-    }
+    )?;
+    Some(Script::from_checked(text))
 }
 
 /// Returns the macrolanguage of a language (the field Macrolanguage, [RFC 5646 section 3.1.10]): `zh` for `yue`. Returns
@@ -75,13 +73,12 @@ pub fn suppress_script(language: PrimaryLanguage<'_>) -> Option<Script<'static>>
 /// ```
 ///
 /// [RFC 5646 section 3.1.10]: https://www.rfc-editor.org/rfc/rfc5646#section-3.1.10
+#[inline]
 pub fn macrolanguage(language: PrimaryLanguage<'_>) -> Option<PrimaryLanguage<'static>> {
-    match value_of(
+    let text = value_of(
         &MACROLANGUAGE_KEYS,
         &MACROLANGUAGE_VALUES,
         language.as_bytes(),
-    ) {
-        Some(text) => Some(PrimaryLanguage::from_checked(text)),
-        None => None,
-    }
+    )?;
+    Some(PrimaryLanguage::from_checked(text))
 }

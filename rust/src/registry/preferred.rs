@@ -25,15 +25,14 @@ use crate::tag::LangTag;
 /// ```
 ///
 /// [RFC 5646 section 3.1.7]: https://www.rfc-editor.org/rfc/rfc5646#section-3.1.7
+#[inline]
 pub fn preferred_region(region: Region<'_>) -> Option<Region<'static>> {
-    match value_of(
+    let text = value_of(
         &PREFERRED_REGION_KEYS,
         &PREFERRED_REGION_VALUES,
         region.as_bytes(),
-    ) {
-        Some(text) => Some(Region::from_checked(text)),
-        None => None,
-    }
+    )?;
+    Some(Region::from_checked(text))
 }
 
 /// Returns the variant that replaces a deprecated variant (the field Preferred-Value, [RFC 5646 section 3.1.7]):
@@ -50,15 +49,14 @@ pub fn preferred_region(region: Region<'_>) -> Option<Region<'static>> {
 /// ```
 ///
 /// [RFC 5646 section 3.1.7]: https://www.rfc-editor.org/rfc/rfc5646#section-3.1.7
+#[inline]
 pub fn preferred_variant(variant: Variant<'_>) -> Option<Variant<'static>> {
-    match value_of(
+    let text = value_of(
         &PREFERRED_VARIANT_KEYS,
         &PREFERRED_VARIANT_VALUES,
         variant.as_bytes(),
-    ) {
-        Some(text) => Some(Variant::from_checked(text)),
-        None => None,
-    }
+    )?;
+    Some(Variant::from_checked(text))
 }
 
 /// Returns the tag that replaces a whole grandfathered or redundant tag (the field Preferred-Value,
@@ -84,10 +82,8 @@ pub fn preferred_tag(tag: LangTag<'_>) -> Option<LangTag<'static>> {
 /// Returns the tag that replaces a whole tag with this text.
 #[inline]
 pub(crate) fn preferred_for(text: &[u8]) -> Option<LangTag<'static>> {
-    match value_beside(&PREFERRED_TAG_KEYS, &PREFERRED_TAGS, text) {
-        Some(text) => Some(LangTag::from_checked(text)),
-        None => None,
-    }
+    let text = value_beside(&PREFERRED_TAG_KEYS, &PREFERRED_TAGS, text)?;
+    Some(LangTag::from_checked(text))
 }
 
 /// Finds the pair whose first text equals the bytes, ignoring case, and returns its second text. `keys` has the number

@@ -27,15 +27,14 @@ pub fn extlang_prefix(extlang: ExtendedLangTag<'_>) -> Option<PrimaryLanguage<'s
 }
 
 /// Returns the prefix of a language that is also an extended language: `zh` for the language `yue`, `None` for `fr`.
+#[inline]
 pub(crate) fn prefix_of_language(
     language: PrimaryLanguage<'_>,
 ) -> Option<PrimaryLanguage<'static>> {
-    match value_of(
+    let text = value_of(
         &EXTLANG_PREFIX_KEYS,
         &EXTLANG_PREFIX_VALUES,
         language.as_bytes(),
-    ) {
-        Some(text) => Some(PrimaryLanguage::from_checked(text)),
-        None => None,
-    }
+    )?;
+    Some(PrimaryLanguage::from_checked(text))
 }

@@ -53,6 +53,7 @@ mod normal_lang_tag;
 mod normal_lang_tag_buf;
 mod part;
 mod private_use_lang_tag;
+mod push;
 mod recognise_text;
 mod recognised;
 mod recommended_case;
@@ -61,6 +62,7 @@ mod repeats;
 mod text_of_parts;
 mod typed_lang_tag;
 mod variant_blocks;
+mod written;
 
 pub use crate::case::{is_in_recommended_case, make_recommended_case, InRecommendedCase};
 pub use crate::extension::{
@@ -113,5 +115,8 @@ pub use refusal::{Refusal, RefusalKind};
 pub use repeats::is_among_first;
 pub use typed_lang_tag::TypedLangTag;
 
-// For langtag_likely and langtag_c.
+// For langtag_registry, langtag_likely, langtag_unicode and langtag_c.
 pub(crate) use part::write_part;
+pub(crate) use push::push_private_use;
+#[cfg(feature = "alloc")]
+pub(crate) use written::tag_of;

@@ -7,12 +7,9 @@ use crate::likely::TagFields;
 use crate::output::Output;
 #[cfg(feature = "alloc")]
 use crate::shim::{try_vec, AllocError};
+use crate::tag::{push_private_use, LangTag, Language, NormalLangTag, Region, Script};
 #[cfg(feature = "alloc")]
-use crate::tag::LangTagBuf;
-use crate::tag::{LangTag, Language, NormalLangTag, Region, Script};
-use crate::unicode::form::push_private_use;
-#[cfg(feature = "alloc")]
-use crate::unicode::form::tag_of;
+use crate::tag::{tag_of, LangTagBuf};
 use crate::unicode::locale_extensions::{push_identifier, push_locale_extensions};
 use crate::unicode::locale_for::locale_for;
 use crate::unicode::subtags::nonempty;

@@ -5,16 +5,14 @@
 use crate::output::{write_text, Output};
 #[cfg(feature = "alloc")]
 use crate::shim::{try_vec, AllocError};
+use crate::tag::{into_smallcase, push_private_use, Extension, Extensions, LangTag, NormalLangTag};
 #[cfg(feature = "alloc")]
-use crate::tag::LangTagBuf;
-use crate::tag::{into_smallcase, Extension, Extensions, LangTag, NormalLangTag, PrivateUse};
+use crate::tag::{tag_of, LangTagBuf};
 use crate::unicode::alphabet::push_in_alphabet;
 use crate::unicode::keys::Keys;
 use crate::unicode::keyword_form::push_keywords;
 use crate::unicode::subtags::preceding;
 use crate::unicode::transform_form::{is_transform, push_transform};
-#[cfg(feature = "alloc")]
-use alloc::string::String;
 #[cfg(feature = "alloc")]
 use alloc::vec::Vec;
 
@@ -50,18 +48,6 @@ use alloc::vec::Vec;
 #[inline]
 pub fn extensions_form(tag: LangTag<'_>) -> Result<LangTagBuf, AllocError> {
     Ok(tag_of(form_bytes(tag)?))
-}
-
-/// Converts bytes that are known to be a tag into that tag.
-#[cfg(feature = "alloc")]
-pub(crate) fn tag_of(bytes: Vec<u8>) -> LangTagBuf {
-    let Ok(text) = String::from_utf8(bytes) else {
-        unreachable!()
-    };
-    let Ok(form) = LangTagBuf::new(text) else {
-        unreachable!()
-    };
-    form
 }
 
 /// Returns the bytes of the form.
@@ -193,11 +179,4 @@ pub(crate) fn push_unicode(out: &mut Output<'_>, text: &str) {
 #[inline]
 pub(crate) fn is_of(singleton: u8, extension: Extension<'_>) -> bool {
     into_smallcase(extension.singleton().unwrap()) == singleton
-}
-
-#[inline]
-pub(crate) fn push_private_use(out: &mut Output<'_>, private_use: Option<PrivateUse<'_>>) {
-    if let Some(private_use) = private_use {
-        out.push_subtag(private_use.as_bytes());
-    }
 }

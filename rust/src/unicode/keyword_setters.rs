@@ -3,8 +3,8 @@
 //! Setting and removing keywords (RFC 6067 section 2.1).
 
 use crate::output::Output;
-use crate::tag::{LangTag, NormalLangTag};
-use crate::unicode::form::{push_head, push_private_use};
+use crate::tag::{push_private_use, LangTag, NormalLangTag};
+use crate::unicode::form::push_head;
 use crate::unicode::keyword_check::{invalid_type, is_unicode_key};
 use crate::unicode::keyword_edit::{push_edited, KeywordEdit};
 use crate::unicode::keyword_error::KeywordError;
@@ -88,14 +88,12 @@ pub fn write_without_keyword(
 }
 
 /// Returns why a key and a value cannot be a keyword, or `None` if they can.
+#[inline]
 pub(crate) fn keyword_error(key: &str, value: &str) -> Option<KeywordError> {
     if !is_unicode_key(key.as_bytes()) {
         return Some(KeywordError::Key);
     }
-    match invalid_type(value) {
-        Some(offset) => Some(KeywordError::Value(offset)),
-        None => None,
-    }
+    Some(KeywordError::Value(invalid_type(value)?))
 }
 
 /// Writes a tag with a keyword set or removed.

@@ -51,14 +51,12 @@ fn sign_language<'a>(fields: TagFields<'a>) -> TagFields<'a> {
 }
 
 /// Returns the sign language of the region if the language is `sgn`.
+#[inline]
 fn sign_for<'a>(fields: TagFields<'a>) -> Option<&'a [u8]> {
     if !case_insensitive_eq(fields.language, b"sgn") {
         return None;
     }
-    match alias_for(sign_languages(), fields.region) {
-        Some(language) => Some(language.as_bytes()),
-        None => None,
-    }
+    Some(alias_for(sign_languages(), fields.region)?.as_bytes())
 }
 
 /// Returns the fields with another language and without a region.

@@ -4,11 +4,9 @@
 
 #[cfg(feature = "alloc")]
 use crate::shim::{try_vec, AllocError};
-#[cfg(feature = "alloc")]
-use crate::tag::LangTagBuf;
 use crate::tag::NormalLangTag;
 #[cfg(feature = "alloc")]
-use crate::unicode::form::tag_of;
+use crate::tag::{tag_of, LangTagBuf};
 use crate::unicode::keyword_edit::KeywordEdit;
 use crate::unicode::keyword_error::KeywordError;
 use crate::unicode::keyword_setters::{keyword_error, put_parts};
