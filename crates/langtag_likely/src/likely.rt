@@ -12,7 +12,7 @@ use crate::tag_fields::TagFields;
 pub fn add_likely<'a>(fields: TagFields<'a>) -> Option<TagFields<'a>>
     ensures { option_map field_texts result ≡ add_likely likely_subtags (field_texts fields.entry) }
 {
-    Some(fields.filled(looked_up(fields)?))
+    looked_up(fields).map(|likely| fields.filled(likely))
 }
 
 /// Returns the right side of the first row that fits.
@@ -21,10 +21,16 @@ fn looked_up(fields: TagFields<'_>) -> Option<TagFields<'static>>
     ensures { option_map (filled (field_texts fields.entry)) (option_map field_texts result)
         ≡ option_map (filled (field_texts fields.entry)) (looked_up likely_subtags (field_texts fields.entry)) }
 {
-    likely_for(fields)
-        .or_else(|| likely_for(fields.without_region()))
-        .or_else(|| likely_for(fields.without_script()))
-        .or_else(|| likely_for(fields.language_alone()))
+    if let Some(likely) = likely_for(fields) {
+        return Some(likely);
+    }
+    if let Some(likely) = likely_for(fields.without_region()) {
+        return Some(likely);
+    }
+    if let Some(likely) = likely_for(fields.without_script()) {
+        return Some(likely);
+    }
+    likely_for(fields.language_alone())
 }
 
 /// Returns the fewest fields that have the same maximal form, or `None` if no row fits.
