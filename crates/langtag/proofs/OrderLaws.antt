@@ -31,20 +31,8 @@ tag_of-index tag = grind (arith, common_steps)
 equal : (a b : GrandfatheredLangTag) → tag_equality.eq-value.it a b ≡ (index_of a == index_of b)
 equal a b = ap (λ n. n == tag_of the_type b) (tag_of-index a) ∙ ap (λ n. index_of a == n) (tag_of-index b)
 
--- what two functions answer alike along `GRANDFATHERED` they answer alike
-each_tag :
-    {Y : Type 0} (f g : GrandfatheredLangTag → Y) (d : Y) → map f GRANDFATHERED ≡ map g GRANDFATHERED →
-    (tag : GrandfatheredLangTag) → f tag ≡ g tag
-each_tag f g d same tag = grind (arith, common_steps, slice_get_within, listed, get_or_from_slice_get, get_or-map)
-
-ordered_along :
-    (a : GrandfatheredLangTag) →
-    map (λ b. tag_order.cmp-value.it a b) GRANDFATHERED ≡ map (λ b. nat_cmp (index_of a) (index_of b)) GRANDFATHERED
-ordered_along EnGbOed = refl
-ordered_along a = refl
-
 ordered : (a b : GrandfatheredLangTag) → tag_order.cmp-value.it a b ≡ nat_cmp (index_of a) (index_of b)
-ordered a b = each_tag (λ b. tag_order.cmp-value.it a b) (λ b. nat_cmp (index_of a) (index_of b)) Equal (ordered_along a) b
+ordered a b = grind (arith, common_steps, slice_get_within, listed, get_or_from_slice_get, get_or-map)
 
 -- and what it feeds to a hasher
 hashed : (tag : GrandfatheredLangTag) → tag_hash.hash_input-value.it tag ≡ usize (index_of tag)

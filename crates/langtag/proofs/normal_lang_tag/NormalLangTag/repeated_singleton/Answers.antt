@@ -24,9 +24,3 @@ returns-clause-repeated c r spells =
     ap Some c.singleton.ensures.first_byte
     ∙ singleton_at r.extensions c.in_ok-index.index (Some (extension_text c.in_ok-nth.field-0)) (ap (option_map extension_text) (sym c.in_ok-nth.was) ∙ at)
     ∙ ap (option_and_then (slice_get (singletons r.extensions))) (c.in_ok-index.ensures.repeated r spells)
-
-pub returns-in_err-nth-clause-first : goal.returns-in_err-nth-clause-first
-returns-in_err-nth-clause-first c = repeat-first are_alike_bytes
-
-pub returns-clause-first : goal.returns-clause-first
-returns-clause-first c = repeat-first are_alike_bytes

@@ -17,6 +17,3 @@ returns-clause-repeated c r spells =
     nth_from_yields_List c.nth.result c.nth.new.self c.in_ok-index.index c.nth.ensures.ran walk
     ∙ ap (λ texts. slice_get texts c.in_ok-index.index) listed
     ∙ ap (option_and_then (slice_get r.variants)) (c.in_ok-index.ensures.repeated r spells)
-
-pub returns-clause-first : goal.returns-clause-first
-returns-clause-first c = repeat-first are_alike

@@ -13,6 +13,3 @@ returns-clause-repeated c r spells =
     c.first_repeated_variant.ensures
     ∙ ap (λ text. repeat_index are_alike (subtags text)) (c.variants.ensures r spells)
     ∙ ap (repeat_index are_alike) (subtags-joined r.variants (each_subtag is_variant of_variant r.variants spells.0.variants))
-
-pub returns-clause-first : goal.returns-clause-first
-returns-clause-first c = repeat_index-first are_alike
