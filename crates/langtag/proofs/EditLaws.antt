@@ -1,6 +1,6 @@
 -- A record with another part is well formed, it spells the text in which that part is replaced, and its parts end where
 -- their lengths add up to.
-use Rattle.std.proofs.Common.{◌≡◌, ℕ, ◌≤◌, IsTrue, List, [], ◌∷◌, ◌++◌, length, Option, None, Some, IfSome, unwrap_or, refl, sym, ap, ◌∙◌, arith, append_assoc, append-nil}
+use Rattle.std.proofs.Common.{◌≡◌, ℕ, ◌≤◌, IsTrue, List, [], ◌∷◌, ◌++◌, length, Option, None, Some, IfSome, unwrap_or, refl, ap, arith, append_assoc, append-nil}
 use Rattle.std.specs.List.{AllByRecursion, flat_map, replace_range}
 use Rattle.std.specs.Option.{option_map}
 use Rattle.std.proofs.lemmas.Grind.{common_steps}

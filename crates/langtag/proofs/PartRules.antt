@@ -60,8 +60,13 @@ IsPrivate-cut text ends part (r, spells, at) cut =
 
 -- what the accessors cite
 pub ruleset language_rules = (IsLanguage-cut, language_found, ends_had, offsets_kept)
+
 pub ruleset script_rules = (is_script-cut, script_found, ends_had, offsets_kept)
+
 pub ruleset region_rules = (is_region-cut, region_found, ends_had, offsets_kept)
+
 pub ruleset variants_rules = (IsVariants-cut, variants_found, ends_had, offsets_kept)
+
 pub ruleset extensions_rules = (IsExtensions-cut, extensions_found, ends_had, offsets_kept)
+
 pub ruleset private_use_rules = (IsPrivate-cut, private_use_found, ends_had, offsets_kept)

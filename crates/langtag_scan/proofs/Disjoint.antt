@@ -37,19 +37,7 @@ variant_long s h = grind (arith, nat_tests)
 pub first_no_digit : (s : List ℕ) → are_letters s ≡ true → starts_with_digit s ≡ true → ⊥
 first_no_digit s l d = grind (arith, common_steps, and_parts, letter_no_digit)
 
-abbrev IsOfNoPart : Classes → Type 0
-IsOfNoPart c = (c.extended ≡ false) × (c.script ≡ false) × (c.region ≡ false) × (c.variant ≡ false) × (c.extension_subtag ≡ false)
-
--- none of the classes that are tested before that of a stage
-abbrev IsFirst : Stage → Classes → Type 0
-IsFirst AfterScript c = c.extended ≡ false
-IsFirst AfterRegion c = (c.extended ≡ false) × (c.script ≡ false)
-IsFirst AfterVariant c = (c.extended ≡ false) × (c.script ≡ false) × (c.region ≡ false)
-IsFirst AfterMark c = IsOfNoPart c
-IsFirst AfterSingleton c = IsOfNoPart c × (c.mark ≡ false)
-IsFirst _ c = ⊤
-
--- so a subtag of the class of a stage leads there, where the stage may follow
+-- a subtag of the class of a stage leads there, where the stage may follow
 pub reached :
     (stage after : Stage) (s : List ℕ) → may_follow stage after ≡ true → leads_to after (classes_of s) ≡ true →
     next_stage stage s ≡ Some after

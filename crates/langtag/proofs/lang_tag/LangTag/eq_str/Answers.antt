@@ -1,6 +1,5 @@
 use Rattle.std.proofs.Common.{sym, ◌∙◌}
 use Rattle.langtag_scan.specs.CaseLaws.{are_alike-decides}
-use Rattle.langtag_scan.proofs.CaseLaw.{alike_parts}
 use Rattle.langtag.proofs.KeptFound.{alike_kinds}
 use Rattle.langtag.proofs.lang_tag.LangTag.eq_str.Goals as goal
 

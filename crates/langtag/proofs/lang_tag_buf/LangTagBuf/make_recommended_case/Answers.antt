@@ -1,8 +1,5 @@
-use Rattle.std.proofs.Common.{rules}
-use Rattle.langtag_scan.proofs.CaseLaw.{alike_parts}
-use Rattle.langtag_case.proofs.RecommendedLaws.{alike_of_recommended, alike_recommended}
+use Rattle.langtag_case.proofs.RecommendedLaws.{alike_of_recommended}
 use Rattle.langtag_case.proofs.RecordLaw.{spelled_in_case}
-use Rattle.langtag.proofs.AlikeFound.{ascii_found, found_alike}
 use Rattle.langtag.proofs.KeptFound.{alike_kinds}
 use Rattle.langtag.proofs.lang_tag_buf.LangTagBuf.make_recommended_case.Goals as goal
 

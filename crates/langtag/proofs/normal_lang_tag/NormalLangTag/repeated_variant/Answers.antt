@@ -1,13 +1,11 @@
 use Rattle.std.proofs.Common.{ap, ◌∙◌, slice_get}
 use Rattle.std.specs.Option.{option_and_then}
 use Rattle.std.proofs.lemmas.Iterator.Consumers.{YieldsList-from_first, nth_from_yields_List}
-use Rattle.langtag_scan.specs.Case.{are_alike}
 use Rattle.langtag_scan.specs.Class.{is_variant}
 use Rattle.langtag_scan.specs.Subtags.{subtags}
 use Rattle.langtag_scan.proofs.SubtagFacts.{of_variant}
 use Rattle.langtag_scan.proofs.SubtagLists.{each_subtag, subtags-joined}
 use Rattle.langtag_place.specs.Text.{variant_text, variants_left}
-use Rattle.langtag.proofs.RepeatLaws.{repeat-first}
 use Rattle.langtag.proofs.normal_lang_tag.NormalLangTag.repeated_variant.Goals as goal
 
 pub returns-clause-repeated : goal.returns-clause-repeated
