@@ -6,12 +6,12 @@ use Rattle.std.proofs.lemmas.Bool.Decides.{nat_tests}
 use Rattle.std.proofs.lemmas.Grind.{common_steps}
 use Rattle.langtag_scan.specs.Case.{are_alike, fold_byte, fold_text}
 use Rattle.langtag_scan.proofs.CaseLaw.{fold_text-twice, hyphen-fold, length-fold}
-use Rattle.langtag_match.specs.AcceptLanguage.{Element}
-use Rattle.langtag_match.specs.Basic.{ends_subtag, test_basic}
-use Rattle.langtag_match.specs.Range.{is_star}
-use Rattle.langtag_match.specs.Wanted.{folded, wanted_elements}
-use Rattle.langtag_match.proofs.AlikeHeaders.{alike_headers}
-use Rattle.langtag_match.proofs.AlikeTexts.{is_star-fold}
+use Rattle.langtag_range.specs.Element.{Element}
+use Rattle.langtag_range.specs.Basic.{ends_subtag, test_basic}
+use Rattle.langtag_range.specs.Range.{is_star}
+use Rattle.langtag_range.specs.Wanted.{folded, wanted_elements}
+use Rattle.langtag_range.proofs.AlikeHeaders.{alike_headers}
+use Rattle.langtag_range.proofs.AlikeTexts.{is_star-fold}
 use Rattle.langtag_choice.specs.Best.{IsAtMost, IsChoice, Pair, is_wish, is_excluded, is_refused, longest, matches, rank, rank_of_pair, reach, serves}
 use Rattle.langtag_choice.specs.ChoiceLaws.{IgnoresCase, IgnoresHeaderCase}
 use Rattle.langtag_choice.specs.Nearness.{is_fallback, kept}

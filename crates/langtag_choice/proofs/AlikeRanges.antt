@@ -7,10 +7,10 @@ use Rattle.langtag_scan.specs.CaseLaws.{are_alike-decides}
 use Rattle.langtag_scan.specs.Class.{is_primary, is_extended, is_script, is_region}
 use Rattle.langtag_scan.specs.Subtags.{subtags}
 use Rattle.langtag_scan.proofs.CaseLaw.{fold_text-twice, length-fold, classes-fold}
-use Rattle.langtag_match.specs.Listed.{basic_text}
-use Rattle.langtag_match.specs.Wanted.{hyphened}
-use Rattle.langtag_match.proofs.AlikeTexts.{hyphened-fold, is_star-fold, subtags-fold}
-use Rattle.langtag_match.proofs.BasicForms.{basic_text-alike}
+use Rattle.langtag_range.specs.Listed.{basic_text}
+use Rattle.langtag_range.specs.Wanted.{hyphened}
+use Rattle.langtag_range.proofs.AlikeTexts.{hyphened-fold, is_star-fold, subtags-fold}
+use Rattle.langtag_range.proofs.BasicForms.{basic_text-alike}
 use Rattle.langtag_choice.specs.Distance.{DistanceIgnoresCase, distance_of_forms, distance_of_texts, language_distance, script_distance, region_distance}
 use Rattle.langtag_likely.specs.Likely.{Fields, known, without_region}
 use Rattle.langtag_likely.specs.Matching.{matching_fields, matching_form}

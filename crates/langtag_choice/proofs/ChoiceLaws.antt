@@ -1,7 +1,7 @@
 -- Of the choice: it is the only one, and what was found on the way is it.
 use Rattle.std.proofs.Common.{◌≡◌, ℕ, true, List, get_or, Option, Some, None, option_map, ap, refl, sym, subst, ◌∙◌}
-use Rattle.langtag_match.specs.AcceptLanguage.{Element}
-use Rattle.langtag_match.specs.Listed.{basic_text}
+use Rattle.langtag_range.specs.Element.{Element}
+use Rattle.langtag_range.specs.Listed.{basic_text}
 use Rattle.langtag_choice.specs.Distance.{distance_of_texts}
 use Rattle.langtag_choice.specs.Best.{IsAtMost, IsChoice, IsMatchOf, Pair, rank, rank_of_pair, serves}
 use Rattle.langtag_choice.specs.declared.best_match.BestMatch.{BestMatch}

@@ -4,8 +4,8 @@ use Rattle.std.proofs.lemmas.Bool.{and_parts, ltb-false}
 use Rattle.std.proofs.lemmas.Bool.Decides.{nat_tests, eqb_tells}
 use Rattle.langtag_scan.specs.Case.{Alike}
 use Rattle.langtag_scan.specs.CaseLaws.{are_alike-decides}
-use Rattle.langtag_match.specs.AcceptLanguage.{Element}
-use Rattle.langtag_match.specs.Range.{is_star}
+use Rattle.langtag_range.specs.Element.{Element}
+use Rattle.langtag_range.specs.Range.{is_star}
 use Rattle.langtag_choice.specs.Best.{IsAtMost, IsChoice, Pair, is_wish, rank, rank_of_pair, reach, serves}
 use Rattle.langtag_choice.specs.ChoiceLaws.{IsHeaviest, IsFirstAlike, AnswersEqual}
 use Rattle.langtag_choice.specs.Nearness.{kept}
@@ -13,7 +13,7 @@ use Rattle.langtag_choice.proofs.AlikeRanges.{distance-none, unlikely-alike}
 use Rattle.langtag_choice.proofs.ChoiceLaws.{same_index}
 use Rattle.langtag_choice.proofs.LookUpAnswers.{whole_fallback}
 use Rattle.std.proofs.Math.Seq.{take-length}
-use Rattle.langtag_match.proofs.Prefixes.{length-alike}
+use Rattle.langtag_range.proofs.Prefixes.{length-alike}
 
 -- ---- what is kept whole is the range
 

@@ -4,7 +4,7 @@ use Rattle.std.specs.Option.{ForSome, MatchOption}
 use Rattle.std.proofs.lemmas.Bool.{cases_lt}
 use Rattle.std.proofs.lemmas.Option.{get_or_from_slice_get, slice_get-get_or, slice_get_within}
 use Rattle.std.proofs.lemmas.Bool.Decides.{nat_tests}
-use Rattle.langtag_match.specs.AcceptLanguage.{Element}
+use Rattle.langtag_range.specs.Element.{Element}
 use Rattle.langtag_choice.specs.Best.{is_refused, rank, serves}
 use Rattle.langtag_choice.specs.Found.{AreOpen, Covers, CoversOpen, CoversRanges, CoversTags, IsBestFound, IsOldOrAt, IsOf, IsUnrefusedAt, IsReal, IsNotAfter, Keeps, Takes, wish_element}
 use Rattle.langtag_choice.specs.declared.candidate.Candidate.{Candidate}

@@ -9,8 +9,8 @@ use Rattle.langtag_scan.specs.Case.{Alike, are_alike, fold_text}
 use Rattle.langtag_scan.specs.CaseLaws.{are_alike-decides}
 use Rattle.langtag_scan.specs.Class.{is_extended, is_letter, is_primary}
 use Rattle.langtag_tables.proofs.Letters.{primary_length}
-use Rattle.langtag_match.specs.Listed.{basic_text}
-use Rattle.langtag_match.specs.Wanted.{hyphened, is_separator}
+use Rattle.langtag_range.specs.Listed.{basic_text}
+use Rattle.langtag_range.specs.Wanted.{hyphened, is_separator}
 use Rattle.langtag_choice.specs.Lone.{HasNoExtended, IsShort, first_two, is_lone, lone_head, replacing}
 use Rattle.langtag_choice.specs.Distance.{distance_of_texts, is_among, language_distance}
 use Rattle.langtag_likely.specs.Likely.{Fields, Likely, are_alike_fields, known, language_alone, likely_for}
@@ -27,7 +27,7 @@ use Rattle.langtag_likely.proofs.CompletedForms.{completed_language}
 use Rattle.langtag_likely.proofs.RowsFound.{alike_length}
 use Rattle.langtag_likely.proofs.TextParts.{all_fields, next_part, no_fields}
 use Rattle.langtag_likely.proofs.CommonTexts.{some_length}
-use Rattle.langtag_match.proofs.Prefixes.{length-alike}
+use Rattle.langtag_range.proofs.Prefixes.{length-alike}
 use Rattle.langtag_scan.proofs.Disjoint.{extended_three}
 use Rattle.langtag_likely.proofs.AddedTwice.{either_way}
 

@@ -8,15 +8,15 @@ use Rattle.std.proofs.lemmas.Grind.{common_steps}
 use Rattle.langtag_scan.specs.Case.{Alike, fold_byte, fold_text}
 use Rattle.langtag_scan.specs.CaseLaws.{are_alike-decides}
 use Rattle.langtag_scan.proofs.CaseLaw.{hyphen-fold}
-use Rattle.langtag_match.specs.AcceptLanguage.{Element}
-use Rattle.langtag_match.specs.Fallback.{before_hyphens, ends_in_single, fallbacks}
-use Rattle.langtag_match.specs.Range.{is_star}
+use Rattle.langtag_range.specs.Element.{Element}
+use Rattle.langtag_range.specs.Fallback.{before_hyphens, ends_in_single, fallbacks}
+use Rattle.langtag_range.specs.Range.{is_star}
 use Rattle.langtag_choice.specs.Best.{IsChoice, is_wish, reach, serves}
 use Rattle.langtag_choice.specs.ChoiceLaws.{AnswersLookUp}
 use Rattle.langtag_choice.specs.Nearness.{is_fallback, kept}
 use Rattle.std.proofs.Math.ListN.{get_or-map}
 use Rattle.std.proofs.Math.Seq.{take-append_seam, drop-append_seam, take-length, drop-length}
-use Rattle.langtag_match.proofs.Prefixes.{length-alike}
+use Rattle.langtag_range.proofs.Prefixes.{length-alike}
 
 -- ---- what a range falls back to
 

@@ -2,7 +2,7 @@
 use Rattle.std.proofs.Common.{◌≡◌, ℕ, Bool, false, List, [], ◌∷◌, refl, arith}
 use Rattle.std.specs.List.{list_any}
 use Rattle.std.proofs.lemmas.Bool.Decides.{nat_tests}
-use Rattle.langtag_match.specs.AcceptLanguage.{Element}
+use Rattle.langtag_range.specs.Element.{Element}
 use Rattle.langtag_choice.specs.Best.{is_excluded, is_refused, longest}
 
 longest_none : (of_kind : Element → Bool) (elements : List Element) (tag : List ℕ) → list_any of_kind elements ≡ false → longest of_kind elements tag ≡ 0

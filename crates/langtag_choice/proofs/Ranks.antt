@@ -6,7 +6,7 @@ use Rattle.std.proofs.lemmas.Bool.{and_parts, eqb-true, ltb-false, ltb-true, or_
 use Rattle.std.proofs.lemmas.Bool.Decides.{eqb_tells, nat_tests}
 use Rattle.std.proofs.lemmas.Cmp.{nat_list_cmp_total}
 use Rattle.std.proofs.lemmas.Grind.{common_steps}
-use Rattle.langtag_match.specs.AcceptLanguage.{Element}
+use Rattle.langtag_range.specs.Element.{Element}
 use Rattle.langtag_choice.specs.Best.{IsAtMost, rank, reach, serves, service}
 use Rattle.langtag_choice.specs.Distance.{distance_of_texts}
 use Rattle.langtag_choice.specs.Found.{service_number, rank_of}
