@@ -130,11 +130,27 @@ function keywordPairs(value) {
     return pairs.filter(([, text]) => text !== undefined);
 }
 
-export class LanguageTag {
+/** What tags and ranges share: a text that compares ignoring case. */
+class CaselessText {
+    equals(other) {
+        return calls.isEqual(this.text, textOf(other));
+    }
+
+    toString() {
+        return this.text;
+    }
+
+    toJSON() {
+        return this.text;
+    }
+}
+
+export class LanguageTag extends CaselessText {
     #kind;
     #spans;
 
     constructor(value) {
+        super();
         const text = textOf(value);
         const found = calls.parse(text);
         if (found === undefined) throw new InvalidTag(text);
@@ -353,26 +369,15 @@ export class LanguageTag {
         if (value !== undefined && calls.withKeyword("und", key, value) === "") throw new EditError("value", value);
         throw new EditError("keywords");
     }
-
-    equals(other) {
-        return calls.isEqual(this.text, textOf(other));
-    }
-
-    toString() {
-        return this.text;
-    }
-
-    toJSON() {
-        return this.text;
-    }
 }
 
 const tagOf = (value) => (value instanceof LanguageTag ? value : new LanguageTag(value));
 
-export class LanguageRange {
+export class LanguageRange extends CaselessText {
     #isBasic;
 
     constructor(value) {
+        super();
         const text = textOf(value);
         const kind = calls.rangeKind(text);
         if (kind === 0) throw new InvalidRange(text);
@@ -403,18 +408,6 @@ export class LanguageRange {
 
     matchesExtended(tag) {
         return calls.matchesExtended(this.text, tagOf(tag).text);
-    }
-
-    equals(other) {
-        return calls.isEqual(this.text, textOf(other));
-    }
-
-    toString() {
-        return this.text;
-    }
-
-    toJSON() {
-        return this.text;
     }
 }
 
