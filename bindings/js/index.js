@@ -130,27 +130,11 @@ function keywordPairs(value) {
     return pairs.filter(([, text]) => text !== undefined);
 }
 
-/** What tags and ranges share: a text that compares ignoring case. */
-class CaselessText {
-    equals(other) {
-        return calls.isEqual(this.text, textOf(other));
-    }
-
-    toString() {
-        return this.text;
-    }
-
-    toJSON() {
-        return this.text;
-    }
-}
-
-export class LanguageTag extends CaselessText {
+export class LanguageTag {
     #kind;
     #spans;
 
     constructor(value) {
-        super();
         const text = textOf(value);
         const found = calls.parse(text);
         if (found === undefined) throw new InvalidTag(text);
@@ -369,15 +353,26 @@ export class LanguageTag extends CaselessText {
         if (value !== undefined && calls.withKeyword("und", key, value) === "") throw new EditError("value", value);
         throw new EditError("keywords");
     }
+
+    equals(other) {
+        return calls.isEqual(this.text, textOf(other));
+    }
+
+    toString() {
+        return this.text;
+    }
+
+    toJSON() {
+        return this.text;
+    }
 }
 
 const tagOf = (value) => (value instanceof LanguageTag ? value : new LanguageTag(value));
 
-export class LanguageRange extends CaselessText {
+export class LanguageRange {
     #isBasic;
 
     constructor(value) {
-        super();
         const text = textOf(value);
         const kind = calls.rangeKind(text);
         if (kind === 0) throw new InvalidRange(text);
@@ -408,6 +403,18 @@ export class LanguageRange extends CaselessText {
 
     matchesExtended(tag) {
         return calls.matchesExtended(this.text, tagOf(tag).text);
+    }
+
+    equals(other) {
+        return calls.isEqual(this.text, textOf(other));
+    }
+
+    toString() {
+        return this.text;
+    }
+
+    toJSON() {
+        return this.text;
     }
 }
 
