@@ -8,16 +8,22 @@ use crate::likely::tag_fields::TagFields;
 /// Returns the fields with the likely subtag in place of each empty field, or `None` if no row fits.
 #[inline]
 pub fn add_likely<'a>(fields: TagFields<'a>) -> Option<TagFields<'a>> {
-    Some(fields.filled(looked_up(fields)?))
+    looked_up(fields).map(|likely| fields.filled(likely))
 }
 
 /// Returns the right side of the first row that fits.
 #[inline(always)]
 fn looked_up(fields: TagFields<'_>) -> Option<TagFields<'static>> {
-    likely_for(fields)
-        .or_else(|| likely_for(fields.without_region()))
-        .or_else(|| likely_for(fields.without_script()))
-        .or_else(|| likely_for(fields.language_alone()))
+    if let Some(likely) = likely_for(fields) {
+        return Some(likely);
+    }
+    if let Some(likely) = likely_for(fields.without_region()) {
+        return Some(likely);
+    }
+    if let Some(likely) = likely_for(fields.without_script()) {
+        return Some(likely);
+    }
+    likely_for(fields.language_alone())
 }
 
 /// Returns the fewest fields that have the same maximal form, or `None` if no row fits.
