@@ -40,17 +40,7 @@ without_mark-fold text = grind (arith, common_steps, length-map, get_or-map, und
 
 place_before-fold : (front : List ℕ) → place_before (fold_text front) ≡ fold_text (place_before front)
 place_before-fold front =
-    rw (
-      list_any-changed fold_byte is_hash is_hash is_hash-fold front,
-      before_first-changed fold_byte is_hash is_hash is_hash-fold front,
-      without_mark-fold (before_first is_hash front),
-      without_mark-fold (without_mark (before_first is_hash front)),
-    ) (by_test (list_any is_hash front))
-  where
-    by_test :
-        (marked : Bool) →
-        cond marked (fold_text (without_mark (without_mark (before_first is_hash front)))) (fold_text front) ≡ fold_text (cond marked (without_mark (without_mark (before_first is_hash front))) front)
-    by_test marked = grind (arith, common_steps)
+    grind (arith, common_steps, list_any-changed fold_byte is_hash is_hash is_hash-fold front, before_first-changed fold_byte is_hash is_hash is_hash-fold front, without_mark-fold)
 
 locale_place-fold : (name : List ℕ) → locale_place (fold_text name) ≡ fold_text (locale_place name)
 locale_place-fold name = ap place_before (before_first-changed fold_byte ends_locale ends_locale ends_locale-fold name) ∙ place_before-fold (front_of name)
@@ -58,15 +48,11 @@ locale_place-fold name = ap place_before (before_first-changed fold_byte ends_lo
 -- what is to be the range of an item
 wanted_range-fold : (item : List ℕ) → hyphened (wanted_text (fold_text item)) ≡ fold_text (hyphened (wanted_text item))
 wanted_range-fold item =
-    ap (λ t. hyphened (locale_place (trimmed t))) (before_first-changed fold_byte is_semicolon is_semicolon is_semicolon-fold item)
-    ∙ ap (λ t. hyphened (locale_place t)) (trimmed-fold (before_first is_semicolon item))
-    ∙ ap hyphened (locale_place-fold (range_of item))
-    ∙ hyphened-fold (wanted_text item)
+    rw (before_first-changed fold_byte is_semicolon is_semicolon is_semicolon-fold item, trimmed-fold (before_first is_semicolon item), locale_place-fold (range_of item)) (hyphened-fold (wanted_text item))
 
 parameters-fold : (item : List ℕ) → parameters (fold_text item) ≡ map fold_text (parameters item)
 parameters-fold item =
-    ap (slice_split is_semicolon) (after_first-changed fold_byte is_semicolon is_semicolon is_semicolon-fold item)
-    ∙ slice_split-changed fold_byte is_semicolon is_semicolon is_semicolon-fold (after_first is_semicolon item)
+    rw (after_first-changed fold_byte is_semicolon is_semicolon is_semicolon-fold item) (slice_split-changed fold_byte is_semicolon is_semicolon is_semicolon-fold (after_first is_semicolon item))
 
 -- ---- the weight that a value says: a number has no letters
 
@@ -84,18 +70,9 @@ are_digits-fold = all-fold is_digit is_digit-fold
 number_weight-fold : (whole fraction : List ℕ) → number_weight (fold_text whole) (fold_text fraction) ≡ number_weight whole fraction
 number_weight-fold whole fraction = grind (arith, common_steps, digits_stay whole, digits_stay fraction, are_digits-fold whole, are_digits-fold fraction)
 
--- the fraction of a value: what stands after its point, or behind a comma
-fraction_of-fold :
-    (value behind : List ℕ) →
-    cond (list_any is_point (fold_text value)) (after_first is_point (fold_text value)) (fold_text behind) ≡ fold_text (cond (list_any is_point value) (after_first is_point value) behind)
-fraction_of-fold value behind = grind (arith, common_steps, list_any-changed, is_point-fold, after_first-changed)
-
 value_weight-fold : (value behind : List ℕ) → value_weight (fold_text value) (fold_text behind) ≡ value_weight value behind
 value_weight-fold value behind =
-    ap (λ w. number_weight w (cond (list_any is_point (fold_text value)) (after_first is_point (fold_text value)) (fold_text behind)))
-    (before_first-changed fold_byte is_point is_point is_point-fold value)
-    ∙ ap (number_weight (fold_text (before_first is_point value))) (fraction_of-fold value behind)
-    ∙ number_weight-fold (before_first is_point value) (cond (list_any is_point value) (after_first is_point value) behind)
+    grind (arith, common_steps, list_any-changed fold_byte is_point is_point is_point-fold value, before_first-changed fold_byte is_point is_point is_point-fold value, after_first-changed fold_byte is_point is_point is_point-fold value, number_weight-fold)
 
 -- ---- parameters
 
@@ -108,19 +85,12 @@ is_q_name-fold name = grind (arith, common_steps, is_q-fold)
 
 is_q_parameter-fold : (parameter : List ℕ) → is_q_parameter (fold_text parameter) ≡ is_q_parameter parameter
 is_q_parameter-fold parameter =
-    rw (
-      list_any-changed fold_byte is_equals is_equals is_equals-fold parameter,
-      before_first-changed fold_byte is_equals is_equals is_equals-fold parameter,
-      trimmed-fold (before_first is_equals parameter),
-      is_q_name-fold (trimmed (before_first is_equals parameter)),
-    ) refl
+    grind (arith, common_steps, list_any-changed fold_byte is_equals is_equals is_equals-fold parameter, before_first-changed fold_byte is_equals is_equals is_equals-fold parameter, trimmed-fold, is_q_name-fold)
 
 said_weight-fold :
     (parameter behind : List ℕ) → value_weight (trimmed (after_first is_equals (fold_text parameter))) (fold_text behind) ≡ value_weight (trimmed (after_first is_equals parameter)) behind
 said_weight-fold parameter behind =
-    ap (λ t. value_weight (trimmed t) (fold_text behind)) (after_first-changed fold_byte is_equals is_equals is_equals-fold parameter)
-    ∙ ap (λ t. value_weight t (fold_text behind)) (trimmed-fold (after_first is_equals parameter))
-    ∙ value_weight-fold (trimmed (after_first is_equals parameter)) behind
+    rw (after_first-changed fold_byte is_equals is_equals is_equals-fold parameter, trimmed-fold (after_first is_equals parameter)) (value_weight-fold (trimmed (after_first is_equals parameter)) behind)
 
 wanted_weight-fold : (parameters : List (List ℕ)) (behind : List ℕ) → wanted_weight (map fold_text parameters) (fold_text behind) ≡ wanted_weight parameters behind
 wanted_weight-fold [] behind = refl

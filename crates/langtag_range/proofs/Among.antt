@@ -21,8 +21,7 @@ have_no_single-append (s ∷ a) b ha hb = grind (arith, common_steps, and_parts 
 -- subtags that are not singletons may stand before
 StandAmong-after : (extra : List (List ℕ)) → IsTrue (have_no_single extra) → (more rest : List (List ℕ)) → StandAmong more rest → StandAmong more (extra ++ rest)
 StandAmong-after extra none [] rest h = tt
-StandAmong-after extra none (w ∷ more) rest (left_out, found, later, cut, free, alike, h) =
-    (extra ++ left_out, found, later, ap (λ ss. extra ++ ss) cut ∙ sym (append_assoc extra left_out (found ∷ later)), have_no_single-append extra left_out none free, alike, h)
+StandAmong-after extra none (w ∷ more) rest (left_out, found, later, cut, free, alike, h) = grind (arith, common_steps, append_assoc, have_no_single-append extra left_out none free)
 
 -- a subtag that is the wanted one may be taken for it: what another choice leaves out after it has no singleton either
 among_found-from : (w t : List ℕ) (more ts : List (List ℕ)) → are_alike w t ≡ true → StandAmong (w ∷ more) (t ∷ ts) → StandAmong more ts

@@ -26,7 +26,4 @@ module _ (change : ℕ → ℕ) (p q : ℕ → Bool) (same : (b : ℕ) → p (ch
 pub reverse-changed : (change : ℕ → ℕ) (text : List ℕ) → reverse (map change text) ≡ map change (reverse text)
 reverse-changed change [] = refl
 reverse-changed change (b ∷ text) =
-    reverse-append (change b ∷ []) (map change text)
-    ∙ ap (λ t. t ++ change b ∷ []) (reverse-changed change text)
-    ∙ sym (map-append change (reverse text) (b ∷ []))
-    ∙ ap (map change) (sym (reverse-append (b ∷ []) text))
+    grind (arith, common_steps, reverse-append (change b ∷ []) (map change text), reverse-changed change text, map-append change (reverse text) (b ∷ []), reverse-append (b ∷ []) text)

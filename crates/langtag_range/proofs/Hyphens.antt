@@ -59,13 +59,7 @@ module _ (text bytes : List ℕ) (start : ℕ) (same : bytes ≡ text) (within :
 length-before_hyphens : (text : List ℕ) → length (before_hyphens text) ≤ length text
 length-before_hyphens [] = omega arith
 length-before_hyphens (b ∷ text) =
-    let more = length-before_hyphens text in
-    let both = length-append (map (λ before. b ∷ before) (before_hyphens text)) (cond (is_hyphen b) ([] ∷ []) []) in
-    let one = at_most_one (is_hyphen b) [] in
-    omega (arith, both, length-map (before_hyphens text) (λ before. b ∷ before))
-  where
-    at_most_one : (hyphen : Bool) (before : List ℕ) → length (cond hyphen (before ∷ []) []) ≤ 1
-    at_most_one hyphen before = grind (arith, common_steps)
+    grind (arith, common_steps, length-before_hyphens text, length-append (map (λ before. b ∷ before) (before_hyphens text)) (cond (is_hyphen b) ([] ∷ []) []), length-map (before_hyphens text) (λ before. b ∷ before))
 
 pub few_fallbacks : (text : List ℕ) → length (fallbacks text) ≤ length text + 1
 few_fallbacks text = grind (arith, common_steps, length-filter, count_by-le-length, length-before_hyphens text)
