@@ -15,24 +15,12 @@ use Rattle.langtag_range.specs.Weight.{is_q}
 use Rattle.langtag_range.specs.Locale.{ends_locale, front_of, is_hash, place_before, locale_place, without_mark}
 use Rattle.langtag_range.specs.Wanted.{hyphened, wanted_text, is_point, number_weight, value_weight, is_equals, is_q_name, is_q_parameter, wanted_weight, parameters, wanted, digits_behind, wanted_items, wanted_elements, folded, ElementsIgnoreCase}
 use Rattle.langtag_range.proofs.AlikeTexts.{mark-fold, underscore-fold, hyphened-fold, trimmed-fold, is_basic_range-fold}
-use Rattle.langtag_range.proofs.ChangedTexts.{list_any-changed, before_first-changed, after_first-changed, slice_split-changed}
+use Rattle.langtag_range.proofs.FoldedTexts.{list_any-fold, before_first-fold, after_first-fold, slice_split-fold}
 
 -- ---- where an item is cut
 
-is_semicolon-fold : (b : ℕ) → is_semicolon (fold_byte b) ≡ is_semicolon b
-is_semicolon-fold = mark-fold 59 (omega arith)
-
-is_equals-fold : (b : ℕ) → is_equals (fold_byte b) ≡ is_equals b
-is_equals-fold = mark-fold 61 (omega arith)
-
-is_point-fold : (b : ℕ) → is_point (fold_byte b) ≡ is_point b
-is_point-fold = mark-fold 46 (omega arith)
-
 ends_locale-fold : (b : ℕ) → ends_locale (fold_byte b) ≡ ends_locale b
 ends_locale-fold b = rw (mark-fold 46 (omega arith) b, mark-fold 64 (omega arith) b) refl
-
-is_hash-fold : (b : ℕ) → is_hash (fold_byte b) ≡ is_hash b
-is_hash-fold = mark-fold 35 (omega arith)
 
 without_mark-fold : (text : List ℕ) → without_mark (fold_text text) ≡ fold_text (without_mark text)
 unfolding fold_byte
@@ -40,19 +28,19 @@ without_mark-fold text = grind (arith, common_steps, length-map, get_or-map, und
 
 place_before-fold : (front : List ℕ) → place_before (fold_text front) ≡ fold_text (place_before front)
 place_before-fold front =
-    grind (arith, common_steps, list_any-changed fold_byte is_hash is_hash is_hash-fold front, before_first-changed fold_byte is_hash is_hash is_hash-fold front, without_mark-fold)
+    grind (arith, common_steps, list_any-fold is_hash (mark-fold 35 (omega arith)) front, before_first-fold is_hash (mark-fold 35 (omega arith)) front, without_mark-fold)
 
 locale_place-fold : (name : List ℕ) → locale_place (fold_text name) ≡ fold_text (locale_place name)
-locale_place-fold name = ap place_before (before_first-changed fold_byte ends_locale ends_locale ends_locale-fold name) ∙ place_before-fold (front_of name)
+locale_place-fold name = rw (before_first-fold ends_locale ends_locale-fold name) (place_before-fold (front_of name))
 
 -- what is to be the range of an item
 wanted_range-fold : (item : List ℕ) → hyphened (wanted_text (fold_text item)) ≡ fold_text (hyphened (wanted_text item))
 wanted_range-fold item =
-    rw (before_first-changed fold_byte is_semicolon is_semicolon is_semicolon-fold item, trimmed-fold (before_first is_semicolon item), locale_place-fold (range_of item)) (hyphened-fold (wanted_text item))
+    rw (before_first-fold is_semicolon (mark-fold 59 (omega arith)) item, trimmed-fold (before_first is_semicolon item), locale_place-fold (range_of item)) (hyphened-fold (wanted_text item))
 
 parameters-fold : (item : List ℕ) → parameters (fold_text item) ≡ map fold_text (parameters item)
 parameters-fold item =
-    rw (after_first-changed fold_byte is_semicolon is_semicolon is_semicolon-fold item) (slice_split-changed fold_byte is_semicolon is_semicolon is_semicolon-fold (after_first is_semicolon item))
+    rw (after_first-fold is_semicolon (mark-fold 59 (omega arith)) item) (slice_split-fold is_semicolon (mark-fold 59 (omega arith)) (after_first is_semicolon item))
 
 -- ---- the weight that a value says: a number has no letters
 
@@ -72,7 +60,7 @@ number_weight-fold whole fraction = grind (arith, common_steps, digits_stay whol
 
 value_weight-fold : (value behind : List ℕ) → value_weight (fold_text value) (fold_text behind) ≡ value_weight value behind
 value_weight-fold value behind =
-    grind (arith, common_steps, list_any-changed fold_byte is_point is_point is_point-fold value, before_first-changed fold_byte is_point is_point is_point-fold value, after_first-changed fold_byte is_point is_point is_point-fold value, number_weight-fold)
+    grind (arith, common_steps, list_any-fold is_point (mark-fold 46 (omega arith)) value, before_first-fold is_point (mark-fold 46 (omega arith)) value, after_first-fold is_point (mark-fold 46 (omega arith)) value, number_weight-fold)
 
 -- ---- parameters
 
@@ -85,17 +73,18 @@ is_q_name-fold name = grind (arith, common_steps, is_q-fold)
 
 is_q_parameter-fold : (parameter : List ℕ) → is_q_parameter (fold_text parameter) ≡ is_q_parameter parameter
 is_q_parameter-fold parameter =
-    grind (arith, common_steps, list_any-changed fold_byte is_equals is_equals is_equals-fold parameter, before_first-changed fold_byte is_equals is_equals is_equals-fold parameter, trimmed-fold, is_q_name-fold)
-
-said_weight-fold :
-    (parameter behind : List ℕ) → value_weight (trimmed (after_first is_equals (fold_text parameter))) (fold_text behind) ≡ value_weight (trimmed (after_first is_equals parameter)) behind
-said_weight-fold parameter behind =
-    rw (after_first-changed fold_byte is_equals is_equals is_equals-fold parameter, trimmed-fold (after_first is_equals parameter)) (value_weight-fold (trimmed (after_first is_equals parameter)) behind)
+    grind (arith, common_steps, list_any-fold is_equals (mark-fold 61 (omega arith)) parameter, before_first-fold is_equals (mark-fold 61 (omega arith)) parameter, trimmed-fold, is_q_name-fold)
 
 wanted_weight-fold : (parameters : List (List ℕ)) (behind : List ℕ) → wanted_weight (map fold_text parameters) (fold_text behind) ≡ wanted_weight parameters behind
 wanted_weight-fold [] behind = refl
 wanted_weight-fold (parameter ∷ parameters) behind =
-    rw (is_q_parameter-fold parameter, said_weight-fold parameter behind, wanted_weight-fold parameters behind) refl
+    rw (
+      is_q_parameter-fold parameter,
+      after_first-fold is_equals (mark-fold 61 (omega arith)) parameter,
+      trimmed-fold (after_first is_equals parameter),
+      value_weight-fold (trimmed (after_first is_equals parameter)) behind,
+      wanted_weight-fold parameters behind,
+    ) refl
 
 -- ---- elements
 
@@ -116,7 +105,7 @@ wanted_items-fold (item ∷ items) = grind (arith, common_steps, wanted-fold ite
 
 -- those of a header in small letters are those of the header, in small letters
 wanted_elements-fold : (header : List ℕ) → wanted_elements (fold_text header) ≡ map folded (wanted_elements header)
-wanted_elements-fold header = ap wanted_items (slice_split-changed fold_byte is_comma is_comma (mark-fold 44 (omega arith)) header) ∙ wanted_items-fold (items header)
+wanted_elements-fold header = ap wanted_items (slice_split-fold is_comma (mark-fold 44 (omega arith)) header) ∙ wanted_items-fold (items header)
 
 pub alike_headers : (header : List ℕ) → ElementsIgnoreCase header (wanted_elements header)
 alike_headers header other alike = sym (wanted_elements-fold other) ∙ ap wanted_elements (sym alike) ∙ wanted_elements-fold header

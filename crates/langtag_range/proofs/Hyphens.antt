@@ -1,6 +1,7 @@
 -- What stands before each hyphen of a text, by what stands before the last of them.
 use Rattle.std.proofs.Common.{◌≡◌, ℕ, suc, Bool, true, ◌+◌, ◌-◌, ◌<◌, ◌≤◌, false, cond, List, [], ◌∷◌, ◌++◌, map, take, drop, length, length-drop, get_or, refl, ap, ◌∙◌, subst, arith}
 use Rattle.std.proofs.lemmas.Bool.{and_parts}
+use Rattle.std.proofs.lemmas.List.Elements.{All-tail}
 use Rattle.std.proofs.lemmas.List.Folds.{list_all-append}
 use Rattle.std.proofs.lemmas.List.{length-map, length-append, get_or-drop, at_drop_more, take-append-drop}
 use Rattle.std.proofs.lemmas.List.Sums.{length-filter, count_by-le-length}
@@ -15,12 +16,7 @@ use Rattle.langtag_range.specs.Fallback.{before_hyphens, fallbacks}
 before_hyphens-none : (text : List ℕ) → IsHyphenFree text → before_hyphens text ≡ []
 before_hyphens-none [] free = refl
 before_hyphens-none (b ∷ text) free =
-    let here : is_hyphen b ≡ false = free 0 0 (omega arith) in
-    let others = before_hyphens-none text (λ k d below. subst (λ i. is_hyphen (get_or (b ∷ text) i d) ≡ false) (suc_is k) (free (k + 1) d (omega arith))) in
-    rw (others, here) refl
-  where
-    suc_is : (k : ℕ) → k + 1 ≡ suc k
-    suc_is k = omega arith
+    let here : is_hyphen b ≡ false = free 0 0 (omega arith) in rw (before_hyphens-none text (All-tail (λ b. is_hyphen b ≡ false) b text free), here) refl
 
 -- one that ends in a hyphen and a text without one
 before_hyphens-last : (front last : List ℕ) → IsHyphenFree last → before_hyphens (front ++ 45 ∷ last) ≡ front ∷ before_hyphens front
