@@ -1,5 +1,5 @@
 -- A text is cut and tested as its form in small letters is, where the case of a byte does not matter to the test.
-use Rattle.std.proofs.Common.{◌≡◌, ℕ, ◌+◌, Bool, List, [], ◌∷◌, ◌++◌, map, take, drop, reverse, refl, arith}
+use Rattle.std.proofs.Common.{◌≡◌, ℕ, ◌+◌, Bool, List, [], ◌∷◌, map, reverse, refl, arith}
 use Rattle.std.specs.List.{list_any, slice_split, before_first, after_first, position_or_len}
 use Rattle.std.proofs.lemmas.List.{take-map, drop-map, map-append, reverse-append}
 use Rattle.std.proofs.lemmas.Grind.{common_steps}

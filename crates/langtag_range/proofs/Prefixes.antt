@@ -1,5 +1,5 @@
 -- A tag that begins with a range.
-use Rattle.std.proofs.Common.{◌≡◌, ◌↔◌, ℕ, ◌+◌, ◌<◌, ◌≤◌, ◌&&◌, true, IsTrue, List, length, length-drop, take, drop, get_or, sym, ap, ◌∙◌, arith, rules}
+use Rattle.std.proofs.Common.{◌≡◌, ◌↔◌, ℕ, ◌<◌, ◌≤◌, ◌&&◌, true, IsTrue, List, length, length-drop, take, drop, get_or, sym, ap, ◌∙◌, arith, rules}
 use Rattle.std.proofs.lemmas.Bool.{and_parts, or_cases, or_right, cases_lt, eqb-true, eq-eqb}
 use Rattle.std.proofs.lemmas.List.{take_at, length-map, length-append, at_drop_more, take-append-drop, get_or-append_right, get_or-drop, take_all}
 use Rattle.std.proofs.lemmas.Grind.{common_steps}
