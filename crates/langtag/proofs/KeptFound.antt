@@ -5,7 +5,6 @@ use Rattle.langtag_scan.specs.Case.{Alike}
 use Rattle.langtag_scan.specs.Found.{IsFoundOf, is_normal, is_private_use, irregular_index}
 use Rattle.langtag_scan.specs.Tag.{IsNormal, IsPrivate, IsIrregularAt, IsIrregular, IsTag}
 use Rattle.langtag_scan.specs.declared.finding.Finding.{Finding}
-use Rattle.langtag_scan.specs.declared.finding.Finding.TheVariants as found_at
 use Rattle.langtag_scan.proofs.CaseLaw.{alike_normal, alike_private, alike_irregular}
 use Rattle.langtag_scan.proofs.FoundLaws.{tag_found, normal_found, private_found, found_had}
 use Rattle.langtag_scan.proofs.IrregularTexts.{irregular_fold}

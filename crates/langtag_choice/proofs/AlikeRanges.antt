@@ -12,11 +12,13 @@ use Rattle.langtag_range.specs.Wanted.{hyphened}
 use Rattle.langtag_range.proofs.AlikeTexts.{hyphened-fold, is_star-fold, subtags-fold}
 use Rattle.langtag_range.proofs.BasicForms.{basic_text-alike}
 use Rattle.langtag_choice.specs.Distance.{DistanceIgnoresCase, distance_of_forms, distance_of_texts, language_distance, script_distance, region_distance}
-use Rattle.langtag_likely.specs.Likely.{Fields, known, without_region}
+use Rattle.langtag_likely.specs.Likely.{known, without_region}
+use Rattle.langtag.specs.Fields.{Fields}
 use Rattle.langtag_likely.specs.Matching.{matching_fields, matching_form}
 use Rattle.langtag_choice.specs.Nearness.{is_form, unlikely, unlikely_form}
 use Rattle.langtag_likely.specs.TextFields.{text_fields, fields_of_subtags, counted, counts, last_language, after_language, script_of, after_script, region_of}
-use Rattle.langtag_likely.proofs.AlikeFields.{AlikeFields, AlikeOptions, are_alike-right, suffices-alike, by_options, are_alike-left}
+use Rattle.langtag_likely.proofs.AlikeFields.{AlikeOptions, suffices-alike, by_options}
+use Rattle.langtag.proofs.Alike.{AlikeFields, are_alike-right, are_alike-left}
 use Rattle.langtag_choice.proofs.DistanceCase.{forms-alike, matching-alike}
 
 -- ---- bytes and subtags

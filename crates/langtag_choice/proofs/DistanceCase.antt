@@ -5,11 +5,13 @@ use Rattle.std.proofs.lemmas.Bool.Decides.{nat_tests}
 use Rattle.std.proofs.lemmas.Grind.{common_steps}
 use Rattle.langtag_scan.specs.Case.{Alike, are_alike}
 use Rattle.langtag_choice.specs.Distance as Distance
-use Rattle.langtag_likely.specs.Likely.{Fields, are_alike_fields, language_alone}
+use Rattle.langtag_likely.specs.Likely.{are_alike_fields, language_alone}
+use Rattle.langtag.specs.Fields.{Fields}
 use Rattle.langtag_likely.specs.Matching.{language_replaced, region_replaced, without_language, keeping_language, most_unknown, most_likely, matching_fields}
 use Rattle.langtag_choice.specs.MatchingData.{language_rules}
 use Rattle.langtag_choice.specs.Rules.{Rule, fits, distance_by}
-use Rattle.langtag_likely.proofs.AlikeFields.{AlikeFields, AlikeOptions, are_alike-left, are_alike-right, fields-right, likely_for-alike, alone_alike, or_other-alike, added-alike, by_options, by_same}
+use Rattle.langtag_likely.proofs.AlikeFields.{AlikeOptions, fields-right, likely_for-alike, alone_alike, or_other-alike, added-alike, by_options, by_same}
+use Rattle.langtag.proofs.Alike.{AlikeFields, are_alike-left, are_alike-right}
 
 -- ---- the matching form
 

@@ -5,7 +5,8 @@ use Rattle.langtag_scan.specs.Case.{are_alike}
 use Rattle.langtag_scan.specs.Class.{are_letters}
 use Rattle.langtag_tables.specs.Numbers.{letter_number}
 use Rattle.langtag_choice.specs.Distance.{language_distance, script_distance}
-use Rattle.langtag_likely.specs.Likely.{Fields, language_alone, without_region}
+use Rattle.langtag_likely.specs.Likely.{language_alone, without_region}
+use Rattle.langtag.specs.Fields.{Fields}
 use Rattle.langtag_choice.specs.MatchingData.{language_rules, script_rules}
 use Rattle.langtag_likely.specs.Numbers.{first_index, key_number}
 use Rattle.langtag_choice.specs.Pairs.{language_pair, script_pair}

@@ -1,7 +1,7 @@
 -- A language that is there says how far fields are that are still to be completed.
 use Rattle.std.proofs.Common.{◌≡◌, ◌<◌, length}
 use Rattle.langtag_choice.specs.Distance.{language_distance}
-use Rattle.langtag_likely.specs.Likely.{Fields}
+use Rattle.langtag.specs.Fields.{Fields}
 use Rattle.langtag_likely.specs.Matching.{completed}
 use Rattle.langtag_likely.proofs.CompletedForms.{completed_language}
 

@@ -4,7 +4,8 @@ use Rattle.std.proofs.lemmas.Bool.{and_parts, ltb-true, eq-eqb, ne_eqb}
 use Rattle.std.proofs.lemmas.Bool.Decides.{eqb_tells, nat_tests}
 use Rattle.langtag_scan.specs.Class.{are_letters}
 use Rattle.langtag_tables.specs.Numbers.{letter_number}
-use Rattle.langtag_likely.specs.Likely.{Fields, Likely, are_alike_fields, language_alone}
+use Rattle.langtag_likely.specs.Likely.{Likely, are_alike_fields, language_alone}
+use Rattle.langtag.specs.Fields.{Fields}
 use Rattle.langtag_likely.specs.Numbers.{key_number}
 use Rattle.langtag_choice.specs.Pairs.{language_pair, script_pair}
 use Rattle.langtag_choice.specs.Rules.{Rule, fits}

@@ -9,7 +9,7 @@ use Rattle.langtag_tables.specs.Numbers.{letter_number}
 use Rattle.langtag_tables.proofs.Letters.{letter_number-tells}
 use Rattle.langtag_choice.specs.Distance.{is_among}
 use Rattle.langtag_choice.specs.declared.matching_tables.TheConstants.{RELATED_KEYS}
-use Rattle.langtag_likely.proofs.RowsFound.{alike_length}
+use Rattle.langtag.proofs.Alike.{alike_length}
 
 abbrev pub has_number : List ℕ → Bool
 has_number language = list_any (λ n. n == letter_number language) RELATED_KEYS

@@ -8,10 +8,11 @@ use Rattle.langtag_scan.specs.Case.{folded_number}
 use Rattle.langtag_scan.specs.Class.{are_alphanumeric}
 use Rattle.langtag_scan.proofs.FoldedNumbers.{folded_number-tells}
 use Rattle.langtag_choice.specs.Distance.{is_among}
-use Rattle.langtag_likely.specs.Likely.{Fields, are_alike_fields}
+use Rattle.langtag_likely.specs.Likely.{are_alike_fields}
+use Rattle.langtag.specs.Fields.{Fields}
 use Rattle.langtag_likely.specs.Numbers.{first_index}
 use Rattle.langtag_choice.specs.Rules.{Rule, fits, distance_by}
-use Rattle.langtag_likely.proofs.RowsFound.{alike_length}
+use Rattle.langtag.proofs.Alike.{alike_length}
 use Rattle.std.proofs.lemmas.Bool.Decides.{nat_tests}
 
 abbrev pub distance_of : Rule → ℕ

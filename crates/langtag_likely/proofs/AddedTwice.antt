@@ -5,9 +5,11 @@ use Rattle.std.specs.List.{list_all}
 use Rattle.std.specs.Option.{option_map_or}
 use Rattle.std.proofs.lemmas.Bool.{and_parts}
 use Rattle.langtag_scan.specs.Case.{Alike, are_alike, fold_text}
-use Rattle.langtag_likely.specs.Likely.{Fields, Likely, are_alike_fields, likely_for, looked_up, or_else, or_other, filled, known, known_fields, add_likely, language_alone}
+use Rattle.langtag_likely.specs.Likely.{Likely, are_alike_fields, likely_for, looked_up, or_else, or_other, filled, known, known_fields, add_likely, language_alone}
+use Rattle.langtag.specs.Fields.{Fields}
 use Rattle.langtag_likely.specs.LikelySubtags.{other_rows, likely_subtags}
-use Rattle.langtag_likely.proofs.AlikeFields.{AlikeFields, alike_is, alike_fields, likely_for-alike, looked_up-alike, alone_alike}
+use Rattle.langtag_likely.proofs.AlikeFields.{alike_fields, likely_for-alike, looked_up-alike, alone_alike}
+use Rattle.langtag.proofs.Alike.{AlikeFields, alike_is}
 use Rattle.langtag_likely.proofs.SettledRows.{is_there, is_language_row, is_kept, is_whole, stays_unknown, is_other_row, is_settled, rows_settled, row_by_bit, looked_up_other}
 
 -- ---- texts that are there

@@ -6,7 +6,8 @@ use Rattle.langtag_scan.specs.Class.{are_letters, are_alphanumeric}
 use Rattle.langtag_scan.specs.Case.{folded_number}
 use Rattle.langtag_tables.specs.Numbers.{letter_number}
 use Rattle.langtag_likely.specs.declared.alias_tables.TheConstants.{ALIAS_LANGUAGES, ALIAS_SCRIPT_NAMES, ALIAS_SCRIPTS, ALIAS_REGION_NAMES, ALIAS_REGIONS, REGION_ALIAS_NAMES}
-use Rattle.langtag_likely.specs.Likely.{Fields, Likely, likely_for, language_alone}
+use Rattle.langtag_likely.specs.Likely.{Likely, likely_for, language_alone}
+use Rattle.langtag.specs.Fields.{Fields}
 use Rattle.langtag_likely.specs.Matching.{region_alone}
 use Rattle.langtag_likely.specs.Aliases.{language_aliases, region_aliases}
 use Rattle.langtag_likely.specs.Numbers.{first_index, name_at}

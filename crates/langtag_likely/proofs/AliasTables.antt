@@ -4,11 +4,10 @@ use Rattle.std.specs.Prelude.{[]}
 use Rattle.std.specs.List.{list_all}
 use Rattle.langtag_scan.specs.Case.{fold_byte, folded_number}
 use Rattle.langtag_scan.specs.Class.{is_letter, is_digit, is_primary, is_script, is_region}
-use Rattle.langtag_scan.specs.Case.{folded_number}
 use Rattle.langtag_tables.specs.Numbers.{letter_number}
 use Rattle.langtag_likely.specs.declared.alias_tables.TheConstants as table
 use Rattle.langtag_likely.specs.Aliases as list
-use Rattle.langtag_likely.specs.Good.{is_language_field, is_script_field, is_region_field}
+use Rattle.langtag.specs.FieldClasses.{is_language_field, is_script_field, is_region_field}
 use Rattle.langtag_likely.specs.Numbers.{name_at, name_text}
 use Rattle.langtag_likely.proofs.RegionNumbers.{is_region_alone}
 use Rattle.langtag_likely.proofs.RowLaws.{is_language}

@@ -7,9 +7,11 @@ use Rattle.langtag_scan.specs.Tag.{IsNormal}
 use Rattle.langtag_scan.proofs.Disjoint.{script_four, region_short}
 use Rattle.langtag_scan.proofs.Joins.{hyphenated}
 use Rattle.langtag_scan.proofs.SubtagFacts.{of_primary}
-use Rattle.langtag_likely.specs.Likely.{Fields, add_likely, remove_likely}
+use Rattle.langtag_likely.specs.Likely.{add_likely, remove_likely}
+use Rattle.langtag.specs.Fields.{Fields, subtag_of}
 use Rattle.langtag_likely.specs.LikelySubtags.{likely_subtags}
-use Rattle.langtag_likely.specs.Maximal.{IsForm, fields_of, put_fields, put_language, subtag_of, maximal_record, minimal_record}
+use Rattle.langtag_likely.specs.Maximal.{fields_of, put_fields, put_language, maximal_record, minimal_record}
+use Rattle.langtag.specs.Form.{IsForm}
 use Rattle.langtag_likely.proofs.GoodForms.{maximal_well_formed, minimal_well_formed}
 use Rattle.langtag_scan.proofs.PartOffsets.{length-spell}
 

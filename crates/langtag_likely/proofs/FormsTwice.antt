@@ -8,11 +8,13 @@ use Rattle.langtag_scan.specs.Case.{Alike, are_alike, fold_text}
 use Rattle.langtag_scan.specs.Class.{is_extended}
 use Rattle.langtag_scan.specs.Record.{Record, IsWellFormed}
 use Rattle.langtag_tables.proofs.Letters.{primary_length, extended_primary}
-use Rattle.langtag_likely.specs.Likely.{Fields, or_other, known, known_fields, add_likely, least}
+use Rattle.langtag_likely.specs.Likely.{or_other, known, known_fields, add_likely, least}
+use Rattle.langtag.specs.Fields.{Fields, subtag_of}
 use Rattle.langtag_likely.specs.LikelySubtags.{likely_subtags}
-use Rattle.langtag_likely.specs.Maximal.{fields_of, language_field, put_fields, put_language, subtag_of, maximal_record, minimal_record}
+use Rattle.langtag_likely.specs.Maximal.{fields_of, language_field, put_fields, put_language, maximal_record, minimal_record}
 use Rattle.langtag_likely.proofs.AddedTwice.{AreKnown, added, either_way, or_other_there, known_stays, known_goes}
-use Rattle.langtag_likely.proofs.AlikeFields.{AlikeFields, AlikeOptions, known-alike, added-alike, removed-alike, by_options}
+use Rattle.langtag_likely.proofs.AlikeFields.{AlikeOptions, known-alike, added-alike, removed-alike, by_options}
+use Rattle.langtag.proofs.Alike.{AlikeFields}
 use Rattle.langtag_likely.proofs.LeastTwice.{has_form}
 use Rattle.langtag_likely.proofs.SettledRows.{is_there}
 

@@ -7,11 +7,13 @@ use Rattle.std.proofs.lemmas.Bool.{and_parts}
 use Rattle.langtag_scan.specs.Case.{fold_byte}
 use Rattle.langtag_scan.specs.Class.{is_letter, is_digit, is_primary, is_extended, is_script, is_region}
 use Rattle.langtag_scan.specs.Record.{Record, IsWellFormed}
-use Rattle.langtag_likely.specs.Good.{is_language_field, is_script_field, is_region_field}
-use Rattle.langtag_likely.specs.Likely.{Fields, Likely, likely_for, looked_up, or_else, or_other, filled, known, known_fields, add_likely, remove_likely, least, suffices, language_alone, without_script, without_region}
+use Rattle.langtag.specs.FieldClasses.{is_language_field, is_script_field, is_region_field}
+use Rattle.langtag_likely.specs.Likely.{Likely, likely_for, looked_up, or_else, or_other, filled, known, known_fields, add_likely, remove_likely, least, suffices, language_alone, without_script, without_region}
+use Rattle.langtag.specs.Fields.{Fields, subtag_of}
 use Rattle.langtag_likely.specs.LikelySubtags.{language_rows, other_rows, likely_subtags}
-use Rattle.langtag_likely.specs.Maximal.{fields_of, language_field, put_fields, put_language, subtag_of, maximal_record, minimal_record}
-use Rattle.langtag_likely.proofs.FieldClasses.{from_primary, from_extended, known_good}
+use Rattle.langtag_likely.specs.Maximal.{fields_of, language_field, put_fields, put_language, maximal_record, minimal_record}
+use Rattle.langtag_likely.proofs.FieldClasses.{from_extended, known_good}
+use Rattle.langtag.proofs.FieldClasses.{from_primary}
 
 -- each field is of its class
 pub record AreGood (f : Fields) : Type 0 where

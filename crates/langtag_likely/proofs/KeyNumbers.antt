@@ -6,11 +6,11 @@ use Rattle.std.proofs.lemmas.Bool.{and_parts, eq-eqb, ne_eqb}
 use Rattle.std.proofs.lemmas.Bool.Decides.{eqb_tells, nat_tests}
 use Rattle.langtag_scan.specs.Case.{are_alike, folded_number}
 use Rattle.langtag_scan.specs.Class.{are_letters, are_alphanumeric}
-use Rattle.langtag_scan.specs.Case.{folded_number}
 use Rattle.langtag_scan.proofs.FoldedNumbers.{folded_number-tells}
 use Rattle.langtag_tables.proofs.Letters.{letter_number-tells}
 use Rattle.langtag_likely.specs.declared.tables.TheConstants.{SCRIPT_KEYS, REGION_KEYS}
-use Rattle.langtag_likely.specs.Likely.{Fields, Likely, are_alike_fields}
+use Rattle.langtag_likely.specs.Likely.{Likely, are_alike_fields}
+use Rattle.langtag.specs.Fields.{Fields}
 use Rattle.langtag_likely.specs.Numbers.{first_index, place, key_number}
 use Rattle.langtag_likely.proofs.FirstIndex.{first_index-is}
 

@@ -2,10 +2,12 @@
 use Rattle.std.proofs.Common.{◌≡◌, ℕ, true, false, List, [], ◌∷◌, Option, None, Some, option_map, refl, sym, ap, ◌∙◌, arith}
 use Rattle.std.specs.Prelude.{codes}
 use Rattle.langtag_scan.specs.Case.{Alike, fold_text}
-use Rattle.langtag_likely.specs.Likely.{Fields, looked_up, or_other, filled, known, known_fields, add_likely, least, suffices, language_alone, without_script, without_region}
+use Rattle.langtag_likely.specs.Likely.{looked_up, or_other, filled, known, known_fields, add_likely, least, suffices, language_alone, without_script, without_region}
+use Rattle.langtag.specs.Fields.{Fields}
 use Rattle.langtag_likely.specs.LikelySubtags.{likely_subtags}
 use Rattle.langtag_likely.proofs.AddedTwice.{either_way}
-use Rattle.langtag_likely.proofs.AlikeFields.{AlikeFields, alike_fields, known-alike, known_fields-alike, suffices-alike}
+use Rattle.langtag_likely.proofs.AlikeFields.{alike_fields, known-alike, known_fields-alike, suffices-alike}
+use Rattle.langtag.proofs.Alike.{AlikeFields}
 
 -- ---- one field
 

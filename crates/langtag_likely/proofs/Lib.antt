@@ -7,7 +7,6 @@ pub mod CommonTexts
 pub mod CompletedForms
 pub mod FieldClasses
 pub mod FirstIndex
-pub mod FormLaws
 pub mod FormLengths
 pub mod FormsTwice
 pub mod GoodForms

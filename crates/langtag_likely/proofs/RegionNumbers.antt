@@ -5,7 +5,8 @@ use Rattle.std.proofs.lemmas.List.{nil_from_length}
 use Rattle.langtag_scan.specs.Case.{folded_number}
 use Rattle.langtag_scan.specs.Class.{are_alphanumeric}
 use Rattle.langtag_scan.proofs.FoldedNumbers.{folded_number-tells}
-use Rattle.langtag_likely.specs.Likely.{Fields, Likely, are_alike_fields}
+use Rattle.langtag_likely.specs.Likely.{Likely, are_alike_fields}
+use Rattle.langtag.specs.Fields.{Fields}
 use Rattle.langtag_likely.specs.Matching.{region_alone}
 
 abbrev pub is_region_alone : Likely → Bool

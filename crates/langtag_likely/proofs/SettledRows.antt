@@ -7,7 +7,8 @@ use Rattle.std.proofs.lemmas.Bool.{and_parts, leb-true, eqb-true}
 use Rattle.langtag_scan.specs.Case.{fold_byte, are_alike}
 use Rattle.langtag_scan.specs.Class.{is_letter, are_letters}
 use Rattle.langtag_tables.specs.Numbers.{letter_number}
-use Rattle.langtag_likely.specs.Likely.{Fields, Likely, likely_for, looked_up, or_else}
+use Rattle.langtag_likely.specs.Likely.{Likely, likely_for, looked_up, or_else}
+use Rattle.langtag.specs.Fields.{Fields}
 use Rattle.langtag_likely.specs.LikelySubtags.{language_rows, other_rows, likely_subtags}
 use Rattle.langtag_likely.specs.Rows.{of_language}
 use Rattle.langtag_likely.proofs.LanguageBits.{from_bit, row_at}

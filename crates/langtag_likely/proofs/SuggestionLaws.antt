@@ -7,7 +7,8 @@ use Rattle.langtag_scan.specs.Class.{is_alphanumeric, are_alphanumeric, is_regio
 use Rattle.langtag_scan.proofs.Ascii.{IsAscii-each, alphanumeric_below}
 use Rattle.langtag_scan.proofs.SubtagFacts.{of_region}
 use Rattle.langtag_likely.specs.Aliases.{region_replacements}
-use Rattle.langtag_likely.specs.Likely.{Fields, likely_for}
+use Rattle.langtag_likely.specs.Likely.{likely_for}
+use Rattle.langtag.specs.Fields.{Fields}
 use Rattle.langtag_likely.specs.Matching.{region_alone}
 use Rattle.langtag_likely.specs.Numbers.{first_index}
 use Rattle.langtag_likely.specs.Rows.{no_row}
