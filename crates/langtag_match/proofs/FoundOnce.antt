@@ -11,6 +11,7 @@ use Rattle.std.proofs.lemmas.Grind.{common_steps}
 use Rattle.langtag.specs.declared.lang_tag.LangTag.{LangTag}
 use Rattle.langtag_match.specs.Filter.{finds, is_found, newly_found, found_after, filtered, AreFoundOnce}
 use Rattle.langtag_match.specs.declared.language_range.LanguageRange.{LanguageRange}
+use Rattle.langtag_match.proofs.Found.{found_from-start}
 
 filter-none : (tags : List LangTag) → filter (λ tag. false) tags ≡ []
 filter-none [] = refl
@@ -54,3 +55,5 @@ module _ (matches : List ℕ → List ℕ → Bool) where
   few_found ranges tags =
       let found = filter (is_found matches ranges) tags in
       omega (arith, length_permutation found (filtered matches ranges tags) (found_once ranges tags), length-filter (is_found matches ranges) tags, count_by-le-length (is_found matches ranges) tags)
+
+pub ruleset found_laws = (found_from-start, found_once, few_found)

@@ -11,7 +11,7 @@ use Rattle.std.proofs.lemmas.List.Sorted.{length_permutation}
 use Rattle.std.proofs.lemmas.Grind.{common_steps}
 use Rattle.langtag_match.specs.AcceptLanguage.{FallsTo, HasOneReading, IsByWeight, acceptable, elements, reading, weight_in}
 use Rattle.langtag_range.specs.Element.{Element}
-use Rattle.langtag_match.specs.Stable.{IsOrderedBy, with_key}
+use Rattle.langtag_match.specs.Stable.{IsOrderedBy}
 use Rattle.langtag_match.proofs.Stable.{stable_once}
 use Rattle.langtag_match.specs.declared.weighted_range.WeightedRange.{WeightedRange}
 
