@@ -10,7 +10,7 @@ use Rattle.langtag_registry.specs.Canonical.{canonical_primary, canonical_extend
 use Rattle.langtag_registry.specs.Fields.{preferred_variant, preferred_tag}
 use Rattle.langtag_registry.proofs.AlikeForms.{preferred_tag-alike, grandfathered_alike}
 use Rattle.langtag_registry.proofs.OrderLaws.{keys_of, in_order-risen, rises_from_in_order}
-use Rattle.langtag_registry.proofs.CanonicalParts.{record_stays, parts_stay, own_record, kept_form}
+use Rattle.langtag_registry.proofs.CanonicalParts.{record_stays, parts_stay, own_record, kept_form, preferred_goes}
 use Rattle.langtag_registry.proofs.ReplacedSubtags.{replaced, IsSettled, IgnoresCase, language_settled, language-alike, region_settled, region-alike, variant_settled, variant-alike, extlang_cases, extlang-alike, registered_extlang-alike}
 use Rattle.langtag_registry.proofs.TwiceLaws.{itself, whole_settled, Way, as_whole, as_it_is, by_parts, way_of}
 
@@ -66,13 +66,9 @@ canonical_in_any_case text other alike p = by_way (way_of other)
     same = preferred_tag-alike text other alike
 
     by_way : Way other → IsCanonicalForm other other
-    by_way (as_whole w is) =
-        let found : preferred_tag text ≡ Some w = same ∙ is in
-        let none : preferred_tag text ≡ None = ap preferred_tag (p.whole w found) ∙ whole_settled text w found in
-        absurd cc
+    by_way (as_whole w is) = absurd (preferred_goes text w (same ∙ is) p)
     by_way (as_it_is none why) = kept_form other other none why refl
     by_way (by_parts none new q spells) =
         let like = alike_parts other text (sym alike) q spells in
-        let r = like.0 in
-        let own = p.parts (same ∙ none) (λ old. new (grandfathered_alike text other alike old)) r like.1 in
-        itself other q none spells (alike_record_stays r q spells.0 (sym like.2) (own_record text r like.1 own))
+        let own = p.parts (same ∙ none) (λ old. new (grandfathered_alike text other alike old)) like.0 like.1 in
+        itself other q none spells (alike_record_stays like.0 q spells.0 (sym like.2) (own_record text like.0 like.1 own))

@@ -59,15 +59,11 @@ variants_counted r all = grind (arith, common_steps, filter-append, length-appen
 few_variants : (text : List ℕ) → IsAlikeOne has_few text → EachRecord text (λ r. length r.variants ≤ 1)
 few_variants text (one, few, alike) = λ r spells.
     let like = alike_parts text one (sym alike) r spells in
-    let q = like.0 in
-    let same : length r.variants ≡ length q.variants =
-    sym (length-map r.variants fold_text) ∙ ap (λ z. length z.variants) like.2 ∙ length-map q.variants fold_text in
-    let count = variants_counted q like.1.0.variants in
-    let all : filter is_variant (segments one) ≡ filter is_variant (flat q) =
-    ap (λ t. filter is_variant (segments t)) (sym like.1.1) ∙ ap (filter is_variant) (spelled_segments q like.1.0) in
+    let same = ap (λ z. length z.variants) like.2 in
+    let all = ap (λ t. length (filter is_variant (segments t))) like.1.1 in
+    let found = ap (λ ss. length (filter is_variant ss)) (spelled_segments like.0 like.1.0) in
     let most = leb-true (length (filter is_variant (segments one))) 1 few in
-    let counts = ap length all in
-    omega (arith, same, count, most, counts)
+    omega (arith, length-map r.variants fold_text, length-map like.0.variants fold_text, variants_counted like.0 like.1.0.variants, same, all, found, most)
 
 one_apart : (vs : List (List ℕ)) → length vs ≤ 1 → repeat are_alike (canonical_variants vs) ≡ None
 one_apart [] few = refl

@@ -47,10 +47,6 @@ stays text =
     && (option_map_or (λ g. not (is_some (preferred_region g))) (record_of text).region true
     && list_all (λ v. not (is_some (preferred_variant v))) (record_of text).variants))
 
-all_stay : list_all stays (map (λ e. e.value) tag_preferred) ≡ true
-unfolding tag_preferred language_preferred region_preferred variant_preferred preferred_tag preferred_language preferred_region preferred_variant fold_byte
-all_stay = refl
-
 variants_stay : (vs : List (List ℕ)) → list_all (λ v. not (is_some (preferred_variant v))) vs ≡ true → canonical_variants vs ≡ vs
 variants_stay [] h = refl
 variants_stay (v ∷ vs) h =
@@ -70,13 +66,12 @@ itself text r none spells same = record {
   kept = λ _ _. refl;
   parts = λ _ _ q other.
       let one : q ≡ r = spelled_once q r other.0 spells.0 (other.1 ∙ sym spells.1) in
-      let again : spell (canonical_record q) ≡ text = ap (λ z. spell (canonical_record z)) one ∙ ap spell same ∙ spells.1 in
-      sym (ap (λ t. unwrap_or (preferred_tag t) t) again ∙ ap (λ o. unwrap_or o text) none);
+      rw (one, same, spells.1, none) refl;
 }
 
 stays_of : (text new : List ℕ) → preferred_tag text ≡ Some new → stays new ≡ true
-unfolding preferred_tag
-stays_of text new is = value_good stays tag_preferred text new all_stay is
+unfolding preferred_tag tag_preferred language_preferred region_preferred variant_preferred preferred_language preferred_region preferred_variant fold_byte
+stays_of text new is = value_good stays tag_preferred text new refl is
 
 -- it has no Preferred-Value itself
 pub whole_settled : (text new : List ℕ) → preferred_tag text ≡ Some new → preferred_tag new ≡ None

@@ -42,37 +42,21 @@ has_bit text =
 registered_from_bit : (text : List ℕ) → has_bit text ≡ true → is_registered_language text ≡ true
 registered_from_bit text h = grind (arith, common_steps, nat_tests, and_parts, language_from_bit text, language_bit_at (letter_number text - 27))
 
-new_languages_known : list_all has_bit (map (λ e. e.value) language_preferred) ≡ true
-unfolding language_preferred letter_number fold_byte is_letter
-new_languages_known = refl
-
-extlangs_known : list_all has_bit extlang_subtags ≡ true
-unfolding extlang_subtags letter_number fold_byte is_letter
-extlangs_known = refl
-
-new_regions_known : list_all is_registered_region (map (λ e. e.value) region_preferred) ≡ true
-unfolding region_preferred is_registered_region region_subtags fold_byte
-new_regions_known = refl
-
-new_variants_known : list_all is_registered_variant (map (λ e. e.value) variant_preferred) ≡ true
-unfolding variant_preferred is_registered_variant variant_subtags fold_byte
-new_variants_known = refl
-
 new_language_known : (s new : List ℕ) → preferred_language s ≡ Some new → is_registered_language new ≡ true
-unfolding preferred_language
-new_language_known s new is = registered_from_bit new (value_good has_bit language_preferred s new new_languages_known is)
+unfolding preferred_language language_preferred letter_number fold_byte is_letter
+new_language_known s new is = registered_from_bit new (value_good has_bit language_preferred s new refl is)
 
 new_extlang_known : (s new : List ℕ) → preferred_extlang s ≡ Some new → is_registered_language new ≡ true
-unfolding preferred_extlang
-new_extlang_known s new is = registered_from_bit new (found_good (are_alike s) has_bit extlang_subtags new extlangs_known is)
+unfolding preferred_extlang extlang_subtags letter_number fold_byte is_letter
+new_extlang_known s new is = registered_from_bit new (found_good (are_alike s) has_bit extlang_subtags new refl is)
 
 new_region_known : (s new : List ℕ) → preferred_region s ≡ Some new → is_registered_region new ≡ true
-unfolding preferred_region
-new_region_known s new is = value_good is_registered_region region_preferred s new new_regions_known is
+unfolding preferred_region region_preferred is_registered_region region_subtags fold_byte
+new_region_known s new is = value_good is_registered_region region_preferred s new refl is
 
 new_variant_known : (s new : List ℕ) → preferred_variant s ≡ Some new → is_registered_variant new ≡ true
-unfolding preferred_variant
-new_variant_known s new is = value_good is_registered_variant variant_preferred s new new_variants_known is
+unfolding preferred_variant variant_preferred is_registered_variant variant_subtags fold_byte
+new_variant_known s new is = value_good is_registered_variant variant_preferred s new refl is
 
 -- ---- the canonical record of a valid one
 
@@ -109,13 +93,9 @@ is_whole_valid text =
     && (option_map_or is_registered_region (record_of text).region true
     && (list_all is_registered_variant (record_of text).variants && is_none (repeat are_alike (record_of text).variants))))
 
-all_valid : list_all is_whole_valid (map (λ e. e.value) tag_preferred) ≡ true
-unfolding tag_preferred letter_number fold_byte is_letter is_registered_script is_registered_region is_registered_variant script_subtags region_subtags variant_subtags
-all_valid = refl
-
 whole_valid_of : (text new : List ℕ) → preferred_tag text ≡ Some new → is_whole_valid new ≡ true
-unfolding preferred_tag
-whole_valid_of text new is = value_good is_whole_valid tag_preferred text new all_valid is
+unfolding preferred_tag tag_preferred letter_number fold_byte is_letter is_registered_script is_registered_region is_registered_variant script_subtags region_subtags variant_subtags
+whole_valid_of text new is = value_good is_whole_valid tag_preferred text new refl is
 
 is_none-None : (o : Option (List ℕ)) → is_none o ≡ true → o ≡ None
 is_none-None o h = grind (arith, common_steps)
