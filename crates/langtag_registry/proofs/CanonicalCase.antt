@@ -17,12 +17,8 @@ use Rattle.langtag_registry.proofs.TwiceLaws.{itself, whole_settled, Way, as_who
 -- ---- a subtag that stays, and one that is alike
 
 module _ (preferred : List ℕ → Option (List ℕ)) (settled : IsSettled preferred) (ignores : IgnoresCase preferred) where
-  -- it has no Preferred-Value
-  none_of_staying : (s : List ℕ) → replaced preferred s ≡ s → preferred s ≡ None
-  none_of_staying s stays = grind (arith, common_steps)
-
   alike_stays : (s t : List ℕ) → Alike s t → replaced preferred s ≡ s → replaced preferred t ≡ t
-  alike_stays s t alike stays = ap (λ o. unwrap_or o t) (sym (ignores s t alike) ∙ none_of_staying s stays)
+  alike_stays s t alike stays = grind (arith, common_steps, ignores s t)
 
 -- ---- each part
 

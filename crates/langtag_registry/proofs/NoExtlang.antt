@@ -39,9 +39,6 @@ all_fit : list_all is_fit grandfathered_tags ≡ true
 unfolding grandfathered_tags tag_preferred preferred_tag fold_byte is_extended is_letter
 all_fit = refl
 
-second_of_flat : (r : Record) (e : List ℕ) (es : List (List ℕ)) → r.extended ≡ e ∷ es → second_is_extended (flat r) ≡ is_extended e
-second_of_flat r e es is = rw is
-
 -- a normal text whose second subtag is of another class has no extended language
 none_extended : (r : Record) (text : List ℕ) → Spells r text → second_is_extended (segments text) ≡ false → HasNone r
 none_extended r text spells other = by_extended r.extended refl
@@ -49,16 +46,12 @@ none_extended r text spells other = by_extended r.extended refl
     by_extended : (es : List (List ℕ)) → r.extended ≡ es → r.extended ≡ []
     by_extended [] is = is
     by_extended (e ∷ es) is =
-        grind (arith, common_steps, spelled_segments r spells.0, second_of_flat r e es is, both_ways (second_is_extended (segments text)) other)
-
-none_folded : (ss : List (List ℕ)) → map fold_text ss ≡ [] → ss ≡ []
-none_folded [] none = refl
-none_folded (s ∷ ss) none = absurd cc
+        grind (arith, common_steps, spelled_segments r spells.0, both_ways (second_is_extended (segments text)) other)
 
 grandfathered_none : (old : List ℕ) → preferred_tag old ≡ None → (Alike (codes "zh-min") old → ⊥) → IsGrandfathered old → EachRecord old HasNone
 unfolding IsGrandfathered IsGrandfatheredAt
 grandfathered_none old none other (k, (entry, at, alike)) = λ r spells.
-    grind (arith, common_steps, alike_parts old entry.text (sym alike) r spells, member_passes is_fit grandfathered_tags k entry all_fit at, or_cases, both_ways, preferred_tag-alike entry.text old alike, are_alike-decides (codes "zh-min") entry.text, not-true, none_extended, none_folded)
+    grind (arith, common_steps, alike_parts old entry.text (sym alike) r spells, member_passes is_fit grandfathered_tags k entry all_fit at, or_cases, both_ways, preferred_tag-alike entry.text old alike, are_alike-decides (codes "zh-min") entry.text, not-true, none_extended)
 
 -- ---- every valid tag
 

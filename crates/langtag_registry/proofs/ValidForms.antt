@@ -60,14 +60,6 @@ new_variant_known s new is = value_good is_registered_variant variant_preferred 
 
 -- ---- the canonical record of a valid one
 
-record IsValidLanguage (primary : List ℕ) (extended : List (List ℕ)) : Type 0 where
-  first : IsTrue (is_registered_language primary)
-  others : AllByRecursion (λ s. IsTrue (is_registered_extlang s)) extended
-  one : length extended ≤ 1
-
-canonical_primary_known : (p : List ℕ) → IsTrue (is_registered_language p) → IsTrue (is_registered_language (replaced preferred_language p))
-canonical_primary_known p known = replaced-holds preferred_language (λ s. IsTrue (is_registered_language s)) p known (new_language_known p)
-
 -- one extended language that is registered goes
 pub no_extended : (es : List (List ℕ)) → AllByRecursion (λ s. IsTrue (is_registered_extlang s)) es → length es ≤ 1 → canonical_extended es ≡ []
 no_extended es known one = grind (arith, common_steps)
@@ -77,7 +69,7 @@ canonical_record_valid :
     IsValidRecord (canonical_record r)
 unfolding canonical_record
 canonical_record_valid r well valid once =
-    search (rules, no_extended, if_some-map, replaced-holds, new_region_known, each-map, new_variant_known, in_order-once, canonical_primary_known, extlang_cases, new_extlang_known)
+    search (rules, no_extended, if_some-map, replaced-holds, new_region_known, each-map, new_variant_known, in_order-once, new_language_known, extlang_cases, new_extlang_known)
 
 -- a text is valid that a valid record spells
 valid_spelled : (text : List ℕ) (r : Record) → Spells r text → IsValidRecord r → IsValid text
@@ -97,15 +89,9 @@ whole_valid_of : (text new : List ℕ) → preferred_tag text ≡ Some new → i
 unfolding preferred_tag tag_preferred letter_number fold_byte is_letter is_registered_script is_registered_region is_registered_variant script_subtags region_subtags variant_subtags
 whole_valid_of text new is = value_good is_whole_valid tag_preferred text new refl is
 
-is_none-None : (o : Option (List ℕ)) → is_none o ≡ true → o ≡ None
-is_none-None o h = grind (arith, common_steps)
-
-few_extended : (r : Record) → r.extended ≡ [] → length r.extended ≤ 1
-few_extended r none = rw none (omega arith)
-
 preferred_valid : (text new : List ℕ) → preferred_tag text ≡ Some new → IsValid new
 preferred_valid text new is =
-    grind (arith, common_steps, and_parts, whole_valid_of, simple_record new, valid_spelled new (record_of new), preferred_spelled, registered_from_bit, few_extended, if_some_from_test, each_from_test, is_none-None)
+    grind (arith, common_steps, and_parts, whole_valid_of, simple_record new, valid_spelled new (record_of new), preferred_spelled, registered_from_bit, if_some_from_test, each_from_test)
 
 -- ---- every valid tag
 

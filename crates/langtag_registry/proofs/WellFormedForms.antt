@@ -18,13 +18,10 @@ pub record IsLanguageOf (primary : List ℕ) (extended : List (List ℕ)) : Type
   pub few : length extended ≤ 3
   pub short : (length primary ≤ 3) ⊎ (extended ≡ [])
 
-pub canonical_primary_well_formed : (p : List ℕ) → IsTrue (is_primary p) → IsTrue (is_primary (replaced preferred_language p))
-canonical_primary_well_formed p is = replaced-holds preferred_language (λ s. IsTrue (is_primary s)) p is (preferred_good p)
-
 pub canonical_language_well_formed :
     (p : List ℕ) (es : List (List ℕ)) → IsLanguageOf p es → IsLanguageOf (canonical_primary p es) (canonical_extended es)
 canonical_language_well_formed p es is =
-    grind (arith, common_steps, canonical_primary_well_formed, extlang_cases, extended_primary, new_extlang_extended, replaced-holds, new_language_short)
+    grind (arith, common_steps, preferred_good, extlang_cases, extended_primary, new_extlang_extended, replaced-holds, new_language_short)
 
 pub canonical_region_well_formed : (o : Option (List ℕ)) → IfSome o (λ s. IsTrue (is_region s)) → IfSome (canonical_region o) (λ s. IsTrue (is_region s))
 canonical_region_well_formed = grind (arith, common_steps, if_some-map, replaced-holds preferred_region, regions_good)
