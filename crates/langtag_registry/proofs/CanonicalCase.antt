@@ -43,15 +43,11 @@ keys_folded : (es : List Extension) → map (λ e. e.singleton) (map fold_extens
 keys_folded [] = refl
 keys_folded (e ∷ es) = ap (λ ns. fold_byte e.singleton ∷ ns) (keys_folded es)
 
-order_stays :
-    (es fs : List Extension) → AllByRecursion IsWellFormedExtension fs → map fold_extension es ≡ map fold_extension fs → in_order es ≡ es → in_order fs ≡ fs
-order_stays es fs well same stays = grind (arith, common_steps, keys_folded fs, keys_folded es, in_order-risen fs well, rises_from_in_order es stays)
-
 -- ---- the record
 
 alike_record_stays : (r q : Record) → IsWellFormed q → AlikeRecords r q → canonical_record r ≡ r → canonical_record q ≡ q
 alike_record_stays r q well alike stays =
-    grind (arith, common_steps, parts_stay r stays, record_stays q, language_stays r.primary q.primary r.extended q.extended, region_stays r.region, variants_stay r.variants, order_stays r.extensions q.extensions)
+    grind (arith, common_steps, parts_stay r stays, record_stays q, language_stays r.primary q.primary r.extended q.extended, region_stays r.region, variants_stay r.variants, keys_folded, in_order-risen q.extensions, rises_from_in_order r.extensions)
 
 -- ---- the text
 

@@ -27,14 +27,6 @@ use Rattle.langtag_registry.specs.Subtags.{tag_preferred}
 abbrev has_few : List ℕ → Bool
 has_few text = leb (length (filter is_variant (segments text))) 1
 
-preferred_few : list_all has_few (map (λ e. e.subtag) tag_preferred) ≡ true
-unfolding tag_preferred is_variant is_letter is_digit
-preferred_few = refl
-
-grandfathered_few : list_all (λ entry. has_few entry.text) grandfathered_tags ≡ true
-unfolding grandfathered_tags is_variant is_letter is_digit
-grandfathered_few = refl
-
 -- ---- the registered text that a text is alike
 
 abbrev IsAlikeOne : (List ℕ → Bool) → List ℕ → Type 0
@@ -72,10 +64,10 @@ one_apart (v ∷ w ∷ vs) few = absurd (omega (arith, few))
 
 -- so they stay apart
 pub preferred_apart : (text new : List ℕ) → preferred_tag text ≡ Some new → EachRecord text (λ r. repeat are_alike (canonical_variants r.variants) ≡ None)
-unfolding preferred_tag
-preferred_apart text new is = λ r spells. one_apart r.variants (few_variants text (alike_subtag has_few tag_preferred text new preferred_few is) r spells)
+unfolding preferred_tag tag_preferred is_variant is_letter is_digit
+preferred_apart text new is = λ r spells. one_apart r.variants (few_variants text (alike_subtag has_few tag_preferred text new refl is) r spells)
 
 pub grandfathered_apart : (text : List ℕ) → IsGrandfathered text → EachRecord text (λ r. repeat are_alike (canonical_variants r.variants) ≡ None)
-unfolding IsGrandfathered IsGrandfatheredAt
+unfolding IsGrandfathered IsGrandfatheredAt grandfathered_tags is_variant is_letter is_digit
 grandfathered_apart text (k, (entry, at, alike)) = λ r spells.
-    one_apart r.variants (few_variants text (entry.text, member_passes (λ e. has_few e.text) grandfathered_tags k entry grandfathered_few at, alike) r spells)
+    one_apart r.variants (few_variants text (entry.text, member_passes (λ e. has_few e.text) grandfathered_tags k entry refl at, alike) r spells)

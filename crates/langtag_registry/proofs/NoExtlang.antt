@@ -55,16 +55,12 @@ grandfathered_none old none other (k, (entry, at, alike)) = λ r spells.
 
 -- ---- every valid tag
 
-canonical_none : (r : Record) → IsValidRecord r → HasNone (canonical_record r)
-unfolding canonical_record
-canonical_none r valid = no_extended r.extended valid.extended valid.one_extended
-
 preferred_none : (text new : List ℕ) → preferred_tag text ≡ Some new → EachRecord new HasNone
 preferred_none text new is = each_from_one HasNone new (record_of new) (preferred_spelled text new is) (simple_record new).extended
 
 pub no_extlang_form :
     (old new : List ℕ) → IsValid old → (Alike (codes "zh-min") new → ⊥) → IsCanonicalForm old new → EachRecord new (λ r. r.extended ≡ [])
-unfolding IsValid IsNormal
+unfolding IsValid IsNormal canonical_record
 no_extlang_form old new valid other p = by_form (form_of old new p)
   where
     by_form : Form old new → EachRecord new HasNone
@@ -74,6 +70,6 @@ no_extlang_form old new valid other p = by_form (form_of old new p)
     by_form (parts_form new_one r spells becomes none) =
         elim valid.1 [
           | inl old_one ↦ absurd (new_one old_one)
-          | inr each ↦ each_from_one HasNone new (canonical_record r) becomes (canonical_none r (each r spells))
+          | inr each ↦ each_from_one HasNone new (canonical_record r) becomes (no_extended r.extended (each r spells).extended (each r spells).one_extended)
         ]
     by_form (again_form r spells is) = preferred_none _ new is

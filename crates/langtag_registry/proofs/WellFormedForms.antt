@@ -23,14 +23,7 @@ pub canonical_language_well_formed :
 canonical_language_well_formed p es is =
     grind (arith, common_steps, preferred_good, extlang_cases, extended_primary, new_extlang_extended, replaced-holds, new_language_short)
 
-pub canonical_region_well_formed : (o : Option (List ℕ)) → IfSome o (λ s. IsTrue (is_region s)) → IfSome (canonical_region o) (λ s. IsTrue (is_region s))
-canonical_region_well_formed = grind (arith, common_steps, if_some-map, replaced-holds preferred_region, regions_good)
-
-pub canonical_variants_well_formed :
-    (vs : List (List ℕ)) → AllByRecursion (λ s. IsTrue (is_variant s)) vs → AllByRecursion (λ s. IsTrue (is_variant s)) (canonical_variants vs)
-canonical_variants_well_formed = grind (arith, common_steps, each-map, replaced-holds preferred_variant, variants_good)
-
 pub canonical_record_well_formed : (r : Record) → IsWellFormed r → IsWellFormed (canonical_record r)
 unfolding canonical_record
 canonical_record_well_formed r well =
-    grind (arith, common_steps, canonical_language_well_formed r.primary r.extended, canonical_region_well_formed, canonical_variants_well_formed, in_order-each IsWellFormedExtension)
+    grind (arith, common_steps, canonical_language_well_formed r.primary r.extended, if_some-map, replaced-holds preferred_region, regions_good, each-map, replaced-holds preferred_variant, variants_good, in_order-each IsWellFormedExtension)
