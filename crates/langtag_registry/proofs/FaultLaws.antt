@@ -1,6 +1,5 @@
 -- The first fault of a record, part by part, and that a record is valid where it has no fault.
 use Rattle.std.proofs.Common.{append_assoc, ◌≡◌, ℕ, ◌+◌, ◌≤◌, Bool, true, false, not, cond, List, [], ◌∷◌, ◌++◌, length, map, take, drop, Option, None, Some, IsTrue, slice_get, refl, sym, ap, ◌∙◌, arith}
-use Rattle.std.specs.Prelude.{IfSome}
 use Rattle.std.specs.List.{list_any, position, position_from, AllByRecursion}
 use Rattle.std.specs.Option.{option_map, option_or, option_and_then}
 use Rattle.std.proofs.lemmas.Iterator.Adapters.{position_from-zero}
@@ -16,7 +15,7 @@ use Rattle.langtag_language.specs.Language.{SpellsLanguage}
 use Rattle.langtag.specs.Repeat.{repeat, repeat_index, repeat_index_after, are_alike_bytes}
 use Rattle.langtag.proofs.RepeatLaws.{IsAt-drop}
 use Rattle.std.proofs.lemmas.List.{at_drop_more, take_more}
-use Rattle.langtag_registry.specs.Registered.{is_registered_language, is_registered_extlang, is_registered_script, is_registered_region, is_registered_variant}
+use Rattle.langtag_registry.specs.Registered.{is_registered_language, is_registered_extlang, is_registered_variant}
 use Rattle.langtag_registry.specs.Fault.{Told, language, repeated_singleton, unless, extlang_faults, language_faults, script_faults, region_faults, variant_faults, singleton_faults, faults}
 use Rattle.langtag_registry.specs.Valid.{IsValidRecord}
 use Rattle.std.proofs.lemmas.Bool.{not-true}

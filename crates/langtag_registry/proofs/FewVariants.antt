@@ -1,7 +1,7 @@
 -- A tag that is registered as a whole has at most one variant.
 use Rattle.langtag_registry.proofs.Members.{member_passes}
 use Rattle.langtag_scan.specs.CaseLaws.{are_alike-decides}
-use Rattle.std.proofs.Common.{◌≡◌, ℕ, ◌≤◌, true, Bool, leb, List, [], ◌∷◌, length, map, filter, None, Some, IsTrue, refl, sym, ap, ◌∙◌, arith, length-append}
+use Rattle.std.proofs.Common.{◌≡◌, ℕ, ◌≤◌, true, Bool, leb, List, [], ◌∷◌, length, map, filter, None, Some, IsTrue, refl, sym, ap, arith, length-append}
 use Rattle.std.specs.List.{list_all, AllByRecursion}
 use Rattle.std.proofs.lemmas.Bool.{and_parts, leb-true}
 use Rattle.std.proofs.lemmas.List.{length-map}

@@ -1,6 +1,6 @@
 -- How long the canonical form of a tag may be.
-use Rattle.std.proofs.Common.{◌≡◌, ℕ, ◌+◌, ◌*◌, ◌≤◌, true, leb, List, [], ◌∷◌, length, map, Option, Some, IfSome, IsTrue, refl, ap, arith, length-append}
-use Rattle.std.specs.List.{list_all, AllByRecursion, flat_map, sum_by}
+use Rattle.std.proofs.Common.{◌≡◌, ℕ, ◌+◌, ◌*◌, ◌≤◌, true, leb, List, [], ◌∷◌, length, Option, Some, IfSome, IsTrue, refl, ap, arith, length-append}
+use Rattle.std.specs.List.{AllByRecursion, flat_map, sum_by}
 use Rattle.std.proofs.lemmas.Bool.{leb-true}
 use Rattle.std.proofs.lemmas.Bool.Decides.{nat_tests}
 use Rattle.std.proofs.lemmas.List.Sums.{sum_by-cons}
@@ -9,7 +9,7 @@ use Rattle.langtag_scan.specs.Class.{is_region, is_variant}
 use Rattle.langtag_scan.specs.Record.{Extension, Record, IsWellFormed, extension_flat, one_flat, spell}
 use Rattle.langtag_scan.proofs.Joins.{hyphenated, length-hyphenated}
 use Rattle.langtag_scan.proofs.SubtagFacts.{of_primary, of_variant}
-use Rattle.langtag_registry.specs.Canonical.{canonical_record, canonical_primary, canonical_extended, canonical_region, canonical_variants, in_order, canonical_bound, IsCanonicalForm}
+use Rattle.langtag_registry.specs.Canonical.{canonical_record, canonical_extended, canonical_variants, in_order, canonical_bound, IsCanonicalForm}
 use Rattle.langtag_registry.specs.Fields.{preferred_tag}
 use Rattle.langtag_registry.specs.Subtags.{tag_preferred}
 use Rattle.langtag_registry.proofs.OrderLaws.{in_order-weight}

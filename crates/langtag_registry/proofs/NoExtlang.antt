@@ -1,14 +1,14 @@
 -- The canonical form of a valid tag has no extended language, but for the grandfathered `zh-min`.
 use Rattle.langtag_registry.proofs.Members.{member_passes}
-use Rattle.std.proofs.Common.{◌≡◌, ℕ, true, false, Bool, not, ◌||◌, List, [], ◌∷◌, map, codes, None, Some, is_some, inl, inr, refl, sym, ◌∙◌, arith}
+use Rattle.std.proofs.Common.{◌≡◌, ℕ, true, false, Bool, not, ◌||◌, List, [], ◌∷◌, codes, None, Some, is_some, inl, inr, refl, sym, ◌∙◌, arith}
 use Rattle.std.specs.List.{list_all}
 use Rattle.std.proofs.lemmas.Bool.{or_cases, both_ways, not-true}
 use Rattle.std.proofs.lemmas.Grind.{common_steps}
-use Rattle.langtag_scan.specs.Case.{fold_byte, fold_text, Alike, are_alike}
+use Rattle.langtag_scan.specs.Case.{fold_byte, Alike, are_alike}
 use Rattle.langtag_scan.specs.CaseLaws.{are_alike-decides}
 use Rattle.langtag_scan.specs.Class.{is_letter, is_extended}
 use Rattle.langtag_scan.specs.Grandfathered.{Grandfathered, grandfathered_tags}
-use Rattle.langtag_scan.specs.Record.{Record, Spells, EachRecord, flat}
+use Rattle.langtag_scan.specs.Record.{Record, Spells, EachRecord}
 use Rattle.langtag_scan.specs.Subtags.{segments}
 use Rattle.langtag_scan.specs.Tag.{IsNormal}
 use Rattle.langtag_scan.proofs.CaseLaw.{alike_parts}
@@ -17,7 +17,7 @@ use Rattle.langtag.specs.Registered.{IsGrandfathered, IsGrandfatheredAt}
 use Rattle.langtag_registry.specs.Canonical.{canonical_record, IsCanonicalForm}
 use Rattle.langtag_registry.specs.Fields.{preferred_tag}
 use Rattle.langtag_registry.specs.Subtags.{tag_preferred}
-use Rattle.langtag_registry.specs.Valid.{IsValidRecord, IsValid}
+use Rattle.langtag_registry.specs.Valid.{IsValid}
 use Rattle.langtag_registry.proofs.AlikeForms.{preferred_tag-alike}
 use Rattle.langtag_registry.proofs.TwiceLaws.{form_of, Form, whole_form, own_form, parts_form, again_form, each_from_one}
 use Rattle.langtag_registry.proofs.ValidForms.{no_extended}

@@ -1,6 +1,6 @@
 -- A text has one canonical form, and that is its own.
 use Rattle.langtag_registry.proofs.CanonicalVariants.{variants_stay}
-use Rattle.std.proofs.Common.{◌≡◌, ℕ, true, Bool, not, ◌&&◌, List, [], ◌∷◌, map, Option, None, Some, is_some, unwrap_or, inl, inr, ◌⊎◌, refl, sym, ap, subst, ◌∙◌, arith, rules}
+use Rattle.std.proofs.Common.{◌≡◌, ℕ, true, Bool, not, ◌&&◌, List, [], ◌∷◌, Option, None, Some, is_some, unwrap_or, inl, inr, ◌⊎◌, refl, sym, ap, subst, ◌∙◌, arith, rules}
 use Rattle.std.specs.List.{list_all, position}
 use Rattle.std.specs.Option.{option_map_or}
 use Rattle.std.proofs.lemmas.Bool.{and_parts}
@@ -12,7 +12,7 @@ use Rattle.langtag_scan.proofs.NormalTexts.{spelled_once, normal_or_not}
 use Rattle.langtag.specs.Registered.{IsGrandfathered, text_of}
 use Rattle.langtag.specs.declared.grandfathered.TheConstants.{GRANDFATHERED}
 use Rattle.langtag.proofs.RegisteredLaws.{first_alike_found, none_alike}
-use Rattle.langtag_registry.specs.Canonical.{canonical_primary, canonical_extended, canonical_region, canonical_variants, canonical_record, IsCanonicalForm}
+use Rattle.langtag_registry.specs.Canonical.{canonical_variants, canonical_record, IsCanonicalForm}
 use Rattle.langtag_registry.specs.Fields.{preferred_language, preferred_region, preferred_variant, preferred_tag}
 use Rattle.langtag_registry.specs.Subtags.{language_preferred, region_preferred, variant_preferred, tag_preferred}
 use Rattle.langtag_registry.proofs.OrderLaws.{in_order-twice, in_order-risen}

@@ -1,5 +1,5 @@
 -- The canonical form of a valid tag is valid where no two variants become the same, and only there.
-use Rattle.std.proofs.Common.{◌≡◌, ℕ, ◌-◌, ◌/◌, ◌%◌, ◌≤◌, ◌==◌, true, Bool, ◌&&◌, leb, ltb, List, [], length, get_or, map, Option, None, Some, is_none, IsTrue, inl, inr, refl, sym, ap, subst, ◌∙◌, arith, rules}
+use Rattle.std.proofs.Common.{◌≡◌, ℕ, ◌-◌, ◌/◌, ◌%◌, ◌≤◌, ◌==◌, true, Bool, ◌&&◌, leb, ltb, List, [], length, get_or, None, Some, is_none, IsTrue, inl, inr, refl, sym, ap, subst, ◌∙◌, arith, rules}
 use Rattle.std.proofs.lemmas.Bool.Decides.{nat_tests}
 use Rattle.std.proofs.lemmas.Grind.{common_steps}
 use Prim.Native.Nat.{◌^◌}
@@ -22,7 +22,7 @@ use Rattle.langtag_registry.specs.Subtags.{language_preferred, region_preferred,
 use Rattle.langtag_registry.specs.Valid.{IsValidRecord, IsValid}
 use Rattle.langtag_registry.proofs.FewVariants.{preferred_apart, grandfathered_apart}
 use Rattle.langtag_registry.proofs.LanguageTable.{language_bit_at, language_from_bit}
-use Rattle.langtag_registry.proofs.ReplacedSubtags.{replaced, replaced-holds, if_some-map, each-map, extlang_cases, found_good}
+use Rattle.langtag_registry.proofs.ReplacedSubtags.{replaced-holds, if_some-map, each-map, extlang_cases, found_good}
 use Rattle.langtag_registry.proofs.SingletonsOnce.{in_order-once}
 use Rattle.langtag_registry.proofs.TwiceLaws.{canonical_record-twice, Form, whole_form, own_form, parts_form, form_of, again_form, each_from_one}
 use Rattle.langtag_registry.proofs.Values.{value_good}

@@ -1,15 +1,15 @@
 -- The canonical record of a well-formed record is well-formed.
-use Rattle.std.proofs.Common.{◌≡◌, ℕ, ◌≤◌, ◌⊎◌, List, [], length, Option, IfSome, IsTrue, arith}
+use Rattle.std.proofs.Common.{◌≡◌, ℕ, ◌≤◌, ◌⊎◌, List, [], length, IsTrue, arith}
 use Rattle.std.specs.List.{AllByRecursion}
 use Rattle.std.proofs.lemmas.Grind.{common_steps}
-use Rattle.langtag_scan.specs.Class.{is_primary, is_extended, is_region, is_variant}
+use Rattle.langtag_scan.specs.Class.{is_primary, is_extended}
 use Rattle.langtag_scan.specs.Record.{Record, IsWellFormed, IsWellFormedExtension}
-use Rattle.langtag_registry.specs.Canonical.{canonical_primary, canonical_extended, canonical_region, canonical_variants, canonical_record}
-use Rattle.langtag_registry.specs.Fields.{preferred_language, preferred_region, preferred_variant}
+use Rattle.langtag_registry.specs.Canonical.{canonical_primary, canonical_extended, canonical_record}
+use Rattle.langtag_registry.specs.Fields.{preferred_region, preferred_variant}
 use Rattle.langtag_tables.proofs.Letters.{extended_primary}
 use Rattle.langtag_registry.proofs.OrderLaws.{in_order-each}
 use Rattle.langtag_registry.proofs.FieldTables.{preferred_good, regions_good, variants_good}
-use Rattle.langtag_registry.proofs.ReplacedSubtags.{replaced, replaced-holds, if_some-map, each-map, new_language_short, extlang_cases, new_extlang_extended}
+use Rattle.langtag_registry.proofs.ReplacedSubtags.{replaced-holds, if_some-map, each-map, new_language_short, extlang_cases, new_extlang_extended}
 
 -- a primary subtag and extended ones that may stand after it
 pub record IsLanguageOf (primary : List ℕ) (extended : List (List ℕ)) : Type 0 where

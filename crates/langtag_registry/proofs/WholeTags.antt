@@ -1,5 +1,5 @@
 -- The Preferred-Value of a whole tag is a normal tag of a simple record: by computation.
-use Rattle.std.proofs.Common.{◌≡◌, ℕ, ◌<◌, true, Bool, ltb, List, [], ◌∷◌, length, map, Option, None, Some, IsTrue, inl, refl, arith}
+use Rattle.std.proofs.Common.{◌≡◌, ℕ, ◌<◌, true, Bool, List, [], ◌∷◌, length, map, Option, None, Some, IsTrue, inl, refl, arith}
 use Rattle.std.specs.Prelude.{◌&&◌, IfSome}
 use Rattle.std.specs.List.{list_all}
 use Rattle.std.specs.Option.{option_map_or}

@@ -1,7 +1,6 @@
-use Rattle.std.proofs.Common.{◌<◌, [], Some, Ok, Err, get_or, map, length, sym, ap, ◌∙◌, arith}
-use Rattle.std.proofs.lemmas.List.{get_or-map, length-map}
+use Rattle.std.proofs.Common.{◌<◌, [], Some, Ok, Err, get_or, length, sym, ap, ◌∙◌, arith}
+use Rattle.std.proofs.lemmas.List.{get_or-map}
 use Rattle.std.proofs.lemmas.List.Sorted.{searched}
-use Rattle.langtag_scan.specs.Case.{folded_number}
 use Rattle.langtag_tables.proofs.Rising.{climb_searched}
 use Rattle.langtag_registry.proofs.Values.{value_searched}
 use Rattle.langtag_registry.proofs.table.value_of.Goals as goal
