@@ -95,7 +95,7 @@ pub use refusal::{Refusal, RefusalKind};
 pub use repeats::is_among_first;
 pub use typed_lang_tag::TypedLangTag;
 
-// For langtag_registry, langtag_likely, langtag_unicode and langtag_c.
+// For langtag_registry, langtag_likely, langtag_unicode, langtag_locale and langtag_c.
 pub use part::write_part;
 pub use push::push_private_use;
 pub use written::tag_of;

@@ -199,7 +199,7 @@ fn is_after(singleton: u8, extension: Extension<'_>, is_after: bool) -> bool
 }
 
 /// Returns the subtags after the singleton, joined by hyphens.
-pub(crate) fn subtags_of<'a>(extension: Extension<'a>) -> &'a str
+pub fn subtags_of<'a>(extension: Extension<'a>) -> &'a str
     ensures subtags { (e : model.Extension) → SpellsExtension e (extension_text extension.entry) → subtags result.now ≡ e.subtags }
     ensures each { AllByRecursion IsSubtag (subtags result.now) }
 {
@@ -207,7 +207,7 @@ pub(crate) fn subtags_of<'a>(extension: Extension<'a>) -> &'a str
 }
 
 /// Appends the canonical form of the extension `u` with these subtags.
-pub(crate) fn push_unicode(out: &mut Output<'_>, text: &str)
+pub fn push_unicode(out: &mut Output<'_>, text: &str)
     requires { AllByRecursion IsSubtag (subtags text.now) }
     ensures same_buffer { out.new.buffer.ghost_name ≡ out.old.buffer.ghost_name }
     ensures pushed { Pushes ((117 ∷ []) ∷ spec.unicode_form (subtags text.now)) out.old out.new }
@@ -218,7 +218,7 @@ pub(crate) fn push_unicode(out: &mut Output<'_>, text: &str)
 }
 
 /// Returns whether an extension begins with a singleton, ignoring case.
-pub(crate) fn is_of(singleton: u8, extension: Extension<'_>) -> bool
+pub fn is_of(singleton: u8, extension: Extension<'_>) -> bool
     ensures { (e : model.Extension) → SpellsExtension e (extension_text extension.entry) → result ≡ spec.is_of singleton e }
 {
     into_smallcase(extension.singleton().unwrap()) == singleton

@@ -115,7 +115,7 @@ pub use refusal::{Refusal, RefusalKind};
 pub use repeats::is_among_first;
 pub use typed_lang_tag::TypedLangTag;
 
-// For langtag_registry, langtag_likely, langtag_unicode and langtag_c.
+// For langtag_registry, langtag_likely, langtag_unicode, langtag_locale and langtag_c.
 pub(crate) use part::write_part;
 pub(crate) use push::push_private_use;
 #[cfg(feature = "alloc")]

@@ -163,13 +163,13 @@ fn is_after(singleton: u8, extension: Extension<'_>, is_after: bool) -> bool {
 
 /// Returns the subtags after the singleton, joined by hyphens.
 #[inline]
-pub(crate) fn subtags_of<'a>(extension: Extension<'a>) -> &'a str {
+pub fn subtags_of<'a>(extension: Extension<'a>) -> &'a str {
     &extension.as_str()[2..]
 }
 
 /// Appends the canonical form of the extension `u` with these subtags.
 #[inline]
-pub(crate) fn push_unicode(out: &mut Output<'_>, text: &str) {
+pub fn push_unicode(out: &mut Output<'_>, text: &str) {
     out.push_subtag(b"u");
     push_in_alphabet(out, preceding(text, Keys::Unicode));
     push_keywords(out, text, Keys::Unicode);
@@ -177,6 +177,6 @@ pub(crate) fn push_unicode(out: &mut Output<'_>, text: &str) {
 
 /// Returns whether an extension begins with a singleton, ignoring case.
 #[inline]
-pub(crate) fn is_of(singleton: u8, extension: Extension<'_>) -> bool {
+pub fn is_of(singleton: u8, extension: Extension<'_>) -> bool {
     into_smallcase(extension.singleton().unwrap()) == singleton
 }
