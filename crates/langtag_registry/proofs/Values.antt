@@ -84,8 +84,7 @@ unfolding end_number folded_number end_of_folded
 end_number-folded text = grind (arith, common_steps, fold-map, drop-map fold_byte (length text - 8) text, length-map text fold_byte)
 
 apart_by_ends : (a b : List ℕ) → end_number a ≢ end_number b → are_alike a b ≡ false
-apart_by_ends a b apart =
-    false_from_ne_true (are_alike a b) (λ yes. apart (end_number-folded a ∙ ap end_of_folded ((are_alike-decides a b).0 yes) ∙ sym (end_number-folded b)))
+apart_by_ends a b apart = grind (arith, common_steps, end_number-folded, are_alike-decides a b, false_from_ne_true)
 
 abbrev ends_of : List Entry → List ℕ
 ends_of list = map end_number (map (λ e. e.subtag) list)
