@@ -1,5 +1,5 @@
 -- A value beside a key, and an entry's value.
-use Rattle.std.proofs.Common.{◌≡◌, ◌≢◌, ℕ, zero, suc, ◌+◌, ◌*◌, ◌-◌, ◌<◌, true, false, Bool, ◌==◌, ltb, cond, List, [], ◌∷◌, length, get_or, map, take, drop, Option, None, Some, refl, ap, sym, ◌∙◌, arith}
+use Rattle.std.proofs.Common.{◌≡◌, ◌≢◌, ℕ, zero, suc, ◌+◌, ◌*◌, ◌-◌, ◌<◌, true, false, Bool, ◌==◌, ltb, cond, List, [], ◌∷◌, length, get_or, map, take, drop, Option, None, Some, refl, ap, sym, arith}
 use Rattle.std.specs.List.{fold, list_all}
 use Rattle.std.specs.Prelude.{Result, Ok, Err}
 use Rattle.std.proofs.lemmas.Bool.{and_parts, ltb-true, eq-eqb, ne_eqb, false_from_ne_true}

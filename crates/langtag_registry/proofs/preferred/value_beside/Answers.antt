@@ -1,7 +1,6 @@
-use Rattle.std.proofs.Common.{ℕ, List, Bor, Ok, Err, sym, ap, subst, ◌∙◌, true, false, arith}
+use Rattle.std.proofs.Common.{ℕ, List, Bor, Ok, Err, sym, subst, arith}
 use Rattle.std.proofs.lemmas.Grind.{common_steps}
 use Rattle.std.proofs.lemmas.List.Sorted.{searched}
-use Rattle.langtag_scan.specs.Case.{are_alike}
 use Rattle.langtag_registry.specs.Entry.{Entry}
 use Rattle.langtag_registry.specs.Tables.{AreEndsOf}
 use Rattle.langtag_tables.proofs.Rising.{climb_searched}
