@@ -44,13 +44,10 @@ parameters-fold item =
 
 -- ---- the weight that a value says: a number has no letters
 
-digit_stays : (b : ℕ) → is_digit b ≡ true → fold_byte b ≡ b
-unfolding fold_byte is_digit
-digit_stays b digit = grind (arith, nat_tests)
-
 digits_stay : (text : List ℕ) → are_digits text ≡ true → fold_text text ≡ text
+unfolding fold_byte is_digit
 digits_stay [] digits = refl
-digits_stay (b ∷ text) digits = grind (arith, common_steps, and_parts (is_digit b) (are_digits text) digits, digit_stays b, digits_stay text)
+digits_stay (b ∷ text) digits = grind (arith, common_steps, nat_tests, and_parts (is_digit b) (are_digits text) digits, digits_stay text)
 
 are_digits-fold : (text : List ℕ) → are_digits (fold_text text) ≡ are_digits text
 are_digits-fold = all-fold is_digit is_digit-fold
@@ -64,12 +61,9 @@ value_weight-fold value behind =
 
 -- ---- parameters
 
-is_q-fold : (b : ℕ) → is_q (fold_byte b) ≡ is_q b
-unfolding fold_byte
-is_q-fold b = grind (arith, nat_tests)
-
 is_q_name-fold : (name : List ℕ) → is_q_name (fold_text name) ≡ is_q_name name
-is_q_name-fold name = grind (arith, common_steps, is_q-fold)
+unfolding fold_byte
+is_q_name-fold name = grind (arith, common_steps, nat_tests)
 
 is_q_parameter-fold : (parameter : List ℕ) → is_q_parameter (fold_text parameter) ≡ is_q_parameter parameter
 is_q_parameter-fold parameter =
