@@ -49,11 +49,8 @@ unfolding fold_byte is_digit
 digits_stay [] digits = refl
 digits_stay (b ∷ text) digits = grind (arith, common_steps, nat_tests, and_parts (is_digit b) (are_digits text) digits, digits_stay text)
 
-are_digits-fold : (text : List ℕ) → are_digits (fold_text text) ≡ are_digits text
-are_digits-fold = all-fold is_digit is_digit-fold
-
 number_weight-fold : (whole fraction : List ℕ) → number_weight (fold_text whole) (fold_text fraction) ≡ number_weight whole fraction
-number_weight-fold whole fraction = grind (arith, common_steps, digits_stay whole, digits_stay fraction, are_digits-fold whole, are_digits-fold fraction)
+number_weight-fold whole fraction = grind (arith, common_steps, digits_stay whole, digits_stay fraction, all-fold is_digit is_digit-fold whole, all-fold is_digit is_digit-fold fraction)
 
 value_weight-fold : (value behind : List ℕ) → value_weight (fold_text value) (fold_text behind) ≡ value_weight value behind
 value_weight-fold value behind =
@@ -95,7 +92,7 @@ wanted-fold item behind = grind (arith, common_steps, wanted_range-fold, paramet
 
 wanted_items-fold : (items : List (List ℕ)) → wanted_items (map fold_text items) ≡ map folded (wanted_items items)
 wanted_items-fold [] = refl
-wanted_items-fold (item ∷ items) = grind (arith, common_steps, wanted-fold item (digits_behind items), wanted_items-fold items, are_digits-fold)
+wanted_items-fold (item ∷ items) = grind (arith, common_steps, wanted-fold item (digits_behind items), wanted_items-fold items, all-fold is_digit is_digit-fold)
 
 -- those of a header in small letters are those of the header, in small letters
 wanted_elements-fold : (header : List ℕ) → wanted_elements (fold_text header) ≡ map folded (wanted_elements header)
