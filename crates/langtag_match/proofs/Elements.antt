@@ -1,5 +1,5 @@
 -- What a loop over the items of a header has read, at one more item.
-use Rattle.std.proofs.Common.{◌≡◌, List, ℕ, ◌<◌, [], ◌∷◌, ◌++◌, true, Some, None, IsTrue, ap, refl, sym, ◌∙◌, arith, length, length-append, take, get_or, map}
+use Rattle.std.proofs.Common.{◌≡◌, List, ℕ, ◌<◌, [], ◌∷◌, ◌++◌, true, Some, None, IsTrue, arith, length, length-append, take, get_or, map}
 use Rattle.std.specs.List.{enumerate_from}
 use Rattle.std.proofs.Math.Bool.{or-true}
 use Rattle.std.proofs.lemmas.List.{take_more, map-append, append-nil}

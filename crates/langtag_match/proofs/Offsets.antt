@@ -1,6 +1,6 @@
 -- The items of a header and their commas: how long they are, and where each stands.
 use Rattle.std.proofs.Common.{◌≡◌, ℕ, zero, suc, ◌+◌, ◌<◌, Bool, true, false, List, [], ◌∷◌, ◌++◌, Some, length, take, refl, ap, ◌∙◌, cond, arith}
-use Rattle.std.specs.List.{onto_first, slice_get, slice_split, sum_by, count_by}
+use Rattle.std.specs.List.{onto_first, slice_get, slice_split, sum_by}
 use Rattle.std.proofs.lemmas.List.{nil_from_length}
 use Rattle.std.proofs.lemmas.List.Splits.{slice_split-cons_yes, slice_split-cons_no, length-slice_split}
 use Rattle.std.proofs.lemmas.List.Sums.{sum_by-cons}

@@ -11,7 +11,6 @@ use Rattle.langtag_scan.specs.Class.{are_digits, is_digit}
 use Rattle.langtag_scan.proofs.CaseLaw.{all-fold, is_digit-fold}
 use Rattle.langtag_range.specs.Element.{Element, is_comma, is_semicolon, trimmed, range_of, items}
 use Rattle.langtag_range.specs.Range.{is_basic_range}
-use Rattle.langtag_range.specs.Weight.{is_q}
 use Rattle.langtag_range.specs.Locale.{ends_locale, front_of, is_hash, place_before, locale_place, without_mark}
 use Rattle.langtag_range.specs.Wanted.{hyphened, wanted_text, is_point, number_weight, value_weight, is_equals, is_q_name, is_q_parameter, wanted_weight, parameters, wanted, digits_behind, wanted_items, wanted_elements, folded, ElementsIgnoreCase}
 use Rattle.langtag_range.proofs.AlikeTexts.{mark-fold, underscore-fold, hyphened-fold, trimmed-fold, is_basic_range-fold}

@@ -7,9 +7,9 @@ use Rattle.langtag_scan.specs.Case.{fold_byte, fold_text}
 use Rattle.langtag_scan.proofs.CaseLaw.{all-fold, is_letter-fold, length-fold, segments-fold, classes-fold}
 use Rattle.langtag_scan.specs.Class.{is_letter, is_private_subtag}
 use Rattle.langtag_scan.specs.Subtags.{subtags}
-use Rattle.langtag_range.specs.Element.{is_space, from_first, trimmed}
+use Rattle.langtag_range.specs.Element.{from_first, trimmed}
 use Rattle.langtag_range.specs.Range.{is_star, is_first_subtag, is_basic_range}
-use Rattle.langtag_range.specs.Wanted.{hyphened_byte, hyphened}
+use Rattle.langtag_range.specs.Wanted.{hyphened}
 use Rattle.langtag_range.proofs.FoldedTexts.{reverse-fold}
 use Rattle.langtag_scan.specs.Stage.{Classes}
 

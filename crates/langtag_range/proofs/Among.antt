@@ -7,7 +7,7 @@ use Rattle.std.proofs.lemmas.List.Folds.{list_all-append}
 use Rattle.std.proofs.lemmas.Grind.{common_steps}
 use Rattle.langtag_scan.specs.Case.{fold_byte, are_alike}
 use Rattle.langtag_scan.specs.Subtags.{subtags}
-use Rattle.langtag_range.specs.Extended.{have_no_single, StandAmong, without_stars, MatchSubtags, MatchesExtended, stand_among, match_subtags, test_extended}
+use Rattle.langtag_range.specs.Extended.{have_no_single, StandAmong, without_stars, MatchesExtended, stand_among, test_extended}
 use Rattle.langtag_scan.specs.Class.{is_single}
 use Rattle.langtag_range.specs.Range.{is_star}
 

@@ -14,7 +14,7 @@ use Rattle.langtag_range.specs.Locale.{is_hash}
 use Rattle.langtag_range.specs.Range.{is_star, is_first_subtag, is_range_subtag, are_basic_range, are_basic_subtags, are_extended_range, are_range_subtags, is_basic_range, is_language_range}
 use Rattle.langtag_scan.proofs.SubtagFacts.{letters_alphanumeric}
 use Rattle.langtag_scan.proofs.Places.{any_at_first, none_at_length}
-use Rattle.langtag_range.specs.Wanted.{hyphened_byte, hyphened, is_separator, is_q_name, is_q_parameter, is_equals, is_point, number_weight, value_weight, wanted_weight, wanted, digits_behind, wanted_items, wanted_elements}
+use Rattle.langtag_range.specs.Wanted.{hyphened, is_separator, is_q_name, is_q_parameter, is_equals, is_point, number_weight, value_weight, wanted_weight, wanted, digits_behind, wanted_items, wanted_elements}
 
 -- ---- the subtags of a text in which a byte is read as a hyphen
 
