@@ -1,5 +1,5 @@
 -- The items of a header and their commas: how long they are, and where each stands.
-use Rattle.std.proofs.Common.{◌≡◌, ℕ, zero, suc, ◌+◌, ◌<◌, Bool, true, false, List, [], ◌∷◌, ◌++◌, Some, length, take, refl, ap, ◌∙◌, cond, arith}
+use Rattle.std.proofs.Common.{◌≡◌, ℕ, zero, suc, ◌+◌, ◌<◌, Bool, true, false, List, [], ◌∷◌, Some, length, take, refl, cond, arith}
 use Rattle.std.specs.List.{onto_first, slice_get, slice_split, sum_by}
 use Rattle.std.proofs.lemmas.List.{nil_from_length}
 use Rattle.std.proofs.lemmas.List.Splits.{slice_split-cons_yes, slice_split-cons_no, length-slice_split}
@@ -35,14 +35,10 @@ stands_after_byte :
 stands_after_byte b text [] some other others index item is = absurd (omega (arith, some))
 stands_after_byte b text (first ∷ all) some other others zero item is =
     let (before, after, cut, commas, bytes) = others zero first refl in
-    let here : b ∷ first ≡ item = cc in
-    let from_start : text ≡ first ++ after = cut ∙ ap (λ t. t ++ (first ++ after)) (nil_from_length before bytes) in
-    ([], after, ap (λ t. b ∷ t) from_start ∙ ap (λ t. t ++ after) here, refl, refl)
+    ([], after, grind (arith, common_steps, nil_from_length before bytes), refl, refl)
 stands_after_byte b text (first ∷ all) some other others (suc index) item is =
     let (before, after, cut, commas, bytes) = others (suc index) item is in
-    let all_bytes : length (b ∷ before) ≡ sum_by width ((b ∷ first) ∷ take index all) =
-    omega (arith, bytes, sum_by-cons width (b ∷ first) (take index all), sum_by-cons width first (take index all)) in
-    (b ∷ before, after, cc, grind (arith, common_steps, sum_by-cons (λ b. cond (is_comma b) 1 0) b before), all_bytes)
+    (b ∷ before, after, cc, grind (arith, common_steps, sum_by-cons (λ b. cond (is_comma b) 1 0) b before), omega (arith, bytes, sum_by-cons width (b ∷ first) (take index all), sum_by-cons width first (take index all)))
 
 pub item_stands : (header : List ℕ) → Stands header (items header)
 item_stands [] zero item is = ([], [], cc, refl, refl)
