@@ -1,7 +1,6 @@
 -- The numbers of texts of letters and digits tell them apart but for case.
-use Rattle.std.proofs.Common.{◌≡◌, ℕ, ◌+◌, ◌*◌, ◌<◌, ◌≤◌, true, ◌==◌, List, [], ◌∷◌, Bool, refl, sym, arith, rules}
+use Rattle.std.proofs.Common.{◌≡◌, ℕ, ◌+◌, ◌*◌, ◌<◌, ◌≤◌, true, ◌==◌, List, [], ◌∷◌, Bool, refl, sym, arith, rules, map}
 use Rattle.std.specs.List.{fold, list_any, list_all, AllByRecursion}
-use Rattle.std.specs.Prelude.{map}
 use Prim.Native.Nat.{◌^◌}
 use Rattle.std.proofs.Math.Nat.{pow-le-pow_right}
 use Rattle.std.proofs.lemmas.Grind.{pow_more, common_steps}

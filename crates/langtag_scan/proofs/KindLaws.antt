@@ -1,7 +1,6 @@
 -- The kind of a subtag and its length tell its classes.
-use Rattle.std.proofs.Common.{◌≡◌, ℕ, suc, ◌≤◌, Bool, true, false, eqb, ne_eqb, not, ◌&&◌, List, [], ◌∷◌, length, refl, sym, ap, ◌∙◌, arith}
+use Rattle.std.proofs.Common.{◌≡◌, ℕ, suc, ◌≤◌, Bool, true, false, eqb, ne_eqb, not, ◌&&◌, List, [], ◌∷◌, length, refl, sym, ap, ◌∙◌, arith, fold}
 use Rattle.std.proofs.Math.Bool.{and-true, and_assoc}
-use Rattle.std.specs.Prelude.{fold}
 use Rattle.std.proofs.lemmas.Bool.{le-leb, and_parts, false_from_ne_true, both_ways}
 use Rattle.std.proofs.lemmas.Bool.Decides.{nat_tests}
 use Rattle.std.proofs.lemmas.Grind.{common_steps}
