@@ -148,8 +148,7 @@ pub AreFlagsOf-set :
 AreFlagsOf-set flags bytes n b fold rest at all is below before c inside =
     grind (arith, common_steps, list_any_more, eqb_tells, get_or-set_at, or_right, get_or-set_other, or-false)
 
+-- what the functions of repeats cite
 pub ruleset repeat_laws = (repeat-first, repeat_index-first)
-
 pub ruleset few_steps = (repeat-later, IsAt-drop)
-
 pub ruleset flag_bounds = (fold_singleton-below)

@@ -209,3 +209,6 @@ module _ (old text : List ℕ) (end len n : ℕ) (at : IsAtEnd old text end) (lo
 -- and at the end of the text it is in its recommended case
 pub last-end : (old text : List ℕ) (end : ℕ) → IsAtEnd old text end → length text ≤ end → text ≡ recommended_text old
 last-end old text end at whole = grind (arith, common_steps, drop_all end text whole, append-nil (take end text), take_all end text whole)
+
+-- a piece more, and the last one
+pub ruleset piece_steps = (piece-small, next-end, last-end)

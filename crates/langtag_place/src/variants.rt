@@ -149,6 +149,7 @@ impl<'a> Variants<'a> {
     ///
     /// Variants::new("rozaj-1994")?.first().map(|variant| variant.as_str()); // Some("rozaj")
     /// ```
+    #[tactic(auto, using(crate::proofs::Rules::variants_spelled))]
     pub fn first(&self) -> Option<Variant<'a>>
         ensures member { (variants : List (List ℕ)) → SpellsVariants variants (variants_text self.now)
             → option_map variant_text result ≡ slice_get variants 0 }

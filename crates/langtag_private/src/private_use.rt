@@ -127,6 +127,7 @@ impl<'a> PrivateUse<'a> {
     /// subtags.next().map(|subtag| subtag.as_str()); // Some("a")
     /// subtags.next().map(|subtag| subtag.as_str()); // Some("x")
     /// ```
+    #[tactic(auto, using(crate::proofs::Rules::others_spelled))]
     pub fn iter(&self) -> PrivateUseIter<'a>
         ensures list { private_use_subtags_left result ≡ drop 1 (subtags (private_use_text self.now)) }
         ensures members { EachPrivateUseSpelling (private_use_text self.now) (λ members. private_use_subtags_left result ≡ members) }

@@ -1,8 +1,6 @@
-use Rattle.std.proofs.Common.{take, subst, arith, take_all}
+use Rattle.std.proofs.Common.{arith, take_all}
 use Rattle.std.proofs.lemmas.Grind.{common_steps}
-use Rattle.langtag_scan.specs.Tag.{IsTag}
 use Rattle.langtag.proofs.RefusalLaws.{first_end, second_end}
-use Rattle.langtag.proofs.refusal.refused_end.Goals.{else-end-bytes-via-then-end-bytes+else-is_tag, else-end-bytes-via-else-end-bytes}
 use Rattle.langtag.proofs.refusal.refused_end.Goals as goal
 
 pub returns-then-is_tag : goal.returns-then-is_tag
