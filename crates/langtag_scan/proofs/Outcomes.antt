@@ -1,5 +1,5 @@
 -- What the stages find of a text is what it is: a normal tag with the ends of its parts, a private use tag, or neither.
-use Rattle.std.proofs.Common.{◌≡◌, ℕ, Bool, false, cond, List, [], ◌∷◌, Some, None, refl, ap, arith, ◌∙◌, Option, MatchOption}
+use Rattle.std.proofs.Common.{◌≡◌, ℕ, Bool, false, cond, List, [], ◌∷◌, Some, None, refl, ap, arith, sym, subst, ◌∙◌, Option, MatchOption}
 use Rattle.std.specs.Option.{option_map_or}
 use Rattle.std.proofs.lemmas.Bool.{both_ways}
 use Rattle.std.proofs.lemmas.Grind.{common_steps}
@@ -64,6 +64,10 @@ found_of t normal private = cond normal (Some (Normal (ends_after Start (all_at 
 abbrev pub Decides : List ℕ → Option Finding → Type 0
 Decides t found = MatchOption found (IsRefused t) (λ f. IsFoundOf t f)
 
+by_rules : (t s : List ℕ) (ss : List (List ℕ)) → segments t ≡ s ∷ ss → outcome_of t ≡ found_of t (runs Start (segments t)) (runs_private (segments t))
+unfolding runs outcome ends_after is_outside
+by_rules t s ss at = grind (arith, common_steps, normal_outcome, one_no_primary, marked_outcome)
+
 decides :
     (t : List ℕ) (normal private : Bool) → runs Start (segments t) ≡ normal → runs_private (segments t) ≡ private →
     Decides t (found_of t normal private)
@@ -73,5 +77,4 @@ decides t normal private n p = grind (arith, common_steps, spelled_segments, end
 -- ---- the law
 
 pub decided : (t : List ℕ) → Decides t (outcome_of t)
-unfolding runs outcome ends_after is_outside
-decided t = grind (arith, common_steps, first_of, decides, normal_outcome, one_no_primary, marked_outcome)
+decided t = let k = first_of t in subst (Decides t) (sym (by_rules t k.0 k.1 k.2)) (decides t _ _ refl refl)
