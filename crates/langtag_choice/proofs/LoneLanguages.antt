@@ -1,35 +1,63 @@
--- A text that begins otherwise than a lone language, and not as `und` does, is far from it, and is not what it falls back to.
-use Rattle.std.proofs.Common.{◌≡◌, ℕ, ◌<◌, ◌≤◌, Bool, true, false, cond, ltb, not, ◌==◌, List, [], ◌∷◌, get_or, length, length-take, map, take, drop, Option, Some, None, option_map, refl, sym, ap, ◌∙◌, arith, rules, ◌&&◌, codes}
-use Rattle.std.specs.List.{after_first, before_first, list_all, position_or_len}
-use Rattle.std.proofs.lemmas.Bool.{and_from, and_parts, both_ways, eq-eqb, false_from_ne_true, ltb-true, or_parts, eqb-false, not-true}
-use Rattle.std.proofs.lemmas.List.Sums.{take_while-cons}
-use Rattle.std.proofs.lemmas.Bool.Decides.{nat_tests}
+-- Languages to which no other is near: a text that begins otherwise, and not as `und` does, is far, and is not what look-up falls back to.
+use Rattle.std.proofs.Common.{◌≡◌, ℕ, Bool, true, false, ◌||◌, not, ◌==◌, List, [], ◌∷◌, length, inl, inr, refl, sym, ap, ◌∙◌, arith, ◌&&◌, ◌<◌, ◌≤◌, cond, ltb, get_or, length-take, map, take, drop, Option, Some, None, option_map, rules, codes}
+use Rattle.std.proofs.lemmas.Bool.Decides.{eqb_tells, nat_tests}
+use Rattle.std.proofs.lemmas.Bool.{and_parts, both_ways, eq-eqb, false_from_ne_true, not_from_true, or_cases, and_from, ltb-true, or_parts, eqb-false, not-true}
 use Rattle.std.proofs.lemmas.Grind.{common_steps}
-use Rattle.langtag_scan.specs.Case.{Alike, are_alike, fold_text}
+use Rattle.std.proofs.lemmas.List.Sums.{take_while-cons}
+use Rattle.std.specs.List.{list_all, list_any, after_first, before_first, position_or_len}
+use Rattle.langtag_scan.specs.Case.{are_alike, Alike, fold_text}
 use Rattle.langtag_scan.specs.CaseLaws.{are_alike-decides}
-use Rattle.langtag_scan.specs.Class.{is_extended, is_letter, is_primary}
-use Rattle.langtag_tables.proofs.Letters.{primary_length}
+use Rattle.langtag_scan.specs.Class.{are_letters, is_extended, is_letter, is_primary}
+use Rattle.langtag_scan.proofs.Disjoint.{extended_three}
+use Rattle.langtag_tables.specs.Numbers.{letter_number}
+use Rattle.langtag_tables.proofs.Letters.{letter_number-tells, primary_length}
 use Rattle.langtag_match.specs.Listed.{basic_text}
 use Rattle.langtag_match.specs.Wanted.{hyphened, is_separator}
-use Rattle.langtag_choice.specs.Lone.{HasNoExtended, IsShort, first_two, is_lone, lone_head, replacing}
-use Rattle.langtag_choice.specs.Distance.{distance_of_texts, is_among, language_distance}
+use Rattle.langtag_match.proofs.Prefixes.{length-alike}
+use Rattle.langtag_likely.specs.Aliases.{language_aliases}
 use Rattle.langtag_likely.specs.Likely.{Fields, Likely, are_alike_fields, known, language_alone, likely_for}
 use Rattle.langtag_likely.specs.Matching.{language_replaced, matching_fields, matching_form}
-use Rattle.langtag_choice.specs.MatchingData.{language_rules}
-use Rattle.langtag_likely.specs.Aliases.{language_aliases}
-use Rattle.langtag_choice.specs.Nearness.{kept}
-use Rattle.langtag_choice.specs.Rules.{Rule, distance_by}
 use Rattle.langtag_likely.specs.TextFields.{last_language, counted_parts, text_fields}
-use Rattle.langtag_likely.proofs.AlikeFields.{by_options}
-use Rattle.langtag_choice.proofs.AlikeRanges.{matching_form-alike}
+use Rattle.langtag_likely.proofs.AddedTwice.{either_way}
 use Rattle.langtag_likely.proofs.AliasTables.{aliases_lead}
+use Rattle.langtag_likely.proofs.AlikeFields.{by_options}
+use Rattle.langtag_likely.proofs.CommonTexts.{some_length}
 use Rattle.langtag_likely.proofs.CompletedForms.{completed_language}
 use Rattle.langtag_likely.proofs.RowsFound.{alike_length}
 use Rattle.langtag_likely.proofs.TextParts.{all_fields, next_part, no_fields}
-use Rattle.langtag_likely.proofs.CommonTexts.{some_length}
-use Rattle.langtag_match.proofs.Prefixes.{length-alike}
-use Rattle.langtag_scan.proofs.Disjoint.{extended_three}
-use Rattle.langtag_likely.proofs.AddedTwice.{either_way}
+use Rattle.langtag_choice.specs.Distance.{is_among, distance_of_texts, language_distance}
+use Rattle.langtag_choice.specs.Lone.{HasNoExtended, IsShort, first_two, is_lone, lone_head, replacing}
+use Rattle.langtag_choice.specs.MatchingData.{language_rules}
+use Rattle.langtag_choice.specs.Nearness.{kept}
+use Rattle.langtag_choice.specs.Rules.{Rule, distance_by}
+use Rattle.langtag_choice.specs.declared.matching_tables.TheConstants.{RELATED_KEYS}
+use Rattle.langtag_choice.proofs.AlikeDistances.{matching_form-alike}
+
+-- ---- a language whose number is not listed is lone
+
+abbrev pub has_number : List ℕ → Bool
+has_number language = list_any (λ n. n == letter_number language) RELATED_KEYS
+
+-- a language that has its number among these, if it has two letters
+abbrev pub is_listed : List ℕ → Bool
+is_listed language = are_letters language && (not (length language == 2) || has_number language)
+
+same_number : (a b : List ℕ) → are_letters a ≡ true → are_letters b ≡ true → are_alike a b ≡ true → letter_number b ≡ letter_number a
+same_number a b al bl alike = grind (arith, nat_tests, eqb_tells (letter_number b) (letter_number a), both_ways, letter_number-tells a b al bl)
+
+module _ (language : List ℕ) (two : length language ≡ 2) (letters : are_letters language ≡ true) (absent : has_number language ≡ false) where
+  apart : (word : List ℕ) → is_listed word ≡ true → are_alike word language ≡ false
+  apart word listed = false_from_ne_true (are_alike word language) (λ alike.
+      let parts = and_parts (are_letters word) (not (length word == 2) || has_number word) listed in
+      let number = same_number word language parts.0 letters alike in
+      elim (or_cases (not (length word == 2)) (has_number word) parts.1) [
+        | inl longer ↦ both_ways _ (not_from_true (length word == 2) (eq-eqb (length word) 2 (alike_length word language alike ∙ two))) longer
+        | inr found ↦ both_ways _ (ap (λ key. list_any (λ n. n == key) RELATED_KEYS) (sym number) ∙ absent) found
+      ])
+
+  pub not_among : (words : List (List ℕ)) → list_all is_listed words ≡ true → is_among words language ≡ false
+  not_among [] all = refl
+  not_among (word ∷ words) all = grind (arith, nat_tests, and_parts (is_listed word) (list_all is_listed words) all, apart word, not_among words)
 
 -- ---- heads
 

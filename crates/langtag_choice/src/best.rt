@@ -187,7 +187,7 @@ pub fn best_among<'a, R: RangeList<'a>, T: TagList>(ranges: R, tags: &T) -> Opti
 }
 
 /// Returns the index of the chosen tag.
-#[tactic(auto, using(crate::proofs::ChoiceLaws::found_chosen))]
+#[tactic(auto, using(crate::proofs::FoundLaws::found_chosen))]
 fn best_index<'a, R: RangeList<'a>, T: TagList>(ranges: R, tags: &T) -> Option<usize>
     ensures { spec.IsChoice (R.elements ranges) (T.texts tags.now) result }
 {
@@ -209,7 +209,7 @@ fn best<'a, 't, R: RangeList<'a>, T: TagList>(ranges: R, tags: &'t T) -> Option<
 }
 
 /// Returns whether the entry at an index is a tag that is not refused. No tag is refused if no range has the weight 0.
-#[tactic(auto, using(crate::proofs::NoneRefused::none_refused))]
+#[tactic(auto, using(crate::proofs::FoundLaws::none_refused))]
 fn is_chosen<'a, R: RangeList<'a>, T: TagList>(
     ranges: R,
     tags: &T,

@@ -135,14 +135,14 @@ impl SetName {
         }
     }
 
-    #[tactic(auto, using(langtag_likely::proofs::FieldClasses::region_length, langtag_likely::proofs::FieldClasses::region_alphanumeric, crate::proofs::RulesFound::among_by_number, crate::proofs::SetLaws::inside_plain))]
+    #[tactic(auto, using(langtag_likely::proofs::FieldClasses::region_length, langtag_likely::proofs::FieldClasses::region_alphanumeric, crate::proofs::MatchingTables::among_by_number, crate::proofs::MatchingTables::inside_plain))]
     fn is_inside(self, fields: TagFields<'_>) -> bool
         ensures { result ≡ spec.is_among (set_of self).inside fields.entry.region.now }
     {
         index_of(self.regions().inside, fields.region).is_some()
     }
 
-    #[tactic(auto, using(langtag_likely::proofs::FieldClasses::region_length, langtag_likely::proofs::FieldClasses::region_alphanumeric, crate::proofs::RulesFound::among_by_number, crate::proofs::SetLaws::partly_plain))]
+    #[tactic(auto, using(langtag_likely::proofs::FieldClasses::region_length, langtag_likely::proofs::FieldClasses::region_alphanumeric, crate::proofs::MatchingTables::among_by_number, crate::proofs::MatchingTables::partly_plain))]
     fn is_partly_inside(self, fields: TagFields<'_>) -> bool
         ensures { result ≡ spec.is_among (set_of self).partly fields.entry.region.now }
     {

@@ -1,7 +1,4 @@
-use Rattle.langtag_choice.proofs.AlikeChoice.{case_ignored}
-use Rattle.langtag_choice.proofs.ChoiceLaws.{only_choice}
-use Rattle.langtag_choice.proofs.EqualAnswers.{equal_answered}
-use Rattle.langtag_choice.proofs.LookUpAnswers.{look_up_answered}
+use Rattle.langtag_choice.proofs.ChoiceLaws.{case_ignored, only_choice, equal_answered, look_up_answered}
 use Rattle.langtag_choice.proofs.best.best_among.Goals as goal
 
 pub returns-clause-one : goal.returns-clause-one

@@ -1,4 +1,4 @@
-use Rattle.langtag_choice.proofs.AlikeChoice.{header_case_ignored}
+use Rattle.langtag_choice.proofs.ChoiceLaws.{header_case_ignored}
 use Rattle.langtag_choice.proofs.best.best_for_header.Goals as goal
 
 pub returns-clause-header_case : goal.returns-clause-header_case

@@ -1,6 +1,6 @@
 use Rattle.std.proofs.Common.{sym}
 use Rattle.langtag_choice.specs.Best.{IsMatchOf}
-use Rattle.langtag_choice.proofs.ChoiceLaws.{match_found}
+use Rattle.langtag_choice.proofs.FoundLaws.{match_found}
 use Rattle.langtag_choice.proofs.best.match_among.Goals as goal
 
 pub returns-in-Some-clause-found : goal.returns-in-Some-clause-found

@@ -1,7 +1,7 @@
 use Rattle.std.proofs.Common.{inl, refl}
 use Rattle.std.proofs.lemmas.Bool.{both_ways}
 use Rattle.langtag_choice.specs.Found.{wish_element}
-use Rattle.langtag_choice.proofs.Ranks.{cannot_serve}
+use Rattle.langtag_choice.proofs.FoundLaws.{cannot_serve}
 use Rattle.langtag_choice.proofs.improve.improve.Goals as goal
 
 pub returns-else-not-is_far_from : goal.returns-else-not-is_far_from

@@ -1,7 +1,7 @@
 use Rattle.std.proofs.Common.{ap, ◌∙◌}
 use Rattle.langtag.specs.Text.{lang_tag_text}
 use Rattle.langtag_choice.specs.Distance.{distance_of_texts}
-use Rattle.langtag_choice.proofs.AlikeRanges.{ignores_case}
+use Rattle.langtag_choice.proofs.AlikeDistances.{ignores_case}
 use Rattle.langtag_choice.proofs.tag_distance.distance.Goals as goal
 
 pub returns-clause-case : goal.returns-clause-case
