@@ -1,14 +1,90 @@
--- Likely subtags that are added again change nothing.
-use Rattle.std.proofs.Common.{◌≡◌, ℕ, true, false, Bool, cond, not, List, [], ◌∷◌, Option, None, Some, option_map, is_some, inl, inr, ◌⊎◌, refl, sym, ap, ◌∙◌, arith, rules}
-use Rattle.std.specs.Prelude.{◌&&◌, ◌||◌, codes}
+-- Likely subtags that are added again change nothing, since the rows have what it takes: by computation, row by row.
+use Rattle.std.proofs.Common.{◌≡◌, ◌==◌, ◌%◌, true, false, Bool, cond, leb, not, List, [], ◌∷◌, ℕ, Option, None, Some, is_some, refl, sym, ap, ◌∙◌, arith, ◌&&◌, ◌||◌, codes, option_map, inl, inr, ◌⊎◌, rules}
+use Rattle.std.proofs.lemmas.Bool.{and_parts, leb-true, eqb-true}
 use Rattle.std.specs.List.{list_all}
 use Rattle.std.specs.Option.{option_map_or}
-use Rattle.std.proofs.lemmas.Bool.{and_parts}
-use Rattle.langtag_scan.specs.Case.{Alike, are_alike, fold_text}
-use Rattle.langtag_likely.specs.Likely.{Fields, Likely, are_alike_fields, likely_for, looked_up, or_else, or_other, filled, known, known_fields, add_likely, language_alone}
-use Rattle.langtag_likely.specs.LikelySubtags.{other_rows, likely_subtags}
+use Rattle.langtag_scan.specs.Case.{fold_byte, are_alike, Alike, fold_text}
+use Rattle.langtag_scan.specs.Class.{is_letter, are_letters}
+use Rattle.langtag_tables.specs.Numbers.{letter_number}
+use Rattle.langtag_likely.specs.Likely.{Fields, Likely, likely_for, looked_up, or_else, are_alike_fields, or_other, filled, known, known_fields, add_likely, language_alone}
+use Rattle.langtag_likely.specs.LikelySubtags.{language_rows, other_rows, likely_subtags}
+use Rattle.langtag_likely.specs.Rows.{of_language}
 use Rattle.langtag_likely.proofs.AlikeFields.{AlikeFields, alike_is, alike_fields, likely_for-alike, looked_up-alike, alone_alike}
-use Rattle.langtag_likely.proofs.SettledRows.{is_there, is_language_row, is_kept, is_whole, stays_unknown, is_other_row, is_settled, rows_settled, row_by_bit, looked_up_other}
+use Rattle.langtag_likely.proofs.LanguageBits.{from_bit, row_at}
+use Rattle.langtag_likely.proofs.RowLaws.{all_other, either, language_found}
+
+-- ---- what the rows have in common
+
+-- a text that is there
+abbrev pub is_there : List ℕ → Bool
+is_there [] = false
+is_there (b ∷ text) = true
+
+-- the left side is a language and no more
+abbrev pub is_language_row : Likely → Bool
+is_language_row row = is_there row.from.language && (not (is_there row.from.script) && not (is_there row.from.region))
+
+-- a text is empty, or alike the other
+abbrev pub is_kept : List ℕ → List ℕ → Bool
+is_kept from to = not (is_there from) || are_alike from to
+
+-- a text is there, and does not say that it is unknown
+abbrev pub is_known : List ℕ → List ℕ → Bool
+is_known unknown text = is_there text && not (are_alike unknown text)
+
+-- the right side has a script and a region, keeps the language, and its language is not `und`
+abbrev pub is_whole : Likely → Bool
+is_whole row =
+    is_known (codes "Zzzz") row.to.script
+    && (is_known (codes "ZZ") row.to.region && (not (are_alike (codes "und") row.to.language)
+    && is_kept row.from.language row.to.language))
+
+-- a right side without a language keeps the left side, which has a script or a region, and leads to no language
+abbrev pub stays_unknown : Likely → Bool
+stays_unknown row =
+    (not (is_there row.from.language) && (is_there row.from.script || is_there row.from.region))
+    && ((is_kept row.from.script row.to.script && is_kept row.from.region row.to.region)
+    && option_map_or (λ v. not (is_there v.language)) (looked_up other_rows row.to) false)
+
+-- the bit of a language is set in the table of those that have a row
+unfoldable pub has_bit : List ℕ → Bool
+has_bit language =
+    are_letters language
+    && (leb 27 (letter_number language) && (leb (letter_number language) 18278 && (from_bit (letter_number language) % 2 == 1)))
+
+-- of another row: its language has a row of its own
+abbrev pub is_other_row : Likely → Bool
+is_other_row row = cond (is_there row.to.language) (has_bit row.to.language) (stays_unknown row)
+
+abbrev pub is_settled : Likely → Bool
+is_settled row = is_whole row && (is_language_row row || is_other_row row)
+
+pub rows_settled : list_all is_settled likely_subtags ≡ true
+unfolding likely_subtags language_rows other_rows has_bit letter_number is_letter fold_byte
+rows_settled = refl
+
+-- ---- a language whose bit is set has a row
+
+some_first : (a b : Option Fields) → is_some a ≡ true → is_some (or_else a b) ≡ true
+some_first None b h = absurd cc
+some_first (Some v) b h = refl
+
+pub row_by_bit : (language : List ℕ) → has_bit language ≡ true → is_some (likely_for likely_subtags (of_language language)) ≡ true
+unfolding has_bit
+row_by_bit language h =
+    let a = and_parts (are_letters language) (leb 27 (letter_number language) && (leb (letter_number language) 18278 && (from_bit (letter_number language) % 2 == 1))) h in
+    let b = and_parts (leb 27 (letter_number language)) (leb (letter_number language) 18278 && (from_bit (letter_number language) % 2 == 1)) a.1 in
+    let c = and_parts (leb (letter_number language) 18278) (from_bit (letter_number language) % 2 == 1) b.1 in
+    let found =
+    row_at (letter_number language) (leb-true 27 (letter_number language) b.0) (leb-true (letter_number language) 18278 c.0) (eqb-true (from_bit (letter_number language) % 2) 1 c.1) in
+    ap is_some (either (of_language language))
+    ∙ some_first (likely_for language_rows (of_language language)) (likely_for other_rows (of_language language))
+    (ap is_some (sym (language_found language (letter_number language) _ a.0 refl (sym found))))
+
+-- ---- a look-up without a language
+
+pub looked_up_other : (f : Fields) → f.language ≡ [] → looked_up other_rows f ≡ looked_up likely_subtags f
+looked_up_other f none = grind (arith, all_other)
 
 -- ---- texts that are there
 
@@ -51,9 +127,6 @@ other_test unknown (x ∷ a) b ha hb = ha
 pub known_stays : (unknown a : List ℕ) → are_alike unknown a ≡ false → known unknown a ≡ a
 known_stays unknown a h = ap (λ t. cond t [] a) h
 
-pub known_goes : (unknown a : List ℕ) → are_alike unknown a ≡ true → known unknown a ≡ []
-known_goes unknown a h = ap (λ t. cond t [] a) h
-
 -- ---- the row that was found
 
 record RowOf (key to : Fields) : Type 0 where
@@ -81,25 +154,10 @@ record Found (f to : Fields) : Type 0 where
   is_key : IsKey f key
   found : likely_for likely_subtags key ≡ Some to
 
-first_found :
-    {P : Type 0} (a b c d : Option Fields) (to : Fields) → or_else a (or_else b (or_else c d)) ≡ Some to →
-    (a ≡ Some to → P) → (b ≡ Some to → P) → (c ≡ Some to → P) → (d ≡ Some to → P) → P
-first_found a b c d to is p q r s = grind arith
-
 found_of : (f to : Fields) → looked_up likely_subtags f ≡ Some to → Found f to
 found_of f to is = grind arith
 
-last_found : (a b c d : Option Fields) → is_some d ≡ true → (v : Fields) × (or_else a (or_else b (or_else c d)) ≡ Some v)
-last_found (Some v) b c d h = (v, refl)
-last_found None (Some v) c d h = (v, refl)
-last_found None None (Some v) d h = (v, refl)
-last_found None None None (Some v) h = (v, refl)
-last_found None None None None h = absurd cc
-
 -- ---- fields that are all there stay, where something is looked up
-
-filled_whole : (m v : Fields) → is_there m.language ≡ true → is_there m.script ≡ true → is_there m.region ≡ true → filled m v ≡ m
-filled_whole m v l s r = rw (or_other_there m.language v.language l, or_other_there m.script v.script s, or_other_there m.region v.region r) refl
 
 whole_again :
     (m : Fields) → is_there m.language ≡ true → is_there m.script ≡ true → is_there m.region ≡ true → is_some (likely_for likely_subtags (language_alone m)) ≡ true →
@@ -227,9 +285,6 @@ module _ (f : Fields) (row : Likely) (key : Fields) (is_key : IsKey f key) (from
 
       unknown : StaysUnknown row
       unknown = search (rules, unknown_of)
-
-      no_language : most.language ≡ []
-      no_language = or_other_absent f.language row.to.language f_none ∙ absent row.to.language to_none
 
       written : (is_there f.script && is_there f.region) ≡ true → add_likely likely_subtags most ≡ Some most
       written both = grind arith

@@ -1,19 +1,15 @@
 -- Fields that are equal but for case have likely subtags that are.
-use Rattle.std.proofs.Common.{◌≡◌, ℕ, true, false, Bool, cond, List, [], ◌∷◌, Option, None, Some, option_map, refl, ap, ◌∙◌, subst, arith}
+use Rattle.std.proofs.Common.{◌≡◌, ℕ, true, false, Bool, cond, List, [], ◌∷◌, Option, None, Some, option_map, refl, ap, ◌∙◌, subst, arith, bytes_eq}
 use Rattle.std.specs.Option.{option_map_or}
-use Rattle.std.specs.Str.{bytes_eq}
 use Rattle.langtag_scan.specs.Case.{Alike, are_alike, fold_text}
 use Rattle.langtag_scan.specs.CaseLaws.{are_alike-decides}
-use Rattle.langtag_likely.specs.Likely.{Fields, Likely, are_alike_fields, likely_for, looked_up, or_other, filled, known, known_fields, add_likely, remove_likely, least, suffices, language_alone, without_script, without_region}
+use Rattle.langtag_likely.specs.Likely.{Fields, Likely, are_alike_fields, likely_for, looked_up, or_other, known, known_fields, add_likely, remove_likely, least, suffices, language_alone, without_script, without_region}
 use Rattle.langtag_likely.specs.LikelySubtags.{likely_subtags}
 
 pub record AlikeFields (a b : Fields) : Type 0 where
   pub language : Alike a.language b.language
   pub script : Alike a.script b.script
   pub region : Alike a.region b.region
-
-pub alike_refl : (a : Fields) → AlikeFields a a
-alike_refl a = record { language = refl; script = refl; region = refl }
 
 pub alike_is : (a b : List ℕ) → are_alike a b ≡ true → Alike a b
 alike_is a b is = (are_alike-decides a b).0 is
@@ -52,9 +48,6 @@ looked_up-alike a b h = grind (arith, likely_for-alike)
 
 pub or_other-alike : (a b v : List ℕ) → Alike a b → Alike (or_other a v) (or_other b v)
 or_other-alike a b v h = grind arith
-
-filled-alike : (a b v : Fields) → AlikeFields a b → AlikeFields (filled a v) (filled b v)
-filled-alike a b v h = grind arith
 
 -- none and none, or some that are alike
 abbrev pub AlikeOptions : Option Fields → Option Fields → Type 0

@@ -1,7 +1,7 @@
 -- The matching form of a text, made in two steps; a language that is there stays.
-use Rattle.std.proofs.Common.{◌≡◌, ℕ, ◌<◌, List, [], ◌∷◌, length, option_map, refl, arith}
-use Rattle.langtag_likely.specs.Likely.{Fields, or_other}
-use Rattle.langtag_likely.specs.Matching.{completed, matching_form, most_likely, most_unknown, region_replaced, replaced_form}
+use Rattle.std.proofs.Common.{◌≡◌, ℕ, ◌<◌, List, length, option_map, arith}
+use Rattle.langtag_likely.specs.Likely.{Fields}
+use Rattle.langtag_likely.specs.Matching.{completed, matching_form, most_likely, region_replaced, replaced_form}
 
 pub form_completed : (text : List ℕ) → matching_form text ≡ option_map completed (replaced_form text)
 unfolding matching_form replaced_form
@@ -12,13 +12,6 @@ form_completed text = grind arith
 region_language : (f : Fields) → (region_replaced f).language ≡ f.language
 unfolding region_replaced
 region_language f = grind arith
-
-or_other_first : (text other : List ℕ) → 0 < length text → or_other text other ≡ text
-or_other_first [] other some = absurd (omega (arith, some))
-or_other_first (b ∷ text) other some = refl
-
-unknown_language : (f : Fields) → (most_unknown f).language ≡ f.language
-unknown_language f = grind arith
 
 likely_language : (f : Fields) → 0 < length f.language → (most_likely f).language ≡ f.language
 unfolding most_likely

@@ -1,12 +1,8 @@
 -- The tag of a POSIX locale's name: its parts, and its length.
-use Rattle.std.proofs.Common.{◌≡◌, ℕ, ◌+◌, ◌≤◌, true, false, Bool, cond, List, [], ◌∷◌, length, Option, None, Some, IsTrue, refl, sym, subst, arith}
-use Rattle.std.specs.Prelude.{◌||◌, codes, IfSome, MatchOption}
-use Rattle.std.specs.Borrow.{Bor}
+use Rattle.std.proofs.Common.{◌≡◌, ℕ, ◌+◌, ◌≤◌, true, false, Bool, cond, List, [], ◌∷◌, length, Option, None, Some, IsTrue, refl, sym, subst, arith, ◌||◌, codes, IfSome, MatchOption, Bor, IsUtf8, length-append}
 use Rattle.std.specs.Option.{option_map, option_or}
-use Rattle.std.specs.Str.{IsUtf8}
 use Rattle.std.proofs.lemmas.Str.{IsUtf8-from_ascii}
 use Rattle.std.proofs.lemmas.Bool.{and_parts}
-use Rattle.std.proofs.lemmas.List.{length-append}
 use Rattle.std.proofs.lemmas.Grind.{common_steps}
 use Rattle.langtag_scan.specs.Case.{are_alike, fold_byte}
 use Rattle.langtag_scan.specs.Class.{is_letter, is_digit, is_script, is_variant}

@@ -1,11 +1,7 @@
 -- A tag with other fields, piece by piece.
-use Rattle.std.proofs.Common.{◌≡◌, ℕ, ◌+◌, ◌≤◌, true, List, [], ◌∷◌, ◌++◌, length, drop, sym, ap, arith, append_assoc, rules}
-use Rattle.std.specs.Prelude.{codes}
-use Rattle.std.specs.List.{flat_map}
-use Rattle.std.proofs.lemmas.List.{length-append, append-nil}
+use Rattle.std.proofs.Common.{◌≡◌, ℕ, ◌+◌, ◌≤◌, true, List, [], ◌∷◌, ◌++◌, length, drop, ap, arith, append_assoc, rules, codes, flat_map, length-append, append-nil}
 use Rattle.std.proofs.lemmas.Grind.{common_steps}
 use Rattle.langtag_scan.specs.Case.{are_alike}
-use Rattle.langtag_scan.specs.CaseLaws.{are_alike-decides}
 use Rattle.langtag_scan.specs.Ends.{ends_of}
 use Rattle.langtag_scan.specs.Record.{Record, one_flat, extension_flat, private_part_flat, spell}
 use Rattle.langtag_scan.specs.Subtags.{join}
@@ -17,9 +13,6 @@ use Rattle.langtag_likely.specs.Likely.{Fields, or_other}
 use Rattle.langtag_likely.specs.Maximal.{put_fields, put_language, subtag_of}
 
 -- ---- the language
-
-alike_turned : (a b : List ℕ) → are_alike a b ≡ true → are_alike b a ≡ true
-alike_turned a b alike = (are_alike-decides b a).1 (sym ((are_alike-decides a b).0 alike))
 
 -- `und` has no extended subtags
 pub und_alone :

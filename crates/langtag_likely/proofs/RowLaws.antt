@@ -1,6 +1,5 @@
 -- The rows of the tables are those of the lists.
-use Rattle.std.proofs.Common.{◌≡◌, ℕ, ◌+◌, ◌<◌, true, ◌==◌, Bool, List, [], length, get_or, map, Option, None, Some, option_map, refl, sym, ap, ◌∙◌, arith}
-use Rattle.std.specs.Prelude.{◌&&◌}
+use Rattle.std.proofs.Common.{◌≡◌, ℕ, ◌+◌, ◌<◌, true, ◌==◌, Bool, List, [], length, get_or, map, Option, None, option_map, sym, ap, ◌∙◌, arith, ◌&&◌}
 use Rattle.std.proofs.lemmas.List.{get_or-map, nil_from_length}
 use Rattle.langtag_scan.specs.Class.{are_letters}
 use Rattle.langtag_tables.specs.Numbers.{letter_number}
@@ -61,15 +60,8 @@ pub either : (key : Fields) → likely_for likely_subtags key ≡ or_else (likel
 unfolding likely_subtags
 either key = likely_for-append language_rows other_rows key
 
-or_none : {A : Type 0} (o : Option A) → or_else o None ≡ o
-or_none None = refl
-or_none (Some x) = refl
-
 pub all_long : (key : Fields) → 3 < length key.language → likely_for likely_subtags key ≡ None
 all_long key long = grind (arith, either, long_nowhere, languages_short, others_short)
-
-fill_places : (l : List ℕ) → 0 < length l → (o : Option Fields) → option_map (filled (of_language l)) (option_map places_of o) ≡ option_map (filled (of_language l)) o
-fill_places l some o = grind arith
 
 -- a language and no more
 pub all_alone :

@@ -1,6 +1,5 @@
 -- A row is found by the number of its left side.
-use Rattle.std.proofs.Common.{◌≡◌, ℕ, ◌+◌, ◌*◌, ◌<◌, true, false, ◌==◌, Bool, cond, ltb, List, [], ◌∷◌, ◌++◌, length, get_or, map, Option, None, Some, option_map, refl, arith}
-use Rattle.std.specs.Prelude.{◌&&◌}
+use Rattle.std.proofs.Common.{◌≡◌, ℕ, ◌+◌, ◌*◌, ◌<◌, true, false, ◌==◌, Bool, cond, ltb, List, [], ◌∷◌, ◌++◌, length, get_or, map, Option, None, Some, option_map, refl, arith, ◌&&◌}
 use Rattle.std.specs.List.{list_all}
 use Rattle.langtag_scan.specs.Case.{are_alike}
 use Rattle.langtag_scan.specs.CaseLaws.{are_alike-decides}

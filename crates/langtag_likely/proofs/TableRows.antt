@@ -1,6 +1,5 @@
 -- The tables have the rows of the lists: by computation.
-use Rattle.std.proofs.Common.{◌≡◌, true, length, map, refl}
-use Rattle.std.specs.Prelude.{◌&&◌}
+use Rattle.std.proofs.Common.{◌≡◌, true, length, map, refl, ◌&&◌}
 use Rattle.std.specs.List.{list_all}
 use Rattle.langtag_scan.specs.Case.{fold_byte}
 use Rattle.langtag_scan.specs.Class.{is_letter, is_digit, are_letters, is_primary, is_script, is_region}

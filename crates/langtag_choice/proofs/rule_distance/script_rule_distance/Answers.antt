@@ -1,7 +1,7 @@
 use Rattle.std.proofs.Common.{◌<◌, get_or, arith, ltb, ltb-true}
 use Rattle.langtag_choice.specs.declared.matching_tables.TheConstants.{SCRIPT_RULE_DISTANCES}
 use Rattle.langtag_choice.proofs.MatchingTables.{script_rule_count, script_rules_some, script_rules_most}
-use Rattle.langtag_likely.proofs.FirstIndex.{index_inside, test_at}
+use Rattle.langtag_likely.proofs.KeyNumbers.{index_inside, test_at}
 use Rattle.langtag_choice.proofs.rule_distance.script_rule_distance.Goals as goal
 
 pub returns-clause-some : goal.returns-clause-some

@@ -4,11 +4,9 @@ use Rattle.langtag_likely.specs.Good.{is_language_field, is_script_field, is_reg
 use Rattle.langtag_likely.specs.Likely.{language_alone}
 use Rattle.langtag_likely.specs.Aliases.{language_aliases}
 use Rattle.langtag_likely.specs.Texts.{field_texts}
-use Rattle.langtag_likely.proofs.AliasLaws.{alias_at, alias_found}
-use Rattle.langtag_likely.proofs.Columns.{column_good, name_good}
+use Rattle.langtag_likely.proofs.AliasTables.{alias_at, alias_found, alias_count, aliases_short, alias_languages_good, alias_scripts_good, alias_regions_good}
+use Rattle.langtag_likely.proofs.KeyNumbers.{column_good, name_good, first_index-is, index_searched}
 use Rattle.langtag_likely.proofs.FieldClasses.{language_letters}
-use Rattle.langtag_likely.proofs.AliasTables.{alias_count, aliases_short, alias_languages_good, alias_scripts_good, alias_regions_good}
-use Rattle.langtag_likely.proofs.FirstIndex.{first_index-is, index_searched}
 use Rattle.langtag_likely.proofs.RowsFound.{long_nowhere}
 use Rattle.langtag_likely.proofs.aliases.language_alias.Goals as goal
 

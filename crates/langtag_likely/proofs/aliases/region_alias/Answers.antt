@@ -3,10 +3,9 @@ use Rattle.langtag_likely.specs.declared.alias_tables.TheConstants.{REGION_ALIAS
 use Rattle.langtag_likely.specs.Good.{is_region_field}
 use Rattle.langtag_likely.specs.Aliases.{region_aliases}
 use Rattle.langtag_likely.specs.Texts.{field_texts}
-use Rattle.langtag_likely.proofs.AliasLaws.{region_at, region_found}
-use Rattle.langtag_likely.proofs.Columns.{name_good}
+use Rattle.langtag_likely.proofs.AliasTables.{region_at, region_found, region_alias_count, region_aliases_alone, region_aliases_good}
+use Rattle.langtag_likely.proofs.KeyNumbers.{name_good}
 use Rattle.langtag_likely.proofs.FieldClasses.{region_alphanumeric}
-use Rattle.langtag_likely.proofs.AliasTables.{region_alias_count, region_aliases_alone, region_aliases_good}
 use Rattle.langtag_likely.proofs.aliases.region_alias.Goals as goal
 
 pub returns-in_err-index : goal.returns-in_err-index

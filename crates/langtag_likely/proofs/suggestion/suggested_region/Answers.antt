@@ -4,11 +4,9 @@ use Rattle.langtag_likely.specs.declared.alias_tables.TheConstants.{REPLACEMENT_
 use Rattle.langtag_likely.specs.Aliases.{region_replacements}
 use Rattle.langtag_likely.specs.Good.{is_region_field}
 use Rattle.langtag_likely.specs.Suggestion.{suggested_region}
-use Rattle.langtag_likely.proofs.AliasLaws.{at_index}
-use Rattle.langtag_likely.proofs.AliasTables.{replacement_count, replacement_names, replacements_good}
-use Rattle.langtag_likely.proofs.Columns.{name_good}
+use Rattle.langtag_likely.proofs.AliasTables.{at_index, replacement_count, replacement_names, replacements_good, replacement_found}
+use Rattle.langtag_likely.proofs.KeyNumbers.{name_good}
 use Rattle.langtag_likely.proofs.FieldClasses.{region_alphanumeric}
-use Rattle.langtag_likely.proofs.SuggestionLaws.{replacement_found}
 use Rattle.langtag_likely.proofs.suggestion.suggested_region.Goals as goal
 
 pub returns-in_err-index : goal.returns-in_err-index
