@@ -1,5 +1,5 @@
 -- The tables of language matching have the rows of the lists, by computation, and a rule is found by its number.
-use Rattle.std.proofs.Common.{◌≡◌, ℕ, ◌<◌, true, false, ◌==◌, Bool, ltb, List, [], ◌∷◌, length, get_or, map, refl, arith, rules, ◌&&◌, is_some, ◌+◌, ◌*◌, ap, ◌∙◌, cond, Option, sym}
+use Rattle.std.proofs.Common.{◌≡◌, ℕ, ◌<◌, true, false, ◌==◌, Bool, ltb, List, [], ◌∷◌, length, get_or, map, refl, arith, rules, ◌&&◌, is_some, ◌+◌, ◌*◌, ap, ◌∙◌, cond, Option, sym, ◌⊎◌}
 use Rattle.std.proofs.lemmas.Bool.Decides.{nat_tests, eqb_tells}
 use Rattle.std.proofs.lemmas.Bool.{and_parts, ltb-true, false_from_ne_true, eq-eqb, ne_eqb}
 use Rattle.std.proofs.lemmas.Grind.{common_steps}
@@ -12,7 +12,7 @@ use Rattle.langtag_tables.specs.Numbers.{letter_number}
 use Rattle.langtag_likely.specs.Aliases.{language_aliases}
 use Rattle.langtag_likely.specs.Likely.{Fields, are_alike_fields, Likely, language_alone, without_region}
 use Rattle.langtag_likely.specs.Numbers.{first_index, key_number}
-use Rattle.langtag_likely.proofs.KeyNumbers.{are_plain, is_numbered, key_number-tells}
+use Rattle.langtag_likely.proofs.KeyNumbers.{test_at, are_plain, is_numbered, key_number-tells}
 use Rattle.langtag_likely.proofs.RowLaws.{is_language, language-tells}
 use Rattle.langtag_likely.proofs.RowsFound.{alike_length}
 use Rattle.langtag_choice.specs.Distance.{is_among, maghreb, en_us, americas, cnsar, language_distance, script_distance}
@@ -112,57 +112,29 @@ script_pair-tells desired supported dp sp small rule good =
 
 -- ---- rules
 
-pub language_rule_numbers : table.LANGUAGE_RULE_KEYS ≡ map (λ rule. language_pair rule.desired rule.supported) list.language_rules
-unfolding list.language_rules letter_number fold_byte
-language_rule_numbers = refl
+-- rules, and the table of their numbers and distances
+pub record AreRules (rules : List Rule) (number : Rule → ℕ) (is_good : Rule → Bool) (keys distances : List ℕ) (above : ℕ) : Type 0 where
+  pub numbers : keys ≡ map number rules
+  pub key_count : length keys ≡ length rules
+  pub distances_are : distances ≡ map distance_of rules
+  pub distance_count : length rules ≡ length distances
+  pub between : list_all (λ n. ltb 0 n && ltb n above) distances ≡ true
+  pub good : list_all is_good rules ≡ true
+  pub short : list_all is_short rules ≡ true
 
-pub language_rule_distances : table.LANGUAGE_RULE_DISTANCES ≡ map distance_of list.language_rules
-unfolding list.language_rules fold_byte
-language_rule_distances = refl
+abbrev pub language_rule_number : Rule → ℕ
+language_rule_number rule = language_pair rule.desired rule.supported
 
-pub language_rules_good : list_all is_language_rule list.language_rules ≡ true
+pub language_rules_listed : AreRules list.language_rules language_rule_number is_language_rule table.LANGUAGE_RULE_KEYS table.LANGUAGE_RULE_DISTANCES 81
 unfolding list.language_rules letter_number is_letter fold_byte
-language_rules_good = refl
+language_rules_listed = record { numbers = refl; key_count = refl; distances_are = refl; distance_count = refl; between = refl; good = refl; short = refl }
 
-pub language_rules_short : list_all is_short list.language_rules ≡ true
-unfolding list.language_rules fold_byte
-language_rules_short = refl
+abbrev pub script_rule_number : Rule → ℕ
+script_rule_number rule = script_pair rule.desired rule.supported
 
-pub language_rule_count : length list.language_rules ≡ length table.LANGUAGE_RULE_DISTANCES
-unfolding list.language_rules fold_byte
-language_rule_count = refl
-
-pub language_rules_some : list_all (λ n. ltb 0 n) table.LANGUAGE_RULE_DISTANCES ≡ true
-language_rules_some = refl
-
-pub language_rules_most : list_all (λ n. ltb n 81) table.LANGUAGE_RULE_DISTANCES ≡ true
-language_rules_most = refl
-
-pub script_rule_numbers : table.SCRIPT_RULE_KEYS ≡ map (λ rule. script_pair rule.desired rule.supported) list.script_rules
-unfolding list.script_rules key_number letter_number folded_number fold_byte
-script_rule_numbers = refl
-
-pub script_rule_distances : table.SCRIPT_RULE_DISTANCES ≡ map distance_of list.script_rules
-unfolding list.script_rules fold_byte
-script_rule_distances = refl
-
-pub script_rules_good : list_all is_script_rule list.script_rules ≡ true
+pub script_rules_listed : AreRules list.script_rules script_rule_number is_script_rule table.SCRIPT_RULE_KEYS table.SCRIPT_RULE_DISTANCES 51
 unfolding list.script_rules key_number letter_number folded_number is_letter is_digit fold_byte
-script_rules_good = refl
-
-pub script_rules_short : list_all is_short list.script_rules ≡ true
-unfolding list.script_rules fold_byte
-script_rules_short = refl
-
-pub script_rule_count : length list.script_rules ≡ length table.SCRIPT_RULE_DISTANCES
-unfolding list.script_rules fold_byte
-script_rule_count = refl
-
-pub script_rules_some : list_all (λ n. ltb 0 n) table.SCRIPT_RULE_DISTANCES ≡ true
-script_rules_some = refl
-
-pub script_rules_most : list_all (λ n. ltb n 51) table.SCRIPT_RULE_DISTANCES ≡ true
-script_rules_most = refl
+script_rules_listed = record { numbers = refl; key_count = refl; distances_are = refl; distance_count = refl; between = refl; good = refl; short = refl }
 
 -- ---- related languages
 
@@ -176,37 +148,20 @@ replacing_listed = refl
 
 -- ---- sets of regions
 
-pub maghreb_inside_numbers : table.MAGHREB_INSIDE ≡ map folded_number maghreb.inside
-unfolding maghreb list.maghreb_inside folded_number fold_byte
-maghreb_inside_numbers = refl
+-- the tables of the sets, as numbers
+pub record AreSets : Type 0 where
+  pub maghreb_inside : table.MAGHREB_INSIDE ≡ map folded_number maghreb.inside
+  pub maghreb_partly : table.MAGHREB_PARTLY ≡ map folded_number maghreb.partly
+  pub en_us_inside : table.EN_US_INSIDE ≡ map folded_number en_us.inside
+  pub en_us_partly : table.EN_US_PARTLY ≡ map folded_number en_us.partly
+  pub americas_inside : table.AMERICAS_INSIDE ≡ map folded_number americas.inside
+  pub americas_partly : table.AMERICAS_PARTLY ≡ map folded_number americas.partly
+  pub cnsar_inside : table.CNSAR_INSIDE ≡ map folded_number cnsar.inside
+  pub cnsar_partly : table.CNSAR_PARTLY ≡ map folded_number cnsar.partly
 
-pub maghreb_partly_numbers : table.MAGHREB_PARTLY ≡ map folded_number maghreb.partly
-unfolding maghreb list.maghreb_partly folded_number fold_byte
-maghreb_partly_numbers = refl
-
-pub en_us_inside_numbers : table.EN_US_INSIDE ≡ map folded_number en_us.inside
-unfolding en_us list.en_us_inside folded_number fold_byte
-en_us_inside_numbers = refl
-
-pub en_us_partly_numbers : table.EN_US_PARTLY ≡ map folded_number en_us.partly
-unfolding en_us list.en_us_partly folded_number fold_byte
-en_us_partly_numbers = refl
-
-pub americas_inside_numbers : table.AMERICAS_INSIDE ≡ map folded_number americas.inside
-unfolding americas list.americas_inside folded_number fold_byte
-americas_inside_numbers = refl
-
-pub americas_partly_numbers : table.AMERICAS_PARTLY ≡ map folded_number americas.partly
-unfolding americas list.americas_partly folded_number fold_byte
-americas_partly_numbers = refl
-
-pub cnsar_inside_numbers : table.CNSAR_INSIDE ≡ map folded_number cnsar.inside
-unfolding cnsar list.cnsar_inside folded_number fold_byte
-cnsar_inside_numbers = refl
-
-pub cnsar_partly_numbers : table.CNSAR_PARTLY ≡ map folded_number cnsar.partly
-unfolding cnsar list.cnsar_partly folded_number fold_byte
-cnsar_partly_numbers = refl
+pub sets_listed : AreSets
+unfolding maghreb list.maghreb_inside list.maghreb_partly en_us list.en_us_inside list.en_us_partly americas list.americas_inside list.americas_partly cnsar list.cnsar_inside list.cnsar_partly folded_number fold_byte
+sets_listed = record { maghreb_inside = refl; maghreb_partly = refl; en_us_inside = refl; en_us_partly = refl; americas_inside = refl; americas_partly = refl; cnsar_inside = refl; cnsar_partly = refl }
 
 -- ---- regions of sets are of letters and digits
 
@@ -220,12 +175,6 @@ partly_plain set = grind (arith, nat_tests)
 
 -- ---- the distance of two languages, and of two scripts
 
-abbrev pub language_rule_number : Rule → ℕ
-language_rule_number rule = language_pair rule.desired rule.supported
-
-abbrev pub script_rule_number : Rule → ℕ
-script_rule_number rule = script_pair rule.desired rule.supported
-
 module _ (d s : Fields) where
   -- ---- languages
 
@@ -234,10 +183,10 @@ module _ (d s : Fields) where
   language_other n other is = is ∙ sym (ap (λ b. cond b 0 (distance_by language_rules 80 (language_alone d) (language_alone s))) other)
 
   pub language_long_desired : are_alike d.language s.language ≡ false → 3 < length d.language → 80 ≡ language_distance d s
-  language_long_desired other long = language_other 80 other (sym (long_desired 80 language_rules (language_alone d) (language_alone s) long language_rules_short))
+  language_long_desired other long = language_other 80 other (sym (long_desired 80 language_rules (language_alone d) (language_alone s) long language_rules_listed.short))
 
   pub language_long_supported : are_alike d.language s.language ≡ false → 3 < length s.language → 80 ≡ language_distance d s
-  language_long_supported other long = language_other 80 other (sym (long_supported 80 language_rules (language_alone d) (language_alone s) long language_rules_short))
+  language_long_supported other long = language_other 80 other (sym (long_supported 80 language_rules (language_alone d) (language_alone s) long language_rules_listed.short))
 
   pub language_found :
       (o : Option ℕ) (n : ℕ) (keys : List ℕ) (number : ℕ) → are_alike d.language s.language ≡ false → are_letters d.language ≡ true → are_letters s.language ≡ true →
@@ -245,7 +194,7 @@ module _ (d s : Fields) where
       n ≡ option_map_or (λ i. get_or (map distance_of language_rules) i 0) o 80 → n ≡ language_distance d s
   language_found o n keys number other dl sl small keys_are number_is is value =
       language_other n other
-      (cc (distance_by_number language_rule_number is_language_rule (language_pair d s) (language_alone d) (language_alone s) (language_pair-tells d s dl sl small) 80 language_rules language_rules_good))
+      (cc (distance_by_number language_rule_number is_language_rule (language_pair d s) (language_alone d) (language_alone s) (language_pair-tells d s dl sl small) 80 language_rules language_rules_listed.good))
 
   -- ---- scripts
 
@@ -254,10 +203,10 @@ module _ (d s : Fields) where
   script_other n other is = is ∙ sym (ap (λ b. cond b 0 (distance_by script_rules 50 (without_region d) (without_region s))) other)
 
   pub script_long_desired : are_alike d.script s.script ≡ false → 3 < length d.language → 50 ≡ script_distance d s
-  script_long_desired other long = script_other 50 other (sym (long_desired 50 script_rules (without_region d) (without_region s) long script_rules_short))
+  script_long_desired other long = script_other 50 other (sym (long_desired 50 script_rules (without_region d) (without_region s) long script_rules_listed.short))
 
   pub script_long_supported : are_alike d.script s.script ≡ false → 3 < length s.language → 50 ≡ script_distance d s
-  script_long_supported other long = script_other 50 other (sym (long_supported 50 script_rules (without_region d) (without_region s) long script_rules_short))
+  script_long_supported other long = script_other 50 other (sym (long_supported 50 script_rules (without_region d) (without_region s) long script_rules_listed.short))
 
   pub script_found :
       (o : Option ℕ) (n : ℕ) (keys : List ℕ) (number : ℕ) → are_alike d.script s.script ≡ false → are_plain (without_region d) ≡ true → are_plain (without_region s) ≡ true →
@@ -266,4 +215,15 @@ module _ (d s : Fields) where
   script_found o n keys number other dp sp small keys_are number_is is value =
       script_other n other
       (cc (distance_by_number script_rule_number is_script_rule (script_pair (without_region d) (without_region s)) (without_region d) (without_region s)
-      (script_pair-tells (without_region d) (without_region s) dp sp small) 50 script_rules script_rules_good))
+      (script_pair-tells (without_region d) (without_region s) dp sp small) 50 script_rules script_rules_listed.good))
+
+-- ---- the distance of a rule
+
+between_at : (distances : List ℕ) (above i : ℕ) → list_all (λ n. ltb 0 n && ltb n above) distances ≡ true → i < length distances → (0 < get_or distances i 0) × (get_or distances i 0 < above)
+between_at distances above i all inside = grind (arith, nat_tests, and_parts, test_at (λ n. ltb 0 n && ltb n above) distances i all)
+
+pub language_between : (i : ℕ) → i < length language_rules → (0 < get_or table.LANGUAGE_RULE_DISTANCES i 0) × (get_or table.LANGUAGE_RULE_DISTANCES i 0 < 81)
+language_between i inside = between_at table.LANGUAGE_RULE_DISTANCES 81 i language_rules_listed.between (rw (sym language_rules_listed.distance_count) inside)
+
+pub script_between : (i : ℕ) → i < length script_rules → (0 < get_or table.SCRIPT_RULE_DISTANCES i 0) × (get_or table.SCRIPT_RULE_DISTANCES i 0 < 51)
+script_between i inside = between_at table.SCRIPT_RULE_DISTANCES 51 i script_rules_listed.between (rw (sym script_rules_listed.distance_count) inside)

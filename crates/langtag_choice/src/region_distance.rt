@@ -108,7 +108,7 @@ pub(crate) enum SetName {
 }
 
 impl SetName {
-    #[tactic(auto, using(crate::proofs::MatchingTables::maghreb_inside_numbers, crate::proofs::MatchingTables::en_us_inside_numbers, crate::proofs::MatchingTables::americas_inside_numbers, crate::proofs::MatchingTables::cnsar_inside_numbers, crate::proofs::MatchingTables::maghreb_partly_numbers, crate::proofs::MatchingTables::en_us_partly_numbers, crate::proofs::MatchingTables::americas_partly_numbers, crate::proofs::MatchingTables::cnsar_partly_numbers))]
+    #[tactic(auto, using(crate::proofs::MatchingTables::sets_listed))]
     fn regions(self) -> RegionSet
         ensures inside { result.inside.now ≡ map folded_number (set_of self).inside }
         ensures inside_climbs { IsTrue (climbs_from 0 result.inside.now) }
