@@ -46,6 +46,33 @@
 #include <string.h>
 SQLITE_EXTENSION_INIT1
 
+/* A function of SQL. If several functions share `call`, one of the last three is what they ask of the library. */
+typedef struct function {
+    const char *name;
+    int arguments;
+    void (*call)(sqlite3_context *context, int count, sqlite3_value **values);
+    size_t (*form)(const char *tag, size_t len, char *buffer, size_t buffer_len);
+    bool (*is)(const char *tag, size_t len);
+    bool (*matches)(const char *range, size_t range_len, const char *tag, size_t tag_len);
+} function;
+
+static const function *called(sqlite3_context *context) { return sqlite3_user_data(context); }
+
+/* A text argument. `at` is NULL if the argument is NULL. */
+typedef struct text {
+    const char *at;
+    size_t len;
+} text;
+
+static text text_of(sqlite3_value *value) {
+    const char *at = (const char *)sqlite3_value_text(value);
+    return (text){at, at ? (size_t)sqlite3_value_bytes(value) : 0};
+}
+
+static void return_span(sqlite3_context *context, text of, langtag_span span) {
+    sqlite3_result_text64(context, of.at + span.start, span.len, SQLITE_TRANSIENT, SQLITE_UTF8);
+}
+
 /* Returns the span of the part with a name, or NULL if no part has that name. */
 static const langtag_span *part_named(const langtag_parts *parts, const char *name) {
     const struct {
@@ -62,51 +89,35 @@ static const langtag_span *part_named(const langtag_parts *parts, const char *na
 
 static void part(sqlite3_context *context, int count, sqlite3_value **values) {
     (void)count;
-    const char *tag = (const char *)sqlite3_value_text(values[0]), *name = (const char *)sqlite3_value_text(values[1]);
+    const text tag = text_of(values[0]), name = text_of(values[1]);
     langtag_parts parts;
-    if (!tag || !name) return; /* NULL */
-    uint32_t kind = langtag_parse(tag, (size_t)sqlite3_value_bytes(values[0]), &parts);
-    const langtag_span *span = part_named(&parts, name);
+    if (!tag.at || !name.at) return; /* NULL */
+    uint32_t kind = langtag_parse(tag.at, tag.len, &parts);
+    const langtag_span *span = part_named(&parts, name.at);
     if (!span) sqlite3_result_error(context, "langtag_part: no part has that name", -1);
-    else if (kind != LANGTAG_NONE && span->len > 0)
-        sqlite3_result_text(context, tag + span->start, (int)span->len, SQLITE_TRANSIENT);
+    else if (kind != LANGTAG_NONE && span->len > 0) return_span(context, tag, *span);
 }
 
 static void keyword(sqlite3_context *context, int count, sqlite3_value **values) {
     (void)count;
-    const char *tag = (const char *)sqlite3_value_text(values[0]), *key = (const char *)sqlite3_value_text(values[1]);
-    size_t tag_len = (size_t)sqlite3_value_bytes(values[0]), key_len = (size_t)sqlite3_value_bytes(values[1]);
+    const text tag = text_of(values[0]), key = text_of(values[1]);
     langtag_span value;
-    if (tag && key && langtag_keyword(tag, tag_len, key, key_len, &value))
-        sqlite3_result_text64(context, tag + value.start, value.len, SQLITE_TRANSIENT, SQLITE_UTF8); /* else NULL */
+    if (tag.at && key.at && langtag_keyword(tag.at, tag.len, key.at, key.len, &value)) return_span(context, tag, value); /* else NULL */
 }
 
-typedef size_t writer(const char *tag, size_t len, char *buffer, size_t buffer_len);
-
-static void written(sqlite3_context *context, sqlite3_value **values, writer *write) {
-    const char *tag = (const char *)sqlite3_value_text(values[0]);
-    size_t len = (size_t)sqlite3_value_bytes(values[0]);
+static void form(sqlite3_context *context, int count, sqlite3_value **values) {
+    (void)count;
+    const text tag = text_of(values[0]);
     char none;
-    size_t form_len = tag ? write(tag, len, &none, 0) : 0;
+    size_t form_len = tag.at ? called(context)->form(tag.at, tag.len, &none, 0) : 0;
     if (form_len == 0) return; /* NULL */
     char *form = sqlite3_malloc64(form_len);
     if (!form) {
         sqlite3_result_error_nomem(context);
         return;
     }
-    write(tag, len, form, form_len);
+    called(context)->form(tag.at, tag.len, form, form_len);
     sqlite3_result_text64(context, form, form_len, sqlite3_free, SQLITE_UTF8);
-}
-
-/* A text argument. `at` is NULL if the argument is NULL. */
-typedef struct text {
-    const char *at;
-    size_t len;
-} text;
-
-static text text_of(sqlite3_value *value) {
-    const char *at = (const char *)sqlite3_value_text(value);
-    return (text){at, (size_t)sqlite3_value_bytes(value)};
 }
 
 /* Writes a tag with the value of a key, or without the key if the value is NULL. Returns what the library returns. */
@@ -151,96 +162,57 @@ static void set_keyword(sqlite3_context *context, int count, sqlite3_value **val
     sqlite3_result_text64(context, made, len, sqlite3_free, SQLITE_UTF8);
 }
 
-static void extensions_form(sqlite3_context *context, int count, sqlite3_value **values) {
+static void is(sqlite3_context *context, int count, sqlite3_value **values) {
     (void)count;
-    written(context, values, langtag_extensions_form);
-}
-
-static void is_locale(sqlite3_context *context, int count, sqlite3_value **values) {
-    (void)count;
-    const char *tag = (const char *)sqlite3_value_text(values[0]);
-    size_t len = (size_t)sqlite3_value_bytes(values[0]);
-    if (tag && langtag_kind(tag, len)) sqlite3_result_int(context, langtag_is_locale(tag, len)); /* else NULL */
-}
-
-static void locale_form(sqlite3_context *context, int count, sqlite3_value **values) {
-    (void)count;
-    written(context, values, langtag_locale_form);
-}
-
-static void canonical(sqlite3_context *context, int count, sqlite3_value **values) {
-    (void)count;
-    written(context, values, langtag_canonical);
-}
-
-static void maximize(sqlite3_context *context, int count, sqlite3_value **values) {
-    (void)count;
-    written(context, values, langtag_maximize);
-}
-
-static void minimize(sqlite3_context *context, int count, sqlite3_value **values) {
-    (void)count;
-    written(context, values, langtag_minimize);
-}
-
-static void from_posix(sqlite3_context *context, int count, sqlite3_value **values) {
-    (void)count;
-    written(context, values, langtag_from_posix);
+    const text tag = text_of(values[0]);
+    if (tag.at && langtag_kind(tag.at, tag.len)) sqlite3_result_int(context, called(context)->is(tag.at, tag.len)); /* else NULL */
 }
 
 static void unknown_modifier(sqlite3_context *context, int count, sqlite3_value **values) {
     (void)count;
-    const char *name = (const char *)sqlite3_value_text(values[0]);
+    const text name = text_of(values[0]);
     langtag_span modifier;
-    if (name && langtag_unknown_modifier(name, (size_t)sqlite3_value_bytes(values[0]), &modifier))
-        sqlite3_result_text64(context, name + modifier.start, modifier.len, SQLITE_TRANSIENT, SQLITE_UTF8); /* else NULL */
+    if (name.at && langtag_unknown_modifier(name.at, name.len, &modifier)) return_span(context, name, modifier); /* else NULL */
 }
 
 static void distance(sqlite3_context *context, int count, sqlite3_value **values) {
     (void)count;
-    const char *desired = (const char *)sqlite3_value_text(values[0]), *supported = (const char *)sqlite3_value_text(values[1]);
-    size_t desired_len = (size_t)sqlite3_value_bytes(values[0]), supported_len = (size_t)sqlite3_value_bytes(values[1]);
-    uint32_t far = desired && supported ? langtag_distance(desired, desired_len, supported, supported_len) : LANGTAG_NO_DISTANCE;
+    const text desired = text_of(values[0]), supported = text_of(values[1]);
+    if (!desired.at || !supported.at) return; /* NULL */
+    uint32_t far = langtag_distance(desired.at, desired.len, supported.at, supported.len);
     if (far != LANGTAG_NO_DISTANCE) sqlite3_result_int(context, (int)far); /* else NULL */
-}
-
-static void is_right_to_left(sqlite3_context *context, int count, sqlite3_value **values) {
-    (void)count;
-    const char *tag = (const char *)sqlite3_value_text(values[0]);
-    size_t len = (size_t)sqlite3_value_bytes(values[0]);
-    if (tag && langtag_kind(tag, len)) sqlite3_result_int(context, langtag_is_right_to_left(tag, len)); /* else NULL */
 }
 
 /* Returns the place of the chosen tag among the arguments, or 0 if no tag is chosen. The tags are spans of one text in one
  * allocated block. */
 static size_t chosen(sqlite3_context *context, int count, sqlite3_value **values, langtag_best_match *match) {
-    const char *header = (const char *)sqlite3_value_text(values[0]);
-    size_t tags = (size_t)count - 1, header_len = (size_t)sqlite3_value_bytes(values[0]), len = 0;
-    if (!header) return 0;
-    for (size_t k = 1; k <= tags; k++) len += sqlite3_value_text(values[k]) ? (size_t)sqlite3_value_bytes(values[k]) : 0;
+    if (count < 1) {
+        sqlite3_result_error(context, "langtag: a header is wanted", -1);
+        return 0;
+    }
+    const text header = text_of(values[0]);
+    size_t tags = (size_t)count - 1, len = 0;
+    if (!header.at) return 0;
+    for (size_t k = 1; k <= tags; k++) len += text_of(values[k]).len;
     langtag_span *spans = sqlite3_malloc64(tags * sizeof *spans + len + 1);
     if (!spans) {
         sqlite3_result_error_nomem(context);
         return 0;
     }
-    char *text = (char *)(spans + tags);
+    char *all = (char *)(spans + tags);
     for (size_t k = 0, at = 0; k < tags; k++) {
-        const unsigned char *tag = sqlite3_value_text(values[k + 1]);
-        spans[k] = (langtag_span){at, tag ? (size_t)sqlite3_value_bytes(values[k + 1]) : 0};
-        if (tag) memcpy(text + at, tag, spans[k].len);
-        at += spans[k].len;
+        const text tag = text_of(values[k + 1]);
+        spans[k] = (langtag_span){at, tag.len};
+        if (tag.at) memcpy(all + at, tag.at, tag.len);
+        at += tag.len;
     }
-    size_t best = langtag_match_for_header(header, header_len, text, len, spans, tags, match);
+    size_t best = langtag_match_for_header(header.at, header.len, all, len, spans, tags, match);
     sqlite3_free(spans);
     return best < tags ? best + 1 : 0;
 }
 
 static void best_for_header(sqlite3_context *context, int count, sqlite3_value **values) {
     langtag_best_match match;
-    if (count < 1) {
-        sqlite3_result_error(context, "langtag_best_for_header: a header is wanted", -1);
-        return;
-    }
     size_t best = chosen(context, count, values, &match);
     if (best) sqlite3_result_value(context, values[best]); /* else NULL */
 }
@@ -248,54 +220,37 @@ static void best_for_header(sqlite3_context *context, int count, sqlite3_value *
 /* Returns a JSON object. The bytes of tags and ranges need no escapes in JSON. */
 static void match_for_header(sqlite3_context *context, int count, sqlite3_value **values) {
     langtag_best_match match;
-    if (count < 1) {
-        sqlite3_result_error(context, "langtag_match_for_header: a header is wanted", -1);
-        return;
-    }
     size_t best = chosen(context, count, values, &match);
     if (!best) return; /* NULL */
-    const char *header = (const char *)sqlite3_value_text(values[0]), *tag = (const char *)sqlite3_value_text(values[best]);
-    char *json = sqlite3_mprintf("{\"index\":%d,\"tag\":\"%s\",\"distance\":%u,\"range\":\"%.*s\"}", (int)best - 1, tag,
-                                 (unsigned)match.distance, (int)match.range.len, header + match.range.start);
+    char *json = sqlite3_mprintf("{\"index\":%d,\"tag\":\"%s\",\"distance\":%u,\"range\":\"%.*s\"}", (int)best - 1, text_of(values[best]).at,
+                                 (unsigned)match.distance, (int)match.range.len, text_of(values[0]).at + match.range.start);
     if (json) sqlite3_result_text(context, json, -1, sqlite3_free);
     else sqlite3_result_error_nomem(context);
 }
 
 static void is_valid(sqlite3_context *context, int count, sqlite3_value **values) {
     (void)count;
-    const char *tag = (const char *)sqlite3_value_text(values[0]);
+    const text tag = text_of(values[0]);
     langtag_span invalid;
-    uint32_t answer = tag ? langtag_validity(tag, (size_t)sqlite3_value_bytes(values[0]), &invalid) : LANGTAG_VALIDITY_NONE;
+    uint32_t answer = tag.at ? langtag_validity(tag.at, tag.len, &invalid) : LANGTAG_VALIDITY_NONE;
     if (answer != LANGTAG_VALIDITY_NONE) sqlite3_result_int(context, answer == LANGTAG_VALID); /* else NULL */
 }
 
 static void suggestion(sqlite3_context *context, int count, sqlite3_value **values) {
     (void)count;
-    const char *tag = (const char *)sqlite3_value_text(values[0]);
+    const text tag = text_of(values[0]);
     langtag_span invalid;
     char code[3];
-    if (!tag) return; /* NULL */
-    uint32_t fault = langtag_validity(tag, (size_t)sqlite3_value_bytes(values[0]), &invalid);
-    size_t len = langtag_suggestion(fault, tag + invalid.start, invalid.len, code, sizeof code);
+    if (!tag.at) return; /* NULL */
+    uint32_t fault = langtag_validity(tag.at, tag.len, &invalid);
+    size_t len = langtag_suggestion(fault, tag.at + invalid.start, invalid.len, code, sizeof code);
     if (len > 0 && len <= sizeof code) sqlite3_result_text(context, code, (int)len, SQLITE_TRANSIENT);
 }
 
-typedef bool filter(const char *range, size_t range_len, const char *tag, size_t tag_len);
-
-static void matches(sqlite3_context *context, sqlite3_value **values, filter *is_match) {
-    const char *range = (const char *)sqlite3_value_text(values[0]), *tag = (const char *)sqlite3_value_text(values[1]);
-    size_t range_len = (size_t)sqlite3_value_bytes(values[0]), tag_len = (size_t)sqlite3_value_bytes(values[1]);
-    if (range && tag) sqlite3_result_int(context, is_match(range, range_len, tag, tag_len)); /* else NULL */
-}
-
-static void matches_basic(sqlite3_context *context, int count, sqlite3_value **values) {
+static void matches(sqlite3_context *context, int count, sqlite3_value **values) {
     (void)count;
-    matches(context, values, langtag_matches_basic);
-}
-
-static void matches_extended(sqlite3_context *context, int count, sqlite3_value **values) {
-    (void)count;
-    matches(context, values, langtag_matches_extended);
+    const text range = text_of(values[0]), tag = text_of(values[1]);
+    if (range.at && tag.at) sqlite3_result_int(context, called(context)->matches(range.at, range.len, tag.at, tag.len)); /* else NULL */
 }
 
 static int compare(void *unused, int a_len, const void *a, int b_len, const void *b) {
@@ -306,34 +261,29 @@ static int compare(void *unused, int a_len, const void *a, int b_len, const void
 int sqlite3_sqlitelangtag_init(sqlite3 *db, char **message, const sqlite3_api_routines *api) {
     (void)message;
     SQLITE_EXTENSION_INIT2(api);
-    static const struct {
-        const char *name;
-        int arguments;
-        void (*call)(sqlite3_context *context, int count, sqlite3_value **values);
-    } functions[] = {
-        {"langtag_part", 2, part},
-        {"langtag_keyword", 2, keyword},
-        {"langtag_set_keyword", 3, set_keyword},
-        {"langtag_extensions_form", 1, extensions_form},
-        {"langtag_is_locale", 1, is_locale},
-        {"langtag_locale_form", 1, locale_form},
-        {"langtag_canonical", 1, canonical},
-        {"langtag_is_valid", 1, is_valid},
-        {"langtag_suggestion", 1, suggestion},
-        {"langtag_maximize", 1, maximize},
-        {"langtag_minimize", 1, minimize},
-        {"langtag_from_posix", 1, from_posix},
-        {"langtag_unknown_modifier", 1, unknown_modifier},
-        {"langtag_distance", 2, distance},
-        {"langtag_is_right_to_left", 1, is_right_to_left},
-        {"langtag_best_for_header", -1, best_for_header},
-        {"langtag_match_for_header", -1, match_for_header},
-        {"langtag_matches_basic", 2, matches_basic},
-        {"langtag_matches_extended", 2, matches_extended},
+    static function functions[] = {
+        {.name = "langtag_part", .arguments = 2, .call = part},
+        {.name = "langtag_keyword", .arguments = 2, .call = keyword},
+        {.name = "langtag_set_keyword", .arguments = 3, .call = set_keyword},
+        {.name = "langtag_extensions_form", .arguments = 1, .call = form, .form = langtag_extensions_form},
+        {.name = "langtag_is_locale", .arguments = 1, .call = is, .is = langtag_is_locale},
+        {.name = "langtag_locale_form", .arguments = 1, .call = form, .form = langtag_locale_form},
+        {.name = "langtag_canonical", .arguments = 1, .call = form, .form = langtag_canonical},
+        {.name = "langtag_is_valid", .arguments = 1, .call = is_valid},
+        {.name = "langtag_suggestion", .arguments = 1, .call = suggestion},
+        {.name = "langtag_maximize", .arguments = 1, .call = form, .form = langtag_maximize},
+        {.name = "langtag_minimize", .arguments = 1, .call = form, .form = langtag_minimize},
+        {.name = "langtag_from_posix", .arguments = 1, .call = form, .form = langtag_from_posix},
+        {.name = "langtag_unknown_modifier", .arguments = 1, .call = unknown_modifier},
+        {.name = "langtag_distance", .arguments = 2, .call = distance},
+        {.name = "langtag_is_right_to_left", .arguments = 1, .call = is, .is = langtag_is_right_to_left},
+        {.name = "langtag_best_for_header", .arguments = -1, .call = best_for_header},
+        {.name = "langtag_match_for_header", .arguments = -1, .call = match_for_header},
+        {.name = "langtag_matches_basic", .arguments = 2, .call = matches, .matches = langtag_matches_basic},
+        {.name = "langtag_matches_extended", .arguments = 2, .call = matches, .matches = langtag_matches_extended},
     };
-    int flags = SQLITE_UTF8 | SQLITE_DETERMINISTIC, status = SQLITE_OK;
-    for (size_t k = 0; status == SQLITE_OK && k < sizeof functions / sizeof *functions; k++)
-        status = sqlite3_create_function(db, functions[k].name, functions[k].arguments, flags, NULL, functions[k].call, NULL,
-                                         NULL);
+    int status = SQLITE_OK;
+    for (function *it = functions; status == SQLITE_OK && it < functions + sizeof functions / sizeof *functions; it++)
+        status = sqlite3_create_function(db, it->name, it->arguments, SQLITE_UTF8 | SQLITE_DETERMINISTIC, it, it->call, NULL, NULL);
     return status == SQLITE_OK ? sqlite3_create_collation(db, "langtag", SQLITE_UTF8, NULL, compare) : status;
 }

@@ -178,12 +178,8 @@ public:
     /* Returns the text of the tag with one part changed; an empty text removes the part. Returns std::nullopt if the tag is not a
      * normal tag, or the text is not such a part. */
     std::optional<std::string> with(langtag::part which, std::string_view given) const {
-        std::string made(text_.size() + given.size() + 1, '\0');
-        const std::size_t len = langtag_with_part(text_.data(), text_.size(), static_cast<std::uint32_t>(which),
-                                                  langtag_bytes(given.data()), given.size(), &made[0], made.size());
-        if (len == 0) return std::nullopt;
-        made.resize(len);
-        return made;
+        return edited(text_.size() + given.size() + 1, langtag_with_part, static_cast<std::uint32_t>(which), langtag_bytes(given.data()),
+                      given.size());
     }
 
     /* Changes several parts, one after another: tag.with({{part::script, "Latn"}, {part::region, "RS"}}). */
@@ -199,22 +195,14 @@ public:
     /* Returns the text of the tag with a value of a key of the extension u: tag.with_keyword("ca", "buddhist"). An empty value means
      * true. Returns std::nullopt if the tag is not a normal tag, or the key or the value cannot be in a keyword. */
     std::optional<std::string> with_keyword(std::string_view key, std::string_view value) const {
-        std::string made(text_.size() + key.size() + value.size() + 4, '\0');
-        const std::size_t len = langtag_with_keyword(text_.data(), text_.size(), langtag_bytes(key.data()), key.size(),
-                                                     langtag_bytes(value.data()), value.size(), &made[0], made.size());
-        if (len == 0) return std::nullopt;
-        made.resize(len);
-        return made;
+        return edited(text_.size() + key.size() + value.size() + 4, langtag_with_keyword, langtag_bytes(key.data()), key.size(),
+                      langtag_bytes(value.data()), value.size());
     }
 
     /* Returns the text of the tag without a key of the extension u. Returns std::nullopt if the tag is not a normal tag, or the key
      * cannot be in a keyword. */
     std::optional<std::string> without_keyword(std::string_view key) const {
-        std::string made(text_.size(), '\0');
-        const std::size_t len = langtag_without_keyword(text_.data(), text_.size(), langtag_bytes(key.data()), key.size(), &made[0], made.size());
-        if (len == 0) return std::nullopt;
-        made.resize(len);
-        return made;
+        return edited(text_.size(), langtag_without_keyword, langtag_bytes(key.data()), key.size());
     }
 
     /* Returns the tag with its extensions u and t in canonical form (UTS #35, part 1, Annex C). */
@@ -265,6 +253,14 @@ private:
         char none;
         std::string made(write(text_.data(), text_.size(), &none, 0), '\0');
         write(text_.data(), text_.size(), &made[0], made.size());
+        return made;
+    }
+
+    /* Returns the text that a call writes, in at most this many bytes, or std::nullopt if it writes none. */
+    template <class Write, class... Given> std::optional<std::string> edited(std::size_t room, Write write, Given... given) const {
+        std::string made(room, '\0');
+        made.resize(write(text_.data(), text_.size(), given..., &made[0], made.size()));
+        if (made.empty()) return std::nullopt;
         return made;
     }
 
@@ -621,9 +617,7 @@ public:
 
     /* Returns the tag that the range finds by look-up (section 3.4): the tag that equals the range or, if there is none, one of its
      * fallbacks, of which the longest is tried first. Returns std::nullopt if there is none. An extended range is looked up without
-     * its *
-     * (section 3.2). A range
-     * that begins with * finds nothing. */
+     * its * (section 3.2). A range that begins with * finds nothing. */
     std::optional<tag> look_up(const std::vector<tag> &tags) const {
         return listed_tags(tags).chosen(langtag_tag_for_header_lenient, without_wildcards());
     }
@@ -645,8 +639,7 @@ inline std::optional<tag> look_up(const std::vector<range> &ranges, const std::v
 
 inline std::string_view text_of(const range &range) noexcept { return range.text(); }
 
-/* Whether the texts of a list live longer than a call with the list: views do, and so do owners in a list that is not a temporary.
- * */
+/* Whether the texts of a list live longer than a call with the list: views do, and owners do in a list that is not a temporary. */
 template <class List, class Element = decltype(*std::begin(std::declval<List &>())), class Plain = std::decay_t<Element>>
 inline constexpr bool stays = std::is_same_v<Plain, tag> || std::is_same_v<Plain, std::string_view> ||
                               std::is_pointer_v<Plain> ||
@@ -682,8 +675,7 @@ template <class Allocator, class Tags = texts>
 std::optional<best_match> match_for_header(temporary_string<Allocator>, Tags &&) = delete;
 
 /* Returns the best tag for a list of ranges, the most wanted first, as best_for_header does for a header. The ranges are a
- * list of range, strings or views. An extended range is read without its *. A text that is not a range, such as de;q=0, is skipped.
- * */
+ * list of range, strings or views. An extended range is read without its *. A text that is not a range (de;q=0) is skipped. */
 template <class Ranges = texts, class Tags = texts, std::enable_if_t<stays<Tags>, int> = 0>
 std::optional<tag> best_for_ranges(const Ranges &ranges, Tags &&tags) {
     return listed_tags(tags).chosen_for(listed_tags(ranges));
@@ -717,8 +709,7 @@ public:
         std::uint32_t weight, answer;
         while ((answer = next(rest, element, weight)) == LANGTAG_ACCEPTED_RANGE) continue;
         if (answer == LANGTAG_ACCEPTED_END) return std::nullopt;
-        const auto commas =
-            std::count(header_.begin(), header_.begin() + static_cast<std::ptrdiff_t>(element.start), ',');
+        const auto commas = std::count(header_.begin(), header_.begin() + static_cast<std::ptrdiff_t>(element.start), ',');
         return langtag::bad_element{static_cast<element_part>(answer), static_cast<std::size_t>(commas), element.start};
     }
 
@@ -784,12 +775,8 @@ template <class Allocator> std::optional<std::string_view> unknown_modifier(temp
 inline std::uint32_t cldr_version() noexcept { return langtag_cldr_version(); }
 
 /* Writes the text of a tag to a stream. */
-template <class Traits>
-std::basic_ostream<char, Traits> &operator<<(std::basic_ostream<char, Traits> &out, const tag &tag) {
-    return out << tag.text();
-}
-template <class Traits>
-std::basic_ostream<char, Traits> &operator<<(std::basic_ostream<char, Traits> &out, const owned_tag &tag) {
+template <class Traits, class Tag, std::enable_if_t<is_tag<Tag>, int> = 0>
+std::basic_ostream<char, Traits> &operator<<(std::basic_ostream<char, Traits> &out, const Tag &tag) {
     return out << tag.text();
 }
 
@@ -800,20 +787,13 @@ template <> struct std::hash<langtag::tag> {
     std::size_t operator()(const langtag::tag &tag) const noexcept { return static_cast<std::size_t>(tag.fnv1a()); }
 };
 template <> struct std::hash<langtag::owned_tag> {
-    std::size_t operator()(const langtag::owned_tag &tag) const noexcept {
-        return std::hash<langtag::tag>()(tag.view());
-    }
+    std::size_t operator()(const langtag::owned_tag &tag) const noexcept { return std::hash<langtag::tag>()(tag.view()); }
 };
 
 /* Formats a tag as std::format formats its text: {:>10} right-aligns it in ten columns. */
 #ifdef __cpp_lib_format
-template <> struct std::formatter<langtag::tag> : std::formatter<std::string_view> {
-    template <class Context> auto format(const langtag::tag &tag, Context &context) const {
-        return std::formatter<std::string_view>::format(tag.text(), context);
-    }
-};
-template <> struct std::formatter<langtag::owned_tag> : std::formatter<std::string_view> {
-    template <class Context> auto format(const langtag::owned_tag &tag, Context &context) const {
+template <class Tag> requires langtag::is_tag<Tag> struct std::formatter<Tag> : std::formatter<std::string_view> {
+    template <class Context> auto format(const Tag &tag, Context &context) const {
         return std::formatter<std::string_view>::format(tag.text(), context);
     }
 };

@@ -329,21 +329,16 @@ static Datum list(FunctionCallInfo fcinfo, struct varlena *tag, langtag_span res
     return makeArrayResult(found, CurrentMemoryContext);
 }
 
-PG_FUNCTION_INFO_V1(pg_langtag_variants);
-Datum pg_langtag_variants(PG_FUNCTION_ARGS) {
-    struct varlena *tag = PG_GETARG_VARLENA_PP(0);
-    langtag_parts parts;
-    langtag_parse(BYTES(tag), LEN(tag), &parts);
-    return list(fcinfo, tag, parts.variants, langtag_next_subtag);
-}
-
-PG_FUNCTION_INFO_V1(pg_langtag_extensions);
-Datum pg_langtag_extensions(PG_FUNCTION_ARGS) {
-    struct varlena *tag = PG_GETARG_VARLENA_PP(0);
-    langtag_parts parts;
-    langtag_parse(BYTES(tag), LEN(tag), &parts);
-    return list(fcinfo, tag, parts.extensions, langtag_next_extension);
-}
+#define LIST(name, member, next)                                                                                       \
+    PG_FUNCTION_INFO_V1(name);                                                                                         \
+    Datum name(PG_FUNCTION_ARGS) {                                                                                     \
+        struct varlena *tag = PG_GETARG_VARLENA_PP(0);                                                                 \
+        langtag_parts parts;                                                                                           \
+        langtag_parse(BYTES(tag), LEN(tag), &parts);                                                                   \
+        return list(fcinfo, tag, parts.member, next);                                                                  \
+    }
+LIST(pg_langtag_variants, variants, langtag_next_subtag)
+LIST(pg_langtag_extensions, extensions, langtag_next_extension)
 
 /* Returns the value of a key, which is empty if the key has none, or NULL if the key is absent. */
 PG_FUNCTION_INFO_V1(pg_langtag_keyword);
@@ -521,14 +516,13 @@ static Datum form(FunctionCallInfo fcinfo, form_of write) {
     PG_RETURN_POINTER(form);
 }
 
-PG_FUNCTION_INFO_V1(pg_langtag_canonical);
-Datum pg_langtag_canonical(PG_FUNCTION_ARGS) { return form(fcinfo, langtag_canonical); }
-
-PG_FUNCTION_INFO_V1(pg_langtag_maximized);
-Datum pg_langtag_maximized(PG_FUNCTION_ARGS) { return form(fcinfo, langtag_maximize); }
-
-PG_FUNCTION_INFO_V1(pg_langtag_minimized);
-Datum pg_langtag_minimized(PG_FUNCTION_ARGS) { return form(fcinfo, langtag_minimize); }
+#define FORM(name, write)                                                                                              \
+    PG_FUNCTION_INFO_V1(name);                                                                                         \
+    Datum name(PG_FUNCTION_ARGS) { return form(fcinfo, write); }
+FORM(pg_langtag_canonical, langtag_canonical)
+FORM(pg_langtag_maximized, langtag_maximize)
+FORM(pg_langtag_minimized, langtag_minimize)
+FORM(pg_langtag_from_posix, langtag_from_posix)
 
 PG_FUNCTION_INFO_V1(pg_langtag_extensions_form);
 Datum pg_langtag_extensions_form(PG_FUNCTION_ARGS) {
@@ -548,9 +542,6 @@ Datum pg_langtag_locale_form(PG_FUNCTION_ARGS) {
     check_length("tag", PG_GETARG_VARLENA_PP(0));
     return form(fcinfo, langtag_locale_form);
 }
-
-PG_FUNCTION_INFO_V1(pg_langtag_from_posix);
-Datum pg_langtag_from_posix(PG_FUNCTION_ARGS) { return form(fcinfo, langtag_from_posix); }
 
 PG_FUNCTION_INFO_V1(pg_langtag_unknown_modifier);
 Datum pg_langtag_unknown_modifier(PG_FUNCTION_ARGS) {
@@ -583,17 +574,14 @@ Datum pg_langtag_registry_date(PG_FUNCTION_ARGS) {
 
 /* ---- ranges ---- */
 
-PG_FUNCTION_INFO_V1(pg_langtag_matches_basic);
-Datum pg_langtag_matches_basic(PG_FUNCTION_ARGS) {
-    struct varlena *tag = PG_GETARG_VARLENA_PP(0), *range = PG_GETARG_VARLENA_PP(1);
-    PG_RETURN_BOOL(langtag_matches_basic(BYTES(range), LEN(range), BYTES(tag), LEN(tag)));
-}
-
-PG_FUNCTION_INFO_V1(pg_langtag_matches_extended);
-Datum pg_langtag_matches_extended(PG_FUNCTION_ARGS) {
-    struct varlena *tag = PG_GETARG_VARLENA_PP(0), *range = PG_GETARG_VARLENA_PP(1);
-    PG_RETURN_BOOL(langtag_matches_extended(BYTES(range), LEN(range), BYTES(tag), LEN(tag)));
-}
+#define MATCHES(name, match)                                                                                           \
+    PG_FUNCTION_INFO_V1(name);                                                                                         \
+    Datum name(PG_FUNCTION_ARGS) {                                                                                     \
+        struct varlena *tag = PG_GETARG_VARLENA_PP(0), *range = PG_GETARG_VARLENA_PP(1);                               \
+        PG_RETURN_BOOL(match(BYTES(range), LEN(range), BYTES(tag), LEN(tag)));                                         \
+    }
+MATCHES(pg_langtag_matches_basic, langtag_matches_basic)
+MATCHES(pg_langtag_matches_extended, langtag_matches_extended)
 
 /* A bound is only made from a range. */
 PG_FUNCTION_INFO_V1(pg_langtag_bound_in);

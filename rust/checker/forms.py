@@ -14,6 +14,7 @@ CRATES = {
     "langtag_extension": "extension",
     "langtag_private": "private",
     "langtag": "tag",
+    "langtag_range": "range",
     "langtag_match": "matching",
     "langtag_registry": "registry",
     "langtag_likely": "likely",

@@ -19,6 +19,7 @@ MODULES = [
     Module("langtag_extension", "src/extension", "crate::extension"),
     Module("langtag_private", "src/private", "crate::private"),
     Module("langtag", "src/tag", "crate::tag"),
+    Module("langtag_range", "src/range", "crate::range"),
     Module("langtag_match", "src/matching", "crate::matching"),
     Module("langtag_registry", "src/registry", "crate::registry"),
     Module("langtag_likely", "src/likely", "crate::likely"),

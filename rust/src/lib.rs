@@ -109,12 +109,13 @@ pub mod choice;
 mod extension;
 mod language;
 pub mod likely;
-// For the C library: shortened_len.
-#[allow(unused_imports)]
 pub mod matching;
 mod output;
 mod place;
 mod private;
+// For the C library: shortened_len.
+#[allow(unused_imports)]
+mod range;
 pub mod registry;
 mod scan;
 mod tables;

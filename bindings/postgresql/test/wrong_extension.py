@@ -34,7 +34,7 @@ FAULTS = [
     (C, "if (ARR_ELEMTYPE(array) == TEXTOID) check_tag(BYTES(tag), LEN(tag));", "", "registry"),
     (C, "        CHECK_FOR_INTERRUPTS();\n        if (best", "        if (best", "registry"),
     (C, "        memcpy(VARDATA(answer), bytes, end);\n".replace("        ", "    "), "    memcpy(VARDATA(answer), bytes, Min(end, 63));\n", "filters"),
-    (C, "return form(fcinfo, langtag_from_posix);", "return form(fcinfo, langtag_canonical);", "registry"),
+    (C, "FORM(pg_langtag_from_posix, langtag_from_posix)", "FORM(pg_langtag_from_posix, langtag_canonical)", "registry"),
     (C, "== LANGTAG_NONE) PG_RETURN_NULL();", "== LANGTAG_NONE) refuse(\"langtag\", \"\", 0, \"\");", "types"),
     (SQL, "'byteane'", "'byteaeq'", "operators"),
     (SQL, "OPERATOR 1 <, OPERATOR 2 <=", "OPERATOR 1 <=, OPERATOR 2 <", "operators"),
@@ -49,7 +49,7 @@ FAULTS = [
     (C, "    primary_of(tag, &rest);\n    return span_or_null(fcinfo, BYTES(tag), rest);", "    return span_or_null(fcinfo, "
                                                                                            "BYTES(tag), primary_of(tag, "
                                                                                            "&rest));", "parts"),
-    (C, "parts.extensions, langtag_next_extension", "parts.extensions, langtag_next_subtag", "parts"),
+    (C, "extensions, langtag_next_extension)", "extensions, langtag_next_subtag)", "parts"),
     (C, "langtag_keyword(BYTES(tag), LEN(tag), BYTES(key), LEN(key), &value)", "langtag_field(BYTES(tag), LEN(tag), BYTES(key), LEN(key), &value)", "parts"),
     (C, "value = PG_ARGISNULL(2) ? NULL : PG_GETARG_TEXT_PP(2);", "value = PG_ARGISNULL(2) ? cstring_to_text(\"\") : PG_GETARG_TEXT_PP(2);", "parts"),
     (C, "write_keyword(\"und\", 3, key, value, nothing, 0) == 0 ? \"A value", "write_keyword(BYTES(tag), LEN(tag), key, value, nothing, 0) == 0 ? \"A value", "parts"),

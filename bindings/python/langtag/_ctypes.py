@@ -177,8 +177,8 @@ class TagBase(_Value):
         self._ask(_c.langtag_repeats, found)
         return self._cut(getattr(found, which))
 
-    def _form(self, write: Callable[..., int]) -> Any:
-        made = _written(write, self._data)
+    def _form(self, write: Callable[..., int], *more: Any) -> Any:
+        made = _written(write, self._data, *more)
         return self._base(made) if made else None
 
     language = property(lambda self: self._cut(self._parts.language))
@@ -214,14 +214,12 @@ class TagBase(_Value):
         return self._ask(_c.langtag_validity, span), self._cut(span), span.start
 
     def _set(self, part: int, text: Text) -> Any:
-        made = _written(_c.langtag_with_part, self._data, part, bytes_of(text), len(bytes_of(text)))
-        return self._base(made) if made else None
+        return self._form(_c.langtag_with_part, part, bytes_of(text), len(bytes_of(text)))
 
     def _set_keyword(self, key: Text, value: Text | None) -> Any:
         texts = [bytes_of(text) for text in (key, value) if text is not None]
         write = _c.langtag_without_keyword if value is None else _c.langtag_with_keyword
-        made = _written(write, self._data, *(it for text in texts for it in (text, len(text))))
-        return self._base(made) if made else None
+        return self._form(write, *(it for text in texts for it in (text, len(text))))
 
     def _at(self, span: Span) -> str:
         return str(self._data[span.start : span.start + span.len], "ascii")

@@ -67,50 +67,16 @@ static PyObject *tag_by(PyObject *object, Form *form) {
     return lt_lacks(self) ? NULL : form_of(self, form);
 }
 
-PyObject *lt_canonical(PyObject *self, PyObject *unused) {
-    (void)unused;
-    return tag_by(self, langtag_canonical);
-}
-
-PyObject *lt_maximized(PyObject *self, PyObject *unused) {
-    (void)unused;
-    return tag_by(self, langtag_maximize);
-}
-
-PyObject *lt_minimized(PyObject *self, PyObject *unused) {
-    (void)unused;
-    return tag_by(self, langtag_minimize);
-}
-
-PyObject *lt_extensions_form(PyObject *self, PyObject *unused) {
-    (void)unused;
-    return tag_by(self, langtag_extensions_form);
-}
-
-PyObject *lt_locale_form(PyObject *self, PyObject *unused) {
-    (void)unused;
-    return tag_by(self, langtag_locale_form);
-}
-
-/* Returns whether a tag has a property. */
-static PyObject *answer_of(PyObject *object, bool (*is)(const char *bytes, size_t len)) {
-    Value *self = (Value *)object;
-    if (lt_lacks(self)) return NULL;
-    LET_GO(self->text.len);
-    bool answer = is(self->text.data, (size_t)self->text.len);
-    TAKE_BACK();
-    return PyBool_FromLong(answer);
-}
-
-PyObject *lt_is_canonical(PyObject *self, void *unused) {
-    (void)unused;
-    return answer_of(self, langtag_is_canonical);
-}
-
-PyObject *lt_is_locale(PyObject *self, void *unused) {
-    (void)unused;
-    return answer_of(self, langtag_is_locale);
-}
+#define FORM(name, write)                                   \
+    PyObject *name(PyObject *self, PyObject *unused) {      \
+        (void)unused;                                       \
+        return tag_by(self, write);                         \
+    }
+FORM(lt_canonical, langtag_canonical)
+FORM(lt_maximized, langtag_maximize)
+FORM(lt_minimized, langtag_minimize)
+FORM(lt_extensions_form, langtag_extensions_form)
+FORM(lt_locale_form, langtag_locale_form)
 
 PyObject *lt_folded(PyObject *object, PyObject *unused) {
     (void)unused;

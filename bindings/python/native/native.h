@@ -85,6 +85,4 @@ PyObject *lt_set_keyword(PyObject *self, PyObject *arguments);
 PyObject *lt_value_of(PyObject *self, PyObject *arguments);
 PyObject *lt_pairs(PyObject *self, PyObject *number);
 PyObject *lt_before_keys(PyObject *self, PyObject *number);
-PyObject *lt_is_canonical(PyObject *self, void *unused);
-PyObject *lt_is_locale(PyObject *self, void *unused);
 #endif

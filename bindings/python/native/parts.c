@@ -82,15 +82,20 @@ static PyObject *tag_kind(PyObject *object, void *unused) {
     return lt_lacks((Value *)object) ? NULL : PyLong_FromUnsignedLong(((Value *)object)->kind);
 }
 
-static PyObject *tag_is_valid(PyObject *object, void *unused) {
-    (void)unused;
+static bool is_valid(const char *bytes, size_t len) {
+    langtag_span invalid;
+    return langtag_validity(bytes, len, &invalid) == LANGTAG_VALID;
+}
+
+/* Returns whether a tag has a property. The closure is the index of the property. */
+static PyObject *tag_is(PyObject *object, void *index) {
+    static bool (*const properties[])(const char *bytes, size_t len) = {is_valid, langtag_is_canonical, langtag_is_locale};
     Value *self = (Value *)object;
-    langtag_span span;
     if (lt_lacks(self)) return NULL;
     LET_GO(self->text.len);
-    uint32_t answer = langtag_validity(self->text.data, (size_t)self->text.len, &span);
+    bool answer = properties[(intptr_t)index](self->text.data, (size_t)self->text.len);
     TAKE_BACK();
-    return PyBool_FromLong(answer == LANGTAG_VALID);
+    return PyBool_FromLong(answer);
 }
 
 static PyObject *tag_validity(PyObject *object, PyObject *unused) {
@@ -137,14 +142,14 @@ PyGetSetDef lt_tag_members[] = {
      "The first variant that equals an earlier one, ignoring case. Such a tag is well-formed and not valid.", (void *)0},
     {"repeated_singleton", tag_repeated, NULL,
      "The first singleton that equals an earlier one, ignoring case. Such a tag is well-formed and not valid.", (void *)1},
-    {"is_valid", tag_is_valid, NULL,
+    {"is_valid", tag_is, NULL,
      "Whether the tag is valid (RFC 5646 section 2.2.9) by IANA's registry of REGISTRY_DATE. It is valid if it is\n"
      "grandfathered, or if its subtags are registered, it has at most one extended language, and no variant or singleton is\n"
-     "repeated. Deprecated subtags are valid.", NULL},
-    {"is_canonical", lt_is_canonical, NULL, "Whether the tag equals its canonical form, ignoring case.", NULL},
-    {"is_locale", lt_is_locale, NULL,
+     "repeated. Deprecated subtags are valid.", (void *)0},
+    {"is_canonical", tag_is, NULL, "Whether the tag equals its canonical form, ignoring case.", (void *)1},
+    {"is_locale", tag_is, NULL,
      "Whether the tag is a Unicode locale identifier (UTS #35, part 1), as Intl of JavaScript requires: True for de-AT, False\n"
-     "for zh-yue and x-a.", NULL},
+     "for zh-yue and x-a.", (void *)2},
     {NULL, NULL, NULL, NULL, NULL}};
 
 PyMethodDef lt_tag_methods[] = {

@@ -3,8 +3,8 @@ ghost use Rattle.std.specs.Prelude.{◌≡◌, length, IsTrue};
 ghost use Rattle.std.specs.Str.{IsUtf8};
 ghost use Rattle.langtag_scan.specs.Subtags.{subtags};
 ghost use Rattle.langtag_scan.specs.Tag.{IsTag};
-ghost use Rattle.langtag_match.specs.Fallback.{fallbacks};
-ghost use Rattle.langtag_match.specs.Range.{is_language_range};
+ghost use Rattle.langtag_range.specs.Fallback.{fallbacks};
+ghost use Rattle.langtag_range.specs.Range.{is_language_range};
 
 use crate::matching::{range_of, read_tags, tag_of};
 use langtag::{

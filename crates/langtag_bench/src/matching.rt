@@ -3,9 +3,9 @@ ghost use Rattle.std.specs.Prelude.{◌≡◌, ◌≤◌, ◌↔◌, List, lengt
 ghost use Rattle.langtag.specs.Tag.{IsTag};
 ghost use Rattle.langtag.specs.Text.{lang_tag_text};
 ghost use Rattle.langtag_match.specs.AcceptLanguage.{AreAccepted};
-ghost use Rattle.langtag_match.specs.Basic.{MatchesBasic};
-ghost use Rattle.langtag_match.specs.Extended.{MatchesExtended};
-ghost use Rattle.langtag_match.specs.Range.{is_language_range};
+ghost use Rattle.langtag_range.specs.Basic.{MatchesBasic};
+ghost use Rattle.langtag_range.specs.Extended.{MatchesExtended};
+ghost use Rattle.langtag_range.specs.Range.{is_language_range};
 ghost use Rattle.langtag_match.specs.Text.{language_range_text};
 ghost use Rattle.langtag_match.specs.declared.weighted_range.WeightedRange.{WeightedRange};
 
@@ -44,7 +44,7 @@ pub extern "C" fn langtag_bench_matches_extended(range: &[u8], tag: &[u8]) -> bo
 }
 
 /// Returns the bytes as a range, or `None` if they are not a range.
-#[tactic(auto, using(langtag_match::proofs::AsciiRanges::utf8_range))]
+#[tactic(auto, using(langtag_range::proofs::AsciiRanges::utf8_range))]
 pub(crate) fn range_of<'a>(bytes: &'a [u8]) -> Option<LanguageRange<'a>>
     ensures { MatchOption result (is_language_range bytes.now ≡ false)
         (λ range. (language_range_text range ≡ bytes.now) × IsTrue (is_language_range bytes.now)) }

@@ -7,8 +7,9 @@ use Rattle.std.proofs.lemmas.List.Sums.{sum_by-append}
 use Rattle.std.proofs.lemmas.Option.{slice_get_read, slice_get_within}
 use Rattle.std.specs.Option.{IfSome}
 use Rattle.std.proofs.lemmas.Bool.Decides.{nat_tests}
-use Rattle.langtag_match.specs.AcceptLanguage.{Element, StandsAt, is_comma, items}
-use Rattle.langtag_match.specs.Wanted.{digits_behind, wanted, wanted_elements, wanted_items}
+use Rattle.langtag_match.specs.AcceptLanguage.{StandsAt}
+use Rattle.langtag_range.specs.Element.{Element, is_comma, items}
+use Rattle.langtag_range.specs.Wanted.{digits_behind, wanted, wanted_elements, wanted_items}
 use Rattle.langtag_match.proofs.Offsets.{item_stands, width}
 use Rattle.langtag_choice.specs.Best.{IsMatchOf, Pair}
 use Rattle.langtag_choice.specs.declared.best_match.BestMatch as choice

@@ -6,7 +6,7 @@ use Rattle.std.proofs.lemmas.List.{take_all, drop_all}
 use Rattle.std.proofs.lemmas.List.Sums.{fails_before_first}
 use Rattle.std.proofs.lemmas.List.Splits.{slice_split_first, slice_split_none}
 use Rattle.std.proofs.lemmas.Bool.Decides.{nat_tests}
-use Rattle.langtag_match.specs.AcceptLanguage.{is_comma, is_ows, items}
+use Rattle.langtag_range.specs.Element.{is_comma, is_ows, items}
 use Rattle.langtag_c.specs.Negotiation.{filled_items}
 use Rattle.langtag_c.specs.Spans.{HasBytes, end_of, span_between, span_text}
 use Rattle.langtag_c.specs.declared.span.Span.{Span}

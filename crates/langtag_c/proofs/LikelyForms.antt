@@ -7,8 +7,8 @@ use Rattle.langtag_scan.specs.Tag.{IsTag}
 use Rattle.langtag_registry.proofs.CanonicalParts as canonical
 use Rattle.langtag_registry.specs.Canonical.{IsCanonicalForm}
 use Rattle.langtag_likely.specs.Maximal.{IsMaximalForm, IsMinimalForm, maximal_record, minimal_record}
-use Rattle.langtag_match.specs.Locale.{locale_place}
-use Rattle.langtag_match.specs.Wanted.{hyphened}
+use Rattle.langtag_range.specs.Locale.{locale_place}
+use Rattle.langtag_range.specs.Wanted.{hyphened}
 use Rattle.langtag_likely.specs.Posix.{IsTagOfName, NamesTag, with_said}
 use Rattle.langtag_likely.proofs.FormLaws.{form_is_tag}
 use Rattle.langtag_likely.proofs.GoodForms.{maximal_well_formed, minimal_well_formed}

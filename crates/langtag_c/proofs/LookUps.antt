@@ -13,8 +13,9 @@ use Rattle.std.proofs.lemmas.Grind.{common_steps}
 use Rattle.langtag.specs.declared.lang_tag.LangTag.{LangTag}
 use Rattle.langtag.specs.Text.{lang_tag_text}
 use Rattle.langtag_scan.specs.Case.{are_alike}
-use Rattle.langtag_match.specs.AcceptLanguage.{Element, IsByWeight, StandsAt, acceptable, are_good, bad_part, elements, is_comma, is_good, items, weight_in}
-use Rattle.langtag_match.specs.Fallback.{fallbacks}
+use Rattle.langtag_match.specs.AcceptLanguage.{IsByWeight, StandsAt, acceptable, are_good, bad_part, elements, is_good, weight_in}
+use Rattle.langtag_range.specs.Element.{Element, is_comma, items}
+use Rattle.langtag_range.specs.Fallback.{fallbacks}
 use Rattle.langtag_match.specs.Stable.{with_key}
 use Rattle.langtag_match.specs.declared.accept_language_error.ElementPart.{ElementPart}
 use Rattle.langtag_match.proofs.Offsets.{item_stands, sum_by-slice_split, width}

@@ -1,7 +1,7 @@
 -- The number that answers for the kind of a language range.
 use Rattle.std.proofs.Common.{◌≡◌, ℕ, false, List, IsTrue, arith}
-use Rattle.langtag_match.specs.Range.{is_language_range, is_basic_range}
-use Rattle.langtag_match.proofs.BasicRanges.{basic_ranges}
+use Rattle.langtag_range.specs.Range.{is_language_range, is_basic_range}
+use Rattle.langtag_range.proofs.BasicRanges.{basic_ranges}
 use Rattle.langtag_c.specs.Answers.{IsRangeKind}
 
 pub kind_none : (text : List ℕ) → is_language_range text ≡ false → IsRangeKind text 0

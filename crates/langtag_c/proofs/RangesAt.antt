@@ -2,7 +2,7 @@
 use Rattle.std.proofs.Common.{◌≡◌, ℕ, ◌≤◌, List, [], ◌∷◌, length, None, refl, arith}
 use Rattle.std.proofs.lemmas.Bool.{false_from_ne_true}
 use Rattle.std.proofs.lemmas.Bool.Decides.{nat_tests}
-use Rattle.langtag_match.specs.Listed.{listed}
+use Rattle.langtag_range.specs.Listed.{listed}
 use Rattle.langtag_c.specs.Choice.{range_at, ranges_at}
 use Rattle.langtag_c.specs.Spans.{HasBytes, has_bytes, span_text}
 use Rattle.langtag_c.specs.declared.span.Span.{Span}

@@ -9,7 +9,8 @@ use Rattle.langtag_c.proofs.FoundExtension.{nothing-in}
 use Rattle.langtag_c.specs.declared.span.Span.{Span}
 use Rattle.langtag_c.specs.Spans.{span_text}
 use Rattle.langtag_c.specs.Negotiation.{filled_items}
-use Rattle.langtag_match.specs.AcceptLanguage.{are_good, element, elements, from_first, is_ows, is_space, items}
+use Rattle.langtag_match.specs.AcceptLanguage.{are_good, elements}
+use Rattle.langtag_range.specs.Element.{element, from_first, is_ows, is_space, items}
 
 -- an empty item is not an element
 spaces_trimmed : (text : List ℕ) → is_ows text ≡ true → from_first text ≡ []

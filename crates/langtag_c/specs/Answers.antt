@@ -6,7 +6,7 @@ use Rattle.std.specs.declared.cmp.Ordering.TheVariants.{Less, Equal, Greater}
 use Rattle.langtag_scan.specs.Case.{fold_byte}
 use Rattle.langtag_scan.specs.Class.{is_digit}
 use Rattle.langtag_scan.specs.Tag.{IsNormal, IsPrivate, IsIrregular, IsTag}
-use Rattle.langtag_match.specs.Range.{is_language_range, is_basic_range}
+use Rattle.langtag_range.specs.Range.{is_language_range, is_basic_range}
 
 -- the number for the kind of a text: 1 for a normal tag, 2 for private use, 3 for an irregular tag, and 0 for a text
 -- that is not a tag

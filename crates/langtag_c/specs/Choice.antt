@@ -2,9 +2,10 @@
 use Rattle.std.specs.Prelude.{◌≡◌, ◌+◌, ◌-◌, ◌^◌, ◌<◌, ℕ, Bool, not, if◌then◌else◌, List, [], ◌∷◌, Option, None, Some, MatchOption, count_by, is_some, length, slice_get, slice_index_or, take, unwrap_or}
 use Rattle.std.specs.List.{cons_option, position}
 use Rattle.langtag_scan.specs.Tag.{IsTag}
-use Rattle.langtag_match.specs.AcceptLanguage.{Element, StandsAt, is_space, items}
-use Rattle.langtag_match.specs.Listed.{listed}
-use Rattle.langtag_match.specs.Wanted.{wanted, wanted_elements}
+use Rattle.langtag_match.specs.AcceptLanguage.{StandsAt}
+use Rattle.langtag_range.specs.Element.{Element, is_space, items}
+use Rattle.langtag_range.specs.Listed.{listed}
+use Rattle.langtag_range.specs.Wanted.{wanted, wanted_elements}
 use Rattle.langtag_choice.specs.Best.{IsChoice, IsMatch}
 use Rattle.langtag_choice.specs.declared.best_match.BestMatch as choice
 use Rattle.langtag_c.specs.Spans.{HasBytes, empty_at, has_bytes, span_text}

@@ -4,8 +4,9 @@ use Rattle.std.specs.Prelude.{◌≡◌, ℕ, false, List, [], ◌∷◌, Option
 use Rattle.std.specs.List.{position}
 use Rattle.std.specs.Option.{option_map_or, option_or}
 use Rattle.langtag_scan.specs.Case.{are_alike}
-use Rattle.langtag_match.specs.AcceptLanguage.{Element, IsByWeight, IsFirstBad, acceptable, elements, items}
-use Rattle.langtag_match.specs.Fallback.{fallbacks}
+use Rattle.langtag_match.specs.AcceptLanguage.{IsByWeight, IsFirstBad, acceptable, elements}
+use Rattle.langtag_range.specs.Element.{Element, items}
+use Rattle.langtag_range.specs.Fallback.{fallbacks}
 use Rattle.langtag_match.specs.declared.accept_language_error.ElementPart.{ElementPart}
 use Rattle.langtag_c.specs.Choice.{AreTagsAt}
 use Rattle.langtag_c.specs.Spans.{IsWithin, span_text}

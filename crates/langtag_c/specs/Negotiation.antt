@@ -2,8 +2,9 @@
 -- 12.5.4).
 use Rattle.std.specs.Prelude.{◌≡◌, ℕ, ◌≤◌, IsTrue, Bool, not, List, [], ◌∷◌, Some, None, filter, if◌then◌else◌}
 use Rattle.std.specs.List.{slice_range}
-use Rattle.langtag_match.specs.AcceptLanguage.{bad_part, element, is_ows, items}
-use Rattle.langtag_match.specs.Fallback.{fallbacks}
+use Rattle.langtag_match.specs.AcceptLanguage.{bad_part}
+use Rattle.langtag_range.specs.Element.{element, is_ows, items}
+use Rattle.langtag_range.specs.Fallback.{fallbacks}
 use Rattle.langtag_match.specs.declared.accept_language_error.ElementPart.{ElementPart}
 use Rattle.langtag_c.specs.Spans.{HasBytes, end_of, span_between, span_text}
 use Rattle.langtag_c.specs.declared.span.Span.{Span}

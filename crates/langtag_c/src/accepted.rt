@@ -2,12 +2,14 @@
 ghost use Rattle.std.specs.Prelude.{◌≡◌, ◌↔◌, ◌<◌, ◌≤◌, [], IfSome, None, is_some, length};
 ghost use Rattle.std.specs.List.{filter_map, list_all};
 ghost use Rattle.langtag_match.specs.AcceptLanguage as spec;
+ghost use Rattle.langtag_range.specs.Element.{element, items};
 ghost use Rattle.langtag_match.specs.declared.accept_language_error.ElementPart.TheVariants.{Range, Weight};
 ghost use Rattle.langtag_c.specs.Negotiation.{TakesBad, TakesElement, TakesItem, filled_items};
 ghost use Rattle.langtag_c.specs.Spans.{HasBytes, IsWithin, span_text};
 
 use crate::span::Span;
-use langtag_match::{ElementPart, element_at, is_empty_element};
+use langtag_match::{ElementPart, element_at};
+use langtag_range::is_empty_element;
 use langtag_scan::len_before;
 
 /// Removes the first element that is not empty from a header, with the comma after it. Returns 1 for a language range
@@ -29,8 +31,8 @@ pub extern "C" fn langtag_next_accepted(
     ensures bad_weight { result ≡ 3 → TakesBad bytes.now rest.old rest.new range.new Weight × (weight.new ≡ 0) }
     ensures nothing { result ≡ 0 → (rest.new ≡ rest.old) × (range.new ≡ range.old) × (weight.new ≡ weight.old) }
 
-    ensures lenient { spec.elements (spec.items bytes.now) ≡ filter_map spec.element (filled_items bytes.now) }
-    ensures strict { spec.are_good (spec.items bytes.now) ≡ list_all (λ item. is_some (spec.element item)) (filled_items bytes.now) }
+    ensures lenient { spec.elements (items bytes.now) ≡ filter_map element (filled_items bytes.now) }
+    ensures strict { spec.are_good (items bytes.now) ≡ list_all (λ item. is_some (element item)) (filled_items bytes.now) }
 {
     let Some(item) = next_item(bytes, rest) else {
         return 0;

@@ -1,15 +1,15 @@
 //! The best tag for a reader, with the range that it serves and its distance from that range.
 ghost use Rattle.std.specs.Prelude.{◌≡◌, ◌≤◌, None, IfSome, length, not};
 ghost use Rattle.std.specs.List.{position};
-ghost use Rattle.langtag_match.specs.AcceptLanguage.{is_comma, is_space, items};
-ghost use Rattle.langtag_match.specs.Wanted.{wanted_elements};
+ghost use Rattle.langtag_range.specs.Element.{is_comma, is_space, items};
+ghost use Rattle.langtag_range.specs.Wanted.{wanted_elements};
 ghost use Rattle.langtag_c.specs.Choice.{IsBest, IsMatchAt, IsRangeAt, range_count, spaces_before};
 
 use crate::look_up::is_comma;
 use crate::span::Span;
 use crate::spanned_tags::SpannedTags;
 use langtag_choice::match_among;
-use langtag_match::split_wanted;
+use langtag_range::split_wanted;
 
 /// The range that the best tag serves, and the distance from the range to the tag.
 #[repr(C)]

@@ -4,8 +4,9 @@ ghost use Rattle.std.specs.Prelude.{◌≡◌, ◌↔◌, ◌≤◌, true, false
 ghost use Rattle.std.specs.List.{position};
 ghost use Rattle.std.specs.Option.{option_map_or};
 ghost use Rattle.langtag_scan.specs.Case.{are_alike};
-ghost use Rattle.langtag_match.specs.AcceptLanguage.{are_good, bad_part, elements, is_comma, is_good, items};
-ghost use Rattle.langtag_match.specs.Fallback.{fallbacks};
+ghost use Rattle.langtag_match.specs.AcceptLanguage.{are_good, bad_part, elements, is_good};
+ghost use Rattle.langtag_range.specs.Element.{is_comma, items};
+ghost use Rattle.langtag_range.specs.Fallback.{fallbacks};
 ghost use Rattle.langtag_match.specs.Text.{language_range_text};
 ghost use Rattle.langtag_match.specs.declared.accept_language_error.ElementPart.TheVariants.{Range, Weight};
 ghost use Rattle.langtag_c.specs.LookUp.{IsBadAt, IsLookedUp, first_index_alike, index_alike};
@@ -16,7 +17,8 @@ ghost use Rattle.langtag_c.specs.Heaviest.{heaviest};
 use crate::accepted::{next_item, number_of};
 use crate::span::Span;
 use crate::spanned_tags::{SpannedTags, bytes_in, tag_in};
-use langtag_match::{ElementPart, LanguageRange, element_at, is_empty_element};
+use langtag_match::{ElementPart, LanguageRange, element_at};
+use langtag_range::is_empty_element;
 use langtag_scan::case_insensitive_eq;
 
 /// Looks up a tag for an Accept-Language header, and refuses a header with a malformed element. The tags are spans of a

@@ -1,8 +1,8 @@
 //! Language ranges, and the tags that they match (RFC 4647).
 ghost use Rattle.std.specs.Prelude.{◌≡◌, ◌↔◌, IsTrue, MatchOption, false};
-ghost use Rattle.langtag_match.specs.Basic.{MatchesBasic};
-ghost use Rattle.langtag_match.specs.Extended.{MatchesExtended};
-ghost use Rattle.langtag_match.specs.Range.{is_language_range};
+ghost use Rattle.langtag_range.specs.Basic.{MatchesBasic};
+ghost use Rattle.langtag_range.specs.Extended.{MatchesExtended};
+ghost use Rattle.langtag_range.specs.Range.{is_language_range};
 ghost use Rattle.langtag_match.specs.Text.{language_range_text};
 ghost use Rattle.langtag_c.specs.Answers.{IsRangeKind, IsRangeMatch};
 
@@ -48,7 +48,7 @@ pub extern "C" fn langtag_matches_extended(range: &[u8], tag: &[u8]) -> bool
 }
 
 /// Returns the bytes as a range, or `None` if they are not a range.
-#[tactic(auto, using(langtag_match::proofs::AsciiRanges::utf8_range))]
+#[tactic(auto, using(langtag_range::proofs::AsciiRanges::utf8_range))]
 fn range_of<'a>(bytes: &'a [u8]) -> Option<LanguageRange<'a>>
     ensures { MatchOption result (is_language_range bytes.now ≡ false)
         (λ range. (language_range_text range ≡ bytes.now) × IsTrue (is_language_range bytes.now)) }

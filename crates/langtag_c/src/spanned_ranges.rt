@@ -1,14 +1,14 @@
 //! Language ranges as spans of a text.
 ghost use Rattle.std.specs.Prelude.{◌≡◌, IfSome, IsTrue};
 ghost use Rattle.std.specs.Option.{option_map};
-ghost use Rattle.langtag_match.specs.Listed.{listed_element};
-ghost use Rattle.langtag_match.specs.Range.{is_language_range};
-ghost use Rattle.langtag_match.specs.Wanted.{hyphened};
+ghost use Rattle.langtag_range.specs.Listed.{listed_element};
+ghost use Rattle.langtag_range.specs.Range.{is_language_range};
+ghost use Rattle.langtag_range.specs.Wanted.{hyphened};
 ghost use Rattle.langtag_c.specs.Choice.{range_at, ranges_at};
 
 use crate::span::Span;
 use langtag_choice::RangeList;
-use langtag_match::{WantedRange, listed_range};
+use langtag_range::{WantedRange, listed_range};
 
 /// A text, and spans of it that are language ranges, the most wanted first.
 #[derive(Clone, Copy)]

@@ -8,10 +8,10 @@ use Rattle.langtag_scan.specs.CaseLaws.{are_alike-decides}
 use Rattle.langtag_scan.specs.Class.{is_primary, is_extended, is_script, is_region}
 use Rattle.langtag_scan.specs.Subtags.{subtags}
 use Rattle.langtag_scan.proofs.CaseLaw.{fold_text-twice, length-fold, classes-fold}
-use Rattle.langtag_match.specs.Listed.{basic_text}
-use Rattle.langtag_match.specs.Wanted.{hyphened}
-use Rattle.langtag_match.proofs.AlikeTexts.{hyphened-fold, is_star-fold, subtags-fold}
-use Rattle.langtag_match.proofs.BasicForms.{basic_text-alike}
+use Rattle.langtag_range.specs.Listed.{basic_text}
+use Rattle.langtag_range.specs.Wanted.{hyphened}
+use Rattle.langtag_range.proofs.AlikeTexts.{hyphened-fold, is_star-fold, subtags-fold}
+use Rattle.langtag_range.proofs.BasicForms.{basic_text-alike}
 use Rattle.langtag_likely.specs.Likely.{Fields, are_alike_fields, language_alone, known, without_region}
 use Rattle.langtag_likely.specs.Matching.{language_replaced, region_replaced, without_language, keeping_language, most_unknown, most_likely, matching_fields, matching_form}
 use Rattle.langtag_likely.specs.TextFields.{text_fields, fields_of_subtags, counted, counts, last_language, after_language, script_of, after_script, region_of}

@@ -15,14 +15,14 @@ use Rattle.std.specs.Ordering.{is_eq, is_gt, nat_cmp, ordering_reverse}
 use Rattle.langtag_scan.specs.Case.{Alike, fold_byte, fold_text, are_alike}
 use Rattle.langtag_scan.specs.CaseLaws.{are_alike-decides}
 use Rattle.langtag_scan.proofs.CaseLaw.{hyphen-fold, fold_text-twice, length-fold}
-use Rattle.langtag_match.specs.AcceptLanguage.{Element}
-use Rattle.langtag_match.specs.Basic.{ends_subtag, test_basic}
-use Rattle.langtag_match.specs.Fallback.{before_hyphens, ends_in_single, fallbacks}
-use Rattle.langtag_match.specs.Range.{is_star}
-use Rattle.langtag_match.specs.Wanted.{folded, wanted_elements}
-use Rattle.langtag_match.proofs.AlikeHeaders.{alike_headers}
-use Rattle.langtag_match.proofs.AlikeTexts.{is_star-fold}
-use Rattle.langtag_match.proofs.Prefixes.{length-alike}
+use Rattle.langtag_range.specs.Element.{Element}
+use Rattle.langtag_range.specs.Basic.{ends_subtag, test_basic}
+use Rattle.langtag_range.specs.Fallback.{before_hyphens, ends_in_single, fallbacks}
+use Rattle.langtag_range.specs.Range.{is_star}
+use Rattle.langtag_range.specs.Wanted.{folded, wanted_elements}
+use Rattle.langtag_range.proofs.AlikeHeaders.{alike_headers}
+use Rattle.langtag_range.proofs.AlikeTexts.{is_star-fold}
+use Rattle.langtag_range.proofs.Prefixes.{length-alike}
 use Rattle.langtag_choice.specs.Best.{IsAtMost, IsChoice, Pair, rank, rank_of_pair, serves, reach, is_wish, is_excluded, is_refused, longest, matches}
 use Rattle.langtag_choice.specs.ChoiceLaws.{IsOnlyChoice, AnswersLookUp, IsHeaviest, IsFirstAlike, AnswersEqual, IgnoresCase, IgnoresHeaderCase}
 use Rattle.langtag_choice.specs.Nearness.{kept, is_fallback}

@@ -11,9 +11,9 @@ use Rattle.langtag_scan.specs.Class.{are_letters, is_extended, is_letter, is_pri
 use Rattle.langtag_scan.proofs.Disjoint.{extended_three}
 use Rattle.langtag_tables.specs.Numbers.{letter_number}
 use Rattle.langtag_tables.proofs.Letters.{letter_number-tells, primary_length}
-use Rattle.langtag_match.specs.Listed.{basic_text}
-use Rattle.langtag_match.specs.Wanted.{hyphened, is_separator}
-use Rattle.langtag_match.proofs.Prefixes.{length-alike}
+use Rattle.langtag_range.specs.Listed.{basic_text}
+use Rattle.langtag_range.specs.Wanted.{hyphened, is_separator}
+use Rattle.langtag_range.proofs.Prefixes.{length-alike}
 use Rattle.langtag_likely.specs.Aliases.{language_aliases}
 use Rattle.langtag_likely.specs.Likely.{Fields, Likely, are_alike_fields, known, language_alone, likely_for}
 use Rattle.langtag_likely.specs.Matching.{language_replaced, matching_fields, matching_form}

@@ -5,17 +5,17 @@ use Rattle.std.proofs.lemmas.Grind.{common_steps}
 use Rattle.langtag_scan.specs.Case.{are_alike, fold_byte}
 use Rattle.langtag_scan.specs.CaseLaws.{are_alike-decides}
 use Rattle.langtag_scan.specs.Subtags.{subtags}
-use Rattle.langtag_match.proofs.AlikeTexts.{is_star-fold}
-use Rattle.langtag_match.proofs.BasicForms.{basic_form-basic, basic_of, is_plain, IsBasicOf}
-use Rattle.langtag_match.proofs.BasicRanges.{is_language_range-from_basic}
-use Rattle.langtag_match.proofs.PlainRanges.{hyphened_range}
-use Rattle.langtag_match.proofs.Prefixes.{length-alike}
-use Rattle.langtag_match.specs.Basic.{ends_subtag}
-use Rattle.langtag_match.specs.Fallback.{ends_in_single}
-use Rattle.langtag_match.specs.Listed.{basic_text}
-use Rattle.langtag_match.specs.LookUp.{basic_form}
-use Rattle.langtag_match.specs.Range.{are_extended_range, is_basic_range, is_language_range, is_star}
-use Rattle.langtag_match.specs.Wanted.{hyphened}
+use Rattle.langtag_range.proofs.AlikeTexts.{is_star-fold}
+use Rattle.langtag_range.proofs.BasicForms.{basic_form-basic, basic_of, is_plain, IsBasicOf}
+use Rattle.langtag_range.proofs.BasicRanges.{is_language_range-from_basic}
+use Rattle.langtag_range.proofs.PlainRanges.{hyphened_range}
+use Rattle.langtag_range.proofs.Prefixes.{length-alike}
+use Rattle.langtag_range.specs.Basic.{ends_subtag}
+use Rattle.langtag_range.specs.Fallback.{ends_in_single}
+use Rattle.langtag_range.specs.Listed.{basic_text}
+use Rattle.langtag_range.specs.BasicForm.{basic_form}
+use Rattle.langtag_range.specs.Range.{are_extended_range, is_basic_range, is_language_range, is_star}
+use Rattle.langtag_range.specs.Wanted.{hyphened}
 use Rattle.langtag_likely.proofs.CommonTexts.{nothing_read, read_byte, read_nothing, some_length}
 use Rattle.langtag_likely.specs.Matching.{matching_form}
 use Rattle.langtag_likely.specs.Ranges.{after_common, BeginsPlain}

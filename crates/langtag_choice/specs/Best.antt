@@ -5,10 +5,10 @@ use Rattle.std.specs.List.{slice_get}
 use Rattle.std.specs.Ordering.{is_gt, nat_cmp}
 use Rattle.langtag_choice.specs.Distance.{distance_of_texts}
 use Rattle.langtag_choice.specs.Nearness.{unlikely, kept}
-use Rattle.langtag_match.specs.AcceptLanguage.{Element}
-use Rattle.langtag_match.specs.Basic.{test_basic}
-use Rattle.langtag_match.specs.Range.{is_star}
-use Rattle.langtag_match.specs.Listed.{basic_text}
+use Rattle.langtag_range.specs.Element.{Element}
+use Rattle.langtag_range.specs.Basic.{test_basic}
+use Rattle.langtag_range.specs.Range.{is_star}
+use Rattle.langtag_range.specs.Listed.{basic_text}
 use Rattle.langtag_choice.specs.declared.best_match.BestMatch.{BestMatch}
 
 -- ---- which tags are refused

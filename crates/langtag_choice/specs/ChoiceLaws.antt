@@ -3,10 +3,10 @@ use Rattle.std.specs.Prelude.{◌≡◌, ℕ, ◌<◌, ◌≤◌, false, IsTrue,
 use Rattle.std.specs.List.{Contains, slice_get}
 use Rattle.std.specs.Option.{option_map}
 use Rattle.langtag_scan.specs.Case.{Alike, fold_text}
-use Rattle.langtag_match.specs.AcceptLanguage.{Element}
-use Rattle.langtag_match.specs.Fallback.{fallbacks}
-use Rattle.langtag_match.specs.Range.{is_star}
-use Rattle.langtag_match.specs.Wanted.{folded, wanted_elements}
+use Rattle.langtag_range.specs.Element.{Element}
+use Rattle.langtag_range.specs.Fallback.{fallbacks}
+use Rattle.langtag_range.specs.Range.{is_star}
+use Rattle.langtag_range.specs.Wanted.{folded, wanted_elements}
 use Rattle.langtag_choice.specs.Best.{IsChoice, is_refused, is_wish}
 
 -- there is no other choice

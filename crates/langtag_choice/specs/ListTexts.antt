@@ -2,8 +2,8 @@
 use Rattle.std.specs.Prelude.{ℕ, List, Option, Some, map}
 use Rattle.langtag.specs.declared.lang_tag.LangTag.{LangTag}
 use Rattle.langtag.specs.Text.{lang_tag_text}
-use Rattle.langtag_match.specs.AcceptLanguage.{Element}
-use Rattle.langtag_match.specs.Listed.{basic_text}
+use Rattle.langtag_range.specs.Element.{Element}
+use Rattle.langtag_range.specs.Listed.{basic_text}
 use Rattle.langtag_match.specs.Text.{language_range_text}
 use Rattle.langtag_match.specs.declared.language_range.LanguageRange.{LanguageRange}
 use Rattle.langtag_match.specs.declared.weighted_range.WeightedRange.{WeightedRange}

@@ -3,7 +3,7 @@ use Rattle.std.specs.Prelude.{◌≡◌, ℕ, Bool, true, false, not, ◌==◌, 
 use Rattle.std.specs.List.{after_first, before_first}
 use Rattle.langtag_scan.specs.Case.{fold_byte}
 use Rattle.langtag_scan.specs.Class.{is_extended, is_primary}
-use Rattle.langtag_match.specs.Wanted.{is_separator}
+use Rattle.langtag_range.specs.Wanted.{is_separator}
 use Rattle.langtag_choice.specs.Distance.{is_among}
 use Rattle.langtag_likely.specs.Likely.{Fields, Likely}
 use Rattle.langtag_choice.specs.MatchingData.{language_rules}

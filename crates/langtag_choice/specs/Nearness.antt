@@ -5,8 +5,8 @@ use Rattle.langtag_scan.specs.Case.{are_alike}
 use Rattle.langtag_likely.specs.Likely.{Fields, suffices, without_region}
 use Rattle.langtag_likely.specs.LikelySubtags.{likely_subtags}
 use Rattle.langtag_likely.specs.Matching.{matching_form}
-use Rattle.langtag_match.specs.Basic.{ends_subtag}
-use Rattle.langtag_match.specs.Fallback.{ends_in_single}
+use Rattle.langtag_range.specs.Basic.{ends_subtag}
+use Rattle.langtag_range.specs.Fallback.{ends_in_single}
 
 -- ---- the part of a range that look-up keeps (RFC 4647 section 3.4)
 

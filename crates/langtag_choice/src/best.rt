@@ -2,9 +2,9 @@
 ghost use Rattle.std.specs.Prelude.{◌≡◌, ◌<◌, IsTrue, length};
 ghost use Rattle.std.specs.List.{list_any};
 ghost use Rattle.std.specs.Option.{option_map};
-ghost use Rattle.langtag_match.specs.Listed.{basic_text};
+ghost use Rattle.langtag_range.specs.Listed.{basic_text};
 ghost use Rattle.langtag_match.specs.Text.{accept_language_ranges};
-ghost use Rattle.langtag_match.specs.Wanted.{wanted_elements};
+ghost use Rattle.langtag_range.specs.Wanted.{wanted_elements};
 ghost use Rattle.langtag_choice.specs.Best as spec;
 ghost use Rattle.langtag_choice.specs.ChoiceLaws as laws;
 ghost use Rattle.langtag_choice.specs.Distance.{distance_of_texts};

@@ -1,10 +1,10 @@
 //! Making the choice range by range. Ranges of lower weight are skipped if a tag serves a range of higher weight.
 ghost use Rattle.std.specs.Prelude.{◌≡◌, ℕ, List, IsTrue, Some, length};
 ghost use Rattle.std.specs.List.{list_any, slice_get};
-ghost use Rattle.langtag_match.specs.AcceptLanguage.{Element};
-ghost use Rattle.langtag_match.specs.Listed.{listed_element};
-ghost use Rattle.langtag_match.specs.Range.{is_language_range};
-ghost use Rattle.langtag_match.specs.Wanted.{hyphened};
+ghost use Rattle.langtag_range.specs.Element.{Element};
+ghost use Rattle.langtag_range.specs.Listed.{listed_element};
+ghost use Rattle.langtag_range.specs.Range.{is_language_range};
+ghost use Rattle.langtag_range.specs.Wanted.{hyphened};
 ghost use Rattle.langtag_choice.specs.Best.{is_excluded};
 ghost use Rattle.langtag_choice.specs.Found.{Covers, CoversTags, IsReal, Keeps};
 
@@ -13,7 +13,7 @@ use crate::improve::{improve, limit};
 use crate::range_list::RangeList;
 use crate::tag_list::TagList;
 use crate::wish::Wish;
-use langtag_match::WantedRange;
+use langtag_range::WantedRange;
 
 /// Returns the best of all candidates, even if it is refused or not a tag, and whether a range has the weight 0.
 pub(crate) fn first_by_ranges<'a, 't, R: RangeList<'a>, T: TagList>(

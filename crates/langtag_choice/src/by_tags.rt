@@ -1,10 +1,10 @@
 //! Making the choice tag by tag. Each entry is checked once: whether it is a tag, and whether it is refused.
 ghost use Rattle.std.specs.Prelude.{◌≡◌, ◌<◌, ◌↔◌, ℕ, List, IsTrue, Some, false, length};
 ghost use Rattle.std.specs.List.{slice_get};
-ghost use Rattle.langtag_match.specs.AcceptLanguage.{Element};
-ghost use Rattle.langtag_match.specs.Listed.{listed_element};
-ghost use Rattle.langtag_match.specs.Range.{is_language_range};
-ghost use Rattle.langtag_match.specs.Wanted.{hyphened};
+ghost use Rattle.langtag_range.specs.Element.{Element};
+ghost use Rattle.langtag_range.specs.Listed.{listed_element};
+ghost use Rattle.langtag_range.specs.Range.{is_language_range};
+ghost use Rattle.langtag_range.specs.Wanted.{hyphened};
 ghost use Rattle.langtag_choice.specs.Best.{is_refused, rank, serves};
 ghost use Rattle.langtag_choice.specs.Found.{AreOpen, CoversOpen, CoversRanges, IsOldOrAt, IsUnrefusedAt, IsReal, IsNotAfter, Keeps};
 
@@ -14,7 +14,7 @@ use crate::range_list::RangeList;
 use crate::refused::is_refused;
 use crate::tag_list::TagList;
 use crate::wish::Wish;
-use langtag_match::WantedRange;
+use langtag_range::WantedRange;
 
 /// Returns the best candidate among the tags that are not refused.
 pub(crate) fn first_by_tags<'a, 't, R: RangeList<'a>, T: TagList>(

@@ -3,8 +3,8 @@ ghost use Rattle.std.specs.Prelude.{◌≡◌, IsTrue};
 ghost use Rattle.std.specs.Option.{option_map};
 ghost use Rattle.langtag_likely.specs.Matching.{matching_form};
 ghost use Rattle.langtag_likely.specs.Texts.{field_texts};
-ghost use Rattle.langtag_match.specs.Range.{is_language_range};
-ghost use Rattle.langtag_match.specs.Wanted.{hyphened};
+ghost use Rattle.langtag_range.specs.Range.{is_language_range};
+ghost use Rattle.langtag_range.specs.Wanted.{hyphened};
 
 use crate::likely_region::unlikely;
 use crate::nearness::kept;
@@ -91,7 +91,7 @@ impl Candidate<'_, '_> {
     ghost use Rattle.std.specs.Prelude.{◌-◌, drop, length};
     ghost use Rattle.std.specs.Cmp.Lexicographic.{slice_cmp};
     ghost use Rattle.std.specs.Ordering.{is_lt, nat_cmp};
-    ghost use Rattle.langtag_match.specs.Listed.{basic_text};
+    ghost use Rattle.langtag_range.specs.Listed.{basic_text};
     ghost use Rattle.langtag_choice.specs.Found.{rank_of};
     ghost use Rattle.langtag_choice.specs.Nearness.{kept};
 

@@ -1,6 +1,6 @@
 //! Improving the candidate by one more tag.
 ghost use Rattle.std.specs.Prelude.{◌≡◌, ◌-◌, ◌≤◌, ℕ, List, IsTrue, MatchOption, Some, false};
-ghost use Rattle.langtag_match.specs.AcceptLanguage.{Element};
+ghost use Rattle.langtag_range.specs.Element.{Element};
 ghost use Rattle.langtag_choice.specs.Best as spec;
 ghost use Rattle.langtag_choice.specs.Found.{IsOf, IsNotAfter, Keeps, Takes, rank_of, wish_element};
 

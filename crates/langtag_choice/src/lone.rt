@@ -5,8 +5,8 @@ ghost use Rattle.std.specs.List.{before_first};
 ghost use Rattle.std.specs.Option.{ForSome, option_map};
 ghost use Rattle.langtag_scan.specs.Class.{is_extended, is_letter};
 ghost use Rattle.langtag_tables.specs.Numbers.{climbs_from};
-ghost use Rattle.langtag_match.specs.Listed.{basic_text};
-ghost use Rattle.langtag_match.specs.Wanted.{is_separator};
+ghost use Rattle.langtag_range.specs.Listed.{basic_text};
+ghost use Rattle.langtag_range.specs.Wanted.{is_separator};
 ghost use Rattle.langtag_choice.specs.Lone as spec;
 ghost use Rattle.langtag_likely.specs.Good.{is_language_field};
 ghost use Rattle.langtag_likely.specs.Texts.{field_texts};
@@ -15,7 +15,7 @@ ghost use Rattle.langtag_choice.specs.declared.matching_tables.TheConstants.{REL
 use crate::matching_tables as tables;
 use crate::read_range::starts;
 use langtag_likely::{TagFields, language_number};
-use langtag_match::is_separator;
+use langtag_range::is_separator;
 use langtag_scan::into_smallcase;
 
 /// Returns the first two bytes of a text, in lowercase.

@@ -1,10 +1,10 @@
 //! How near a tag is to a range.
 ghost use Rattle.std.specs.Prelude.{◌≡◌, ◌≤◌, ◌==◌, ◌&&◌, ◌||◌, not, IsTrue, MatchOption, Some, length};
 ghost use Rattle.std.specs.Option.{option_map};
-ghost use Rattle.langtag_match.specs.Basic.{ends_subtag};
-ghost use Rattle.langtag_match.specs.Fallback.{ends_in_single};
-ghost use Rattle.langtag_match.specs.Listed.{basic_text};
-ghost use Rattle.langtag_match.specs.Wanted.{hyphened};
+ghost use Rattle.langtag_range.specs.Basic.{ends_subtag};
+ghost use Rattle.langtag_range.specs.Fallback.{ends_in_single};
+ghost use Rattle.langtag_range.specs.Listed.{basic_text};
+ghost use Rattle.langtag_range.specs.Wanted.{hyphened};
 ghost use Rattle.langtag_choice.specs.Best.{may_serve, reach};
 ghost use Rattle.langtag_choice.specs.Distance.{distance_of_texts, fields_distance, formless_distance, language_distance};
 ghost use Rattle.langtag_choice.specs.Found.{IsNear, IsNearer};
@@ -17,7 +17,7 @@ use crate::rule_distance::language_distance;
 use crate::tag_distance::places_distance;
 use crate::wish::Wish;
 use langtag_likely::{TagFields, after_common, are_alike, completed, matching_form, replaced_form};
-use langtag_match::ends_in_single;
+use langtag_range::ends_in_single;
 
 /// The distance of a tag from a range, and the tag's matching form.
 #[derive(Clone, Copy)]

@@ -1,13 +1,14 @@
 //! The lists of language ranges for which a tag can be chosen.
 ghost use Rattle.std.specs.Prelude.{◌≡◌, ◌<◌, ◌^◌, ◌∷◌, [], IfSome, IsTrue, List, length};
 ghost use Rattle.std.specs.Option.{option_map_or};
-ghost use Rattle.langtag_match.specs.AcceptLanguage.{Element};
-ghost use Rattle.langtag_match.specs.Listed.{listed_element};
-ghost use Rattle.langtag_match.specs.Range.{is_language_range};
-ghost use Rattle.langtag_match.specs.Wanted.{hyphened, wanted_elements};
+ghost use Rattle.langtag_range.specs.Element.{Element};
+ghost use Rattle.langtag_range.specs.Listed.{listed_element};
+ghost use Rattle.langtag_range.specs.Range.{is_language_range};
+ghost use Rattle.langtag_range.specs.Wanted.{hyphened, wanted_elements};
 ghost use Rattle.langtag_choice.specs.ListTexts.{ordered_elements, weighted_elements};
 
-use langtag_match::{LanguageRange, WantedRange, WeightedRange, split_wanted};
+use langtag_match::{LanguageRange, WeightedRange};
+use langtag_range::{WantedRange, split_wanted};
 
 /// Language ranges with their weights, in the reader's order. It is implemented for an Accept-Language header in a
 /// slice of bytes, and for slices of [`WeightedRange`] and of [`LanguageRange`]. Walking over the ranges does not
@@ -43,7 +44,7 @@ impl<'a> RangeList<'a> for &'a [u8] {
 }
 
 /// Ranges with their weights.
-#[tactic(auto, using(langtag_match::proofs::PlainRanges::hyphened_range))]
+#[tactic(auto, using(langtag_range::proofs::PlainRanges::hyphened_range))]
 impl<'a> RangeList<'a> for &'a [WeightedRange<'a>] {
     ghost elements = { λ ranges. weighted_elements ranges.now };
 
@@ -58,7 +59,7 @@ impl<'a> RangeList<'a> for &'a [WeightedRange<'a>] {
 }
 
 /// Ranges, the most wanted first.
-#[tactic(auto, using(langtag_match::proofs::PlainRanges::hyphened_range))]
+#[tactic(auto, using(langtag_range::proofs::PlainRanges::hyphened_range))]
 impl<'a> RangeList<'a> for &'a [LanguageRange<'a>] {
     ghost elements = { λ ranges. ordered_elements ranges.now };
 

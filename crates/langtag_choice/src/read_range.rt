@@ -1,9 +1,9 @@
 //! Comparing ranges with tags: in a range, `_` is read as `-`, and each `-*` is left out.
 ghost use Rattle.std.specs.Prelude.{◌≡◌, ◌&&◌, length, take, drop};
 ghost use Rattle.langtag_scan.specs.Case.{are_alike};
-ghost use Rattle.langtag_match.specs.Basic.{ends_subtag};
-ghost use Rattle.langtag_match.specs.Range.{is_star};
-ghost use Rattle.langtag_match.specs.Listed.{basic_text};
+ghost use Rattle.langtag_range.specs.Basic.{ends_subtag};
+ghost use Rattle.langtag_range.specs.Range.{is_star};
+ghost use Rattle.langtag_range.specs.Listed.{basic_text};
 
 use langtag_likely::{after_common, are_alike};
 

@@ -4,14 +4,14 @@ ghost use Rattle.std.specs.Option.{ForSome, option_map};
 ghost use Rattle.langtag_choice.specs.Lone.{first_two, lone_head};
 ghost use Rattle.langtag_likely.specs.Matching.{matching_form};
 ghost use Rattle.langtag_likely.specs.Texts.{field_texts};
-ghost use Rattle.langtag_match.specs.Listed.{basic_text};
-ghost use Rattle.langtag_match.specs.Range.{is_language_range, is_star};
-ghost use Rattle.langtag_match.specs.Wanted.{hyphened};
+ghost use Rattle.langtag_range.specs.Listed.{basic_text};
+ghost use Rattle.langtag_range.specs.Range.{is_language_range, is_star};
+ghost use Rattle.langtag_range.specs.Wanted.{hyphened};
 
 use crate::lone::{first_two, is_short, lone_letters};
 use crate::read_range::is_star;
 use langtag_likely::{TagFields, matching_form};
-use langtag_match::WantedRange;
+use langtag_range::WantedRange;
 
 /// A range other than `*`, its weight, which is not 0, and the number of ranges before it. The matching form of the
 /// range is made once, and used for all tags. The two letters of the range's language are stored if the range begins
@@ -32,7 +32,7 @@ pub(crate) struct Wish<'a> {
 }
 
 impl<'a> Wish<'a> {
-    ghost use Rattle.langtag_match.specs.Listed.{listed_element};
+    ghost use Rattle.langtag_range.specs.Listed.{listed_element};
     ghost use Rattle.langtag_choice.specs.Best.{serves};
     ghost use Rattle.langtag_choice.specs.Distance.{distance_of_texts};
     ghost use Rattle.langtag_choice.specs.Found.{wish_element};

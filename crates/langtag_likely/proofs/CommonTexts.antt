@@ -4,11 +4,11 @@ use Rattle.std.proofs.lemmas.Bool.Decides.{nat_tests}
 use Rattle.std.proofs.lemmas.List.{length-map, take_all}
 use Rattle.std.proofs.lemmas.Grind.{common_steps}
 use Rattle.langtag_scan.specs.Case.{are_alike, fold_byte}
-use Rattle.langtag_match.specs.Listed.{basic_text}
-use Rattle.langtag_match.specs.Wanted.{hyphened, hyphened_byte}
-use Rattle.langtag_match.specs.LookUp.{begins_with_wildcard}
-use Rattle.langtag_match.proofs.BasicForms.{length-basic}
-use Rattle.langtag_match.proofs.Wildcards.{basic_form-byte}
+use Rattle.langtag_range.specs.Listed.{basic_text}
+use Rattle.langtag_range.specs.Wanted.{hyphened, hyphened_byte}
+use Rattle.langtag_range.specs.BasicForm.{begins_with_wildcard}
+use Rattle.langtag_range.proofs.BasicForms.{length-basic}
+use Rattle.langtag_range.proofs.Wildcards.{basic_form-byte}
 use Rattle.langtag_likely.specs.Ranges.{after_common, BeginsPlain}
 use Rattle.langtag_likely.proofs.AddedTwice.{either_way}
 

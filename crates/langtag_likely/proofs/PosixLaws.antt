@@ -20,7 +20,7 @@ use Rattle.langtag_likely.specs.Scripts.{script_codes}
 use Rattle.langtag_likely.specs.Likely.{or_else}
 use Rattle.langtag_likely.specs.Maximal.{IsForm}
 use Rattle.langtag_likely.specs.Modifiers.{is_script_code, modifier_script, modifier_variant}
-use Rattle.langtag_match.specs.Locale.{front_of}
+use Rattle.langtag_range.specs.Locale.{front_of}
 use Rattle.langtag_likely.specs.Posix.{modifier_of, said_script, script_behind, with_said, with_said_script, with_said_variant}
 use Rattle.langtag_scan.proofs.Disjoint.{script_four}
 use Rattle.langtag_scan.proofs.PartOffsets.{length-spell}

@@ -5,7 +5,7 @@ use Rattle.langtag_scan.specs.Case.{are_alike}
 use Rattle.langtag_scan.specs.CaseLaws.{are_alike-decides}
 use Rattle.langtag_likely.specs.Likely.{Fields, Likely, are_alike_fields, likely_for, or_else}
 use Rattle.langtag_likely.specs.Numbers.{first_index}
-use Rattle.langtag_match.proofs.Prefixes.{length-alike}
+use Rattle.langtag_range.proofs.Prefixes.{length-alike}
 use Rattle.langtag_likely.specs.Rows.{no_row}
 
 -- where a number tells left sides apart, the first row with a number is the row for the fields

@@ -3,8 +3,8 @@ use Rattle.std.proofs.Common.{◌≡◌, ℕ, true, false, cond, codes, Some, No
 use Rattle.std.specs.List.{before_first, after_first}
 use Rattle.langtag_scan.specs.Class.{is_primary}
 use Rattle.langtag_scan.specs.Subtags.{subtags}
-use Rattle.langtag_match.specs.Wanted.{hyphened, is_separator}
-use Rattle.langtag_match.proofs.WantedTexts.{cut_or_whole, segments-read}
+use Rattle.langtag_range.specs.Wanted.{hyphened, is_separator}
+use Rattle.langtag_range.proofs.WantedTexts.{cut_or_whole, segments-read}
 use Rattle.langtag_likely.specs.Likely.{known}
 use Rattle.langtag_likely.specs.TextFields.{counts, fields_of_subtags, text_fields, after_language, after_script, last_language, counted_parts, region_of, script_of}
 

@@ -3,8 +3,8 @@
 use Rattle.std.specs.Prelude.{ℕ, List, [], Option, None, codes, if◌then◌else◌}
 use Rattle.std.specs.Option.{option_map, option_map_or}
 use Rattle.langtag_scan.specs.Case.{are_alike}
-use Rattle.langtag_match.specs.Listed.{basic_text}
-use Rattle.langtag_match.specs.Wanted.{hyphened}
+use Rattle.langtag_range.specs.Listed.{basic_text}
+use Rattle.langtag_range.specs.Wanted.{hyphened}
 use Rattle.langtag_likely.specs.Likely.{Fields, likely_for, or_other, language_alone, add_likely}
 use Rattle.langtag_likely.specs.LikelySubtags.{likely_subtags}
 use Rattle.langtag_likely.specs.Aliases.{language_aliases, region_aliases}

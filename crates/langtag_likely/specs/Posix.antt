@@ -8,13 +8,13 @@ use Rattle.langtag_scan.specs.Class.{is_script}
 use Rattle.langtag_scan.specs.Record.{Record}
 use Rattle.langtag_scan.specs.Tag.{IsTag}
 use Rattle.langtag.specs.Edit.{with_script, with_variants}
-use Rattle.langtag_match.specs.Locale.{front_of, is_hash, locale_place}
+use Rattle.langtag_range.specs.Locale.{front_of, is_hash, locale_place}
 use Rattle.langtag_likely.specs.Likely.{or_else}
 use Rattle.langtag_likely.specs.Maximal.{IsForm}
 use Rattle.langtag_likely.specs.Modifiers.{modifier_script, modifier_variant}
 use Rattle.langtag_likely.specs.declared.posix_error.PosixError.{PosixError}
 use Rattle.langtag_likely.specs.declared.posix_error.PosixError.TheVariants.{NoTag, Memory}
-use Rattle.langtag_match.specs.Wanted.{hyphened}
+use Rattle.langtag_range.specs.Wanted.{hyphened}
 
 -- ---- the parts of a name
 

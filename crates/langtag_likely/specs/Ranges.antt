@@ -1,8 +1,8 @@
 -- The rests of a range and of a text after their common beginning. Only contracts of private functions cite this page.
 use Rattle.std.specs.Prelude.{◌≡◌, ℕ, ◌==◌, false, List, [], ◌∷◌, if◌then◌else◌}
 use Rattle.langtag_scan.specs.Case.{fold_byte}
-use Rattle.langtag_match.specs.LookUp.{begins_with_wildcard}
-use Rattle.langtag_match.specs.Wanted.{hyphened}
+use Rattle.langtag_range.specs.BasicForm.{begins_with_wildcard}
+use Rattle.langtag_range.specs.Wanted.{hyphened}
 
 -- two texts without their common beginning, ignoring case
 abbrev pub after_common : List ℕ → List ℕ → List ℕ × List ℕ

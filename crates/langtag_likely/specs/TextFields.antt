@@ -3,8 +3,8 @@ use Rattle.std.specs.Prelude.{ℕ, Bool, ◌==◌, ◌||◌, not, List, [], ◌�
 use Rattle.std.specs.List.{slice_split}
 use Rattle.langtag_scan.specs.Class.{is_primary, is_extended, is_script, is_region}
 use Rattle.langtag_scan.specs.Subtags.{subtags}
-use Rattle.langtag_match.specs.Range.{is_star}
-use Rattle.langtag_match.specs.Wanted.{is_separator}
+use Rattle.langtag_range.specs.Range.{is_star}
+use Rattle.langtag_range.specs.Wanted.{is_separator}
 use Rattle.langtag_likely.specs.Likely.{Fields, known}
 
 -- whether a subtag after the first counts: "*", which a language range may have, and empty subtags do not

@@ -1,9 +1,9 @@
 //! Language ranges as a look-up reads them: `_` is read as `-`, and each `-*` is left out.
 ghost use Rattle.std.specs.Prelude.{◌≡◌, ◌≤◌, IsTrue, length};
 ghost use Rattle.langtag_scan.specs.Case.{are_alike};
-ghost use Rattle.langtag_match.specs.Listed.{basic_text};
-ghost use Rattle.langtag_match.specs.LookUp.{begins_with_wildcard};
-ghost use Rattle.langtag_match.specs.Wanted.{hyphened, hyphened_byte};
+ghost use Rattle.langtag_range.specs.Listed.{basic_text};
+ghost use Rattle.langtag_range.specs.BasicForm.{begins_with_wildcard};
+ghost use Rattle.langtag_range.specs.Wanted.{hyphened, hyphened_byte};
 ghost use Rattle.langtag_likely.specs.Ranges as spec;
 
 use langtag_scan::into_smallcase;

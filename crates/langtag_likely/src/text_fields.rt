@@ -1,7 +1,7 @@
 //! The fields of a text that need not be a tag.
 ghost use Rattle.std.specs.Prelude.{◌≡◌, ◌∷◌, [], IsTrue};
 ghost use Rattle.std.specs.Option.{option_map, option_map_or};
-ghost use Rattle.langtag_match.specs.Wanted.{hyphened};
+ghost use Rattle.langtag_range.specs.Wanted.{hyphened};
 ghost use Rattle.langtag_likely.specs.Good.{is_language_field, is_script_field, is_region_field};
 ghost use Rattle.langtag_likely.specs.TextFields as spec;
 ghost use Rattle.langtag_likely.specs.TextFields.{after_language, after_script, last_language, counted_parts, region_of, script_of};
@@ -78,7 +78,7 @@ fn region_before(text: &[u8]) -> &[u8]
 }
 
 /// Returns the first subtag that counts, and the text after it.
-#[tactic(auto, using(crate::proofs::TextParts::next_part, langtag_match::proofs::WantedTexts::shorter))]
+#[tactic(auto, using(crate::proofs::TextParts::next_part, langtag_range::proofs::WantedTexts::shorter))]
 fn next_subtag(text: &[u8]) -> Option<(&[u8], &[u8])>
     ensures { counted_parts text.now ≡ option_map_or (λ found. found.0.now ∷ counted_parts found.1.now) result [] }
 {

@@ -7,7 +7,8 @@ use Rattle.std.proofs.lemmas.List.Elements.{filter_map-append}
 use Rattle.std.proofs.lemmas.List.Folds.{list_all-append}
 use Rattle.std.proofs.lemmas.List.FromFn.{length-enumerate_from, get_or-enumerate_from}
 use Rattle.std.proofs.lemmas.Grind.{common_steps}
-use Rattle.langtag_match.specs.AcceptLanguage.{is_ows, is_good, are_good, element, elements, reading}
+use Rattle.langtag_match.specs.AcceptLanguage.{is_good, are_good, elements, reading}
+use Rattle.langtag_range.specs.Element.{is_ows, element}
 use Rattle.langtag_match.specs.declared.weighted_range.WeightedRange.{WeightedRange}
 
 pub turn_at :

@@ -5,7 +5,8 @@ use Rattle.std.proofs.lemmas.List.{nil_from_length}
 use Rattle.std.proofs.lemmas.List.Splits.{slice_split-cons_yes, slice_split-cons_no, length-slice_split}
 use Rattle.std.proofs.lemmas.List.Sums.{sum_by-append}
 use Rattle.std.proofs.lemmas.Grind.{common_steps}
-use Rattle.langtag_match.specs.AcceptLanguage.{is_comma, items, StandsAt}
+use Rattle.langtag_match.specs.AcceptLanguage.{StandsAt}
+use Rattle.langtag_range.specs.Element.{is_comma, items}
 
 abbrev pub width : List ℕ → ℕ
 width item = length item + 1

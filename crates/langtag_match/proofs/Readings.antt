@@ -8,7 +8,8 @@ use Rattle.std.proofs.lemmas.Bool.Decides.{nat_tests}
 use Rattle.std.proofs.lemmas.List.{nil_from_length}
 use Rattle.std.proofs.lemmas.List.Sorted.{length_permutation}
 use Rattle.std.proofs.lemmas.Grind.{common_steps}
-use Rattle.langtag_match.specs.AcceptLanguage.{Element, FallsTo, HasOneReading, IsByWeight, acceptable, elements, reading, weight_in}
+use Rattle.langtag_match.specs.AcceptLanguage.{FallsTo, HasOneReading, IsByWeight, acceptable, elements, reading, weight_in}
+use Rattle.langtag_range.specs.Element.{Element}
 use Rattle.langtag_match.specs.Stable.{IsOrderedBy, with_key}
 use Rattle.langtag_match.proofs.Stable.{stable_once}
 use Rattle.langtag_match.specs.declared.weighted_range.WeightedRange.{WeightedRange}

@@ -1,15 +1,19 @@
 pub mod AcceptLanguage
-pub mod Basic
 pub mod Compared
-pub mod Extended
 pub mod Filter
 pub mod FilterRule
-pub mod Fallback
-pub mod Listed
-pub mod Locale
 pub mod LookUp
-pub mod Range
 pub mod Stable
 pub mod Text
-pub mod Wanted
-pub mod Weight
+-- the pages on texts that are cited by the contracts of this crate and of what it exports. So callers need to name only
+-- this crate
+pub use Rattle.langtag_range.specs.Basic
+pub use Rattle.langtag_range.specs.BasicForm
+pub use Rattle.langtag_range.specs.Element
+pub use Rattle.langtag_range.specs.Extended
+pub use Rattle.langtag_range.specs.Fallback
+pub use Rattle.langtag_range.specs.Listed
+pub use Rattle.langtag_range.specs.Locale
+pub use Rattle.langtag_range.specs.Range
+pub use Rattle.langtag_range.specs.Wanted
+pub use Rattle.langtag_range.specs.Weight

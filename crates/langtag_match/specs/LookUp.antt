@@ -1,23 +1,11 @@
 -- Look-up of a tag for a list of language ranges (RFC 4647 section 3.4).
-use Rattle.std.specs.Prelude.{ℕ, ◌==◌, ◌&&◌, Bool, false, if◌then◌else◌, List, [], ◌∷◌, Option, None, find, unwrap_or}
+use Rattle.std.specs.Prelude.{ℕ, List, [], ◌∷◌, Option, None, find, unwrap_or}
 use Rattle.std.specs.Option.{option_or}
 use Rattle.langtag.specs.Case.{are_alike}
 use Rattle.langtag.specs.declared.lang_tag.LangTag.{LangTag}
 use Rattle.langtag.specs.Text.{lang_tag_text}
-use Rattle.langtag_match.specs.Fallback.{fallbacks}
-
--- whether a text begins with "-*"
-abbrev pub begins_with_wildcard : List ℕ → Bool
-begins_with_wildcard [] = false
-begins_with_wildcard (a ∷ []) = false
-begins_with_wildcard (a ∷ b ∷ text) = (a == 45) && (b == 42)
-
--- the basic range for an extended range: each "-*" is left out (section 3.2). A range that begins with "*" equals no
--- tag, so it needs no special case
-abbrev pub basic_form : List ℕ → List ℕ
-basic_form [] = []
-basic_form (a ∷ []) = a ∷ []
-basic_form (a ∷ b ∷ text) = if begins_with_wildcard (a ∷ b ∷ text) then basic_form text else a ∷ basic_form (b ∷ text)
+use Rattle.langtag_range.specs.BasicForm.{basic_form}
+use Rattle.langtag_range.specs.Fallback.{fallbacks}
 
 -- the first of the tags that equals the basic form of a range, ignoring case
 abbrev pub tag_alike : List LangTag → List ℕ → Option LangTag

@@ -8,7 +8,7 @@ use Rattle.langtag_match.specs.declared.language_range.LanguageRangeBuf.{Languag
 use Rattle.langtag_match.specs.declared.fallbacks.Fallbacks.{Fallbacks}
 use Rattle.langtag_match.specs.declared.weighted_range.WeightedRange.{WeightedRange}
 use Rattle.langtag_match.specs.declared.accept_language.AcceptLanguage.{AcceptLanguage}
-use Rattle.langtag_match.specs.Fallback.{fallbacks}
+use Rattle.langtag_range.specs.Fallback.{fallbacks}
 
 abbrev pub language_range_text : LanguageRange → List ℕ
 language_range_text range = range.text.0.now

@@ -1,14 +1,16 @@
 //! The language ranges in an Accept-Language header (RFC 9110 section 12.5.4).
 ghost use Rattle.std.specs.Prelude.{◌≡◌, ℕ, List, Some, IsTrue, true, is_ok, IfOk, IfErr, map, slice_get};
 ghost use Rattle.langtag_match.specs.AcceptLanguage as spec;
+ghost use Rattle.langtag_range.specs.Element.{items};
 ghost use Rattle.langtag_match.specs.LookUp.{choice};
 ghost use Rattle.langtag_match.specs.declared.weighted_range.WeightedRange.{WeightedRange};
 
 use crate::accept_language_error::AcceptLanguageError;
-use crate::element::{element_at, is_empty_element};
+use crate::element::element_at;
 use crate::lookup::tag_for;
 use crate::weighted_range::WeightedRange;
 use langtag::LangTag;
+use langtag_range::is_empty_element;
 use std::alloc::{AllocError, Global};
 use std::cmp::Reverse;
 
@@ -157,8 +159,8 @@ pub fn tag_for_header<'h, 't>(
 
 /// Returns the elements of a header, in order.
 fn elements(alloc: Global, header: &str) -> Result<Vec<WeightedRange<'_>>, AcceptLanguageError<'_>>
-    ensures good { is_ok result ≡ true → IsTrue (spec.are_good (spec.items header.now)) }
-    ensures elements { IfOk result (λ elements. map spec.reading elements.items ≡ spec.elements (spec.items header.now)) }
+    ensures good { is_ok result ≡ true → IsTrue (spec.are_good (items header.now)) }
+    ensures elements { IfOk result (λ elements. map spec.reading elements.items ≡ spec.elements (items header.now)) }
     ensures refused { IfErr result (spec.Refuses header.entry) }
 {
     let mut elements = Vec::new(alloc);
@@ -182,7 +184,7 @@ fn elements(alloc: Global, header: &str) -> Result<Vec<WeightedRange<'_>>, Accep
 
 /// Returns the elements of a header, in order, and skips malformed elements.
 fn good_elements(alloc: Global, header: &str) -> Result<Vec<WeightedRange<'_>>, AllocError>
-    ensures { IfOk result (λ elements. map spec.reading elements.items ≡ spec.elements (spec.items header.now)) }
+    ensures { IfOk result (λ elements. map spec.reading elements.items ≡ spec.elements (items header.now)) }
 {
     let mut elements = Vec::new(alloc);
     for item in header.split(',') {
@@ -195,7 +197,7 @@ fn good_elements(alloc: Global, header: &str) -> Result<Vec<WeightedRange<'_>>, 
 
 /// Returns the offset in bytes of the item at an index.
 fn offset_of(header: &str, index: usize) -> usize
-    ensures { (item : List ℕ) → slice_get (spec.items header.now) index ≡ Some item
+    ensures { (item : List ℕ) → slice_get (items header.now) index ≡ Some item
         → spec.StandsAt header.now item index result }
 {
     header

@@ -2,14 +2,14 @@
 ghost use Rattle.std.specs.Prelude.{◌≡◌, ◌≤◌, IsTrue, Some, None, IfOk, IfErr, MatchOption, drop, length, reverse, take, false};
 ghost use Rattle.std.specs.List.{position_or_len, slice_range};
 ghost use Rattle.langtag_match.specs.AcceptLanguage as spec;
-ghost use Rattle.langtag_match.specs.Range.{is_basic_range};
+ghost use Rattle.langtag_range.specs.Element.{element, is_semicolon, weight_of};
+ghost use Rattle.langtag_range.specs.Range.{is_basic_range};
 ghost use Rattle.langtag_match.specs.Text.{language_range_text, weighted_range_text};
 
 use crate::accept_language_error::ElementPart;
 use crate::language_range::LanguageRange;
-use crate::range_text::is_basic_range;
-use crate::weight::weight_of;
 use crate::weighted_range::WeightedRange;
+use langtag_range::{is_basic_range, trimmed_place, weight_of};
 use langtag_scan::len_before;
 
 /// An element of a header, and the offset of its range.
@@ -34,7 +34,7 @@ pub struct Element<'a> {
 /// # Errors
 ///
 /// Returns the part that is malformed if the text is not an element: the range in `fr_FR`, the weight in `fr;q=2`. If
-/// both are malformed, or if the text is empty or only white space, the error is the range. See [`is_empty_element`].
+/// both are malformed, or if the text is empty or only white space, the error is the range. See [`is_empty_element`](crate::is_empty_element).
 ///
 /// ```
 /// use langtag_match::element_at;
@@ -42,11 +42,11 @@ pub struct Element<'a> {
 /// let element = element_at(b" fr;q=0.5").ok();
 /// element.map(|it| (it.start, it.weighted.range.as_str(), it.weighted.weight)); // Some((1, "fr", 500))
 /// ```
-#[tactic(auto, unfolding(crate::specs::AcceptLanguage::element, crate::specs::AcceptLanguage::bad_part))]
+#[tactic(auto, unfolding(langtag_range::specs::Element::element, crate::specs::AcceptLanguage::bad_part))]
 pub fn element_at(item: &[u8]) -> Result<Element<'_>, ElementPart>
-    ensures read { IfOk result (λ found. spec.element item.now ≡ Some (spec.reading found.weighted)) }
+    ensures read { IfOk result (λ found. element item.now ≡ Some (spec.reading found.weighted)) }
     ensures place { IfOk result (λ found. spec.IsRangePlace item.now (weighted_range_text found.weighted) found.start) }
-    ensures none { IfErr result (λ part. spec.element item.now ≡ None) }
+    ensures none { IfErr result (λ part. element item.now ≡ None) }
     ensures bad { IfErr result (λ part. part ≡ spec.bad_part item.now) }
 {
     let end = len_before(item, b';');
@@ -62,27 +62,12 @@ pub fn element_at(item: &[u8]) -> Result<Element<'_>, ElementPart>
     Ok(Element { start, weighted })
 }
 
-/// Returns whether the text between two commas of a header is empty except for spaces and tabs. Such an element must be
-/// skipped (RFC 9110 section 5.6.1.2).
-///
-/// ```
-/// use langtag_match::is_empty_element;
-///
-/// is_empty_element(b" \t"); // true
-/// is_empty_element(b" fr"); // false
-/// ```
-pub fn is_empty_element(item: &[u8]) -> bool
-    ensures { result ≡ spec.is_ows item.now }
-{
-    item.iter().all(|byte| is_space(*byte))
-}
-
 /// Returns the weight after the first `;`, or 1000 if there is no `;`.
 #[tactic(auto, using(langtag_scan::proofs::Places::any_at_first, langtag_scan::proofs::Places::none_at_length))]
 fn weight_after(item: &[u8], semicolon: usize) -> Option<u32>
     requires within { semicolon ≤ length item.now }
-    requires first { semicolon ≡ position_or_len spec.is_semicolon item.now }
-    ensures { result ≡ spec.weight_of item.now }
+    requires first { semicolon ≡ position_or_len is_semicolon item.now }
+    ensures { result ≡ weight_of item.now }
 {
     if semicolon == item.len() {
         return Some(1000);
@@ -93,7 +78,7 @@ fn weight_after(item: &[u8], semicolon: usize) -> Option<u32>
 }
 
 /// Returns the bytes as a basic language range, or `None` if they are not a basic language range.
-#[tactic(auto, using(crate::proofs::BasicRanges::basic_ranges, crate::proofs::AsciiRanges::utf8_basic))]
+#[tactic(auto, using(langtag_range::proofs::BasicRanges::basic_ranges, langtag_range::proofs::AsciiRanges::utf8_basic))]
 fn basic_range(bytes: &[u8]) -> Option<LanguageRange<'_>>
     ensures { MatchOption result (is_basic_range bytes.now ≡ false)
         (λ range. (language_range_text range ≡ bytes.now) × IsTrue (is_basic_range bytes.now)) }
@@ -103,48 +88,4 @@ fn basic_range(bytes: &[u8]) -> Option<LanguageRange<'_>>
         return None;
     }
     Some(LanguageRange::from_checked(text))
-}
-
-/// Returns the offsets at which a text begins and ends without the white space around it.
-pub(crate) fn trimmed_place(text: &[u8]) -> (usize, usize)
-    ensures ordered { result.0 ≤ result.1 }
-    ensures within { result.1 ≤ length text.now }
-    ensures space { IsTrue (spec.is_ows (take result.0 text.now)) }
-    ensures trimmed { slice_range text.now result.0 result.1 ≡ spec.trimmed text.now }
-{
-    let start = leading_spaces(text);
-    (start, start + len_without_spaces(&text[start..]))
-}
-
-/// Returns the number of bytes of white space at the start of a text.
-#[tactic(auto, using(crate::proofs::Spaces::ows_more, crate::proofs::Spaces::from_first_more, crate::proofs::Spaces::from_first_stops, crate::proofs::Spaces::from_first_ends))]
-fn leading_spaces(text: &[u8]) -> usize
-    ensures within { result ≤ length text.now }
-    ensures space { IsTrue (spec.is_ows (take result text.now)) }
-    ensures rest { drop result text.now ≡ spec.from_first text.now }
-{
-    let mut start = 0;
-    while start < text.len() && is_space(text[start]) {
-        start += 1;
-    }
-    start
-}
-
-/// Returns the length of a text without the white space at its end.
-#[tactic(auto, using(crate::proofs::Spaces::last_space, crate::proofs::Spaces::last_stops))]
-fn len_without_spaces(text: &[u8]) -> usize
-    ensures within { result ≤ length text.now }
-    ensures rest { take result text.now ≡ reverse (spec.from_first (reverse text.now)) }
-{
-    let mut len = text.len();
-    while len > 0 && is_space(text[len - 1]) {
-        len -= 1;
-    }
-    len
-}
-
-fn is_space(byte: u8) -> bool
-    ensures { result ≡ spec.is_space byte }
-{
-    byte == b' ' || byte == b'\t'
 }

@@ -2,12 +2,12 @@
 ghost use Rattle.std.specs.Prelude.{◌≡◌, ◌<◌, ◌^◌, ◌∷◌, [], length, take, IfSome, IsTrue};
 ghost use Rattle.std.specs.Iterator.{YieldsFirstBy, item_count};
 ghost use Rattle.std.specs.Option.{option_map_or};
-ghost use Rattle.langtag_match.specs.Fallback as spec;
-ghost use Rattle.langtag_match.specs.Range.{is_language_range};
+ghost use Rattle.langtag_range.specs.Fallback as spec;
+ghost use Rattle.langtag_range.specs.Range.{is_language_range};
 ghost use Rattle.langtag_match.specs.Text.{language_range_text, fallbacks_left};
 
 use crate::language_range::LanguageRange;
-use langtag::segment_start;
+use langtag_range::shortened_len;
 
 /// An iterator over a range and its fallbacks, the longest first: `zh-Hant-TW`, `zh-Hant` and `zh`
 /// (RFC 4647 section 3.4).
@@ -30,7 +30,7 @@ pub struct Fallbacks<'a> {
 
 impl<'a> Fallbacks<'a> {
     /// Returns an iterator that starts at the range itself.
-    #[tactic(auto, using(crate::proofs::Hyphens::few_fallbacks))]
+    #[tactic(auto, using(langtag_range::proofs::Hyphens::few_fallbacks))]
     pub(crate) fn new(range: LanguageRange<'a>) -> Self
         ensures list { fallbacks_left result ≡ spec.fallbacks (language_range_text range.entry) }
         ensures few { length (fallbacks_left result) < 2 ^ 64 }
@@ -61,41 +61,4 @@ fn shortened(range: LanguageRange<'_>) -> Option<LanguageRange<'_>>
     let text = range.as_str();
     let len = shortened_len(text.as_bytes())?;
     Some(LanguageRange::from_checked(&text[..len]))
-}
-
-/// Returns the length of a range without its last subtag, and then without any single-character subtags at its end.
-/// Returns `None` if nothing is left.
-pub fn shortened_len(range: &[u8]) -> Option<usize>
-    ensures shorter { IfSome result (λ len. len < length range.now) }
-    ensures same { spec.fallbacks range.now ≡ range.now ∷ option_map_or (λ len. spec.fallbacks (take len range.now)) result [] }
-    ensures in_class { IfSome result (λ len. IsTrue (is_language_range range.now) → IsTrue (is_language_range (take len range.now))) }
-{
-    let mut left = range;
-    while let Some(len) = len_without_last(left) {
-        left = &left[..len];
-        if !ends_in_single(left) {
-            return Some(len);
-        }
-    }
-    None
-}
-
-/// Returns the number of bytes before the last hyphen.
-fn len_without_last(range: &[u8]) -> Option<usize>
-    ensures shorter { IfSome result (λ len. len < length range.now) }
-    ensures cut { spec.before_hyphens range.now ≡ option_map_or (λ len. take len range.now ∷ spec.before_hyphens (take len range.now)) result [] }
-    ensures in_class { IfSome result (λ len. IsTrue (is_language_range range.now) → IsTrue (is_language_range (take len range.now))) }
-{
-    let start = segment_start(range, range.len());
-    if start == 0 {
-        return None;
-    }
-    Some(start - 1)
-}
-
-/// Returns whether the last subtag of a text is a single character.
-pub fn ends_in_single(text: &[u8]) -> bool
-    ensures { result ≡ spec.ends_in_single text.now }
-{
-    matches!(text, [_] | [.., b'-', _])
 }

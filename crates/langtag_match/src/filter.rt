@@ -1,8 +1,8 @@
 //! Filtering of a list of tags by a language priority list (RFC 4647 section 3.3).
 ghost use Rattle.std.specs.Prelude.{◌≡◌, ◌<◌, ◌^◌, length};
 ghost use Rattle.std.specs.Iterator.{YieldsFirst, item_count};
-ghost use Rattle.langtag_match.specs.Basic.{test_basic};
-ghost use Rattle.langtag_match.specs.Extended.{test_extended};
+ghost use Rattle.langtag_range.specs.Basic.{test_basic};
+ghost use Rattle.langtag_range.specs.Extended.{test_extended};
 ghost use Rattle.langtag_match.specs.Filter as spec;
 ghost use Rattle.langtag_match.specs.FilterRule.{matches_by, filtered_left};
 

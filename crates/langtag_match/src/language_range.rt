@@ -3,16 +3,14 @@ ghost use Rattle.std.specs.Prelude.{◌≡◌, ◌<◌, ◌^◌, ◌↔◌, Some
 ghost use Rattle.std.specs.String.{string_bytes};
 ghost use Rattle.langtag.specs.Case.{are_alike};
 ghost use Rattle.langtag.specs.Text.{lang_tag_text};
-ghost use Rattle.langtag_match.specs.Basic.{MatchesBasic, test_basic};
-ghost use Rattle.langtag_match.specs.Extended.{MatchesExtended, test_extended};
-ghost use Rattle.langtag_match.specs.Fallback.{fallbacks};
-ghost use Rattle.langtag_match.specs.Range as spec;
+ghost use Rattle.langtag_range.specs.Basic.{MatchesBasic, test_basic};
+ghost use Rattle.langtag_range.specs.Extended.{MatchesExtended, test_extended};
+ghost use Rattle.langtag_range.specs.Fallback.{fallbacks};
+ghost use Rattle.langtag_range.specs.Range as spec;
 
-use crate::basic::matches_basic;
-use crate::extended::matches_extended;
 use crate::fallbacks::Fallbacks;
-use crate::range_text::{is_basic_range, is_language_range};
 use langtag::LangTag;
+use langtag_range::{is_basic_range, is_language_range, matches_basic, matches_extended};
 use langtag_scan::Caseless;
 use std::alloc::{AllocError, Global};
 use std::fmt;

@@ -20,36 +20,23 @@
 
 mod accept_language;
 mod accept_language_error;
-mod basic;
 mod element;
-mod extended;
 mod fallbacks;
 mod filter;
 mod filter_rule;
 mod language_range;
-mod listed;
-mod locale;
 mod lookup;
-mod range_text;
-mod wanted;
-mod wanted_element;
-mod weight;
 mod weighted_range;
 
 pub use accept_language::{AcceptLanguage, tag_for_header};
 pub use accept_language_error::{AcceptLanguageError, ElementPart};
-pub use element::{Element, element_at, is_empty_element};
+pub use element::{Element, element_at};
 pub use fallbacks::Fallbacks;
 pub use filter::{Filtered, filter_basic, filter_extended};
+pub use langtag_range::{
+    WantedRange, WantedRanges, is_empty_element, listed_range, locale_place, split_wanted,
+    wanted_ranges, weight_of,
+};
 pub use language_range::{InvalidLanguageRange, LanguageRange, LanguageRangeBuf};
-pub use listed::listed_range;
-pub use locale::locale_place;
 pub use lookup::look_up;
-pub use wanted::{WantedRange, WantedRanges, split_wanted, wanted_ranges};
-pub use weight::weight_of;
 pub use weighted_range::WeightedRange;
-
-// For langtag_registry, langtag_choice and langtag_c.
-pub use extended::matches_extended;
-pub use fallbacks::{ends_in_single, shortened_len};
-pub use wanted_element::is_separator;

@@ -1,12 +1,13 @@
 //! The look-up of one tag for a list of ranges (RFC 4647 section 3.4).
 ghost use Rattle.std.specs.Prelude.{◌≡◌, map};
 ghost use Rattle.langtag.specs.Case.{are_alike};
-ghost use Rattle.langtag_match.specs.Fallback.{fallbacks};
+ghost use Rattle.langtag_range.specs.Fallback.{fallbacks};
 ghost use Rattle.langtag_match.specs.LookUp as spec;
 ghost use Rattle.langtag_match.specs.Text.{language_range_text};
 
 use crate::language_range::LanguageRange;
 use langtag::LangTag;
+use langtag_range::is_range;
 
 /// Returns the tag that the first successful range finds, or the default if no range finds a tag (RFC 4647 section
 /// 3.4). A range finds the tag that equals the range. If no tag equals it, its [`fallbacks`](LanguageRange::fallbacks)
@@ -61,34 +62,4 @@ fn tag_alike<'a>(range: LanguageRange<'_>, tags: &[LangTag<'a>]) -> Option<LangT
     tags.iter()
         .copied()
         .find(|tag| is_range(tag.as_bytes(), range))
-}
-
-/// Returns whether a tag equals a range, ignoring case and each `-*`.
-fn is_range(tag: &[u8], range: &[u8]) -> bool
-    ensures { result ≡ are_alike tag.now (spec.basic_form range.now) }
-{
-    let mut tag = tag;
-    let mut range = range;
-    while let [first, others @ ..] = range {
-        if begins_with_wildcard(range) {
-            range = &range[2..];
-            continue;
-        }
-        let [byte, rest @ ..] = tag else {
-            return false;
-        };
-        if !byte.eq_ignore_ascii_case(first) {
-            return false;
-        }
-        tag = rest;
-        range = others;
-    }
-    tag.is_empty()
-}
-
-/// Returns whether a text begins with `-*`.
-fn begins_with_wildcard(text: &[u8]) -> bool
-    ensures { result ≡ spec.begins_with_wildcard text.now }
-{
-    matches!(text, [b'-', b'*', ..])
 }

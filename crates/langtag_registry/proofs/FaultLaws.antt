@@ -17,7 +17,7 @@ use Rattle.langtag.specs.Repeat.{repeat, repeat_index, repeat_index_after, are_a
 use Rattle.langtag.proofs.RepeatLaws.{IsAt-drop}
 use Rattle.std.proofs.lemmas.List.{at_drop_more, take_more}
 use Rattle.langtag_registry.specs.Registered.{is_registered_language, is_registered_extlang, is_registered_script, is_registered_region, is_registered_variant}
-use Rattle.langtag_registry.specs.Fault.{Told, language, extlang, second_extlang, script, region, variant, repeated_variant, repeated_singleton, unless, extlang_faults, language_faults, script_faults, region_faults, variant_faults, singleton_faults, faults}
+use Rattle.langtag_registry.specs.Fault.{Told, language, extlang, second_extlang, variant, repeated_variant, repeated_singleton, unless, extlang_faults, language_faults, script_faults, region_faults, variant_faults, singleton_faults, faults}
 use Rattle.langtag_registry.specs.Valid.{IsValidRecord}
 use Rattle.std.proofs.lemmas.Bool.{not-true}
 

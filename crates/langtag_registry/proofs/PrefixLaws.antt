@@ -6,7 +6,7 @@ use Rattle.std.proofs.lemmas.List.{length-map, get_or-map, at_drop_more}
 use Rattle.std.proofs.lemmas.Grind.{common_steps}
 use Rattle.langtag_scan.specs.Case.{are_alike}
 use Rattle.langtag_scan.specs.Class.{are_alphanumeric}
-use Rattle.langtag_match.specs.Extended.{test_extended}
+use Rattle.langtag_range.specs.Extended.{test_extended}
 use Rattle.langtag_registry.specs.Entry.{Entry, values_for}
 use Rattle.langtag_scan.specs.Case.{folded_number}
 use Rattle.langtag_registry.specs.Prefix.{some_matches, fits_after}

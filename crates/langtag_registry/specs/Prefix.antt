@@ -5,7 +5,7 @@ use Rattle.std.specs.List.{list_any}
 use Rattle.std.specs.Option.{option_map_or}
 use Rattle.langtag_scan.specs.Case.{are_alike}
 use Rattle.langtag_scan.specs.Record.{Record, spell}
-use Rattle.langtag_match.specs.Extended.{test_extended}
+use Rattle.langtag_range.specs.Extended.{test_extended}
 use Rattle.langtag_registry.specs.Entry.{values_for}
 use Rattle.langtag_registry.specs.Fields.{extlang_prefix}
 use Rattle.langtag_registry.specs.Subtags.{variant_prefixes}

@@ -5,7 +5,7 @@ ghost use Rattle.langtag_scan.specs.Record.{EachRecord};
 ghost use Rattle.langtag_language.specs.Text.{extended_lang_tag_text};
 ghost use Rattle.langtag_place.specs.Text.{variant_text};
 ghost use Rattle.langtag.specs.Text.{normal_lang_tag_text};
-ghost use Rattle.langtag_match.specs.Extended.{test_extended};
+ghost use Rattle.langtag_range.specs.Extended.{test_extended};
 ghost use Rattle.langtag_scan.specs.Case.{folded_number};
 ghost use Rattle.langtag_registry.specs.Prefix as spec;
 ghost use Rattle.langtag_registry.specs.Subtags as list;
@@ -14,8 +14,8 @@ use crate::prefixes::extlang_prefix;
 use crate::tables::VARIANT_PREFIXES;
 use langtag::NormalLangTag;
 use langtag_language::ExtendedLangTag;
-use langtag_match::matches_extended;
 use langtag_place::Variant;
+use langtag_range::matches_extended;
 use langtag_scan::folded_number;
 
 /// Returns the first variant of a tag that follows none of its prefixes (the field Prefix, RFC 5646 section 3.1.8).

@@ -39,6 +39,8 @@ mod output;
 mod place;
 #[path = "../../src/private/mod.rs"]
 mod private;
+#[path = "../../src/range/mod.rs"]
+mod range;
 #[path = "../../src/registry/mod.rs"]
 mod registry;
 #[path = "../../src/scan/mod.rs"]

@@ -7,7 +7,7 @@ use crate::choice::improve::{improve, limit};
 use crate::choice::range_list::RangeList;
 use crate::choice::tag_list::TagList;
 use crate::choice::wish::Wish;
-use crate::matching::WantedRange;
+use crate::range::WantedRange;
 
 /// Returns the best of all candidates, even if it is refused or not a tag, and whether a range has the weight 0.
 pub(crate) fn first_by_ranges<'a, 't, R: RangeList<'a>, T: TagList>(

@@ -8,7 +8,7 @@ use crate::choice::range_list::RangeList;
 use crate::choice::refused::is_refused;
 use crate::choice::tag_list::TagList;
 use crate::choice::wish::Wish;
-use crate::matching::WantedRange;
+use crate::range::WantedRange;
 
 /// Returns the best candidate among the tags that are not refused.
 #[inline]

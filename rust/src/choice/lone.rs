@@ -6,7 +6,7 @@
 use crate::choice::matching_tables as tables;
 use crate::choice::read_range::starts;
 use crate::likely::{language_number, TagFields};
-use crate::matching::is_separator;
+use crate::range::is_separator;
 use crate::scan::into_smallcase;
 
 /// Returns the first two bytes of a text, in lowercase.

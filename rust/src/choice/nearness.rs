@@ -6,7 +6,7 @@ use crate::choice::rule_distance::language_distance;
 use crate::choice::tag_distance::places_distance;
 use crate::choice::wish::Wish;
 use crate::likely::{after_common, are_alike, completed, matching_form, replaced_form, TagFields};
-use crate::matching::ends_in_single;
+use crate::range::ends_in_single;
 
 /// The distance of a tag from a range, and the tag's matching form.
 #[derive(Clone, Copy)]

@@ -2,7 +2,8 @@
 
 //! The lists of language ranges for which a tag can be chosen.
 
-use crate::matching::{split_wanted, LanguageRange, WantedRange, WeightedRange};
+use crate::matching::{LanguageRange, WeightedRange};
+use crate::range::{split_wanted, WantedRange};
 
 /// Language ranges with their weights, in the reader's order. It is implemented for an Accept-Language header in a
 /// slice of bytes, and for slices of [`WeightedRange`] and of [`LanguageRange`]. Walking over the ranges does not

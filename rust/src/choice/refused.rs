@@ -5,7 +5,7 @@
 use crate::choice::range_list::RangeList;
 use crate::choice::read_range::{begins, is_star};
 use crate::likely::basic_len;
-use crate::matching::WantedRange;
+use crate::range::WantedRange;
 
 /// Returns whether the longest range that matches a tag has the weight 0.
 pub(crate) fn is_refused<'a, R: RangeList<'a>>(ranges: R, tag: &[u8]) -> bool {

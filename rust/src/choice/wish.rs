@@ -5,7 +5,7 @@
 use crate::choice::lone::{first_two, is_short, lone_letters};
 use crate::choice::read_range::is_star;
 use crate::likely::{matching_form, TagFields};
-use crate::matching::WantedRange;
+use crate::range::WantedRange;
 
 /// A range other than `*`, its weight, which is not 0, and the number of ranges before it. The matching form of the
 /// range is made once, and used for all tags. The two letters of the range's language are stored if the range begins

@@ -7,9 +7,9 @@ use crate::likely::forms::tag_of;
 use crate::likely::modifiers::{modifier_script, modifier_variant, script_of};
 #[cfg(feature = "alloc")]
 use crate::likely::posix_error::PosixError;
-use crate::matching::locale_place;
 use crate::output::write_text;
 use crate::place::{Script, Variants};
+use crate::range::locale_place;
 use crate::scan::{split_at_byte, split_at_either};
 #[cfg(feature = "alloc")]
 use crate::shim::{try_vec, AllocError};

@@ -4,9 +4,10 @@
 
 #[cfg(feature = "alloc")]
 use crate::matching::accept_language_error::AcceptLanguageError;
-use crate::matching::element::{element_at, is_empty_element};
+use crate::matching::element::element_at;
 use crate::matching::lookup::tag_for;
 use crate::matching::weighted_range::WeightedRange;
+use crate::range::is_empty_element;
 #[cfg(feature = "alloc")]
 use crate::shim::{AllocError, TryItems};
 use crate::tag::LangTag;

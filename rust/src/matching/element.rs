@@ -4,9 +4,8 @@
 
 use crate::matching::accept_language_error::ElementPart;
 use crate::matching::language_range::LanguageRange;
-use crate::matching::range_text::is_basic_range;
-use crate::matching::weight::weight_of;
 use crate::matching::weighted_range::WeightedRange;
+use crate::range::{is_basic_range, trimmed_place, weight_of};
 use crate::scan::len_before;
 
 /// An element of a header, and the offset of its range.
@@ -31,7 +30,7 @@ pub struct Element<'a> {
 /// # Errors
 ///
 /// Returns the part that is malformed if the text is not an element: the range in `fr_FR`, the weight in `fr;q=2`. If
-/// both are malformed, or if the text is empty or only white space, the error is the range. See [`is_empty_element`].
+/// both are malformed, or if the text is empty or only white space, the error is the range. See [`is_empty_element`](crate::matching::is_empty_element).
 ///
 /// ```
 /// use langtag::matching::element_at;
@@ -55,22 +54,6 @@ pub fn element_at(item: &[u8]) -> Result<Element<'_>, ElementPart> {
     Ok(Element { start, weighted })
 }
 
-/// Returns whether the text between two commas of a header is empty except for spaces and tabs. Such an element must be
-/// skipped ([RFC 9110 section 5.6.1.2]).
-///
-/// ```
-/// use langtag::matching::is_empty_element;
-///
-/// assert!(is_empty_element(b" \t"));
-/// assert!(!is_empty_element(b" fr"));
-/// ```
-///
-/// [RFC 9110 section 5.6.1.2]: https://www.rfc-editor.org/rfc/rfc9110#section-5.6.1.2
-#[inline]
-pub fn is_empty_element(item: &[u8]) -> bool {
-    item.iter().all(|byte| is_space(*byte))
-}
-
 /// Returns the weight after the first `;`, or 1000 if there is no `;`.
 fn weight_after(item: &[u8], semicolon: usize) -> Option<u32> {
     if semicolon == item.len() {
@@ -88,36 +71,4 @@ fn basic_range(bytes: &[u8]) -> Option<LanguageRange<'_>> {
         return None;
     }
     Some(LanguageRange::from_checked(text))
-}
-
-/// Returns the offsets at which a text begins and ends without the white space around it.
-#[inline]
-pub(crate) fn trimmed_place(text: &[u8]) -> (usize, usize) {
-    let start = leading_spaces(text);
-    (start, start + len_without_spaces(&text[start..]))
-}
-
-/// Returns the number of bytes of white space at the start of a text.
-#[inline]
-fn leading_spaces(text: &[u8]) -> usize {
-    let mut start = 0;
-    while start < text.len() && is_space(text[start]) {
-        start += 1;
-    }
-    start
-}
-
-/// Returns the length of a text without the white space at its end.
-#[inline]
-fn len_without_spaces(text: &[u8]) -> usize {
-    let mut len = text.len();
-    while len > 0 && is_space(text[len - 1]) {
-        len -= 1;
-    }
-    len
-}
-
-#[inline]
-fn is_space(byte: u8) -> bool {
-    byte == b' ' || byte == b'\t'
 }

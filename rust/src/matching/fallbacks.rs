@@ -3,7 +3,7 @@
 //! The fallbacks of a language range, which are made by removing subtags from its end (RFC 4647 section 3.4).
 
 use crate::matching::language_range::LanguageRange;
-use crate::tag::segment_start;
+use crate::range::shortened_len;
 
 /// An iterator over a range and its fallbacks, the longest first: `zh-Hant-TW`, `zh-Hant` and `zh`
 /// ([RFC 4647 section 3.4]).
@@ -54,33 +54,4 @@ fn shortened(range: LanguageRange<'_>) -> Option<LanguageRange<'_>> {
     let text = range.as_str();
     let len = shortened_len(text.as_bytes())?;
     Some(LanguageRange::from_checked(&text[..len]))
-}
-
-/// Returns the length of a range without its last subtag, and then without any single-character subtags at its end.
-/// Returns `None` if nothing is left.
-pub fn shortened_len(range: &[u8]) -> Option<usize> {
-    let mut left = range;
-    while let Some(len) = len_without_last(left) {
-        left = &left[..len];
-        if !ends_in_single(left) {
-            return Some(len);
-        }
-    }
-    None
-}
-
-/// Returns the number of bytes before the last hyphen.
-#[inline]
-fn len_without_last(range: &[u8]) -> Option<usize> {
-    let start = segment_start(range, range.len());
-    if start == 0 {
-        return None;
-    }
-    Some(start - 1)
-}
-
-/// Returns whether the last subtag of a text is a single character.
-#[inline]
-pub fn ends_in_single(text: &[u8]) -> bool {
-    matches!(text, [_] | [.., b'-', _])
 }

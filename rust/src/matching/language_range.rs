@@ -2,10 +2,8 @@
 
 //! Language ranges (RFC 4647 section 2), borrowed and owned.
 
-use crate::matching::basic::matches_basic;
-use crate::matching::extended::matches_extended;
 use crate::matching::fallbacks::Fallbacks;
-use crate::matching::range_text::{is_basic_range, is_language_range};
+use crate::range::{is_basic_range, is_language_range, matches_basic, matches_extended};
 use crate::scan::Caseless;
 #[cfg(feature = "alloc")]
 use crate::shim::{try_string, AllocError};

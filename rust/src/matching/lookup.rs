@@ -3,6 +3,7 @@
 //! The look-up of one tag for a list of ranges (RFC 4647 section 3.4).
 
 use crate::matching::language_range::LanguageRange;
+use crate::range::is_range;
 use crate::tag::LangTag;
 
 /// Returns the tag that the first successful range finds, or the default if no range finds a tag (RFC 4647 section
@@ -58,31 +59,4 @@ fn tag_alike<'a>(range: LanguageRange<'_>, tags: &[LangTag<'a>]) -> Option<LangT
     tags.iter()
         .copied()
         .find(|tag| is_range(tag.as_bytes(), range))
-}
-
-/// Returns whether a tag equals a range, ignoring case and each `-*`.
-fn is_range(tag: &[u8], range: &[u8]) -> bool {
-    let mut tag = tag;
-    let mut range = range;
-    while let [first, others @ ..] = range {
-        if begins_with_wildcard(range) {
-            range = &range[2..];
-            continue;
-        }
-        let [byte, rest @ ..] = tag else {
-            return false;
-        };
-        if !byte.eq_ignore_ascii_case(first) {
-            return false;
-        }
-        tag = rest;
-        range = others;
-    }
-    tag.is_empty()
-}
-
-/// Returns whether a text begins with `-*`.
-#[inline]
-fn begins_with_wildcard(text: &[u8]) -> bool {
-    matches!(text, [b'-', b'*', ..])
 }

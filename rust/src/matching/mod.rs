@@ -24,41 +24,28 @@
 
 mod accept_language;
 mod accept_language_error;
-mod basic;
 mod element;
-mod extended;
 mod fallbacks;
 mod filter;
 mod filter_rule;
 mod language_range;
-mod listed;
-mod locale;
 mod lookup;
-mod range_text;
-mod wanted;
-mod wanted_element;
-mod weight;
 mod weighted_range;
 
+pub use crate::range::{
+    is_empty_element, listed_range, locale_place, split_wanted, wanted_ranges, weight_of,
+    WantedRange, WantedRanges,
+};
 #[cfg(feature = "alloc")]
 pub use accept_language::{tag_for_header, AcceptLanguage};
 #[cfg(feature = "alloc")]
 pub use accept_language_error::AcceptLanguageError;
 pub use accept_language_error::ElementPart;
-pub use element::{element_at, is_empty_element, Element};
+pub use element::{element_at, Element};
 pub use fallbacks::Fallbacks;
 pub use filter::{filter_basic, filter_extended, Filtered};
 #[cfg(feature = "alloc")]
 pub use language_range::LanguageRangeBuf;
 pub use language_range::{InvalidLanguageRange, LanguageRange};
-pub use listed::listed_range;
-pub use locale::locale_place;
 pub use lookup::look_up;
-pub use wanted::{split_wanted, wanted_ranges, WantedRange, WantedRanges};
-pub use weight::weight_of;
 pub use weighted_range::WeightedRange;
-
-// For langtag_registry, langtag_choice and langtag_c.
-pub(crate) use extended::matches_extended;
-pub(crate) use fallbacks::{ends_in_single, shortened_len};
-pub(crate) use wanted_element::is_separator;

@@ -3,8 +3,8 @@
 //! Variants and extended languages that follow none of their prefixes (RFC 5646 section 3.1.8).
 
 use crate::language::ExtendedLangTag;
-use crate::matching::matches_extended;
 use crate::place::Variant;
+use crate::range::matches_extended;
 use crate::registry::prefixes::extlang_prefix;
 use crate::registry::tables::VARIANT_PREFIXES;
 use crate::scan::folded_number;

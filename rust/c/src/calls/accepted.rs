@@ -3,7 +3,8 @@
 //! A walk over the elements of an Accept-Language header (RFC 9110 section 12.5.4), without allocating.
 
 use crate::calls::span::Span;
-use crate::matching::{element_at, is_empty_element, ElementPart};
+use crate::matching::{element_at, ElementPart};
+use crate::range::is_empty_element;
 use crate::scan::len_before;
 
 /// Removes the first element that is not empty from a header, with the comma after it. Returns 1 for a language range

@@ -6,7 +6,7 @@ use crate::calls::look_up::is_comma;
 use crate::calls::span::Span;
 use crate::calls::spanned_tags::SpannedTags;
 use crate::choice::match_among;
-use crate::matching::split_wanted;
+use crate::range::split_wanted;
 
 /// The range that the best tag serves, and the distance from the range to the tag.
 #[repr(C)]

@@ -6,7 +6,8 @@
 use crate::calls::accepted::{next_item, number_of};
 use crate::calls::span::Span;
 use crate::calls::spanned_tags::{bytes_in, tag_in, SpannedTags};
-use crate::matching::{element_at, is_empty_element, ElementPart, LanguageRange};
+use crate::matching::{element_at, ElementPart, LanguageRange};
+use crate::range::is_empty_element;
 use crate::scan::case_insensitive_eq;
 
 /// Looks up a tag for an Accept-Language header, and refuses a header with a malformed element. The tags are spans of a

@@ -4,7 +4,7 @@
 
 use crate::calls::span::Span;
 use crate::choice::RangeList;
-use crate::matching::{listed_range, WantedRange};
+use crate::range::{listed_range, WantedRange};
 
 /// A text, and spans of it that are language ranges, the most wanted first.
 #[derive(Clone, Copy)]

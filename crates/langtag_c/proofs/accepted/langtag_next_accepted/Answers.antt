@@ -1,6 +1,6 @@
 use Rattle.std.proofs.Common.{◌≡◌, ◌+◌, ◌-◌, ◌≤◌, Some, length, length-take, drop, ap, sym, ◌∙◌, arith}
 use Rattle.std.specs.List.{slice_range}
-use Rattle.langtag_match.specs.AcceptLanguage.{is_ows}
+use Rattle.langtag_range.specs.Element.{is_ows}
 use Rattle.langtag_match.specs.Text.{weighted_range_text}
 use Rattle.langtag_c.specs.Spans.{end_of, span_text}
 use Rattle.langtag_c.specs.declared.span.Span.{Span}

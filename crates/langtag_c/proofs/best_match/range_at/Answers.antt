@@ -2,8 +2,8 @@ use Rattle.std.proofs.Common.{◌+◌, arith, length, refl, rules, sym, tests, a
 use Rattle.std.proofs.lemmas.Iterator.Splits.{YieldsList-from_slice_split}
 use Rattle.std.proofs.lemmas.Iterator.Consumers.{YieldsList-at, YieldsList-turn, YieldsList-end}
 use Rattle.std.proofs.lemmas.List.{length-map, take_all}
-use Rattle.langtag_match.specs.AcceptLanguage.{is_comma, items}
-use Rattle.langtag_match.specs.Wanted.{hyphened_byte, wanted_element}
+use Rattle.langtag_range.specs.Element.{is_comma, items}
+use Rattle.langtag_range.specs.Wanted.{hyphened_byte, wanted_element}
 use Rattle.langtag_c.specs.Choice.{range_count}
 use Rattle.langtag_c.proofs.HeaderRanges.{is_range_at, no_more, one_more, spaces_within}
 use Rattle.langtag_c.proofs.LookUps.{width-next, width_fits}

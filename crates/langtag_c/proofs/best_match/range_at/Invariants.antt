@@ -1,6 +1,6 @@
 use Rattle.std.proofs.Common.{◌≡◌, ◌+◌, length, take}
 use Rattle.std.specs.List.{sum_by}
-use Rattle.langtag_match.specs.AcceptLanguage.{items}
+use Rattle.langtag_range.specs.Element.{items}
 use Rattle.langtag_match.proofs.Offsets.{width}
 use Rattle.langtag_c.specs.Choice.{range_count}
 use Rattle.langtag_c.proofs.best_match.range_at.Given as goal

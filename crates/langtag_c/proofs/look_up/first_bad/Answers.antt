@@ -2,7 +2,8 @@ use Rattle.std.proofs.Common.{◌≡◌, subst, true, length, rules, tests, arit
 use Rattle.std.proofs.lemmas.Iterator.Splits.{YieldsList-from_slice_split}
 use Rattle.std.proofs.lemmas.Iterator.Consumers.{YieldsList-at, YieldsList-turn, YieldsList-end}
 use Rattle.std.proofs.lemmas.List.{take_all}
-use Rattle.langtag_match.specs.AcceptLanguage.{are_good, is_comma, items}
+use Rattle.langtag_match.specs.AcceptLanguage.{are_good}
+use Rattle.langtag_range.specs.Element.{is_comma, items}
 use Rattle.langtag_c.proofs.LookUps.{good-next, is_bad_at, width-next, width_fits}
 use Rattle.langtag_c.proofs.look_up.first_bad.Goals as goal
 

@@ -1,6 +1,6 @@
 use Rattle.langtag_choice.proofs.FoundLaws.{one_more_range, rest_done, rest_here, rest_next}
 use Rattle.std.proofs.Common.{rules}
-use Rattle.langtag_match.specs.Listed.{listed_element}
+use Rattle.langtag_range.specs.Listed.{listed_element}
 use Rattle.langtag_choice.proofs.by_ranges.first_by_ranges.Goals as goal
 
 pub loop-wanted-preserved : goal.loop-wanted-preserved

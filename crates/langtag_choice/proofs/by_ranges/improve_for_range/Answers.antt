@@ -1,5 +1,5 @@
 use Rattle.std.proofs.Common.{Some, sym, ap, ◌∙◌, arith, slice_get}
-use Rattle.langtag_match.specs.Listed.{listed_element}
+use Rattle.langtag_range.specs.Listed.{listed_element}
 use Rattle.langtag_choice.proofs.FoundLaws.{from_of, one_more_tag, real_from, takes_covers, text_at}
 use Rattle.langtag_choice.proofs.by_ranges.improve_for_range.Goals as goal
 

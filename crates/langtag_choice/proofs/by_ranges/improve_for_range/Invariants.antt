@@ -1,6 +1,6 @@
 use Rattle.std.proofs.Common.{◌≡◌, Some, List, slice_get}
-use Rattle.langtag_match.specs.AcceptLanguage.{Element}
-use Rattle.langtag_match.specs.Listed.{listed_element}
+use Rattle.langtag_range.specs.Element.{Element}
+use Rattle.langtag_range.specs.Listed.{listed_element}
 use Rattle.langtag_choice.specs.Found.{CoversTags, IsReal, Keeps}
 use Rattle.langtag_choice.proofs.by_ranges.improve_for_range.Given as goal
 

@@ -1,5 +1,5 @@
 use Rattle.std.proofs.Common.{rules}
-use Rattle.langtag_match.specs.Listed.{listed_element}
+use Rattle.langtag_range.specs.Listed.{listed_element}
 use Rattle.langtag_choice.proofs.FoundLaws.{from_later, one_more_range_for_tag, rest_done, rest_here, rest_next}
 use Rattle.langtag_choice.proofs.by_tags.improve_for_tag.Goals as goal
 

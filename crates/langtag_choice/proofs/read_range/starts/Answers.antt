@@ -1,5 +1,5 @@
 use Rattle.std.proofs.Common.{◌∙◌}
-use Rattle.langtag_match.specs.Listed.{basic_text}
+use Rattle.langtag_range.specs.Listed.{basic_text}
 use Rattle.langtag_choice.proofs.ReadRanges.{range_starts}
 use Rattle.langtag_choice.proofs.read_range.starts.Goals as goal
 

@@ -1,7 +1,7 @@
 use Rattle.std.proofs.Common.{◌≡◌, ap, subst, ◌∙◌, option_map}
 use Rattle.langtag.specs.Text.{lang_tag_text}
 use Rattle.langtag_place.specs.Text.{script_text}
-use Rattle.langtag_match.specs.Locale.{locale_place}
+use Rattle.langtag_range.specs.Locale.{locale_place}
 use Rattle.langtag_likely.specs.Likely.{or_else}
 use Rattle.langtag_likely.specs.Maximal.{IsForm}
 use Rattle.langtag_likely.specs.Modifiers.{modifier_script, modifier_variant}
@@ -9,7 +9,7 @@ use Rattle.langtag_likely.specs.Posix.{IsLocalePlace, modifier_of, said_script, 
 use Rattle.langtag_likely.proofs.FormLaws.{rewritten}
 use Rattle.langtag_likely.proofs.PosixLaws.{form_composed, modifier_variant-fits, said_script-fits, script_or, script_well_formed, variant_of}
 use Rattle.langtag_likely.proofs.posix.write_from_posix.Goals as goal
-use Rattle.langtag_match.specs.Wanted.{hyphened}
+use Rattle.langtag_range.specs.Wanted.{hyphened}
 
 pub write_with_variant-requires : goal.write_with_variant-requires
 write_with_variant-requires c = variant_of _ _ c.modifier_variant.ensures (modifier_variant-fits _)

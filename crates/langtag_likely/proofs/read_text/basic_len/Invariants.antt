@@ -1,5 +1,5 @@
 use Rattle.std.proofs.Common.{◌≡◌, ◌+◌, length}
-use Rattle.langtag_match.specs.Listed.{basic_text}
+use Rattle.langtag_range.specs.Listed.{basic_text}
 use Rattle.langtag_likely.specs.Ranges.{BeginsPlain}
 use Rattle.langtag_likely.proofs.read_text.basic_len.Given as goal
 

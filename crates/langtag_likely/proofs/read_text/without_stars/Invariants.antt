@@ -1,5 +1,5 @@
 use Rattle.std.proofs.Common.{◌≡◌, ◌≤◌, length}
-use Rattle.langtag_match.specs.Listed.{basic_text}
+use Rattle.langtag_range.specs.Listed.{basic_text}
 use Rattle.langtag_likely.proofs.read_text.without_stars.Given as goal
 
 abbrev pub invariant-loop-left : goal.invariant-loop-left

@@ -6,7 +6,8 @@ use Rattle.std.proofs.lemmas.List.{take_all}
 use Rattle.std.proofs.lemmas.List.FromFn.{length-enumerate_from}
 use Rattle.std.proofs.lemmas.Iterator.Splits.{YieldsList-from_str_split}
 use Rattle.std.proofs.lemmas.Iterator.Consumers.{YieldsList-from_enumerate, YieldsList-at, YieldsList-turn, YieldsList-end}
-use Rattle.langtag_match.specs.AcceptLanguage.{bad_part, element, elements, items, is_ows, are_good}
+use Rattle.langtag_match.specs.AcceptLanguage.{bad_part, elements, are_good}
+use Rattle.langtag_range.specs.Element.{element, items, is_ows}
 use Rattle.langtag_match.proofs.Elements.{turn_at, after_empty, after_element}
 use Rattle.langtag_match.proofs.accept_language.elements.Goals as goal
 

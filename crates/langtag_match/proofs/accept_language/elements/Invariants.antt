@@ -1,5 +1,5 @@
 use Rattle.std.proofs.Common.{length, take}
-use Rattle.langtag_match.specs.AcceptLanguage.{items}
+use Rattle.langtag_range.specs.Element.{items}
 use Rattle.langtag_match.proofs.Elements.{IsRead}
 use Rattle.langtag_match.proofs.accept_language.elements.Given as goal
 

@@ -3,7 +3,8 @@ use Rattle.std.proofs.lemmas.Grind.{common_steps}
 use Rattle.std.proofs.lemmas.List.{take_all}
 use Rattle.std.proofs.lemmas.Iterator.Splits.{YieldsList-from_str_split}
 use Rattle.std.proofs.lemmas.Iterator.Consumers.{YieldsList-at, YieldsList-turn, YieldsList-end}
-use Rattle.langtag_match.specs.AcceptLanguage.{element, elements, items}
+use Rattle.langtag_match.specs.AcceptLanguage.{elements}
+use Rattle.langtag_range.specs.Element.{element, items}
 use Rattle.langtag_match.proofs.Elements.{elements-more, elements-same}
 use Rattle.langtag_match.proofs.accept_language.good_elements.Goals as goal
 

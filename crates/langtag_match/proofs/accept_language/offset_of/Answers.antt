@@ -4,7 +4,8 @@ use Rattle.std.proofs.lemmas.Iterator.{YieldsList-from_take, YieldsList-from_map
 use Rattle.std.proofs.lemmas.Iterator.Consumers.{YieldsList-at, sum_by_from_yields_List, fits_by_from_yields_list}
 use Rattle.std.proofs.lemmas.Iterator.Splits.{YieldsList-from_str_split}
 use Rattle.std.proofs.lemmas.List.Sums.{sum_by-take-le}
-use Rattle.langtag_match.specs.AcceptLanguage.{items, StandsAt}
+use Rattle.langtag_match.specs.AcceptLanguage.{StandsAt}
+use Rattle.langtag_range.specs.Element.{items}
 use Rattle.langtag_match.proofs.Offsets.{width, sum_by-slice_split, item_stands}
 use Rattle.langtag_match.proofs.accept_language.offset_of.Goals as goal
 

@@ -1,7 +1,7 @@
 use Rattle.std.proofs.Common.{sym, ◌∙◌, arith}
 use Rattle.std.proofs.lemmas.List.{take_rest}
 use Rattle.std.proofs.lemmas.Grind.{common_steps}
-use Rattle.langtag_match.specs.AcceptLanguage.{is_semicolon}
+use Rattle.langtag_range.specs.Element.{is_semicolon}
 use Rattle.langtag_scan.proofs.Places.{any_at_first, none_at_length}
 use Rattle.langtag_match.proofs.element.weight_after.Goals as goal
 

@@ -1,5 +1,5 @@
 use Rattle.std.proofs.Common.{◌≡◌}
-use Rattle.langtag_match.specs.Fallback.{fallbacks}
+use Rattle.langtag_range.specs.Fallback.{fallbacks}
 use Rattle.langtag_match.specs.LookUp.{first_alike}
 use Rattle.langtag_match.specs.Text.{language_range_text, fallbacks_left}
 use Rattle.langtag_match.proofs.lookup.tag_for.Given as goal

@@ -3,7 +3,7 @@ use Rattle.std.proofs.lemmas.Bool.{eq-eqb, ne_eqb}
 use Rattle.std.proofs.lemmas.Grind.{common_steps}
 use Rattle.langtag_scan.proofs.SubtagFacts.{of_variant}
 use Rattle.langtag_place.specs.Text.{variant_text}
-use Rattle.langtag_match.specs.Extended.{test_extended}
+use Rattle.langtag_range.specs.Extended.{test_extended}
 use Rattle.langtag_scan.specs.Case.{folded_number}
 use Rattle.langtag_registry.specs.Subtags.{variant_prefixes}
 use Rattle.langtag_registry.proofs.PrefixLaws.{length-same, same_at, list_all_get, number_tells, left_first, left_matched, left_unmatched, left_other, left_ended}

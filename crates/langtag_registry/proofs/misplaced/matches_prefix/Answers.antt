@@ -1,4 +1,4 @@
-use Rattle.langtag_match.proofs.Among.{same_test, test_extended-decides}
+use Rattle.langtag_range.proofs.Among.{same_test, test_extended-decides}
 use Rattle.langtag_registry.proofs.misplaced.matches_prefix.Goals as goal
 
 pub returns : goal.returns

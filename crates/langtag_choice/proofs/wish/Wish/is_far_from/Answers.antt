@@ -1,5 +1,5 @@
 use Rattle.std.proofs.Common.{sym, ◌∙◌}
-use Rattle.langtag_match.specs.Listed.{basic_text}
+use Rattle.langtag_range.specs.Listed.{basic_text}
 use Rattle.langtag_choice.proofs.LoneLanguages.{apart_letters, far_from_lone, nothing_kept}
 use Rattle.langtag_choice.proofs.wish.Wish.is_far_from.Goals as goal
 

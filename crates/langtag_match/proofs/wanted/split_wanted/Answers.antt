@@ -1,8 +1,0 @@
-use Rattle.std.proofs.Common.{eqb-true, arith}
-use Rattle.std.proofs.lemmas.List.{nil_from_length}
-use Rattle.std.proofs.lemmas.Grind.{common_steps}
-use Rattle.langtag_match.proofs.WantedTexts.{nothing_wanted}
-use Rattle.langtag_match.proofs.wanted.split_wanted.Goals as goal
-
-pub returns-clause-first : goal.returns-clause-first
-returns-clause-first c = grind (arith, common_steps, eqb-true, nil_from_length c.loop-left.left.now, nothing_wanted)

@@ -1,9 +1,0 @@
-use Rattle.std.proofs.Common.{◌≡◌, length}
-use Rattle.langtag_match.specs.Wanted.{wanted_elements}
-use Rattle.langtag_match.proofs.wanted.split_wanted.Given as goal
-
-abbrev pub invariant-loop-left : goal.invariant-loop-left
-invariant-loop-left l = wanted_elements l.left ≡ wanted_elements l.header
-
-abbrev pub decreases-loop-left : goal.decreases-loop-left
-decreases-loop-left l = length l.left

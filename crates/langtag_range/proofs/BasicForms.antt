@@ -1,0 +1,145 @@
+-- A range without its "*": what stays, and what becomes of a range that has none.
+use Rattle.std.proofs.Common.{◌≡◌, ℕ, ◌<◌, ◌≤◌, Bool, true, false, not, eqb, ◌||◌, List, [], ◌∷◌, ◌++◌, length, filter, inl, inr, refl, ◌∙◌, arith}
+use Rattle.std.specs.List.{AllByRecursion}
+use Rattle.std.proofs.lemmas.Bool.{and_parts, or_cases}
+use Rattle.std.proofs.lemmas.Bool.Decides.{nat_tests}
+use Rattle.std.proofs.lemmas.List.Elements.{All-from_recursion}
+use Rattle.std.proofs.lemmas.Slice.Eq.{bytes_eq-Decides}
+use Rattle.std.proofs.lemmas.Grind.{common_steps}
+use Rattle.langtag_scan.specs.Case.{Alike, fold_text}
+use Rattle.langtag_scan.specs.Class.{has_length, is_alphanumeric, is_letter, is_digit, are_alphanumeric, is_private_subtag}
+use Rattle.langtag_scan.specs.Subtags.{IsHyphenFree, join, subtags}
+use Rattle.langtag_scan.proofs.Joins.{hyphenated, join-hyphenated, length-join}
+use Rattle.langtag_scan.proofs.SubtagFacts.{no_hyphen_each, of_private_subtag}
+use Rattle.langtag_scan.proofs.SubtagLists.{join-subtags, segments-join, subtags-segments}
+use Rattle.langtag_range.proofs.AlikeTexts.{hyphened-fold, mark-fold}
+use Rattle.langtag_range.proofs.BasicRanges.{is_language_range-from_basic}
+use Rattle.langtag_range.proofs.WantedTexts.{first_in_range}
+use Rattle.langtag_range.proofs.Wildcards.{basic_form-byte}
+use Rattle.langtag_range.specs.Listed.{basic_text}
+use Rattle.langtag_range.specs.BasicForm.{basic_form, begins_with_wildcard}
+use Rattle.langtag_range.specs.Range.{is_star, is_first_subtag, is_range_subtag, are_basic_range, are_basic_subtags, are_extended_range, are_range_subtags, is_basic_range, is_language_range}
+use Rattle.langtag_range.specs.Wanted.{hyphened}
+
+-- ---- the case of letters
+
+basic_form-fold : (text : List ℕ) → basic_form (fold_text text) ≡ fold_text (basic_form text)
+basic_form-fold [] = refl
+basic_form-fold (a ∷ []) = refl
+basic_form-fold (a ∷ b ∷ text) = grind (arith, common_steps, basic_form-fold text, basic_form-fold (b ∷ text), mark-fold)
+
+pub basic_text-alike : (a b : List ℕ) → Alike a b → Alike (basic_text a) (basic_text b)
+unfolding basic_text
+basic_text-alike a b alike = grind (arith, common_steps, basic_form-fold (hyphened a), hyphened-fold a, hyphened-fold b, basic_form-fold (hyphened b))
+
+-- ---- subtags without "*"
+
+-- a text with no hyphen before another stays
+basic_form-free : (s t : List ℕ) → AllByRecursion (λ b. eqb b 45 ≡ false) s → basic_form (s ++ t) ≡ s ++ basic_form t
+basic_form-free [] t free = refl
+basic_form-free (b ∷ s) t free = grind (arith, common_steps, basic_form-byte b (s ++ t), basic_form-free s t free.1)
+
+abbrev pub is_plain : List ℕ → Bool
+is_plain subtag = not (is_star subtag)
+
+-- neither a hyphen nor a star
+starless_byte : (b : ℕ) → is_alphanumeric b ≡ true → (eqb b 45 ≡ false) × (eqb b 42 ≡ false)
+unfolding is_letter is_digit
+starless_byte b is = (grind (arith, nat_tests), grind (arith, nat_tests))
+
+-- a text of letters and digits is no star, and none begins behind a hyphen before it
+starless : (s t : List ℕ) → is_private_subtag s ≡ true → (is_star s ≡ false) × (begins_with_wildcard (45 ∷ s ++ t) ≡ false)
+unfolding is_private_subtag
+starless [] t is = absurd cc
+starless (b ∷ s) t is =
+    let k = and_parts (has_length 1 8 (b ∷ s)) (are_alphanumeric (b ∷ s)) is in
+    let first = starless_byte b (and_parts (is_alphanumeric b) (are_alphanumeric s) k.1).0 in
+    (rw first.1 refl, rw first.1 refl)
+
+subtag_free : (s : List ℕ) → is_private_subtag s ≡ true → AllByRecursion (λ b. eqb b 45 ≡ false) s
+subtag_free s is = no_hyphen_each s (of_private_subtag s is).alphanumeric
+
+basic_form-hyphenated : (ss : List (List ℕ)) → are_range_subtags ss ≡ true → basic_form (hyphenated ss) ≡ hyphenated (filter is_plain ss)
+basic_form-hyphenated [] each = refl
+basic_form-hyphenated (s ∷ ss) each =
+    let k = and_parts (is_range_subtag s) (are_range_subtags ss) each in
+    elim (or_cases (is_star s) (is_private_subtag s) k.0) [
+      | inl star ↦ by_star s ((bytes_eq-Decides s (42 ∷ [])).0 star) (basic_form-hyphenated ss k.1)
+      | inr other ↦ by_other (basic_form-hyphenated ss k.1) other
+    ]
+  where
+    by_star : (u : List ℕ) → u ≡ 42 ∷ [] → basic_form (hyphenated ss) ≡ hyphenated (filter is_plain ss) → basic_form (hyphenated (u ∷ ss)) ≡ hyphenated (filter is_plain (u ∷ ss))
+    by_star u is rest = rw is rest
+
+    by_other : basic_form (hyphenated ss) ≡ hyphenated (filter is_plain ss) → is_private_subtag s ≡ true → basic_form (hyphenated (s ∷ ss)) ≡ hyphenated (filter is_plain (s ∷ ss))
+    by_other rest other = grind (arith, common_steps, starless, basic_form-byte, basic_form-free, subtag_free)
+
+-- a subtag of a range is not empty, and has no hyphen
+range_free : (s : List ℕ) → is_range_subtag s ≡ true → AllByRecursion (λ b. eqb b 45 ≡ false) s × (0 < length s)
+range_free s is = grind (arith, common_steps, or_cases (is_star s) (is_private_subtag s) is, bytes_eq-Decides s (42 ∷ []), subtag_free s, of_private_subtag s)
+
+each_free : (ss : List (List ℕ)) → are_range_subtags ss ≡ true → AllByRecursion IsHyphenFree ss
+each_free [] each = tt
+each_free (s ∷ ss) each =
+    grind (arith, common_steps, and_parts (is_range_subtag s) (are_range_subtags ss) each, All-from_recursion, range_free s, each_free ss)
+
+module _ (first : List ℕ) (others : List (List ℕ)) (is : are_extended_range (first ∷ others) ≡ true) where
+  others_in_range : are_range_subtags others ≡ true
+  others_in_range = (and_parts (is_star first || is_first_subtag first) (are_range_subtags others) is).1
+
+  first_range : is_range_subtag first ≡ true
+  first_range = first_in_range first (and_parts (is_star first || is_first_subtag first) (are_range_subtags others) is).0
+
+  -- the first subtag stays, and of the others those that are not "*"
+  basic_form-join : basic_form (join (first ∷ others)) ≡ join (first ∷ filter is_plain others)
+  basic_form-join = grind (arith, common_steps, join-hyphenated, basic_form-free, range_free, first_range, basic_form-hyphenated, others_in_range)
+
+  -- the subtags of a range are found again in their join
+  subtags-range : subtags (join (first ∷ others)) ≡ first ∷ others
+  subtags-range =
+      subtags-segments (join (first ∷ others)) (omega (arith, length-join first others, (range_free first first_range).1))
+      ∙ segments-join first others (All-from_recursion IsHyphenFree (first ∷ others) (each_free (first ∷ others) (rw (first_range, others_in_range) refl)))
+
+filter_range : (ss : List (List ℕ)) → are_range_subtags ss ≡ true → are_range_subtags (filter is_plain ss) ≡ true
+filter_range [] each = refl
+filter_range (s ∷ ss) each = grind (arith, common_steps, and_parts (is_range_subtag s) (are_range_subtags ss) each, filter_range ss)
+
+filter_twice : (ss : List (List ℕ)) → filter is_plain (filter is_plain ss) ≡ filter is_plain ss
+filter_twice [] = refl
+filter_twice (s ∷ ss) = grind (arith, common_steps, filter_twice ss)
+
+-- the basic form of a range is one with these subtags, and its own basic form
+pub record IsBasicOf (text basic : List ℕ) : Type 0 where
+  pub range : is_language_range basic ≡ true
+  pub subtags : (first : List ℕ) (others : List (List ℕ)) → subtags text ≡ first ∷ others → subtags basic ≡ first ∷ filter is_plain others
+  pub settled : basic_form basic ≡ basic
+
+pub basic_of : (text : List ℕ) → is_language_range text ≡ true → IsBasicOf text (basic_form text)
+basic_of text is = by_subtags (subtags text) refl is
+  where
+    by_subtags : (ss : List (List ℕ)) → subtags text ≡ ss → are_extended_range ss ≡ true → IsBasicOf text (basic_form text)
+    by_subtags ss are range =
+        grind (arith, common_steps, and_parts, filter_range, others_in_range, join-subtags text, basic_form-join, subtags-range, filter_twice)
+
+-- ---- a range without "*" is its own basic form
+
+plain_subtags : (ss : List (List ℕ)) → are_basic_subtags ss ≡ true → filter is_plain ss ≡ ss
+plain_subtags [] each = refl
+plain_subtags (s ∷ ss) each =
+    let k = and_parts (is_private_subtag s) (are_basic_subtags ss) each in rw ((starless s [] k.0).0, plain_subtags ss k.1) refl
+
+pub basic_form-basic : (text : List ℕ) → is_basic_range text ≡ true → basic_form text ≡ text
+basic_form-basic text is = elim (or_cases (is_star text) (are_basic_range (subtags text)) is) [
+  | inl star ↦ rw ((bytes_eq-Decides text (42 ∷ [])).0 star) refl
+  | inr plain ↦ by_subtags (subtags text) refl plain
+]
+  where
+    by_subtags : (ss : List (List ℕ)) → subtags text ≡ ss → are_basic_range ss ≡ true → basic_form text ≡ text
+    by_subtags ss are range = grind (arith, common_steps, and_parts, join-subtags text, is_language_range-from_basic text is, basic_form-join, plain_subtags)
+
+-- ---- how long it is
+
+pub length-basic : (text : List ℕ) → length (basic_form text) ≤ length text
+length-basic [] = omega arith
+length-basic (a ∷ []) = omega arith
+length-basic (a ∷ b ∷ text) = grind (arith, common_steps, length-basic text, length-basic (b ∷ text))

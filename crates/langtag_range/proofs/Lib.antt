@@ -1,0 +1,14 @@
+pub mod AlikeHeaders
+pub mod AlikeTexts
+pub mod Among
+pub mod AsciiRanges
+pub mod BasicForms
+pub mod BasicRanges
+pub mod ChangedTexts
+pub mod Hyphens
+pub mod PlainRanges
+pub mod Prefixes
+pub mod Spaces
+pub mod Thousandths
+pub mod WantedTexts
+pub mod Wildcards

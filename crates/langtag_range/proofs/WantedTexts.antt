@@ -1,0 +1,140 @@
+-- Ranges in which "_" is read as "-", and the parts of a list that is cut one after the other.
+use Rattle.std.proofs.Common.{◌≡◌, ◌⊎◌, take, not, cond, ℕ, ◌+◌, ◌<◌, ◌≤◌, Bool, true, false, ◌&&◌, ◌||◌, List, [], ◌∷◌, Some, None, length, length-drop, refl, arith, rules}
+use Rattle.std.specs.List.{list_any, slice_split, before_first, after_first, position, position_or_len, cons_option}
+use Rattle.std.proofs.lemmas.Bool.{and_parts, cases_lt, or_cases, or_right}
+use Rattle.std.proofs.lemmas.Bool.Decides.{nat_tests, eqb_tells}
+use Rattle.std.proofs.lemmas.List.{length-take-le, drop_all, take_all}
+use Rattle.std.proofs.lemmas.List.Splits.{length-slice_split, slice_split_first, slice_split_none}
+use Rattle.std.proofs.lemmas.List.Sums.{count_by-le-length, prefix_len-le-length, fails_before_first}
+use Rattle.std.proofs.lemmas.Grind.{common_steps}
+use Rattle.langtag_scan.specs.Class.{has_length, are_digits, are_letters, is_private_subtag}
+use Rattle.langtag_scan.specs.Subtags.{segments, subtags}
+use Rattle.langtag_range.specs.Element.{items, is_comma, is_semicolon, trimmed}
+use Rattle.langtag_range.specs.Locale.{is_hash}
+use Rattle.langtag_range.specs.Range.{is_star, is_first_subtag, is_range_subtag, are_basic_range, are_basic_subtags, are_extended_range, are_range_subtags, is_basic_range, is_language_range}
+use Rattle.langtag_scan.proofs.SubtagFacts.{letters_alphanumeric}
+use Rattle.langtag_scan.proofs.Places.{any_at_first, none_at_length}
+use Rattle.langtag_range.specs.Wanted.{hyphened_byte, hyphened, is_separator, is_q_name, is_q_parameter, is_equals, is_point, number_weight, value_weight, wanted_weight, wanted, digits_behind, wanted_items, wanted_elements}
+
+-- ---- the subtags of a text in which a byte is read as a hyphen
+
+other_byte : (b : ℕ) → is_separator b ≡ false → hyphened_byte b ≡ b
+other_byte b other = grind (arith, nat_tests)
+
+-- they hold no such byte
+pub segments-read : (text : List ℕ) → segments (hyphened text) ≡ slice_split is_separator text
+segments-read [] = refl
+segments-read (b ∷ text) = grind (arith, common_steps, segments-read text, other_byte b, nat_tests)
+
+-- ---- the parts of a list that is cut
+
+-- the first part, and those of the rest; nothing is left where it was not cut
+pub cut_or_whole :
+    (p : ℕ → Bool) (text : List ℕ) →
+    (slice_split p text ≡ before_first p text ∷ slice_split p (after_first p text)) ⊎ ((slice_split p text ≡ before_first p text ∷ []) × (after_first p text ≡ []))
+cut_or_whole p text = search (rules, cases_lt, slice_split_first, take_all, slice_split_none, fails_before_first, drop_all)
+
+-- ---- which texts are ranges so
+
+is_star-read : (text : List ℕ) → is_star (hyphened text) ≡ is_star text
+is_star-read [] = refl
+is_star-read (b ∷ []) = grind (arith, common_steps, eqb_tells b 95)
+is_star-read (b ∷ c ∷ text) = grind (arith, common_steps, eqb_tells b 95)
+
+first_private : (text : List ℕ) → is_first_subtag text ≡ true → is_private_subtag text ≡ true
+unfolding is_private_subtag
+first_private text is = grind (arith, common_steps, and_parts (has_length 1 8 text) (are_letters text) is, letters_alphanumeric text)
+
+-- each first subtag of a range may stand elsewhere
+pub first_in_range : (text : List ℕ) → (is_star text || is_first_subtag text) ≡ true → is_range_subtag text ≡ true
+first_in_range text is =
+    grind (arith, common_steps, or_cases (is_star text) (is_first_subtag text) is, or_right (is_star text) (is_private_subtag text), first_private text)
+
+-- a first part that passes a narrower test passes the wider one
+and_absorb : (a b c : Bool) → (a ≡ true → b ≡ true) → (a && c) ≡ (a && (b && c))
+and_absorb a b c both = grind (arith, common_steps)
+
+basic_parts : (first : List ℕ) (others : List (List ℕ)) → are_basic_range (first ∷ others) ≡ (is_first_subtag first && are_basic_subtags (first ∷ others))
+basic_parts first others = and_absorb (is_first_subtag first) (is_private_subtag first) (are_basic_subtags others) (first_private first)
+
+extended_parts :
+    (first : List ℕ) (others : List (List ℕ)) →
+    are_extended_range (first ∷ others) ≡ ((is_star first || is_first_subtag first) && are_range_subtags (first ∷ others))
+extended_parts first others = and_absorb (is_star first || is_first_subtag first) (is_range_subtag first) (are_range_subtags others) (first_in_range first)
+
+-- what is seen of the first part and of all parts is seen of the subtags of a text
+seen_parts :
+    (f : List (List ℕ) → Bool) (g : List ℕ → List (List ℕ) → Bool) → f [] ≡ f ([] ∷ []) → ((first : List ℕ) (others : List (List ℕ)) → f (first ∷ others) ≡ g first (first ∷ others)) →
+    (text : List ℕ) → f (subtags (hyphened text)) ≡ g (before_first is_separator text) (slice_split is_separator text)
+seen_parts f g none each text = grind (arith, common_steps, segments-read text, cut_or_whole is_separator text)
+
+pub basic_read :
+    (text : List ℕ) →
+    is_basic_range (hyphened text) ≡ (is_star text || (is_first_subtag (before_first is_separator text) && are_basic_subtags (slice_split is_separator text)))
+basic_read text = rw (is_star-read text, seen_parts are_basic_range (λ first parts. is_first_subtag first && are_basic_subtags parts) refl basic_parts text) refl
+
+pub extended_read :
+    (text : List ℕ) →
+    is_language_range (hyphened text)
+    ≡ ((is_star (before_first is_separator text) || is_first_subtag (before_first is_separator text)) && are_range_subtags (slice_split is_separator text))
+extended_read = seen_parts are_extended_range (λ first parts. (is_star first || is_first_subtag first) && are_range_subtags parts) refl extended_parts
+
+-- ---- the elements of a header, and the weight of an element, part by part
+
+pub elements_at :
+    (header : List ℕ) →
+    wanted_elements header ≡ cons_option (wanted (before_first is_comma header) (digits_behind (items (after_first is_comma header)))) (wanted_elements (after_first is_comma header))
+unfolding wanted
+elements_at header = grind (arith, common_steps, cut_or_whole is_comma header)
+
+-- the digits that a text begins with, if they are its first item
+pub digits_at : (text : List ℕ) → digits_behind (items text) ≡ cond (are_digits (before_first is_comma text)) (before_first is_comma text) []
+digits_at text = grind (arith, common_steps, cut_or_whole is_comma text)
+
+pub weight_at :
+    (parameters behind : List ℕ) →
+    wanted_weight (slice_split is_semicolon parameters) behind ≡
+    cond (is_q_parameter (before_first is_semicolon parameters)) (value_weight (trimmed (after_first is_equals (before_first is_semicolon parameters))) behind) (wanted_weight (slice_split is_semicolon (after_first is_semicolon parameters)) behind)
+weight_at parameters behind = grind (arith, common_steps, cut_or_whole is_semicolon parameters)
+
+-- what is left is shorter
+pub shorter : (p : ℕ → Bool) (text : List ℕ) → 0 < length text → length (after_first p text) < length text
+shorter p text some = omega (arith, length-drop (position_or_len p text + 1) text)
+
+-- ---- a text has a mark if it ends behind what stands before one
+
+cut_at : (p : ℕ → Bool) (text : List ℕ) → length (before_first p text) ≡ position_or_len p text
+cut_at p text = length-take-le (position_or_len p text) text (prefix_len-le-length (λ b. not (p b)) text)
+
+pub some_hash : (front : List ℕ) → (length (before_first is_hash front) ≡ length front → ⊥) → list_any is_hash front ≡ true
+some_hash front cut = grind (arith, common_steps, cases_lt, any_at_first, cut_at, prefix_len-le-length)
+
+pub no_hash : (front : List ℕ) → length (before_first is_hash front) ≡ length front → list_any is_hash front ≡ false
+no_hash front whole = none_at_length is_hash front (omega (arith, cut_at is_hash front, whole))
+
+pub value_with_point :
+    (value behind : List ℕ) → length (before_first is_point value) < length value →
+    value_weight value behind ≡ number_weight (before_first is_point value) (after_first is_point value)
+value_with_point value behind cut = rw (any_at_first is_point value (omega (arith, cut_at is_point value, cut))) refl
+
+-- no more ranges than bytes, and one
+length-wanted_items : (items : List (List ℕ)) → length (wanted_items items) ≤ length items
+length-wanted_items [] = omega arith
+length-wanted_items (item ∷ items) = grind (arith, common_steps, length-wanted_items items)
+
+pub few_wanted : (header : List ℕ) → length (wanted_elements header) ≤ length header + 1
+few_wanted header = omega (arith, length-wanted_items (items header), length-slice_split is_comma header, count_by-le-length is_comma header)
+
+-- ---- a parameter without a "=", and one with it
+
+pub no_equals : (parameter : List ℕ) → position is_equals parameter ≡ None → is_q_parameter parameter ≡ false
+no_equals parameter none = grind (arith, common_steps, nat_tests, none_at_length is_equals parameter, prefix_len-le-length)
+
+pub some_equals :
+    (parameter : List ℕ) (place : ℕ) → position is_equals parameter ≡ Some place →
+    (place < length parameter) × (place ≡ position_or_len is_equals parameter) × (is_q_parameter parameter ≡ is_q_name (trimmed (take place parameter)))
+some_equals parameter place some = grind (arith, common_steps, nat_tests, any_at_first)
+
+pub nothing_wanted : wanted_elements [] ≡ []
+unfolding wanted
+nothing_wanted = refl

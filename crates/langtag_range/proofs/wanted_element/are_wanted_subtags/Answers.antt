@@ -1,0 +1,12 @@
+use Rattle.std.proofs.Common.{rules, tests}
+use Rattle.std.proofs.lemmas.Iterator.Search.{all_from_yields_List}
+use Rattle.std.proofs.lemmas.Iterator.Splits.{YieldsList-from_slice_split}
+use Rattle.langtag_scan.specs.Class.{is_private_subtag}
+use Rattle.langtag_range.specs.Wanted.{is_separator}
+use Rattle.langtag_range.proofs.wanted_element.are_wanted_subtags.Goals as goal
+
+pub returns : goal.returns
+returns c =
+    all_from_yields_List is_private_subtag c.all.new.self _ c.all.result c.all.ensures.ran
+    (YieldsList-from_slice_split _ is_separator c.args.text.now c.split.ensures.rest c.split.ensures.done c.split.ensures.closure (λ x r q k. search (rules, tests)))
+    (λ x r q k. search rules)

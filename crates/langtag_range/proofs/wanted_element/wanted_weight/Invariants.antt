@@ -1,0 +1,11 @@
+use Rattle.std.proofs.Common.{◌≡◌, length}
+use Rattle.std.specs.List.{slice_split}
+use Rattle.langtag_range.specs.Element.{is_semicolon, items}
+use Rattle.langtag_range.specs.Wanted.{digits_behind, wanted_weight}
+use Rattle.langtag_range.proofs.wanted_element.wanted_weight.Given as goal
+
+abbrev pub invariant-loop-left : goal.invariant-loop-left
+invariant-loop-left l = wanted_weight (slice_split is_semicolon l.left) (digits_behind (items l.behind)) ≡ wanted_weight (slice_split is_semicolon l.parameters) (digits_behind (items l.behind))
+
+abbrev pub decreases-loop-left : goal.decreases-loop-left
+decreases-loop-left l = length l.left

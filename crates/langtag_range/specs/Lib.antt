@@ -1,0 +1,10 @@
+pub mod Basic
+pub mod BasicForm
+pub mod Element
+pub mod Extended
+pub mod Fallback
+pub mod Listed
+pub mod Locale
+pub mod Range
+pub mod Wanted
+pub mod Weight

@@ -1,0 +1,151 @@
+//! An element of a header, read leniently.
+ghost use Rattle.std.specs.Prelude.{◌≡◌, false, IfSome, IsTrue, MatchOption};
+ghost use Rattle.std.specs.List.{after_first, slice_split, list_all};
+ghost use Rattle.std.specs.Option.{option_map};
+ghost use Rattle.langtag_range.specs.Element.{is_semicolon, items, trimmed};
+ghost use Rattle.langtag_range.specs.Range.{are_basic_subtags, is_basic_range, is_star};
+ghost use Rattle.langtag_range.specs.Wanted as spec;
+
+use crate::locale::locale_place;
+use crate::range_text::is_first_subtag;
+use crate::wanted::WantedRange;
+use crate::weight::{are_digits, digit_at};
+use crate::white_space::trimmed_place;
+use langtag_scan::{first_place, is_private_subtag, split_at_byte, split_at_either};
+
+/// Returns the range of an item of a header, with its weight. `behind` is what follows the comma after the item.
+#[tactic(auto, unfolding(crate::specs::Wanted::wanted))]
+pub(crate) fn wanted_at<'a>(item: &'a [u8], behind: &[u8]) -> Option<WantedRange<'a>>
+    ensures wanted { option_map spec.wanted_element result ≡ spec.wanted item.now (spec.digits_behind (items behind.now)) }
+    ensures basic { IfSome result (λ found. IsTrue (is_basic_range (spec.hyphened found.bytes.now))) }
+{
+    let (before, parameters) = split_at_byte(item, b';');
+    let bytes = locale_place(trimmed(before));
+    if !is_wanted_range(bytes) {
+        return None;
+    }
+    let weight = wanted_weight(parameters, behind);
+    Some(WantedRange { bytes, weight })
+}
+
+/// Returns whether a text is a basic language range if `_` is read as `-`.
+#[tactic(auto, using(crate::proofs::WantedTexts::basic_read))]
+fn is_wanted_range(text: &[u8]) -> bool
+    ensures { result ≡ is_basic_range (spec.hyphened text.now) }
+{
+    let (first, _) = split_at_either(text, b'-', b'_');
+    is_star(text) || (is_first_subtag(first) && are_wanted_subtags(text))
+}
+
+pub(crate) fn is_star(text: &[u8]) -> bool
+    ensures { result ≡ is_star text.now }
+{
+    matches!(text, [b'*'])
+}
+
+/// Returns whether each subtag is 1 to 8 letters or digits.
+fn are_wanted_subtags(text: &[u8]) -> bool
+    ensures { result ≡ are_basic_subtags (slice_split spec.is_separator text.now) }
+{
+    text.split(|byte| is_separator(*byte))
+        .all(|subtag| is_private_subtag(subtag))
+}
+
+/// Returns whether a byte separates subtags, if `_` is read as `-`.
+pub fn is_separator(byte: u8) -> bool
+    ensures { result ≡ spec.is_separator byte }
+{
+    byte == b'-' || byte == b'_'
+}
+
+/// Returns the weight of the first parameter named `q`, or 1000 if there is none.
+#[tactic(auto, using(crate::proofs::WantedTexts::weight_at, crate::proofs::WantedTexts::shorter))]
+fn wanted_weight(parameters: &[u8], behind: &[u8]) -> u32
+    ensures { result ≡ spec.wanted_weight (slice_split is_semicolon parameters.now) (spec.digits_behind (items behind.now)) }
+{
+    let mut left = parameters;
+    while !left.is_empty() {
+        let (parameter, rest) = split_at_byte(left, b';');
+        if let Some(value) = q_value(parameter) {
+            return value_weight(value, behind);
+        }
+        left = rest;
+    }
+    1000
+}
+
+/// Returns the value of a parameter named `q`.
+#[tactic(auto, using(crate::proofs::WantedTexts::no_equals, crate::proofs::WantedTexts::some_equals))]
+fn q_value(parameter: &[u8]) -> Option<&[u8]>
+    ensures { MatchOption result (spec.is_q_parameter parameter.now ≡ false)
+        (λ value. (value.now ≡ trimmed (after_first spec.is_equals parameter.now)) × IsTrue (spec.is_q_parameter parameter.now)) }
+{
+    let Some(equals) = first_place(parameter, b'=') else {
+        return None;
+    };
+    if !is_q_name(trimmed(&parameter[..equals])) {
+        return None;
+    }
+    Some(trimmed(&parameter[equals + 1..]))
+}
+
+fn is_q_name(name: &[u8]) -> bool
+    ensures { result ≡ spec.is_q_name name.now }
+{
+    matches!(name, [b'q' | b'Q'])
+}
+
+/// Returns the weight of a value. If the value has no point, the digits at the start of `behind`, which is the text
+/// after the next comma, are its fraction.
+fn value_weight(value: &[u8], behind: &[u8]) -> u32
+    ensures { result ≡ spec.value_weight value.now (spec.digits_behind (items behind.now)) }
+{
+    let (whole, fraction) = split_at_byte(value, b'.');
+    if whole.len() < value.len() {
+        return number_weight(whole, fraction);
+    }
+    number_weight(whole, digits_behind(behind))
+}
+
+/// Returns the digits at the start of a text if a comma or the end of the text follows them. Otherwise it returns an
+/// empty text.
+#[tactic(auto, unfolding(langtag_scan::specs::Class::is_digit), using(crate::proofs::WantedTexts::digits_at))]
+fn digits_behind(text: &[u8]) -> &[u8]
+    ensures { result.now ≡ spec.digits_behind (items text.now) }
+{
+    let (item, _rest) = split_at_byte(text, b',');
+    if are_digits(item, b'9') { item } else { b"" }
+}
+
+/// Returns the weight of a number, given the texts before and after its decimal mark. It is 1000 if the texts are not a
+/// number, or if the number is above 1.
+fn number_weight(whole: &[u8], fraction: &[u8]) -> u32
+    ensures { result ≡ spec.number_weight whole.now fraction.now }
+{
+    if !is_number(whole, fraction) || !are_zeros(whole) {
+        return 1000;
+    }
+    100 * digit_at(fraction, 0) + 10 * digit_at(fraction, 1) + digit_at(fraction, 2)
+}
+
+/// Returns whether the texts before and after a decimal mark have only digits, and at least one of them has a digit.
+#[tactic(auto, unfolding(langtag_scan::specs::Class::is_digit))]
+fn is_number(whole: &[u8], fraction: &[u8]) -> bool
+    ensures { result ≡ spec.are_number whole.now fraction.now }
+{
+    are_digits(whole, b'9') && are_digits(fraction, b'9') && whole.len() + fraction.len() > 0
+}
+
+/// Returns a text without the white space around it.
+pub(crate) fn trimmed(text: &[u8]) -> &[u8]
+    ensures { result.now ≡ trimmed text.now }
+{
+    let (start, end) = trimmed_place(text);
+    &text[start..end]
+}
+
+fn are_zeros(digits: &[u8]) -> bool
+    ensures { result ≡ list_all spec.is_zero digits.now }
+{
+    digits.iter().all(|digit| *digit == b'0')
+}
