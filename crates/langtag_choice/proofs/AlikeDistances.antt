@@ -63,18 +63,8 @@ among-alike : (words : List (List ℕ)) (a b : List ℕ) → Alike a b → is_am
 among-alike [] a b h = refl
 among-alike (word ∷ words) a b h = rw (are_alike-right word a b h, among-alike words a b h) refl
 
-outside-alike : (set : RegionSet) (a b : List ℕ) → Alike a b → is_outside set a ≡ is_outside set b
-outside-alike set a b h = rw (among-alike set.inside a b h, among-alike set.partly a b h) refl
-
-side-alike : (set : RegionSet) (a b c d : List ℕ) → Alike a b → Alike c d → by_side set a c ≡ by_side set b d
-side-alike set a b c d h k =
-    rw (among-alike set.inside a b h, among-alike set.inside c d k, among-alike set.partly a b h, among-alike set.partly c d k) refl
-
-british-alike : (a b c d : List ℕ) → Alike a b → Alike c d → is_british a c ≡ is_british b d
-british-alike a b c d h k = rw (are_alike-right (codes "GB") a b h, outside-alike en_us c d k) refl
-
 by_language-alike : (a b c d : Fields) → AlikeFields a b → AlikeFields c d → by_language a c ≡ by_language b d
-by_language-alike a b c d h k = grind (arith, common_steps, are_alike-right, side-alike, nat_tests, british-alike)
+by_language-alike a b c d h k = grind (arith, common_steps, are_alike-right, among-alike, nat_tests)
 
 languages-alike : (a b c d : Fields) → AlikeFields a b → AlikeFields c d → language_distance a c ≡ language_distance b d
 unfolding language_distance
@@ -98,38 +88,30 @@ forms-alike a b c d h k f g v w same also = grind (arith, nat_tests, both-alike 
 
 -- ---- bytes and subtags
 
-hyphened-alike : (a b : List ℕ) → Alike a b → Alike (hyphened a) (hyphened b)
-hyphened-alike a b alike = sym (hyphened-fold a) ∙ ap hyphened alike ∙ hyphened-fold b
-
-classes-alike : (s : List ℕ) →
-    (is_primary (fold_text s) ≡ is_primary s) × (is_extended (fold_text s) ≡ is_extended s) × (is_script (fold_text s) ≡ is_script s) × (is_region (fold_text s) ≡ is_region s)
-classes-alike s = let alike = classes-fold s in (ap (λ c. c.primary) alike, ap (λ c. c.extended) alike, ap (λ c. c.script) alike, ap (λ c. c.region) alike)
-
 -- ---- the fields of subtags
 
 pub cond-map : {A B : Type 0} (f : A → B) (b : Bool) (x y : A) → cond b (f x) (f y) ≡ f (cond b x y)
-cond-map f true x y = refl
-cond-map f false x y = refl
+cond-map f b x y = grind arith
 
 last_language-fold : (language : List ℕ) (subtags : List (List ℕ)) → last_language (fold_text language) (map fold_text subtags) ≡ fold_text (last_language language subtags)
 last_language-fold language [] = refl
-last_language-fold language (s ∷ others) = rw ((classes-alike s).1, last_language-fold s others) (cond-map fold_text (is_extended s) (last_language s others) language)
+last_language-fold language (s ∷ others) = rw (ap (λ c. c.extended) (classes-fold s), last_language-fold s others) (cond-map fold_text (is_extended s) (last_language s others) language)
 
 after_language-fold : (subtags : List (List ℕ)) → after_language (map fold_text subtags) ≡ map fold_text (after_language subtags)
 after_language-fold [] = refl
-after_language-fold (s ∷ others) = rw ((classes-alike s).1, after_language-fold others) (cond-map (map fold_text) (is_extended s) (after_language others) (s ∷ others))
+after_language-fold (s ∷ others) = rw (ap (λ c. c.extended) (classes-fold s), after_language-fold others) (cond-map (map fold_text) (is_extended s) (after_language others) (s ∷ others))
 
 script_of-fold : (subtags : List (List ℕ)) → script_of (map fold_text subtags) ≡ fold_text (script_of subtags)
 script_of-fold [] = refl
-script_of-fold (s ∷ others) = rw (classes-alike s).2 (cond-map fold_text (is_script s) s [])
+script_of-fold (s ∷ others) = rw (ap (λ c. c.script) (classes-fold s)) (cond-map fold_text (is_script s) s [])
 
 after_script-fold : (subtags : List (List ℕ)) → after_script (map fold_text subtags) ≡ map fold_text (after_script subtags)
 after_script-fold [] = refl
-after_script-fold (s ∷ others) = rw (classes-alike s).2 (cond-map (map fold_text) (is_script s) others (s ∷ others))
+after_script-fold (s ∷ others) = rw (ap (λ c. c.script) (classes-fold s)) (cond-map (map fold_text) (is_script s) others (s ∷ others))
 
 region_of-fold : (subtags : List (List ℕ)) → region_of (map fold_text subtags) ≡ fold_text (region_of subtags)
 region_of-fold [] = refl
-region_of-fold (s ∷ others) = rw (classes-alike s).3 (cond-map fold_text (is_region s) s [])
+region_of-fold (s ∷ others) = rw (ap (λ c. c.region) (classes-fold s)) (cond-map fold_text (is_region s) s [])
 
 known-fold : (unknown text : List ℕ) → known unknown (fold_text text) ≡ fold_text (known unknown text)
 known-fold unknown text = rw (are_alike-right unknown (fold_text text) text (fold_text-twice text)) (cond-map fold_text (are_alike unknown text) [] text)
@@ -137,20 +119,17 @@ known-fold unknown text = rw (are_alike-right unknown (fold_text text) text (fol
 abbrev fold_fields : Fields → Fields
 fold_fields f = record { language = fold_text f.language; script = fold_text f.script; region = fold_text f.region }
 
-counts-fold : (s : List ℕ) → counts (fold_text s) ≡ counts s
-counts-fold s = rw (is_star-fold s, length-fold s) refl
-
 counted-fold : (subtags : List (List ℕ)) → counted (map fold_text subtags) ≡ map fold_text (counted subtags)
 counted-fold [] = refl
 counted-fold (s ∷ others) =
-    grind (arith, nat_tests, counts-fold s, counted-fold others, cond-map (map fold_text) (counts s) (s ∷ counted others) (counted others))
+    grind (arith, nat_tests, is_star-fold s, length-fold s, counted-fold others, cond-map (map fold_text) (counts s) (s ∷ counted others) (counted others))
 
 fields_of_subtags-fold : (subtags : List (List ℕ)) → fields_of_subtags (map fold_text subtags) ≡ option_map fold_fields (fields_of_subtags subtags)
 fields_of_subtags-fold [] = refl
 fields_of_subtags-fold (s ∷ others) =
     let n = counted others in
     let l = after_language n in
-    rw (classes-alike s).0 (rw (counted-fold others, known-fold (codes "und") s, last_language-fold (known (codes "und") s) n, after_language-fold n)
+    rw (ap (λ c. c.primary) (classes-fold s)) (rw (counted-fold others, known-fold (codes "und") s, last_language-fold (known (codes "und") s) n, after_language-fold n)
     (rw (script_of-fold l, known-fold (codes "Zzzz") (script_of l), after_script-fold l, region_of-fold (after_script l), known-fold (codes "ZZ") (region_of (after_script l)))
     (cond-map (option_map fold_fields) (is_primary s) (Some _) None)))
 
@@ -160,14 +139,11 @@ text_fields-fold text = ap fields_of_subtags (subtags-fold text) ∙ fields_of_s
 
 -- ---- forms
 
-same_fields : (f g : Option Fields) → option_map fold_fields f ≡ option_map fold_fields g → AlikeOptions (option_map matching_fields f) (option_map matching_fields g)
-same_fields f g same = grind (arith, nat_tests, matching-alike)
-
 pub matching_form-alike : (a b : List ℕ) → Alike a b → AlikeOptions (matching_form a) (matching_form b)
 unfolding matching_form
 matching_form-alike a b alike =
-    let same = same_fields (text_fields (hyphened a)) (text_fields (hyphened b)) (sym (text_fields-fold (hyphened a)) ∙ ap text_fields (hyphened-alike a b alike) ∙ text_fields-fold (hyphened b)) in
-    grind (arith, are_alike-left (basic_text a) (basic_text b) (codes "und") (basic_text-alike a b alike))
+    let same : option_map fold_fields (text_fields (hyphened a)) ≡ option_map fold_fields (text_fields (hyphened b)) = (sym (text_fields-fold (hyphened a)) ∙ ap text_fields (sym (hyphened-fold a) ∙ ap hyphened alike ∙ hyphened-fold b) ∙ text_fields-fold (hyphened b)) in
+    grind (arith, nat_tests, matching-alike, are_alike-left (basic_text a) (basic_text b) (codes "und") (basic_text-alike a b alike))
 
 pub distance-alike : (a b c d : List ℕ) → Alike a b → Alike c d → distance_of_texts a c ≡ distance_of_texts b d
 unfolding distance_of_texts
@@ -176,30 +152,13 @@ distance-alike a b c d h k = forms-alike a b c d h k (matching_form a) (matching
 pub ignores_case : (desired supported : List ℕ) (distance : ℕ) → distance ≡ distance_of_texts desired supported → DistanceIgnoresCase desired supported distance
 ignores_case desired supported distance is = λ d s h k. sym (is ∙ distance-alike desired d supported s h k)
 
-no_distance : (a b : Fields) → AlikeFields a b → language_distance a b + (script_distance a b + region_distance a b) ≡ 0
-unfolding language_distance script_distance region_distance
-no_distance a b same =
-    rw ((are_alike-decides a.language b.language).1 same.language, (are_alike-decides a.script b.script).1 same.script, (are_alike-decides a.region b.region).1 same.region) refl
-
 -- what is alike is at no distance
 pub distance-none : (a b : List ℕ) → Alike a b → distance_of_texts a b ≡ 0
-unfolding distance_of_texts
-distance-none a b alike =
-    let same = (are_alike-decides a b).1 alike in
-    by_options (λ f g. distance_of_forms a b f g ≡ 0) (rw same refl) no_distance _ _ (matching_form-alike a b alike)
-
-is_form-alike : (language region : List ℕ) (f g : Fields) → AlikeFields f g → is_form language region f ≡ is_form language region g
-is_form-alike language region f g same =
-    rw (are_alike-right language _ _ same.language, are_alike-right (codes "Latn") _ _ same.script, are_alike-right region _ _ same.region) refl
+unfolding distance_of_texts language_distance script_distance region_distance
+distance-none a b alike = grind (arith, nat_tests, are_alike-decides, matching_form-alike a b alike)
 
 unlikely_form-alike : (f g : Fields) → AlikeFields f g → unlikely_form f ≡ unlikely_form g
-unlikely_form-alike f g same =
-    rw (
-      suffices-alike f g (without_region f) (without_region g) same (record { language = same.language; script = same.script; region = refl }),
-      is_form-alike (codes "en") (codes "GB") f g same,
-      is_form-alike (codes "es") (codes "419") f g same,
-      is_form-alike (codes "pt") (codes "PT") f g same,
-    ) refl
+unlikely_form-alike f g same = grind (arith, nat_tests, are_alike-right, suffices-alike f g (without_region f) (without_region g) same (record { language = same.language; script = same.script; region = refl }))
 
 pub unlikely-alike : (a b : List ℕ) → Alike a b → unlikely a ≡ unlikely b
 unfolding unlikely

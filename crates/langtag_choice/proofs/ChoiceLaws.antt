@@ -81,9 +81,6 @@ pub ends_in_single-fold : (text : List ℕ) → ends_in_single (fold_text text) 
 unfolding fold_byte
 ends_in_single-fold text = rw (length-map text fold_byte, get_or-map fold_byte text (length text - 2) 0, hyphen-fold (get_or text (length text - 2) 0)) refl
 
-pub ends_in_single-alike : (a b : List ℕ) → Alike a b → ends_in_single a ≡ ends_in_single b
-ends_in_single-alike a b alike = sym (ends_in_single-fold a) ∙ ap ends_in_single alike ∙ ends_in_single-fold b
-
 -- a tag that is the whole range
 pub whole_fallback : (range tag : List ℕ) → Alike range tag → is_fallback range tag ≡ true
 whole_fallback range tag alike =
@@ -93,7 +90,7 @@ whole_fallback range tag alike =
 
 shorter_fallback : (range text tag : List ℕ) → IsBefore range text → not (ends_in_single text) ≡ true → Alike text tag → is_fallback range tag ≡ true
 shorter_fallback range text tag before multiple alike =
-    grind (arith, length-alike text tag alike, are_alike-decides text tag, ends_in_single-alike text tag alike, take-append_seam text (45 ∷ before.0), drop-append_seam text (45 ∷ before.0))
+    grind (arith, length-alike text tag alike, are_alike-decides text tag, ends_in_single-fold text, ends_in_single-fold tag, take-append_seam text (45 ∷ before.0), drop-append_seam text (45 ∷ before.0))
 
 abbrev Falls : List ℕ → List ℕ → Type 0
 Falls range text = (tag : List ℕ) → Alike text tag → is_fallback range tag ≡ true
@@ -107,18 +104,10 @@ all_fall range =
 
 -- ---- that tag may serve the range
 
-some_kept : (range tag : List ℕ) → 0 < length tag → is_fallback range tag ≡ true → nat_lt 0 (kept range tag) ≡ true
-unfolding kept
-some_kept range tag some is = rw is (lt-ltb 0 (length tag) some)
-
-served_by_look_up :
-    (element : Element) (tag : List ℕ) → is_wish element ≡ true → is_star element.range ≡ false → nat_lt 0 (kept element.range tag) ≡ true → serves element tag ≡ true
-unfolding serves
-served_by_look_up element tag wish star some = rw (wish, star, some, or-true (nat_lt (reach element.range tag) 50)) refl
-
 pub look_up_answered : (elements : List Element) (tags : List (Option (List ℕ))) (answer : Option ℕ) → IsChoice elements tags answer → AnswersLookUp elements tags answer
+unfolding serves kept
 look_up_answered elements tags answer some place element index tag range_there wish star there free long found =
-    grind (arith, common_steps, served_by_look_up, some_kept, nat_tests, all_fall)
+    grind (arith, common_steps, nat_tests, all_fall)
 
 -- ---- what is kept whole is the range
 
@@ -163,19 +152,11 @@ same-fold : (a b : List ℕ) → are_alike (fold_text a) (fold_text b) ≡ are_a
 same-fold a b = both-alike (fold_text a) a (fold_text b) b (fold_text-twice a) (fold_text-twice b)
 
 ends_subtag-fold : (text : List ℕ) → ends_subtag (fold_text text) ≡ ends_subtag text
-ends_subtag-fold [] = refl
-ends_subtag-fold (b ∷ text) = hyphen-fold b
-
-test_basic-fold : (range tag : List ℕ) → test_basic (fold_text range) (fold_text tag) ≡ test_basic range tag
-test_basic-fold range tag =
-    rw (is_star-fold range, length-fold range, take-map fold_byte (length range) tag, drop-map fold_byte (length range) tag, same-fold range (take (length range) tag), ends_subtag-fold (drop (length range) tag)) refl
-
-is_fallback-fold : (range tag : List ℕ) → is_fallback (fold_text range) (fold_text tag) ≡ is_fallback range tag
-is_fallback-fold range tag = grind (arith, common_steps, ends_in_single-fold, length-fold, take-map, drop-map, same-fold, ends_subtag-fold)
+ends_subtag-fold text = grind (arith, hyphen-fold)
 
 kept-fold : (range tag : List ℕ) → kept (fold_text range) (fold_text tag) ≡ kept range tag
 unfolding kept
-kept-fold range tag = rw (is_fallback-fold range tag, length-fold tag) refl
+kept-fold range tag = grind (arith, common_steps, ends_in_single-fold, length-fold, take-map, drop-map, same-fold, ends_subtag-fold)
 
 reach-fold : (range tag : List ℕ) → reach (fold_text range) (fold_text tag) ≡ reach range tag
 unfolding reach
@@ -193,8 +174,7 @@ rank-fold place element index tag =
 -- ---- what is refused
 
 matches-fold : (element : Element) (tag : List ℕ) → matches (folded element) (fold_text tag) ≡ matches element tag
-matches-fold element tag =
-    ap (λ b. not b && test_basic (fold_text element.range) (fold_text tag)) (is_star-fold element.range) ∙ ap (λ b. not (is_star element.range) && b) (test_basic-fold element.range tag)
+matches-fold element tag = grind (arith, common_steps, is_star-fold, length-fold, take-map, drop-map, same-fold, ends_subtag-fold)
 
 longest-fold : (of_kind : Element → Bool) → ((element : Element) → of_kind (folded element) ≡ of_kind element) → (elements : List Element) (tag : List ℕ) →
     longest of_kind (map folded elements) (fold_text tag) ≡ longest of_kind elements tag
@@ -209,8 +189,7 @@ is_refused-fold elements tag = grind (arith, nat_tests, longest-fold is_wish, lo
 -- ---- what is chosen
 
 mapped : {A B : Type 0} (f : A → B) (o : Option A) (z : B) → option_map f o ≡ Some z → (y : A) × (o ≡ Some y) × (z ≡ f y)
-mapped f None z is = absurd cc
-mapped f (Some y) z is = (y, refl, cc)
+mapped f o z is = grind arith
 
 -- where one list has an element, another that is equal but for case has one that is
 at-folded :
@@ -235,17 +214,11 @@ module _ (elements es : List Element) (tags ts : List (Option (List ℕ))) (same
           (record { place = pair.place; element = element; wanted = wanted; index = pair.index; tag = tag; there = there; served = served; unrefused = free }, refl, ranks)
 
       by_tag : (o : Option (List ℕ)) × (slice_get ts pair.index ≡ Some o) × (Some (fold_text pair.tag) ≡ option_map fold_text o) → IsPairAlike pair
-      by_tag (None, there, same) = absurd cc
-      by_tag (Some tag, there, same) =
-          let alike : fold_text pair.tag ≡ fold_text tag = cc in
-          let at = at-folded folded elements es pair.place pair.element same_elements pair.wanted in
-          by_found at.0 tag at.1 at.2 there alike
+      by_tag h0 = grind (arith, fold_text, at-folded, same_elements, by_found)
 
-choice-alike :
-    (elements es : List Element) (tags ts : List (Option (List ℕ))) → map folded elements ≡ map folded es → map (option_map fold_text) tags ≡ map (option_map fold_text) ts →
-    (answer : Option ℕ) → IsChoice elements tags answer → IsChoice es ts answer
-choice-alike elements es tags ts same_elements same_tags None none = λ pair. none (pair-alike es elements ts tags (sym same_elements) (sym same_tags) pair).0
-choice-alike elements es tags ts same_elements same_tags (Some i) some =
+pub case_ignored : (elements : List Element) (tags : List (Option (List ℕ))) (answer : Option ℕ) → IsChoice elements tags answer → IgnoresCase elements tags answer
+case_ignored elements tags None none es ts same_elements same_tags = λ pair. none (pair-alike es elements ts tags (sym same_elements) (sym same_tags) pair).0
+case_ignored elements tags (Some i) some es ts same_elements same_tags =
     let own = pair-alike elements es tags ts same_elements same_tags some.pair in
     record {
       pair = own.0;
@@ -254,9 +227,6 @@ choice-alike elements es tags ts same_elements same_tags (Some i) some =
           let before = pair-alike es elements ts tags (sym same_elements) (sym same_tags) other in
           subst (λ r. IsAtMost r (rank_of_pair es ts other)) (sym own.2) (subst (IsAtMost (rank_of_pair elements tags some.pair)) before.2 (some.least before.0));
     }
-
-pub case_ignored : (elements : List Element) (tags : List (Option (List ℕ))) (answer : Option ℕ) → IsChoice elements tags answer → IgnoresCase elements tags answer
-case_ignored elements tags answer is es ts same_elements same_tags = choice-alike elements es tags ts same_elements same_tags answer is
 
 pub header_case_ignored : (header : List ℕ) (tags : List (Option (List ℕ))) (answer : Option ℕ) → IsChoice (wanted_elements header) tags answer → IgnoresHeaderCase header tags answer
 header_case_ignored header tags answer is other ts alike = case_ignored (wanted_elements header) tags answer is (wanted_elements other) ts (sym (alike_headers header other alike))

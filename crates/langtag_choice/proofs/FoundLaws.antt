@@ -144,8 +144,7 @@ from_of elements wish tag index old new wanted changed = grind (arith, nat_tests
 -- from one step to the next
 pub from_later :
     (elements : List Element) (tag : List ℕ) (index : ℕ) (first old new : Option Candidate) → IsOldOrAt elements tag index first old → IsOldOrAt elements tag index old new → IsOldOrAt elements tag index first new
-from_later elements tag index first old new before (inl same) = subst (IsOldOrAt elements tag index first) (sym same) before
-from_later elements tag index first old new before (inr at) = inr at
+from_later elements tag index first old new before h7 = grind arith
 
 -- ---- of the tag at an index
 

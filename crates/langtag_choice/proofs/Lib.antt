@@ -3,5 +3,4 @@ pub mod ChoiceLaws
 pub mod FoundLaws
 pub mod LoneLanguages
 pub mod MatchingTables
-pub mod NearForms
 pub mod ReadRanges

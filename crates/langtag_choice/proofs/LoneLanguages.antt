@@ -70,17 +70,10 @@ head-take n text long = grind (arith, common_steps)
 pub apart_letters : (a b : ℕ × ℕ) → not ((a.0 == b.0) && (a.1 == b.1)) ≡ true → Some a ≡ Some b → ⊥
 apart_letters a b apart same = grind (arith, nat_tests, both_ways, not-true, and_from (a.0 == b.0) (a.1 == b.1), eq-eqb a.0 b.0, eq-eqb a.1 b.1)
 
-head_first : (text : List ℕ) → is_primary (before_first is_separator text) ≡ true → first_two (before_first is_separator text) ≡ first_two text
-head_first text primary = head-take (position_or_len is_separator text) text (primary_length (before_first is_separator text) primary)
-
 -- ---- what a text begins with
 
 unmarked : (x : ℕ) (text : List ℕ) → is_separator x ≡ false → before_first is_separator (x ∷ text) ≡ x ∷ before_first is_separator text
 unmarked x text is = take_while-cons (λ b. not (is_separator b)) x text ∙ ap (λ b. cond (not b) (x ∷ before_first is_separator text) []) is
-
-first_letter : (x : ℕ) (text : List ℕ) → is_letter x ≡ false → is_extended (before_first is_separator (x ∷ text)) ≡ false
-unfolding is_extended
-first_letter x text other = grind (arith, common_steps, unmarked, false_from_ne_true, and_parts, both_ways)
 
 pub few_extended : (text : List ℕ) → length text ≤ 2 → is_extended (before_first is_separator text) ≡ false
 few_extended text few =
@@ -115,8 +108,8 @@ short_of_more (a ∷ b ∷ []) least mark alone = absurd (omega (arith, least))
 short_of_more (a ∷ b ∷ m ∷ rest) least mark alone = marked_short a b m rest mark alone
 
 pub extended_letter : (text : List ℕ) → 1 ≤ length text → is_letter (get_or text 0 0) ≡ false → is_extended (before_first is_separator text) ≡ false
-extended_letter [] some other = absurd (omega (arith, some))
-extended_letter (x ∷ text) some other = first_letter x text other
+unfolding is_extended
+extended_letter text some other = grind (arith, common_steps, unmarked, false_from_ne_true, and_parts, both_ways)
 
 pub extended_mark : (text : List ℕ) → 4 ≤ length text → is_separator (get_or text 3 0) ≡ false → is_extended (before_first is_separator text) ≡ false
 extended_mark text long other = grind (arith, common_steps, longer)
@@ -141,7 +134,7 @@ module _ (one : List ℕ) (letters : ℕ × ℕ) (begins : first_two one ≡ Som
         no_extended (after_first is_separator text) (short primary).1 (known (codes "und") (before_first is_separator text)) ∙ known_two (before_first is_separator text) (short primary).0
 
     first_other : is_primary (before_first is_separator text) ≡ true → Alike one (before_first is_separator text) → ⊥
-    first_other primary = λ alike. other (sym (head_first text primary) ∙ sym (head-alike one (before_first is_separator text) alike) ∙ begins)
+    first_other primary = λ alike. other (sym (head-take (position_or_len is_separator text) text (primary_length (before_first is_separator text) primary)) ∙ sym (head-alike one (before_first is_separator text) alike) ∙ begins)
 
     text_other : (f : Fields) → text_fields (hyphened text) ≡ Some f → (Alike one f.language → ⊥) × (length f.language ≡ 2)
     text_other f is = either_way (is_primary (before_first is_separator text))
@@ -153,27 +146,18 @@ module _ (one : List ℕ) (letters : ℕ × ℕ) (begins : first_two one ≡ Som
 
   -- ---- its replacement
 
+  -- a row is the one that is found, or the row is among the others
+  alias_step :
+      (row : Likely) (rows : List Likely) (key to : Fields) → (likely_for rows key ≡ Some to → is_among (replacing rows) one ≡ false → IsOther one to.language) →
+      ltb 0 (length row.to.language) ≡ true → length key.language ≡ 2 → likely_for (row ∷ rows) key ≡ Some to → is_among (replacing (row ∷ rows)) one ≡ false → IsOther one to.language
+  alias_step row rows key to later leads two is apart = grind (arith, nat_tests, and_parts, or_parts, alike_length, are_alike-decides)
+
   alias_other : (rows : List Likely) → list_all (λ row. ltb 0 (length row.to.language)) rows ≡ true →
       (key to : Fields) → length key.language ≡ 2 → likely_for rows key ≡ Some to → is_among (replacing rows) one ≡ false → IsOther one to.language
   alias_other [] lead key to two is apart = absurd cc
   alias_other (row ∷ rows) lead key to two is apart =
       let leads = and_parts (ltb 0 (length row.to.language)) (list_all (λ row. ltb 0 (length row.to.language)) rows) lead in
-      by_tests (are_alike_fields row.from key) (length row.from.language == 2) refl refl leads.0 apart (alias_other rows leads.1 key to two)
-    where
-      by_tests :
-          (b t : Bool) → are_alike_fields row.from key ≡ b → (length row.from.language == 2) ≡ t → ltb 0 (length row.to.language) ≡ true →
-          is_among (cond t (row.to.language ∷ replacing rows) (replacing rows)) one ≡ false →
-          (likely_for rows key ≡ Some to → is_among (replacing rows) one ≡ false → IsOther one to.language) → IsOther one to.language
-      by_tests false true here from leads apart later = later (cc) (or_parts (are_alike row.to.language one) (is_among (replacing rows) one) apart).1
-      by_tests false false here from leads apart later = later (cc) apart
-      by_tests true false here from leads apart later =
-          absurd (eqb-false (length row.from.language) 2 from (alike_length row.from.language key.language (and_parts (are_alike row.from.language key.language) _ here).0 ∙ two))
-      by_tests true true here from leads apart later =
-          let to_is : row.to ≡ to = cc in
-          rw (← to_is) (record {
-            other = λ alike. both_ways _ (or_parts (are_alike row.to.language one) (is_among (replacing rows) one) apart).0 ((are_alike-decides row.to.language one).1 (sym alike));
-            some = ltb-true 0 (length row.to.language) leads;
-          })
+      alias_step row rows key to (alias_other rows leads.1 key to two) leads.0 two is apart
 
   replaced_other :
       (f : Fields) → is_among (replacing language_aliases) one ≡ false → (Alike one f.language → ⊥) → length f.language ≡ 2 → IsOther one (language_replaced f).language
@@ -196,17 +180,13 @@ module _ (one : List ℕ) (letters : ℕ × ℕ) (begins : first_two one ≡ Som
           λ alike. replaced.other (alike ∙ ap fold_text (sym (ap (λ form. form.language) same) ∙ language))
 
       by_und : (b : Bool) → cond b None (option_map matching_fields (text_fields (hyphened text))) ≡ Some form → Alike one form.language → ⊥
-      by_und true is = absurd cc
-      by_und false is = by_fields (text_fields (hyphened text)) refl is
+      by_und b is = grind (arith, by_fields, text_fields)
 
 -- ---- how far it is
 
 no_rule : (desired supported : Fields) (otherwise : ℕ) (rules : List Rule) → is_among (map (λ rule. rule.desired.language) rules) desired.language ≡ false → distance_by rules otherwise desired supported ≡ otherwise
 no_rule desired supported otherwise [] apart = refl
-no_rule desired supported otherwise (rule ∷ rules) apart =
-    let parts = or_parts (are_alike rule.desired.language desired.language) (is_among (map (λ rule. rule.desired.language) rules) desired.language) apart in
-    ap (λ b. cond ((b && (are_alike rule.desired.script desired.script && are_alike rule.desired.region desired.region)) && are_alike_fields rule.supported supported) rule.distance (distance_by rules otherwise desired supported)) parts.0
-    ∙ no_rule desired supported otherwise rules parts.1
+no_rule desired supported otherwise (rule ∷ rules) apart = grind (arith, nat_tests, or_parts, no_rule desired supported otherwise rules)
 
 language_far :
     (desired supported : Fields) → is_among (map (λ rule. rule.desired.language) language_rules) desired.language ≡ false → (Alike desired.language supported.language → ⊥) →

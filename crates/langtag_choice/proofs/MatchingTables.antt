@@ -43,18 +43,15 @@ module _ (number : Rule → ℕ) (is_good : Rule → Bool) (key : ℕ) (desired 
 abbrev pub is_short : Rule → Bool
 is_short rule = ltb (length rule.desired.language) 4 && ltb (length rule.supported.language) 4
 
-long_apart : (a b : Fields) → 3 < length b.language → ltb (length a.language) 4 ≡ true → are_alike_fields a b ≡ false
-long_apart a b long short = grind (arith, common_steps, false_from_ne_true, alike_length, and_parts, ltb-true)
-
 pub long_desired : (otherwise : ℕ) (rules : List Rule) (desired supported : Fields) → 3 < length desired.language → list_all is_short rules ≡ true → distance_by rules otherwise desired supported ≡ otherwise
 long_desired otherwise [] desired supported long all = refl
 long_desired otherwise (rule ∷ rules) desired supported long all =
-    grind (arith, nat_tests, and_parts, long_apart rule.desired desired long, long_desired otherwise rules desired supported long)
+    grind (arith, nat_tests, and_parts, alike_length rule.desired.language desired.language, long_desired otherwise rules desired supported long)
 
 pub long_supported : (otherwise : ℕ) (rules : List Rule) (desired supported : Fields) → 3 < length supported.language → list_all is_short rules ≡ true → distance_by rules otherwise desired supported ≡ otherwise
 long_supported otherwise [] desired supported long all = refl
 long_supported otherwise (rule ∷ rules) desired supported long all =
-    grind (arith, nat_tests, and_parts, long_apart rule.supported supported long, long_supported otherwise rules desired supported long)
+    grind (arith, nat_tests, and_parts, alike_length rule.supported.language supported.language, long_supported otherwise rules desired supported long)
 
 -- ---- a text among others
 

@@ -1,7 +1,6 @@
 //! The distance of regions, which for some languages depends on CLDR's sets of regions.
 ghost use Rattle.std.specs.Prelude.{◌≡◌, ◌≤◌, ◌==◌, IsTrue, false, map};
-ghost use Rattle.langtag_scan.specs.Case.{are_alike};
-ghost use Rattle.langtag_scan.specs.Case.{folded_number};
+ghost use Rattle.langtag_scan.specs.Case.{are_alike, folded_number};
 ghost use Rattle.langtag_tables.specs.Numbers.{climbs_from};
 ghost use Rattle.langtag_choice.specs.Distance as spec;
 ghost use Rattle.langtag_likely.specs.Good.{is_region_field};

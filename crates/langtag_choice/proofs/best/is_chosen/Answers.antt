@@ -9,8 +9,3 @@ pub returns-then-not-has_zero : goal.returns-then-not-has_zero
 returns-then-not-has_zero g c = λ yes.
     open_at _ _ _ _ c.requires.inside (sym c.tag_at.ensures ∙ ap (option_map lang_tag_text) c.in-Some.is)
     (none_refused _ _ (sym c.requires.zero ∙ not-true c.args.has_zero yes))
-
-pub returns-else-not-has_zero : goal.returns-else-not-has_zero
-returns-else-not-has_zero g c = λ yes.
-    open_at _ _ _ _ c.requires.inside (sym c.tag_at.ensures ∙ ap (option_map lang_tag_text) c.in-Some.is)
-    (ap (is_refused (g.R.RangeList.elements c.args.ranges)) (sym c.as_bytes.ensures) ∙ sym c.is_refused.ensures ∙ not-true c.is_refused.result yes)

@@ -11,9 +11,3 @@ returns-in-Some c = λ element index tag weight near.
     (settled c.in-Some.found c.args.place element index tag (c.least_distance.ensures (reach element.range tag) near)
     (ap (λ lack. nat_lt c.in-Some.found.rank.lack lack || ((c.in-Some.found.rank.lack == lack) && nat_lt c.in-Some.found.rank.place c.args.place)) (sym lacks)
     ∙ sym c.is_wanted_more.ensures ∙ c.if-is_wanted_more.true))
-
-pub returns-in_default : goal.returns-in_default
-returns-in_default c = λ element index tag weight near. absurd (omega (arith, near, reach_most element.range tag))
-
-pub returns-in_default-2 : goal.returns-in_default-2
-returns-in_default-2 c = λ element index tag weight near. absurd (omega (arith, near, reach_most element.range tag))
