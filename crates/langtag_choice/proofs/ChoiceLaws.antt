@@ -214,7 +214,11 @@ module _ (elements es : List Element) (tags ts : List (Option (List ℕ))) (same
           (record { place = pair.place; element = element; wanted = wanted; index = pair.index; tag = tag; there = there; served = served; unrefused = free }, refl, ranks)
 
       by_tag : (o : Option (List ℕ)) × (slice_get ts pair.index ≡ Some o) × (Some (fold_text pair.tag) ≡ option_map fold_text o) → IsPairAlike pair
-      by_tag h0 = grind (arith, fold_text, at-folded, same_elements, by_found)
+      by_tag (None, there, same) = absurd cc
+      by_tag (Some tag, there, same) =
+          let alike : fold_text pair.tag ≡ fold_text tag = cc in
+          let at = at-folded folded elements es pair.place pair.element same_elements pair.wanted in
+          by_found at.0 tag at.1 at.2 there alike
 
 pub case_ignored : (elements : List Element) (tags : List (Option (List ℕ))) (answer : Option ℕ) → IsChoice elements tags answer → IgnoresCase elements tags answer
 case_ignored elements tags None none es ts same_elements same_tags = λ pair. none (pair-alike es elements ts tags (sym same_elements) (sym same_tags) pair).0

@@ -196,7 +196,7 @@ fn best_index<'a, R: RangeList<'a>, T: TagList>(ranges: R, tags: &T) -> Option<u
 }
 
 /// Returns the chosen candidate. If the first candidate is refused or not a tag, the tags are tried one by one.
-#[tactic(auto, using(crate::proofs::FoundLaws::first_best))]
+#[tactic(auto, using(crate::proofs::FoundLaws::first_best, crate::proofs::FoundLaws::first_open))]
 fn best<'a, 't, R: RangeList<'a>, T: TagList>(ranges: R, tags: &'t T) -> Option<Candidate<'a, 't>>
     ensures { IsBestFound (R.elements ranges) (T.texts tags.now) result }
 {
