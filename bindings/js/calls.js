@@ -76,6 +76,7 @@ function read(at, length) {
 
 /** Returns the number at an index of what a call wrote: an offset or a length of 64 bits, whose upper 32 bits are 0. */
 const written = (index) => view.getUint32(out + 8 * index, true);
+const numbers = (count) => Array.from({ length: count }, (_, index) => written(index));
 
 function writeSpan(at, start, length) {
     view.setBigUint64(at, BigInt(start), true);
@@ -95,18 +96,45 @@ function askTwo(name, one, other) {
     return close(calls[name](textsAddress, BigInt(one.length), BigInt(texts + one.length), BigInt(other.length)));
 }
 
-/** Returns the new text that a call writes after a text, or "" if it writes none. The default room is enough for most texts, and always for the
- * Unicode forms. */
-function askText(name, text, room = text.length + 32) {
-    open(text.length + room);
-    write(text, texts);
-    const at = texts + text.length;
-    const length = Number(calls[name](textsAddress, BigInt(text.length), BigInt(at), BigInt(room)));
+/** Begins a call with texts and numbers. Returns the arguments, among which each text is an address and a length, and the address
+ * of a room after the texts. */
+function openWith(given, room) {
+    open(given.reduce((size, it) => size + (it.length ?? 0), room));
+    let at = texts;
+    const passed = given.flatMap((it) => {
+        if (typeof it === "number") return it;
+        write(it, at);
+        at += it.length;
+        return [BigInt(at - it.length), BigInt(it.length)];
+    });
+    return [passed, at];
+}
+
+/** Returns the new text that a call writes for texts and numbers, or "" if it writes none. */
+function askText(name, room, ...given) {
+    const [passed, at] = openWith(given, room);
+    const length = Number(calls[name](...passed, BigInt(at), BigInt(room)));
     if (length > room) {
         close();
-        return askText(name, text, length);
+        return askText(name, length, ...given);
     }
     return close(read(at, length));
+}
+
+/** Returns a call that writes the new text of a text. The room is enough for most texts, and always for the Unicode forms. */
+const form = (name) => (text) => askText(name, text.length + 32, text);
+
+/** Returns the result of a call, and the first numbers that it writes. The offsets are those of the places to which it writes. */
+function askNumbers(name, given, count, ...offsets) {
+    const [passed] = openWith(given, 0);
+    const answer = calls[name](...passed, ...offsets.map((offset) => BigInt(out + offset)));
+    return close([answer, ...numbers(count)]);
+}
+
+/** Returns the offset and length of the span that a call writes, or undefined if the call returns false. */
+function askSpan(name, ...given) {
+    const [isThere, ...span] = askNumbers(name, given, 2, 0);
+    return isThere ? span : undefined;
 }
 
 function changed(name, text) {
@@ -143,15 +171,14 @@ export const matchesBasic = (range, tag) => askTwo("langtag_matches_basic", rang
 export const matchesExtended = (range, tag) => askTwo("langtag_matches_extended", range, tag) !== 0;
 export const fold = (text) => changed("langtag_fold", text);
 export const recommend = (text) => changed("langtag_recommend", text);
-export const canonical = (text) => askText("langtag_canonical", text);
-
-export const maximize = (text) => askText("langtag_maximize", text);
-export const minimize = (text) => askText("langtag_minimize", text);
-export const extensionsForm = (text) => askText("langtag_extensions_form", text);
-export const localeForm = (text) => askText("langtag_locale_form", text);
-export const fromPosix = (name) => askText("langtag_from_posix", name);
+export const canonical = form("langtag_canonical");
+export const maximize = form("langtag_maximize");
+export const minimize = form("langtag_minimize");
+export const extensionsForm = form("langtag_extensions_form");
+export const localeForm = form("langtag_locale_form");
+export const fromPosix = form("langtag_from_posix");
 /** Returns the offset and length of a modifier that is not known, or undefined if there is none. */
-export const unknownModifier = (name) => beforeKeys("langtag_unknown_modifier", name);
+export const unknownModifier = (name) => askSpan("langtag_unknown_modifier", name);
 export const distance = (desired, supported) => askTwo("langtag_distance", desired, supported) >>> 0;
 export const isRightToLeft = (text) => askOne("langtag_is_right_to_left", text) !== 0;
 
@@ -172,80 +199,31 @@ export const registryDate = () => askNothing("langtag_registry_date");
 export const cldrVersion = () => askNothing("langtag_cldr_version");
 
 /** Returns why a text is not a tag, as a number, the offset and length of the wrong subtag, and the offset to point at. */
-export function refused(text) {
-    open(text.length);
-    write(text, texts);
-    const answer = calls.langtag_refused(textsAddress, BigInt(text.length), outAddress, BigInt(out + 16));
-    return close([answer, written(0), written(1), written(2)]);
-}
-
+export const refused = (text) => askNumbers("langtag_refused", [text], 3, 0, 16);
 /** Returns what is wrong with a tag, as a number, and the offset and length of the invalid subtag. */
-export function validity(text) {
-    open(text.length);
-    write(text, texts);
-    const answer = calls.langtag_validity(textsAddress, BigInt(text.length), outAddress);
-    return close([answer, written(0), written(1)]);
-}
-
+export const validity = (text) => askNumbers("langtag_validity", [text], 2, 0);
 /** Returns the code that is meant by an invalid subtag, or "" if there is none. `fault` is the number that validity returned. */
-export function suggestion(fault, subtag) {
-    const room = 3;
-    open(subtag.length + room);
-    write(subtag, texts);
-    const at = texts + subtag.length;
-    const length = Number(calls.langtag_suggestion(fault, textsAddress, BigInt(subtag.length), BigInt(at), BigInt(room)));
-    return close(read(at, length > room ? 0 : length));
-}
-
+export const suggestion = (fault, subtag) => askText("langtag_suggestion", 3, fault, subtag);
 /** Returns the offset and length of the repeated variant, and of the repeated singleton. */
-export function repeats(text) {
-    open(text.length);
-    write(text, texts);
-    calls.langtag_repeats(textsAddress, BigInt(text.length), outAddress);
-    return close([written(0), written(1), written(2), written(3)]);
-}
+export const repeats = (text) => askNumbers("langtag_repeats", [text], 4, 0).slice(1);
 
 /** Returns the tag with the part of a number set to a text, or "" if the text is not such a part. */
-export function withPart(tag, part, text) {
-    const room = tag.length + text.length + 1;
-    open(tag.length + text.length + room);
-    const second = texts + tag.length, made = second + text.length;
-    write(tag, texts);
-    write(text, second);
-    const length = Number(calls.langtag_with_part(textsAddress, BigInt(tag.length), part, BigInt(second), BigInt(text.length),
-        BigInt(made), BigInt(room)));
-    return close(read(made, length));
-}
+export const withPart = (tag, part, text) => askText("langtag_with_part", tag.length + text.length + 1, tag, part, text);
 
 /** Returns the tag with the value of a key of the extension u, or without the key if the value is undefined. Returns "" if the key or
  * the value cannot be in a keyword, or if the tag is not normal. */
 export function withKeyword(tag, key, value) {
-    const given = value === undefined ? [tag, key] : [tag, key, value];
-    const size = given.reduce((sum, text) => sum + text.length, 0), room = size + 4;
-    open(size + room);
-    let at = texts;
-    const passed = given.flatMap((text) => {
-        write(text, at);
-        at += text.length;
-        return [BigInt(at - text.length), BigInt(text.length)];
-    });
-    const name = value === undefined ? "langtag_without_keyword" : "langtag_with_keyword";
-    const length = Number(calls[name](...passed, BigInt(at), BigInt(room)));
-    return close(read(at, length));
+    if (value === undefined) return askText("langtag_without_keyword", tag.length, tag, key);
+    return askText("langtag_with_keyword", tag.length + key.length + value.length + 4, tag, key, value);
 }
 
-/** Returns the offset and length of the value of a key, or undefined if the key is absent. */
-function valueOf(name, text, key) {
-    open(text.length + key.length);
-    write(text, texts);
-    write(key, texts + text.length);
-    const second = BigInt(texts + text.length);
-    const isThere = calls[name](textsAddress, BigInt(text.length), second, BigInt(key.length), outAddress);
-    return close(isThere ? [written(0), written(1)] : undefined);
-}
+/** Return the offset and length of the value of a key, or undefined if the key is absent. */
+export const keyword = (text, key) => askSpan("langtag_keyword", text, key);
+export const field = (text, key) => askSpan("langtag_field", text, key);
 
-export const keyword = (text, key) => valueOf("langtag_keyword", text, key);
-export const field = (text, key) => valueOf("langtag_field", text, key);
+/** Return the offset and length of what comes before the keys, or undefined if there is none. */
+export const attributes = (text) => askSpan("langtag_attributes", text);
+export const transform = (text) => askSpan("langtag_transform", text);
 
 /** Returns a list with the offset and length of each key, and of its value. */
 function pairsOf(name, text) {
@@ -260,17 +238,6 @@ function pairsOf(name, text) {
 
 export const keywords = (text) => pairsOf("langtag_next_keyword", text);
 export const fields = (text) => pairsOf("langtag_next_field", text);
-
-/** Returns the offset and length of the one span that a call writes, or undefined if the call returns false. */
-function beforeKeys(name, text) {
-    open(text.length);
-    write(text, texts);
-    const isThere = calls[name](textsAddress, BigInt(text.length), outAddress);
-    return close(isThere ? [written(0), written(1)] : undefined);
-}
-
-export const attributes = (text) => beforeKeys("langtag_attributes", text);
-export const transform = (text) => beforeKeys("langtag_transform", text);
 
 /** Returns the ends of a range and of each of its fallbacks. */
 export function fallbackEnds(range) {
@@ -307,8 +274,8 @@ function writeSpans(list, at) {
 }
 
 /** Returns the index of the tag that a call chooses for a header, or for the ranges in a text; the number of tags if it chooses
- * none. */
-function chosen(name, text, tags, ranges, ...more) {
+ * none. After it come the first numbers that the call writes. */
+function chosen(name, text, tags, ranges, count = 0) {
     const joined = tags.join("");
     const at = (text.length + joined.length + 7) & -8;
     open(at + 16 * (tags.length + (ranges ?? []).length));
@@ -316,15 +283,13 @@ function chosen(name, text, tags, ranges, ...more) {
     write(joined, texts + text.length);
     const offered = [BigInt(texts + text.length), BigInt(joined.length), ...writeSpans(tags, texts + at)];
     const wanted = ranges === undefined ? [] : writeSpans(ranges, texts + at + 16 * tags.length);
-    return close(Number(calls[name](textsAddress, BigInt(text.length), ...wanted, ...offered, ...more)));
+    const found = count > 0 ? [outAddress] : [];
+    const index = Number(calls[name](textsAddress, BigInt(text.length), ...wanted, ...offered, ...found));
+    return close([index, ...numbers(count)]);
 }
 
-export const bestForHeader = (header, tags) => chosen("langtag_best_for_header", header, tags);
+export const bestForHeader = (header, tags) => chosen("langtag_best_for_header", header, tags)[0];
 /** Returns the index of the best tag, the offset and length of its range in the header, and the distance. */
-export function matchForHeader(header, tags) {
-    const index = chosen("langtag_match_for_header", header, tags, undefined, outAddress);
-    return [index, written(0), written(1), written(2)];
-}
-
-export const bestForRanges = (ranges, tags) => chosen("langtag_best_for_ranges", ranges.join(""), tags, ranges);
-export const tagForHeader = (header, tags) => chosen("langtag_tag_for_header_lenient", header, tags);
+export const matchForHeader = (header, tags) => chosen("langtag_match_for_header", header, tags, undefined, 3);
+export const bestForRanges = (ranges, tags) => chosen("langtag_best_for_ranges", ranges.join(""), tags, ranges)[0];
+export const tagForHeader = (header, tags) => chosen("langtag_tag_for_header_lenient", header, tags)[0];

@@ -329,6 +329,8 @@ test("a range, a tag or a text of a megabyte", () => {
     assert.equal(LanguageRange.parse(long).matchesBasic(tag), true);
     const header = `${"nl, ".repeat(100_000)}fr`;
     assert.equal(tagForHeader(header, ["en", "fr"]), "fr");
+    const best = langtag.matchForHeader(`${"_, ".repeat(400_000)}fr`, ["en", "fr"]);
+    assert.deepEqual(best, { index: 1, tag: "fr", distance: 0, range: "fr" });
     assert.equal(LanguageTag.parse(`de${"-1996".repeat(9000)}`).repeatedVariant, "1996");
 });
 

@@ -12,5 +12,8 @@ pub mod VariantBlockLaws
 pub mod AlikeFound
 pub mod IrregularTests
 mod RefusalLaws
+pub mod Alike
+pub mod FieldClasses
+pub mod FormLaws
 -- what the crates above cite with the others
 pub use Rattle.langtag_scan.proofs.TagLaws

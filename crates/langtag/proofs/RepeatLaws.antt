@@ -4,7 +4,7 @@ use Rattle.std.specs.List.{list_any, AllPairs}
 use Rattle.std.specs.Option.{option_map}
 use Rattle.std.proofs.Math.Bool.{or-false}
 use Rattle.std.proofs.lemmas.Bool.Decides.{eqb_tells}
-use Rattle.std.proofs.lemmas.Bool.{or_right}
+use Rattle.std.proofs.lemmas.Bool.{or_right, false_from_ne_true}
 use Rattle.std.proofs.lemmas.Grind.{get_or-set_at, common_steps}
 use Rattle.std.proofs.lemmas.List.{at_drop_more, take_more, length-take, length-drop, get_or-set_other, drop-map}
 use Rattle.std.proofs.lemmas.List.Folds.{list_any_more, list_any_at, Any-from_list_any}
@@ -14,7 +14,6 @@ use Rattle.std.proofs.lemmas.Str.Ascii.{lowercase_ascii}
 use Rattle.langtag_scan.specs.Case.{fold_byte}
 use Rattle.langtag_scan.specs.Class.{is_singleton}
 use Rattle.langtag_scan.specs.Record.{Extension}
-use Rattle.std.proofs.lemmas.Bool.{false_from_ne_true}
 use Rattle.langtag_scan.proofs.Ascii.{alphanumeric_below}
 use Rattle.langtag_scan.proofs.SubtagFacts.{singleton_alphanumeric}
 use Rattle.langtag_extension.specs.Spelling.{extension_spelling}
@@ -149,3 +148,7 @@ pub AreFlagsOf-set :
     fold ≡ fold_byte b → fold < 128 → AreFlagsOf flags (take n bytes) → AreFlagsOf (set flags fold true) (take (n + 1) bytes)
 AreFlagsOf-set flags bytes n b fold rest at all is below before c inside =
     grind (arith, common_steps, list_any_more, eqb_tells, get_or-set_at, or_right, get_or-set_other, or-false)
+
+pub ruleset repeat_laws = (repeat-first, repeat_index-first)
+
+pub ruleset few_steps = (repeat-later, IsAt-drop)

@@ -14,6 +14,9 @@ pub mod Order
 pub mod Part
 pub mod Compared
 pub mod Refusal
+pub mod Fields
+pub mod FieldClasses
+pub mod Form
 -- the pages that are cited by the contracts of this crate and of the types that it exports. So callers need to name
 -- only this crate
 pub use Rattle.langtag_scan.specs.AlikeRecords

@@ -16,8 +16,7 @@ ghost use Rattle.langtag_language.specs.Text.{language_text};
 ghost use Rattle.langtag_place.specs.Text.{script_text, region_text, variants_text};
 ghost use Rattle.langtag_extension.specs.Text.{extensions_text};
 ghost use Rattle.langtag_private.specs.Text.{private_use_text};
-ghost use Rattle.langtag.specs.Edit.{GivesBack, of_parts, with_language, with_script, with_region, with_variants, with_extensions, with_private_use};
-ghost use Rattle.langtag.specs.Edit.{SetsLanguage, SetsScript, SetsRegion, SetsVariants, SetsExtensions, SetsPrivateUse};
+ghost use Rattle.langtag.specs.Edit.{GivesBack, of_parts, with_language, with_script, with_region, with_variants, with_extensions, with_private_use, SetsLanguage, SetsScript, SetsRegion, SetsVariants, SetsExtensions, SetsPrivateUse};
 
 use crate::edit::set_part;
 use crate::lang_tag_buf::LangTagBuf;

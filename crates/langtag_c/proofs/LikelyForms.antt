@@ -10,7 +10,7 @@ use Rattle.langtag_likely.specs.Maximal.{IsMaximalForm, IsMinimalForm, maximal_r
 use Rattle.langtag_range.specs.Locale.{locale_place}
 use Rattle.langtag_range.specs.Wanted.{hyphened}
 use Rattle.langtag_likely.specs.Posix.{IsTagOfName, NamesTag, with_said}
-use Rattle.langtag_likely.proofs.FormLaws.{form_is_tag}
+use Rattle.langtag.proofs.FormLaws.{form_is_tag}
 use Rattle.langtag_likely.proofs.GoodForms.{maximal_well_formed, minimal_well_formed}
 use Rattle.langtag_likely.proofs.PosixLaws.{said_well_formed}
 use Rattle.langtag_unicode.proofs.FormRecords.{form_well_formed}

@@ -1,6 +1,6 @@
 //! A tag with a keyword of the extension `u` set or removed, written to the caller's buffer (RFC 6067 section 2.1).
 ghost use Rattle.std.specs.Prelude.{◌≡◌, ◌↔◌, ◌<◌, ◌≤◌, ◌^◌, None, Some, length};
-ghost use Rattle.langtag_likely.specs.Maximal.{IsForm};
+ghost use Rattle.langtag.specs.Form.{IsForm};
 ghost use Rattle.langtag_output.specs.Writes.{Writes};
 ghost use Rattle.langtag_scan.specs.Subtags.{subtags};
 ghost use Rattle.langtag_unicode.specs.Edit.{edited_record};

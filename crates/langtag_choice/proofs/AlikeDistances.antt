@@ -12,10 +12,12 @@ use Rattle.langtag_range.specs.Listed.{basic_text}
 use Rattle.langtag_range.specs.Wanted.{hyphened}
 use Rattle.langtag_range.proofs.AlikeTexts.{hyphened-fold, is_star-fold, subtags-fold}
 use Rattle.langtag_range.proofs.BasicForms.{basic_text-alike}
-use Rattle.langtag_likely.specs.Likely.{Fields, are_alike_fields, language_alone, known, without_region}
+use Rattle.langtag_likely.specs.Likely.{are_alike_fields, language_alone, known, without_region}
+use Rattle.langtag.specs.Fields.{Fields}
 use Rattle.langtag_likely.specs.Matching.{language_replaced, region_replaced, without_language, keeping_language, most_unknown, most_likely, matching_fields, matching_form}
 use Rattle.langtag_likely.specs.TextFields.{text_fields, fields_of_subtags, counted, counts, last_language, after_language, script_of, after_script, region_of}
-use Rattle.langtag_likely.proofs.AlikeFields.{AlikeFields, AlikeOptions, are_alike-left, are_alike-right, fields-right, likely_for-alike, alone_alike, or_other-alike, added-alike, by_options, by_same, suffices-alike}
+use Rattle.langtag_likely.proofs.AlikeFields.{AlikeOptions, fields-right, likely_for-alike, alone_alike, or_other-alike, added-alike, by_options, by_same, suffices-alike}
+use Rattle.langtag.proofs.Alike.{AlikeFields, are_alike-left, are_alike-right}
 use Rattle.langtag_choice.specs.Distance.{RegionSet, by_language, by_side, distance_of_forms, en_us, is_among, is_british, is_outside, language_distance, region_distance, script_distance, DistanceIgnoresCase, distance_of_texts}
 use Rattle.langtag_choice.specs.MatchingData.{language_rules}
 use Rattle.langtag_choice.specs.Nearness.{is_form, unlikely, unlikely_form}

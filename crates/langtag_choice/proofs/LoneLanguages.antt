@@ -15,7 +15,8 @@ use Rattle.langtag_range.specs.Listed.{basic_text}
 use Rattle.langtag_range.specs.Wanted.{hyphened, is_separator}
 use Rattle.langtag_range.proofs.Prefixes.{length-alike}
 use Rattle.langtag_likely.specs.Aliases.{language_aliases}
-use Rattle.langtag_likely.specs.Likely.{Fields, Likely, are_alike_fields, known, language_alone, likely_for}
+use Rattle.langtag_likely.specs.Likely.{Likely, are_alike_fields, known, language_alone, likely_for}
+use Rattle.langtag.specs.Fields.{Fields}
 use Rattle.langtag_likely.specs.Matching.{language_replaced, matching_fields, matching_form}
 use Rattle.langtag_likely.specs.TextFields.{last_language, counted_parts, text_fields}
 use Rattle.langtag_likely.proofs.AddedTwice.{either_way}
@@ -23,7 +24,7 @@ use Rattle.langtag_likely.proofs.AliasTables.{aliases_lead}
 use Rattle.langtag_likely.proofs.AlikeFields.{by_options}
 use Rattle.langtag_likely.proofs.CommonTexts.{some_length}
 use Rattle.langtag_likely.proofs.CompletedForms.{completed_language}
-use Rattle.langtag_likely.proofs.RowsFound.{alike_length}
+use Rattle.langtag.proofs.Alike.{alike_length}
 use Rattle.langtag_likely.proofs.TextParts.{all_fields, next_part, no_fields}
 use Rattle.langtag_choice.specs.Distance.{is_among, distance_of_texts, language_distance}
 use Rattle.langtag_choice.specs.Lone.{HasNoExtended, IsShort, first_two, is_lone, lone_head, replacing}

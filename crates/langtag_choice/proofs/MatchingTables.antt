@@ -10,11 +10,12 @@ use Rattle.langtag_scan.specs.Class.{are_alphanumeric, are_letters, is_letter, i
 use Rattle.langtag_scan.proofs.FoldedNumbers.{folded_number-tells}
 use Rattle.langtag_tables.specs.Numbers.{letter_number}
 use Rattle.langtag_likely.specs.Aliases.{language_aliases}
-use Rattle.langtag_likely.specs.Likely.{Fields, are_alike_fields, Likely, language_alone, without_region}
+use Rattle.langtag_likely.specs.Likely.{are_alike_fields, Likely, language_alone, without_region}
+use Rattle.langtag.specs.Fields.{Fields}
 use Rattle.langtag_likely.specs.Numbers.{first_index, key_number}
 use Rattle.langtag_likely.proofs.KeyNumbers.{test_at, are_plain, is_numbered, key_number-tells}
 use Rattle.langtag_likely.proofs.RowLaws.{is_language, language-tells}
-use Rattle.langtag_likely.proofs.RowsFound.{alike_length}
+use Rattle.langtag.proofs.Alike.{alike_length}
 use Rattle.langtag_choice.specs.Distance.{is_among, maghreb, en_us, americas, cnsar, language_distance, script_distance}
 use Rattle.langtag_choice.specs.Lone.{replacing}
 use Rattle.langtag_choice.specs.MatchingData as list

@@ -2,7 +2,8 @@
 -- the distances of the languages, the scripts and the regions of their matching forms.
 use Rattle.std.specs.Prelude.{◌≡◌, ℕ, ◌+◌, ◌==◌, Bool, false, ◌&&◌, ◌||◌, not, List, [], ◌∷◌, Option, None, Some, codes, if◌then◌else◌}
 use Rattle.langtag_scan.specs.Case.{Alike, are_alike}
-use Rattle.langtag_likely.specs.Likely.{Fields, are_alike_fields, language_alone, without_region}
+use Rattle.langtag_likely.specs.Likely.{are_alike_fields, language_alone, without_region}
+use Rattle.langtag.specs.Fields.{Fields}
 use Rattle.langtag_choice.specs.MatchingData.{language_rules, script_rules, maghreb_inside, maghreb_partly, en_us_inside, en_us_partly, americas_inside, americas_partly, cnsar_inside, cnsar_partly}
 use Rattle.langtag_likely.specs.Matching.{matching_form}
 use Rattle.langtag_choice.specs.Rules.{distance_by}

@@ -3,7 +3,7 @@ use Rattle.std.specs.Prelude.{◌≡◌, ◌⊎◌, ℕ, ◌<◌, ◌-◌, true,
 use Rattle.langtag_range.specs.Element.{Element}
 use Rattle.langtag_range.specs.Listed.{basic_text}
 use Rattle.langtag_choice.specs.Best.{IsAtMost, Pair, is_refused, may_serve, rank, rank_of_pair, reach, serves}
-use Rattle.langtag_likely.specs.Likely.{Fields}
+use Rattle.langtag.specs.Fields.{Fields}
 use Rattle.langtag_likely.specs.Matching.{matching_form}
 use Rattle.langtag_choice.specs.Nearness.{kept, unlikely}
 use Rattle.langtag_likely.specs.Texts.{field_texts}

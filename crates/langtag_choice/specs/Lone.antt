@@ -5,7 +5,8 @@ use Rattle.langtag_scan.specs.Case.{fold_byte}
 use Rattle.langtag_scan.specs.Class.{is_extended, is_primary}
 use Rattle.langtag_range.specs.Wanted.{is_separator}
 use Rattle.langtag_choice.specs.Distance.{is_among}
-use Rattle.langtag_likely.specs.Likely.{Fields, Likely}
+use Rattle.langtag_likely.specs.Likely.{Likely}
+use Rattle.langtag.specs.Fields.{Fields}
 use Rattle.langtag_choice.specs.MatchingData.{language_rules}
 use Rattle.langtag_likely.specs.Aliases.{language_aliases}
 

@@ -2,7 +2,8 @@
 use Rattle.std.specs.Prelude.{ℕ, Bool, ◌==◌, ◌&&◌, ◌||◌, not, if◌then◌else◌, List, codes, length, take, drop}
 use Rattle.std.specs.Option.{option_map_or}
 use Rattle.langtag_scan.specs.Case.{are_alike}
-use Rattle.langtag_likely.specs.Likely.{Fields, suffices, without_region}
+use Rattle.langtag_likely.specs.Likely.{suffices, without_region}
+use Rattle.langtag.specs.Fields.{Fields}
 use Rattle.langtag_likely.specs.LikelySubtags.{likely_subtags}
 use Rattle.langtag_likely.specs.Matching.{matching_form}
 use Rattle.langtag_range.specs.Basic.{ends_subtag}

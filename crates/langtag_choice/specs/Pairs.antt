@@ -1,7 +1,7 @@
 -- The numbers that stand for two languages in the tables. Only contracts of private functions cite this page.
 use Rattle.std.specs.Prelude.{ℕ, ◌+◌, ◌*◌}
 use Rattle.langtag_tables.specs.Numbers.{letter_number}
-use Rattle.langtag_likely.specs.Likely.{Fields}
+use Rattle.langtag.specs.Fields.{Fields}
 use Rattle.langtag_likely.specs.Numbers.{key_number}
 
 -- two languages as one number

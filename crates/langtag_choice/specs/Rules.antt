@@ -1,6 +1,7 @@
 -- Rules of language matching (UTS #35, part 1, section 'Language Matching'): the distance of two languages, or of two scripts.
 use Rattle.std.specs.Prelude.{ℕ, ◌+◌, ◌*◌, ◌-◌, ◌&&◌, Bool, List, [], ◌∷◌, fold, if◌then◌else◌}
-use Rattle.langtag_likely.specs.Likely.{Fields, are_alike_fields}
+use Rattle.langtag_likely.specs.Likely.{are_alike_fields}
+use Rattle.langtag.specs.Fields.{Fields}
 
 -- a rule: the distance from the desired fields to the supported fields
 pub record Rule : Type 0 where

@@ -8,7 +8,7 @@ ghost use Rattle.langtag_tables.specs.Numbers.{climbs_from};
 ghost use Rattle.langtag_range.specs.Listed.{basic_text};
 ghost use Rattle.langtag_range.specs.Wanted.{is_separator};
 ghost use Rattle.langtag_choice.specs.Lone as spec;
-ghost use Rattle.langtag_likely.specs.Good.{is_language_field};
+ghost use Rattle.langtag.specs.FieldClasses.{is_language_field};
 ghost use Rattle.langtag_likely.specs.Texts.{field_texts};
 ghost use Rattle.langtag_choice.specs.declared.matching_tables.TheConstants.{RELATED_KEYS};
 

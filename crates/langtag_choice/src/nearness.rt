@@ -7,7 +7,7 @@ ghost use Rattle.langtag_range.specs.Wanted.{hyphened};
 ghost use Rattle.langtag_choice.specs.Best.{may_serve, reach};
 ghost use Rattle.langtag_choice.specs.Distance.{distance_of_texts, fields_distance, formless_distance, language_distance};
 ghost use Rattle.langtag_choice.specs.Found.{IsNear, IsNearer};
-ghost use Rattle.langtag_likely.specs.Likely.{Fields};
+ghost use Rattle.langtag.specs.Fields.{Fields};
 ghost use Rattle.langtag_likely.specs.Matching.{completed, matching_form};
 ghost use Rattle.langtag_choice.specs.Nearness as spec;
 ghost use Rattle.langtag_likely.specs.Texts.{field_texts};

@@ -3,7 +3,7 @@ ghost use Rattle.std.specs.Prelude.{◌≡◌, ◌≤◌, ◌==◌, IsTrue, fals
 ghost use Rattle.langtag_scan.specs.Case.{are_alike, folded_number};
 ghost use Rattle.langtag_tables.specs.Numbers.{climbs_from};
 ghost use Rattle.langtag_choice.specs.Distance as spec;
-ghost use Rattle.langtag_likely.specs.Good.{is_region_field};
+ghost use Rattle.langtag.specs.FieldClasses.{is_region_field};
 ghost use Rattle.langtag_choice.specs.Sets.{set_of};
 ghost use Rattle.langtag_likely.specs.Texts.{field_texts};
 

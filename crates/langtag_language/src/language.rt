@@ -1,6 +1,5 @@
 //! The language of a tag (RFC 5646 sections 2.2.1 and 2.2.2).
-ghost use Rattle.std.specs.Prelude.{◌≡◌, ◌↔◌, ◌∷◌, [], Some, IsTrue, is_ok, drop, slice_get};
-ghost use Rattle.std.specs.Prelude.{IsNone, IfSome, IfOk, IfErr};
+ghost use Rattle.std.specs.Prelude.{◌≡◌, ◌↔◌, ◌∷◌, [], Some, IsTrue, is_ok, drop, slice_get, IsNone, IfSome, IfOk, IfErr};
 ghost use Rattle.std.specs.String.{string_bytes};
 ghost use Rattle.langtag_scan.specs.Case.{are_alike};
 ghost use Rattle.langtag_scan.specs.Subtags.{subtags};

@@ -6,10 +6,12 @@ use Rattle.std.specs.Option.{option_map_or}
 use Rattle.langtag_scan.specs.Case.{fold_byte, are_alike, Alike, fold_text}
 use Rattle.langtag_scan.specs.Class.{is_letter, are_letters}
 use Rattle.langtag_tables.specs.Numbers.{letter_number}
-use Rattle.langtag_likely.specs.Likely.{Fields, Likely, likely_for, looked_up, or_else, are_alike_fields, or_other, filled, known, known_fields, add_likely, language_alone}
+use Rattle.langtag_likely.specs.Likely.{Likely, likely_for, looked_up, or_else, are_alike_fields, or_other, filled, known, known_fields, add_likely, language_alone}
+use Rattle.langtag.specs.Fields.{Fields}
 use Rattle.langtag_likely.specs.LikelySubtags.{language_rows, other_rows, likely_subtags}
 use Rattle.langtag_likely.specs.Rows.{of_language}
-use Rattle.langtag_likely.proofs.AlikeFields.{AlikeFields, alike_is, alike_fields, likely_for-alike, looked_up-alike, alone_alike}
+use Rattle.langtag_likely.proofs.AlikeFields.{alike_fields, likely_for-alike, looked_up-alike, alone_alike}
+use Rattle.langtag.proofs.Alike.{AlikeFields, alike_is}
 use Rattle.langtag_likely.proofs.LanguageBits.{from_bit, row_at}
 use Rattle.langtag_likely.proofs.RowLaws.{all_other, either, language_found}
 

@@ -11,8 +11,9 @@ use Rattle.langtag_scan.proofs.SubtagFacts.{of_region}
 use Rattle.langtag_tables.specs.Numbers.{letter_number}
 use Rattle.langtag_likely.specs.Aliases as list
 use Rattle.langtag_likely.specs.Aliases.{language_aliases, region_aliases, region_replacements}
-use Rattle.langtag_likely.specs.Good.{is_language_field, is_script_field, is_region_field}
-use Rattle.langtag_likely.specs.Likely.{Fields, Likely, are_alike_fields, likely_for, language_alone}
+use Rattle.langtag.specs.FieldClasses.{is_language_field, is_script_field, is_region_field}
+use Rattle.langtag_likely.specs.Likely.{Likely, are_alike_fields, likely_for, language_alone}
+use Rattle.langtag.specs.Fields.{Fields}
 use Rattle.langtag_likely.specs.Matching.{region_alone}
 use Rattle.langtag_likely.specs.Numbers.{name_at, name_text, first_index}
 use Rattle.langtag_likely.specs.Rows.{no_row}

@@ -1,29 +1,14 @@
 -- Fields that are equal but for case have likely subtags that are.
-use Rattle.std.proofs.Common.{◌≡◌, ℕ, true, false, Bool, cond, List, [], ◌∷◌, Option, None, Some, option_map, refl, ap, ◌∙◌, subst, arith, bytes_eq}
+use Rattle.std.proofs.Common.{◌≡◌, ℕ, true, false, Bool, cond, List, [], ◌∷◌, Option, None, Some, option_map, refl, ap, ◌∙◌, subst, arith}
 use Rattle.std.specs.Option.{option_map_or}
-use Rattle.langtag_scan.specs.Case.{Alike, are_alike, fold_text}
-use Rattle.langtag_scan.specs.CaseLaws.{are_alike-decides}
-use Rattle.langtag_likely.specs.Likely.{Fields, Likely, are_alike_fields, likely_for, looked_up, or_other, known, known_fields, add_likely, remove_likely, least, suffices, language_alone, without_script, without_region}
+use Rattle.langtag_scan.specs.Case.{Alike}
+use Rattle.langtag_likely.specs.Likely.{Likely, are_alike_fields, likely_for, looked_up, or_other, filled, known, known_fields, add_likely, remove_likely, least, suffices, language_alone, without_script, without_region}
+use Rattle.langtag.specs.Fields.{Fields}
 use Rattle.langtag_likely.specs.LikelySubtags.{likely_subtags}
-
-pub record AlikeFields (a b : Fields) : Type 0 where
-  pub language : Alike a.language b.language
-  pub script : Alike a.script b.script
-  pub region : Alike a.region b.region
-
-pub alike_is : (a b : List ℕ) → are_alike a b ≡ true → Alike a b
-alike_is a b is = (are_alike-decides a b).0 is
+use Rattle.langtag.proofs.Alike.{AlikeFields, alike_is, are_alike-left, are_alike-right}
 
 pub alike_fields : (a b : Fields) → are_alike_fields a b ≡ true → AlikeFields a b
 alike_fields a b is = grind (arith, alike_is)
-
--- ---- a test answers alike of texts that are alike
-
-pub are_alike-right : (a b c : List ℕ) → Alike b c → are_alike a b ≡ are_alike a c
-are_alike-right a b c h = ap (bytes_eq (fold_text a)) h
-
-pub are_alike-left : (a b c : List ℕ) → Alike a b → are_alike a c ≡ are_alike b c
-are_alike-left a b c h = ap (λ t. bytes_eq t (fold_text c)) h
 
 pub fields-right : (a b c : Fields) → AlikeFields b c → are_alike_fields a b ≡ are_alike_fields a c
 fields-right a b c h =

@@ -1,13 +1,15 @@
 -- What the class of a field says of its letters and its length.
 use Rattle.std.proofs.Common.{◌≡◌, ℕ, ◌<◌, ◌≤◌, true, Bool, List, [], ◌∷◌, length, refl, arith}
-use Rattle.langtag_scan.specs.Class.{are_letters, are_alphanumeric, is_primary, is_extended, is_script, is_region}
+use Rattle.langtag_scan.specs.Class.{are_letters, are_alphanumeric, is_primary, is_extended}
 use Rattle.langtag_tables.specs.Numbers.{letter_number}
 use Rattle.langtag_tables.proofs.Letters.{primary_letters, extended_primary}
-use Rattle.langtag_likely.specs.Good.{is_language_field, is_script_field, is_region_field}
-use Rattle.langtag_likely.specs.Likely.{Fields, known}
+use Rattle.langtag.specs.FieldClasses.{is_language_field, is_script_field, is_region_field}
+use Rattle.langtag_likely.specs.Likely.{known}
+use Rattle.langtag.specs.Fields.{Fields}
 use Rattle.langtag_likely.proofs.KeyNumbers.{are_plain}
 use Rattle.langtag_scan.proofs.Disjoint.{script_four, region_two_three}
 use Rattle.langtag_scan.proofs.SubtagFacts.{of_primary, of_script, of_region}
+use Rattle.langtag.proofs.FieldClasses.{from_primary}
 
 -- a language that is there is a primary subtag
 pub language_primary : (text : List ℕ) → is_language_field text ≡ true → 0 < length text → is_primary text ≡ true
@@ -21,18 +23,6 @@ language_letters (b ∷ text) good = primary_letters (b ∷ text) good
 pub language_alphanumeric : (text : List ℕ) → is_language_field text ≡ true → are_alphanumeric text ≡ true
 language_alphanumeric [] good = refl
 language_alphanumeric (b ∷ text) good = (of_primary (b ∷ text) good).alphanumeric
-
-pub from_primary : (text : List ℕ) → is_primary text ≡ true → is_language_field text ≡ true
-from_primary [] is = refl
-from_primary (b ∷ text) is = is
-
-pub from_script : (text : List ℕ) → is_script text ≡ true → is_script_field text ≡ true
-from_script [] is = refl
-from_script (b ∷ text) is = is
-
-pub from_region : (text : List ℕ) → is_region text ≡ true → is_region_field text ≡ true
-from_region [] is = refl
-from_region (b ∷ text) is = is
 
 pub from_extended : (text : List ℕ) → is_extended text ≡ true → is_language_field text ≡ true
 from_extended text is = from_primary text (extended_primary text is)

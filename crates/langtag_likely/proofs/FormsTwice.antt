@@ -7,11 +7,13 @@ use Rattle.langtag_scan.specs.Case.{Alike, fold_text, are_alike}
 use Rattle.langtag_scan.specs.Class.{is_extended}
 use Rattle.langtag_scan.specs.Record.{Record, IsWellFormed}
 use Rattle.langtag_tables.proofs.Letters.{primary_length, extended_primary}
-use Rattle.langtag_likely.specs.Likely.{Fields, looked_up, or_other, filled, known, known_fields, add_likely, least, suffices, language_alone, without_script, without_region}
+use Rattle.langtag_likely.specs.Likely.{looked_up, or_other, filled, known, known_fields, add_likely, least, suffices, language_alone, without_script, without_region}
+use Rattle.langtag.specs.Fields.{Fields}
 use Rattle.langtag_likely.specs.LikelySubtags.{likely_subtags}
 use Rattle.langtag_likely.specs.Maximal.{fields_of, language_field, put_fields, put_language, maximal_record, minimal_record}
 use Rattle.langtag_likely.proofs.AddedTwice.{either_way, AreKnown, added, or_other_there, is_there}
-use Rattle.langtag_likely.proofs.AlikeFields.{AlikeFields, alike_fields, known-alike, known_fields-alike, suffices-alike, AlikeOptions, added-alike, removed-alike, by_options}
+use Rattle.langtag_likely.proofs.AlikeFields.{alike_fields, known-alike, known_fields-alike, suffices-alike, AlikeOptions, added-alike, removed-alike, by_options}
+use Rattle.langtag.proofs.Alike.{AlikeFields}
 
 -- ---- one field
 

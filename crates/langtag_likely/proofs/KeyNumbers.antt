@@ -15,7 +15,8 @@ use Rattle.langtag_scan.proofs.FoldedNumbers.{folded_number-tells}
 use Rattle.langtag_tables.specs.Numbers.{climbs_from}
 use Rattle.langtag_tables.proofs.Letters.{letter_number-tells}
 use Rattle.langtag_tables.proofs.Rising.{climb_searched, above_first}
-use Rattle.langtag_likely.specs.Likely.{Fields, Likely, are_alike_fields}
+use Rattle.langtag_likely.specs.Likely.{Likely, are_alike_fields}
+use Rattle.langtag.specs.Fields.{Fields}
 use Rattle.langtag_likely.specs.Numbers.{first_index, name_at, name_text, place, key_number}
 use Rattle.langtag_likely.specs.declared.tables.TheConstants.{SCRIPT_KEYS, REGION_KEYS}
 

@@ -4,7 +4,6 @@ pub mod AlikeFields
 pub mod CommonTexts
 pub mod CompletedForms
 pub mod FieldClasses
-pub mod FormLaws
 pub mod FormsTwice
 pub mod GoodForms
 pub mod KeyNumbers

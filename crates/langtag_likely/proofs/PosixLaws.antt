@@ -18,7 +18,7 @@ use Rattle.langtag_place.specs.Variants.{IsVariants, SpellsVariants}
 use Rattle.langtag_likely.specs.declared.tables.TheConstants.{SCRIPT_NAMES}
 use Rattle.langtag_likely.specs.Scripts.{script_codes}
 use Rattle.langtag_likely.specs.Likely.{or_else}
-use Rattle.langtag_likely.specs.Maximal.{IsForm}
+use Rattle.langtag.specs.Form.{IsForm}
 use Rattle.langtag_likely.specs.Modifiers.{is_script_code, modifier_script, modifier_variant}
 use Rattle.langtag_range.specs.Locale.{front_of}
 use Rattle.langtag_likely.specs.Posix.{modifier_of, said_script, script_behind, with_said, with_said_script, with_said_variant}

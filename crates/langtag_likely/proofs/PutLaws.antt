@@ -9,8 +9,9 @@ use Rattle.langtag_scan.proofs.Joins.{hyphenated, hyphenated-append, join-append
 use Rattle.langtag_scan.proofs.PartOffsets.{ends_in_order, length-spell}
 use Rattle.langtag_language.specs.Language.{SpellsLanguage}
 use Rattle.langtag_tables.proofs.Letters.{primary_length, extended_primary}
-use Rattle.langtag_likely.specs.Likely.{Fields, or_other}
-use Rattle.langtag_likely.specs.Maximal.{put_fields, put_language, subtag_of}
+use Rattle.langtag_likely.specs.Likely.{or_other}
+use Rattle.langtag.specs.Fields.{Fields, subtag_of}
+use Rattle.langtag_likely.specs.Maximal.{put_fields, put_language}
 
 -- ---- the language
 

@@ -4,7 +4,8 @@ use Rattle.std.proofs.lemmas.List.{get_or-map, nil_from_length}
 use Rattle.langtag_scan.specs.Class.{are_letters}
 use Rattle.langtag_tables.specs.Numbers.{letter_number}
 use Rattle.langtag_tables.proofs.Letters.{letter_number-tells}
-use Rattle.langtag_likely.specs.Likely.{Fields, Likely, are_alike_fields, likely_for, or_else, filled}
+use Rattle.langtag_likely.specs.Likely.{Likely, are_alike_fields, likely_for, or_else, filled}
+use Rattle.langtag.specs.Fields.{Fields}
 use Rattle.langtag_likely.specs.LikelySubtags.{language_rows, other_rows, likely_subtags}
 use Rattle.langtag_likely.specs.Numbers.{first_index, key_number}
 use Rattle.langtag_likely.specs.Rows.{of_language, places_of, places_for, no_row}

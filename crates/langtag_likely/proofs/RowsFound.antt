@@ -1,12 +1,11 @@
 -- A row is found by the number of its left side.
 use Rattle.std.proofs.Common.{◌≡◌, ℕ, ◌+◌, ◌*◌, ◌<◌, true, false, ◌==◌, Bool, cond, ltb, List, [], ◌∷◌, ◌++◌, length, get_or, map, Option, None, Some, option_map, refl, arith, ◌&&◌}
 use Rattle.std.specs.List.{list_all}
-use Rattle.langtag_scan.specs.Case.{are_alike}
-use Rattle.langtag_scan.specs.CaseLaws.{are_alike-decides}
-use Rattle.langtag_likely.specs.Likely.{Fields, Likely, are_alike_fields, likely_for, or_else}
+use Rattle.langtag_likely.specs.Likely.{Likely, are_alike_fields, likely_for, or_else}
+use Rattle.langtag.specs.Fields.{Fields}
 use Rattle.langtag_likely.specs.Numbers.{first_index}
-use Rattle.langtag_range.proofs.Prefixes.{length-alike}
 use Rattle.langtag_likely.specs.Rows.{no_row}
+use Rattle.langtag.proofs.Alike.{alike_length}
 
 -- where a number tells left sides apart, the first row with a number is the row for the fields
 module _ (number : Fields → ℕ) (is_good : Likely → Bool) (key : Fields)
@@ -35,9 +34,6 @@ likely_for-append (row ∷ xs) ys key =
     append-test (are_alike_fields row.from key) row.to (likely_for xs key) (likely_for ys key) (likely_for (xs ++ ys) key) (likely_for-append xs ys key)
 
 -- ---- by the lengths of fields
-
-pub alike_length : (a b : List ℕ) → are_alike a b ≡ true → length a ≡ length b
-alike_length a b alike = length-alike a b ((are_alike-decides a b).0 alike)
 
 record HaveLengths (a b : Fields) : Type 0 where
   language : length a.language ≡ length b.language

@@ -1,12 +1,11 @@
 -- The tables have the rows of the lists: by computation.
 use Rattle.std.proofs.Common.{◌≡◌, true, length, map, refl, ◌&&◌}
 use Rattle.std.specs.List.{list_all}
-use Rattle.langtag_scan.specs.Case.{fold_byte}
+use Rattle.langtag_scan.specs.Case.{fold_byte, folded_number}
 use Rattle.langtag_scan.specs.Class.{is_letter, is_digit, are_letters, is_primary, is_script, is_region}
-use Rattle.langtag_scan.specs.Case.{folded_number}
 use Rattle.langtag_tables.specs.Numbers.{letter_number}
 use Rattle.langtag_likely.specs.declared.tables.TheConstants as table
-use Rattle.langtag_likely.specs.Good.{is_language_field, is_script_field, is_region_field}
+use Rattle.langtag.specs.FieldClasses.{is_language_field, is_script_field, is_region_field}
 use Rattle.langtag_likely.specs.LikelySubtags.{language_rows, other_rows}
 use Rattle.langtag_likely.specs.Numbers.{key_number, name_at, name_text}
 use Rattle.langtag_likely.proofs.KeyNumbers.{is_numbered}

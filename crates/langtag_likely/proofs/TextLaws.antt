@@ -1,65 +1,17 @@
 -- The laws of the maximal and the minimal form, over texts.
-use Rattle.std.proofs.Common.{◌≡◌, ℕ, List, Option, None, Some, inl, inr, refl, sym, ap, subst, ◌∙◌}
+use Rattle.std.proofs.Common.{◌≡◌, ℕ, List, Option, None, Some, refl, sym, ap, ◌∙◌}
 use Rattle.std.specs.Option.{option_map_or}
-use Rattle.langtag_scan.specs.AlikeRecords.{AlikeRecords}
-use Rattle.langtag_scan.specs.Case.{Alike, fold_text}
-use Rattle.langtag_scan.specs.Record.{Record, IsWellFormed, spell}
-use Rattle.langtag_scan.specs.Tag.{IsNormal}
-use Rattle.langtag_scan.proofs.CaseLaw.{alike_normal, alike_parts, spelled_alike}
-use Rattle.langtag_scan.proofs.NormalTexts.{spelled_once, normal_or_not}
-use Rattle.langtag_likely.specs.Likely.{Fields, add_likely, remove_likely}
+use Rattle.langtag_scan.specs.Record.{Record}
+use Rattle.langtag_scan.proofs.NormalTexts.{spelled_once}
+use Rattle.langtag_likely.specs.Likely.{add_likely, remove_likely}
+use Rattle.langtag.specs.Fields.{Fields}
 use Rattle.langtag_likely.specs.LikelySubtags.{likely_subtags}
-use Rattle.langtag_likely.specs.Maximal.{IsForm, IsMaximalForm, IsMinimalForm, fields_of, put_fields, maximal_record, minimal_record}
-use Rattle.langtag_likely.specs.MaximalLaws.{IsAlikeForm, UndoesMinimal, UndoesMaximal, TellsAsMaximal, KeepsOthers}
-use Rattle.langtag_likely.proofs.FormLaws.{kept_form, record_form}
+use Rattle.langtag_likely.specs.Maximal.{IsMaximalForm, IsMinimalForm, fields_of, put_fields, maximal_record, minimal_record}
+use Rattle.langtag.specs.Form.{IsAlikeForm}
+use Rattle.langtag_likely.specs.MaximalLaws.{UndoesMinimal, UndoesMaximal, TellsAsMaximal, KeepsOthers}
+use Rattle.langtag.proofs.FormLaws.{alike_forms, composed, some_form, undone}
 use Rattle.langtag_likely.proofs.FormsTwice.{maximal-twice, minimal-twice, minimal-of_maximal, maximal-of_minimal, maximal-alike, minimal-alike}
 use Rattle.langtag_likely.proofs.GoodForms.{maximal_well_formed, minimal_well_formed}
-
--- ---- one form after another
-
-module _ (first second both : Record → Record) (well : (r : Record) → IsWellFormed r → IsWellFormed (first r)) where
-  pub composed :
-      ((r : Record) → IsWellFormed r → second (first r) ≡ both r) → (old mid new : List ℕ) → IsForm first old mid → IsForm both old new → IsForm second mid new
-  unfolding IsNormal
-  composed law old mid new a b = elim (normal_or_not old) [
-    | inl (r, spells) ↦
-        record_form second mid new (first r) (well r spells.0, sym (a.parts r spells)) (b.parts r spells ∙ ap spell (sym (law r spells.0)))
-    | inr not_normal ↦
-        let same : mid ≡ old = a.kept not_normal in
-        kept_form second mid new (λ normal. not_normal (subst IsNormal same normal)) (b.kept not_normal ∙ sym same)
-  ]
-
-  undone :
-      ((r : Record) → IsWellFormed r → AlikeRecords (both r) (second (first r))) → (old mid form new : List ℕ) →
-      IsForm first old mid → IsForm second mid form → IsForm both old new → Alike new form
-  unfolding IsNormal
-  undone law old mid form new a b c = elim (normal_or_not old) [
-    | inl (r, spells) ↦
-        ap fold_text (c.parts r spells) ∙ spelled_alike (both r) (second (first r)) (law r spells.0)
-        ∙ ap fold_text (sym (b.parts (first r) (well r spells.0, sym (a.parts r spells))))
-    | inr not_normal ↦
-        let same : mid ≡ old = a.kept not_normal in
-        ap fold_text (c.kept not_normal ∙ sym same ∙ sym (b.kept (λ normal. not_normal (subst IsNormal same normal))))
-  ]
-
-module _ (form_of : Record → Record) where
-  pub alike_forms : ((r q : Record) → AlikeRecords r q → AlikeRecords (form_of r) (form_of q)) → (old new : List ℕ) → IsForm form_of old new → IsAlikeForm (IsForm form_of) old new
-  unfolding IsNormal
-  alike_forms law old new a = λ other form alike b. elim (normal_or_not old) [
-    | inl (r, spells) ↦
-        let q = alike_parts old other alike r spells in
-        ap fold_text (a.parts r spells) ∙ spelled_alike (form_of r) (form_of q.0) (law r q.0 q.2) ∙ ap fold_text (sym (b.parts q.0 q.1))
-    | inr not_normal ↦
-        ap fold_text (a.kept not_normal) ∙ alike ∙ ap fold_text (sym (b.kept (λ normal. not_normal (alike_normal other old (sym alike) normal))))
-  ]
-
-  -- there is a form
-  some_form : (old : List ℕ) → (new : List ℕ) × IsForm form_of old new
-  unfolding IsNormal
-  some_form old = elim (normal_or_not old) [
-    | inl (r, spells) ↦ (spell (form_of r), record_form form_of old (spell (form_of r)) r spells refl)
-    | inr not_normal ↦ (old, kept_form form_of old old not_normal refl)
-  ]
 
 -- ---- the laws
 

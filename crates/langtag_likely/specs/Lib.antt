@@ -1,6 +1,5 @@
 pub mod Aliases
 pub mod Direction
-pub mod Good
 pub mod Likely
 pub mod LikelySubtags
 pub mod Matching

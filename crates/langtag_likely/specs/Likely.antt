@@ -3,12 +3,7 @@
 use Rattle.std.specs.Prelude.{ℕ, ◌&&◌, Bool, false, List, [], ◌∷◌, Option, None, Some, codes, if◌then◌else◌}
 use Rattle.std.specs.Option.{option_map, option_map_or}
 use Rattle.langtag_scan.specs.Case.{are_alike}
-
--- a language, a script and a region, each of which is the empty text if it is absent
-pub record Fields : Type 0 where
-  pub language : List ℕ
-  pub script : List ℕ
-  pub region : List ℕ
+use Rattle.langtag.specs.Fields.{Fields}
 
 -- a row of the data: the fields on the left become the fields on the right
 pub record Likely : Type 0 where

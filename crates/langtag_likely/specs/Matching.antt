@@ -5,7 +5,8 @@ use Rattle.std.specs.Option.{option_map, option_map_or}
 use Rattle.langtag_scan.specs.Case.{are_alike}
 use Rattle.langtag_range.specs.Listed.{basic_text}
 use Rattle.langtag_range.specs.Wanted.{hyphened}
-use Rattle.langtag_likely.specs.Likely.{Fields, likely_for, or_other, language_alone, add_likely}
+use Rattle.langtag_likely.specs.Likely.{likely_for, or_other, language_alone, add_likely}
+use Rattle.langtag.specs.Fields.{Fields}
 use Rattle.langtag_likely.specs.LikelySubtags.{likely_subtags}
 use Rattle.langtag_likely.specs.Aliases.{language_aliases, region_aliases}
 use Rattle.langtag_likely.specs.TextFields.{text_fields}

@@ -1,10 +1,11 @@
 -- The maximal and minimal forms of a tag (UTS #35, part 1, section 'Likely Subtags').
-use Rattle.std.specs.Prelude.{◌≡◌, ℕ, List, [], ◌∷◌, Option, None, Some, codes, if◌then◌else◌, unwrap_or}
+use Rattle.std.specs.Prelude.{ℕ, List, [], ◌∷◌, codes, if◌then◌else◌, unwrap_or}
 use Rattle.std.specs.Option.{option_map_or}
 use Rattle.langtag_scan.specs.Case.{are_alike}
-use Rattle.langtag_scan.specs.Record.{Record, EachRecord, spell}
-use Rattle.langtag_scan.specs.Tag.{IsNormal}
-use Rattle.langtag_likely.specs.Likely.{Fields, known, add_likely, remove_likely, or_other}
+use Rattle.langtag_scan.specs.Record.{Record}
+use Rattle.langtag_likely.specs.Likely.{known, add_likely, remove_likely, or_other}
+use Rattle.langtag.specs.Fields.{Fields, subtag_of}
+use Rattle.langtag.specs.Form.{IsForm}
 use Rattle.langtag_likely.specs.LikelySubtags.{likely_subtags}
 
 -- ---- the fields of a tag
@@ -32,11 +33,6 @@ abbrev pub put_language : List ℕ → List (List ℕ) → List ℕ → List ℕ
 put_language primary [] language = if are_alike (codes "und") primary then or_other language primary else primary
 put_language primary (extlang ∷ others) language = primary
 
--- the subtag of a field, or `None` if the field is empty
-abbrev pub subtag_of : List ℕ → Option (List ℕ)
-subtag_of [] = None
-subtag_of (b ∷ text) = Some (b ∷ text)
-
 -- the record with the script and the region of the fields, and with their language in place of `und`
 abbrev pub put_fields : Record → Fields → Record
 put_fields r f = record r { primary = put_language r.primary r.extended f.language; script = subtag_of f.script; region = subtag_of f.region }
@@ -50,15 +46,6 @@ maximal_record r = option_map_or (put_fields r) (add_likely likely_subtags (fiel
 -- the record without the subtags that are likely anyway, or the same record if no likely subtags are known
 unfoldable pub minimal_record : Record → Record
 minimal_record r = option_map_or (put_fields r) (remove_likely likely_subtags (fields_of r)) r
-
--- `new` is the text of the changed record if the tag is normal; any other tag stays unchanged
-pub record IsForm (form_of : Record → Record) (old new : List ℕ) : Type 0 where
-  pub kept : (IsNormal old → ⊥) → new ≡ old
-  pub parts : EachRecord old (λ r. new ≡ spell (form_of r))
-
--- `old` has no form other than `new`
-abbrev pub IsOnlyForm : (Record → Record) → List ℕ → List ℕ → Type 0
-IsOnlyForm form_of old new = (form : List ℕ) → IsForm form_of old form → form ≡ new
 
 -- the maximal form of a text: Add Likely Subtags of UTS #35
 abbrev pub IsMaximalForm : List ℕ → List ℕ → Type 0

@@ -6,10 +6,6 @@ use Rattle.langtag_scan.specs.Case.{Alike}
 use Rattle.langtag_scan.specs.Record.{EachRecord}
 use Rattle.langtag_likely.specs.Maximal.{IsMaximalForm, IsMinimalForm}
 
--- if a text equals `old`, ignoring case, then its form equals `new`, ignoring case
-abbrev pub IsAlikeForm : (List ℕ → List ℕ → Type 0) → List ℕ → List ℕ → Type 0
-IsAlikeForm IsFormOf old new = (other form : List ℕ) → Alike old other → IsFormOf other form → Alike new form
-
 -- the maximal form of the minimal form of `old` is its maximal form `new`, ignoring case
 abbrev pub UndoesMinimal : List ℕ → List ℕ → Type 0
 UndoesMinimal old new = (minimal form : List ℕ) → IsMinimalForm old minimal → IsMaximalForm minimal form → Alike new form

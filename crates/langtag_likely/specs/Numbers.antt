@@ -4,7 +4,7 @@ use Rattle.std.specs.Option.{option_map, option_map_or}
 use Rattle.langtag_scan.specs.Case.{folded_number}
 use Rattle.langtag_tables.specs.Numbers.{letter_number}
 use Rattle.langtag_likely.specs.declared.tables.TheConstants.{SCRIPT_KEYS, REGION_KEYS}
-use Rattle.langtag_likely.specs.Likely.{Fields}
+use Rattle.langtag.specs.Fields.{Fields}
 
 -- the first index of a number in a list
 abbrev pub first_index : List ℕ → ℕ → Option ℕ

@@ -10,7 +10,7 @@ use Rattle.langtag_scan.specs.Tag.{IsTag}
 use Rattle.langtag.specs.Edit.{with_script, with_variants}
 use Rattle.langtag_range.specs.Locale.{front_of, is_hash, locale_place}
 use Rattle.langtag_likely.specs.Likely.{or_else}
-use Rattle.langtag_likely.specs.Maximal.{IsForm}
+use Rattle.langtag.specs.Form.{IsForm}
 use Rattle.langtag_likely.specs.Modifiers.{modifier_script, modifier_variant}
 use Rattle.langtag_likely.specs.declared.posix_error.PosixError.{PosixError}
 use Rattle.langtag_likely.specs.declared.posix_error.PosixError.TheVariants.{NoTag, Memory}

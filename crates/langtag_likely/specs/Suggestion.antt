@@ -3,7 +3,8 @@
 use Rattle.std.specs.Prelude.{ℕ, ◌==◌, ◌&&◌, List, [], length, Option, None, Some, if◌then◌else◌}
 use Rattle.std.specs.Option.{option_map, option_and_then}
 use Rattle.langtag_scan.specs.Class.{is_primary, is_region}
-use Rattle.langtag_likely.specs.Likely.{Fields, likely_for}
+use Rattle.langtag_likely.specs.Likely.{likely_for}
+use Rattle.langtag.specs.Fields.{Fields}
 use Rattle.langtag_likely.specs.Aliases.{language_aliases, region_replacements}
 
 -- the language of a replacement, if the replacement has neither a script nor a region

@@ -5,7 +5,8 @@ use Rattle.langtag_scan.specs.Class.{is_primary, is_extended, is_script, is_regi
 use Rattle.langtag_scan.specs.Subtags.{subtags}
 use Rattle.langtag_range.specs.Range.{is_star}
 use Rattle.langtag_range.specs.Wanted.{is_separator}
-use Rattle.langtag_likely.specs.Likely.{Fields, known}
+use Rattle.langtag_likely.specs.Likely.{known}
+use Rattle.langtag.specs.Fields.{Fields}
 
 -- whether a subtag after the first counts: "*", which a language range may have, and empty subtags do not
 abbrev pub counts : List ℕ → Bool

@@ -4,7 +4,7 @@ ghost use Rattle.std.specs.Option.{option_map};
 ghost use Rattle.langtag_language.specs.Language.{EachLanguageSpelling};
 ghost use Rattle.langtag_language.specs.Text.{language_text};
 ghost use Rattle.langtag_place.specs.Text.{script_text, region_text};
-ghost use Rattle.langtag_likely.specs.Good.{is_language_field, is_script_field, is_region_field};
+ghost use Rattle.langtag.specs.FieldClasses.{is_language_field, is_script_field, is_region_field};
 ghost use Rattle.langtag_likely.specs.Likely.{known, or_other};
 ghost use Rattle.langtag_likely.specs.Maximal.{language_field};
 

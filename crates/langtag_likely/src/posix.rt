@@ -9,7 +9,7 @@ ghost use Rattle.langtag.specs.Text.{lang_tag_text, lang_tag_buf_text};
 ghost use Rattle.langtag_range.specs.Locale.{front_of};
 ghost use Rattle.langtag_range.specs.Wanted.{hyphened};
 ghost use Rattle.langtag_output.specs.Writes.{Writes};
-ghost use Rattle.langtag_likely.specs.Maximal.{IsForm};
+ghost use Rattle.langtag.specs.Form.{IsForm};
 ghost use Rattle.langtag_likely.specs.Posix.{IsLocalePlace, IsRefusal, IsTagOfName, NamesTag, modifier_of, script_behind, with_said_script, with_said_variant};
 
 use crate::forms::tag_of;

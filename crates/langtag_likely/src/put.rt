@@ -9,7 +9,8 @@ ghost use Rattle.langtag_language.specs.Language.{EachLanguageSpelling};
 ghost use Rattle.langtag_language.specs.Text.{language_text};
 ghost use Rattle.langtag.specs.Text.{normal_lang_tag_text};
 ghost use Rattle.langtag_output.specs.Writes.{Writes};
-ghost use Rattle.langtag_likely.specs.Maximal.{put_fields, put_language, subtag_of};
+ghost use Rattle.langtag_likely.specs.Maximal.{put_fields, put_language};
+ghost use Rattle.langtag.specs.Fields.{subtag_of};
 ghost use Rattle.langtag_likely.specs.Texts.{field_texts};
 
 use crate::fields::or_other;

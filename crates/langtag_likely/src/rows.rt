@@ -4,7 +4,7 @@ ghost use Rattle.std.specs.Prelude.{◌≡◌, ◌≤◌, ◌<◌, IsTrue, lengt
 ghost use Rattle.std.specs.Option.{option_map};
 ghost use Rattle.langtag_scan.specs.Class as class;
 ghost use Rattle.langtag_tables.specs.Numbers.{climbs_from, letter_number};
-ghost use Rattle.langtag_likely.specs.Good.{is_language_field};
+ghost use Rattle.langtag.specs.FieldClasses.{is_language_field};
 ghost use Rattle.langtag_likely.specs.Likely.{filled, likely_for};
 ghost use Rattle.langtag_likely.specs.LikelySubtags.{likely_subtags, language_rows, other_rows};
 ghost use Rattle.langtag_likely.specs.Numbers.{first_index, key_number};

@@ -5,7 +5,7 @@ ghost use Rattle.langtag_scan.specs.Case.{folded_number};
 ghost use Rattle.langtag_scan.specs.Class.{are_alphanumeric};
 ghost use Rattle.langtag_tables.specs.Numbers.{climbs_from};
 ghost use Rattle.langtag_likely.specs.Aliases.{region_replacements};
-ghost use Rattle.langtag_likely.specs.Good.{is_region_field};
+ghost use Rattle.langtag.specs.FieldClasses.{is_region_field};
 ghost use Rattle.langtag_likely.specs.Likely.{likely_for};
 ghost use Rattle.langtag_likely.specs.Matching.{region_alone};
 ghost use Rattle.langtag_likely.specs.Suggestion as spec;

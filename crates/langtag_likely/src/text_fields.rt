@@ -2,7 +2,7 @@
 ghost use Rattle.std.specs.Prelude.{◌≡◌, ◌∷◌, [], IsTrue};
 ghost use Rattle.std.specs.Option.{option_map, option_map_or};
 ghost use Rattle.langtag_range.specs.Wanted.{hyphened};
-ghost use Rattle.langtag_likely.specs.Good.{is_language_field, is_script_field, is_region_field};
+ghost use Rattle.langtag.specs.FieldClasses.{is_language_field, is_script_field, is_region_field};
 ghost use Rattle.langtag_likely.specs.TextFields as spec;
 ghost use Rattle.langtag_likely.specs.TextFields.{after_language, after_script, last_language, counted_parts, region_of, script_of};
 ghost use Rattle.langtag_likely.specs.Texts.{field_texts};
@@ -13,7 +13,7 @@ use langtag_scan::{is_extended, is_primary, is_region, is_script, split_at_eithe
 
 impl<'a> TagFields<'a> {
     /// Returns the fields of a text in which `_` is read as `-`, or `None` if it does not begin with a language.
-    #[tactic(auto, using(crate::proofs::FieldClasses::known_language, crate::proofs::FieldClasses::known_script, crate::proofs::FieldClasses::known_region, crate::proofs::FieldClasses::from_primary, crate::proofs::TextParts::no_fields, crate::proofs::TextParts::all_fields))]
+    #[tactic(auto, using(crate::proofs::FieldClasses::known_language, crate::proofs::FieldClasses::known_script, crate::proofs::FieldClasses::known_region, langtag::proofs::FieldClasses::from_primary, crate::proofs::TextParts::no_fields, crate::proofs::TextParts::all_fields))]
     pub(crate) fn of_text(text: &'a [u8]) -> Option<TagFields<'a>>
         ensures { option_map field_texts result ≡ spec.text_fields (hyphened text.now) }
     {
@@ -53,7 +53,7 @@ fn last_extended<'a>(language: &'a [u8], text: &'a [u8]) -> (&'a [u8], &'a [u8])
 }
 
 /// Returns the script at the start, and the rest of the text.
-#[tactic(auto, using(crate::proofs::FieldClasses::from_script))]
+#[tactic(auto, using(langtag::proofs::FieldClasses::from_script))]
 fn script_before<'a>(text: &'a [u8]) -> (&'a [u8], &'a [u8])
     ensures script { result.0.now ≡ script_of (counted_parts text.now) }
     ensures rest { counted_parts result.1.now ≡ after_script (counted_parts text.now) }
@@ -66,7 +66,7 @@ fn script_before<'a>(text: &'a [u8]) -> (&'a [u8], &'a [u8])
 }
 
 /// Returns the region at the start.
-#[tactic(auto, using(crate::proofs::FieldClasses::from_region))]
+#[tactic(auto, using(langtag::proofs::FieldClasses::from_region))]
 fn region_before(text: &[u8]) -> &[u8]
     ensures region { result.now ≡ region_of (counted_parts text.now) }
     ensures in_class { IsTrue (is_region_field result.now) }

@@ -1,6 +1,6 @@
 -- How the lines of an input grow as bytes are added at its end.
-use Rattle.std.proofs.Common.{◌≡◌, ◌∙◌, ℕ, ◌+◌, ◌<◌, Bool, true, false, eqb-true, None, Some, List, [], ◌∷◌, ◌++◌, take, drop, get_or, refl, sym, ap, append_assoc, length-append, take-append-drop, get_or-take, arith}
-use Rattle.std.specs.List.{onto_first, flat_map, AllByRecursion, position}
+use Rattle.std.proofs.Common.{◌≡◌, ◌∙◌, ℕ, ◌+◌, Bool, true, false, eqb-true, None, Some, List, [], ◌∷◌, ◌++◌, take, drop, get_or, refl, sym, ap, append_assoc, length-append, take-append-drop, get_or-take, arith}
+use Rattle.std.specs.List.{flat_map, AllByRecursion, position}
 use Rattle.std.proofs.lemmas.Grind.{common_steps}
 use Rattle.std.proofs.lemmas.List.{take_at, get_or_at, take_more}
 use Rattle.std.proofs.lemmas.List.Elements.{All-nil, All-cons}
@@ -34,32 +34,8 @@ cut_at_line_feed b bs lines rest feed cut =
 
 cut_at_other : (b : ℕ) (bs : List ℕ) (lines : List (List ℕ)) (rest : List ℕ) → is_line_feed b ≡ false → IsCutAs bs lines rest
     → (lines' : List (List ℕ)) × (rest' : List ℕ) × IsCutAs (b ∷ bs) lines' rest'
-cut_at_other b bs [] rest plain cut = (
-  [],
-  b ∷ rest,
-  record {
-    split = slice_split-cons_no is_line_feed b bs plain ∙ ap (onto_first b) cut.split;
-    cut = record {
-      joined = ap (λ l. b ∷ l) cut.cut.joined;
-      lines_free = tt;
-      rest_free = All-cons (λ x. is_line_feed x ≡ false) b rest plain cut.cut.rest_free;
-    };
-    grows = λ more. slice_split-cons_no is_line_feed b (bs ++ more) plain ∙ ap (onto_first b) (cut.grows more) ∙ sym (slice_split-cons_no is_line_feed b (rest ++ more) plain);
-  },
-)
-cut_at_other b bs (l ∷ ls) rest plain cut = (
-  (b ∷ l) ∷ ls,
-  rest,
-  record {
-    split = slice_split-cons_no is_line_feed b bs plain ∙ ap (onto_first b) cut.split;
-    cut = record {
-      joined = ap (λ t. b ∷ t) cut.cut.joined;
-      lines_free = (All-cons (λ x. is_line_feed x ≡ false) b l plain cut.cut.lines_free.0, cut.cut.lines_free.1);
-      rest_free = cut.cut.rest_free;
-    };
-    grows = λ more. slice_split-cons_no is_line_feed b (bs ++ more) plain ∙ ap (onto_first b) (cut.grows more);
-  },
-)
+cut_at_other b bs [] rest plain cut = ([], b ∷ rest, grind (arith, nat_tests, slice_split-cons_no is_line_feed b, All-cons))
+cut_at_other b bs (l ∷ ls) rest plain cut = ((b ∷ l) ∷ ls, rest, grind (arith, nat_tests, slice_split-cons_no is_line_feed b, All-cons))
 
 cut_of_cons : (b : ℕ) (bs : List ℕ) (t : Bool) → is_line_feed b ≡ t → ((lines : List (List ℕ)) × (rest : List ℕ) × IsCutAs bs lines rest)
     → (lines : List (List ℕ)) × (rest : List ℕ) × IsCutAs (b ∷ bs) lines rest
@@ -100,32 +76,18 @@ pub one_cut :
     IsCutInto input others other → (lines ≡ others) × (rest ≡ other)
 one_cut input lines others rest other cut also = grind (arith, nat_tests, cut_lines input lines rest cut, cut_lines input others other also)
 
-record Grown (input more : List ℕ) : Type 0 where
-  lines : complete_lines (input ++ more) ≡ complete_lines input ++ complete_lines (rest_of input ++ more)
-  rest : rest_of (input ++ more) ≡ rest_of (rest_of input ++ more)
-
-grown : (input more : List ℕ) → Grown input more
-grown input more =
-    let (lines, rest, cut) = cut_of input in
-    let (lines', rest', cut') = cut_of (rest ++ more) in
-    let are : pieces (input ++ more) ≡ (lines ++ lines') ++ rest' ∷ [] = cut.grows more ∙ ap (λ l. lines ++ l) cut'.split ∙ sym (append_assoc lines lines' (rest' ∷ [])) in
-    let known = rest_of-pieces input lines rest cut.split in
-    record {
-      lines = complete_lines-pieces (input ++ more) (lines ++ lines') rest' are
-          ∙ ap (λ l. lines ++ l) (sym (complete_lines-pieces (rest ++ more) lines' rest' cut'.split))
-          ∙ ap (λ l. l ++ complete_lines (rest ++ more)) (sym (complete_lines-pieces input lines rest cut.split))
-          ∙ ap (λ r. complete_lines input ++ complete_lines (r ++ more)) (sym known);
-      rest = rest_of-pieces (input ++ more) (lines ++ lines') rest' are
-          ∙ sym (rest_of-pieces (rest ++ more) lines' rest' cut'.split)
-          ∙ ap (λ r. rest_of (r ++ more)) (sym known);
-    }
-
 -- bytes after an input complete the lines that they complete after its rest
 pub complete_lines-append : (input more : List ℕ) → complete_lines (input ++ more) ≡ complete_lines input ++ complete_lines (rest_of input ++ more)
-complete_lines-append input more = (grown input more).lines
+complete_lines-append input more =
+    let (lines, rest, cut) = cut_of input in
+    let (lines', rest', cut') = cut_of (rest ++ more) in
+    grind (arith, nat_tests, append_assoc, complete_lines-pieces, rest_of-pieces input lines rest, cut.grows more)
 
 pub rest_of-append : (input more : List ℕ) → rest_of (input ++ more) ≡ rest_of (rest_of input ++ more)
-rest_of-append input more = (grown input more).rest
+rest_of-append input more =
+    let (lines, rest, cut) = cut_of input in
+    let (lines', rest', cut') = cut_of (rest ++ more) in
+    grind (arith, nat_tests, append_assoc, rest_of-pieces input, rest_of-pieces (rest ++ more) lines', rest_of-pieces (input ++ more) (lines ++ lines'), cut.grows more)
 
 -- a text without LF is a rest
 pub complete_lines-free : (text : List ℕ) → NoLineFeed text → complete_lines text ≡ []
@@ -149,15 +111,9 @@ pub record IsFirstLine (bytes : List ℕ) (len : ℕ) : Type 0 where
 pub first_line : (bytes : List ℕ) (len : ℕ) → position is_line_feed bytes ≡ Some len → IsFirstLine bytes len
 first_line bytes len at =
     let (within, feed, others) = position-Some is_line_feed bytes len 0 at in
-    let is : get_or bytes len 0 ≡ 10 = eqb-true _ 10 feed in
     record {
-      free = λ k d lt.
-          let below : k < len = grind (arith, common_steps) in
-          let (_, _, others) = position-Some is_line_feed bytes len d at in
-          ap is_line_feed (get_or-take len bytes k d below) ∙ others k below;
-      joined = ap (λ b. (take len bytes ++ b ∷ []) ++ drop (len + 1) bytes) (sym is)
-          ∙ ap (λ l. l ++ drop (len + 1) bytes) (sym (take_more bytes len 0 within))
-          ∙ take-append-drop (len + 1) bytes;
+      free = λ k d lt. grind (arith, common_steps, position-Some is_line_feed bytes len d at, get_or-take len bytes k d);
+      joined = grind (arith, nat_tests, eqb-true (get_or bytes len 0) 10 feed, take_more bytes len 0 within, take-append-drop (len + 1) bytes, append_assoc);
     }
 
 -- bytes without one are no line

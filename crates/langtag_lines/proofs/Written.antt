@@ -62,12 +62,7 @@ pub record EndsLine (line end : List ℕ) : Type 0 where
 
 pub ends_line : (line end : List ℕ) → NoLineFeed line → NoLineFeed end → EndsLine line end
 ends_line line end line_free end_free =
-    let free = All-append (λ x. is_line_feed x ≡ false) line end line_free end_free in
-    let same : (line ++ end) ++ 10 ∷ [] ≡ line ++ ended end = append_assoc line end (10 ∷ []) in
-    record {
-      lines = ap complete_lines (sym same) ∙ complete_lines-ended (line ++ end) 10 free refl;
-      rest = ap rest_of (sym same) ∙ rest_of-ended (line ++ end) 10 free refl;
-    }
+    grind (arith, nat_tests, All-append (λ x. is_line_feed x ≡ false) line end, append_assoc, complete_lines-ended (line ++ end) 10, rest_of-ended (line ++ end) 10)
 
 -- and one that does not
 pub record LeavesLine (line more : List ℕ) : Type 0 where
@@ -76,8 +71,7 @@ pub record LeavesLine (line more : List ℕ) : Type 0 where
 
 pub leaves_line : (line more : List ℕ) → NoLineFeed line → NoLineFeed more → LeavesLine line more
 leaves_line line more line_free more_free =
-    let free = All-append (λ x. is_line_feed x ≡ false) line more line_free more_free in
-    record { lines = complete_lines-free (line ++ more) free; rest = rest_of-free_text (line ++ more) free }
+    grind (arith, nat_tests, All-append (λ x. is_line_feed x ≡ false) line more, complete_lines-free, rest_of-free_text)
 
 -- ---- answers, whatever the answer to a line is
 
@@ -133,28 +127,22 @@ module _ {IsAnswer : List ℕ → List ℕ → Type 0} where
       (a b c : Option (List ℕ)) (input rest more : List ℕ) → rest ≡ rest_of input → length more ≤ read_len → AnswersBy IsAnswer a b (complete_lines input) →
       ((k : ℕ) × AnswersBy IsAnswer b c (take k (complete_lines (rest ++ more)))) → FirstAnswersBy IsAnswer a c (input ++ more)
   written_first a b c input rest more is few p (k, q) =
-      let lines = complete_lines input in
-      let later = complete_lines (rest ++ more) in
-      let prefix : take (length lines + k) (complete_lines (input ++ more)) ≡ lines ++ take k later =
-      ap (take (length lines + k)) (lines_more input rest more is) ∙ take-append-add lines later k in
-      let early : length (complete_lines (take (length (input ++ more) - read_len) (input ++ more))) ≤ length lines + k = omega (arith, few_before input more few) in
-      (length lines + k, early, Answers-same a c _ _ (sym prefix) (Answers-trans a b c _ _ p q))
+      let prefix = lines_more input rest more is in
+      (length (complete_lines input) + k, omega (arith, few_before input more few), rw (prefix, take-append-add) (Answers-trans a b c _ _ p q))
 
   -- or to all that were read
   pub written_whole : (a b : Option (List ℕ)) (input : List ℕ) → AnswersBy IsAnswer a b (complete_lines input) → FirstAnswersBy IsAnswer a b input
-  written_whole a b input p =
-      let lines = complete_lines input in
-      (length lines, few_lines (length input - read_len) input, Answers-same a b _ _ (sym (take-length lines)) p)
+  written_whole a b input p = (length (complete_lines input), few_lines (length input - read_len) input, rw take-length p)
 
-  -- the answers to what stood are those to the first lines of what came
+  -- the answers on a page that is written out are those to the first lines of what came
   pub written_before :
-      (a b : Option (List ℕ)) (input more : List ℕ) → AnswersBy IsAnswer a b (complete_lines input) →
-      (k : ℕ) × AnswersBy IsAnswer a b (take k (complete_lines (input ++ more)))
-  written_before a b input more p =
-      let lines = complete_lines input in
-      let prefix : take (length lines) (complete_lines (input ++ more)) ≡ lines =
-      ap (take (length lines)) (complete_lines-append input more) ∙ take-append_seam lines (complete_lines (rest_of input ++ more)) in
-      (length lines, Answers-same a b _ _ (sym prefix) p)
+      (a b c : Option (List ℕ)) (page line taken left bytes : List ℕ) → taken ++ left ≡ bytes → AnswersBy IsAnswer a (append_known b page) (complete_lines (line ++ taken)) →
+      Appends b c page → (k : ℕ) × AnswersBy IsAnswer a c (take k (complete_lines (line ++ bytes)))
+  written_before a b c page line taken left bytes are p gained =
+      let lines = complete_lines (line ++ taken) in
+      let prefix : take (length lines) (complete_lines (line ++ bytes)) ≡ lines =
+      grind (arith, nat_tests, append_assoc line taken left, complete_lines-append (line ++ taken) left, take-append_seam) in
+      (length lines, Answers-same a c _ _ (sym prefix) (Answers-written a b c page _ p gained))
 
   -- the answers to the complete lines, and then to the last one
   pub written_all :

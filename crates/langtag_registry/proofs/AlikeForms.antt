@@ -1,19 +1,18 @@
 -- The canonical forms of alike texts are alike.
-use Rattle.std.proofs.Common.{◌≡◌, ℕ, ◌==◌, Bool, cond, List, [], ◌∷◌, ◌++◌, map, Option, option_map, ◌⊎◌, refl, sym, ap, ◌∙◌, arith, rules}
+use Rattle.std.proofs.Common.{◌≡◌, ℕ, List, [], ◌∷◌, map, Option, option_map, ◌⊎◌, refl, sym, ap, ◌∙◌, arith, rules}
 use Rattle.std.specs.List.{flat_map}
 use Rattle.std.proofs.lemmas.List.{map-append}
 use Rattle.std.proofs.lemmas.Grind.{common_steps}
 use Rattle.langtag_scan.specs.AlikeRecords.{fold_extension, fold_private_use, fold_record, AlikeRecords}
-use Rattle.langtag_scan.specs.Case.{fold_byte, fold_text, Alike}
+use Rattle.langtag_scan.specs.Case.{fold_text, Alike}
 use Rattle.langtag_scan.specs.Record.{Extension, PrivateUse, Record, spell}
 use Rattle.langtag_scan.specs.Tag.{IsNormal}
 use Rattle.langtag_scan.proofs.CaseLaw.{alike_normal, alike_parts, fold_byte-twice, fold_text-twice, map-twice, spelled_alike}
 use Rattle.langtag.specs.Registered.{IsGrandfathered, IsGrandfatheredAt}
-use Rattle.langtag.specs.Repeat.{are_alike_bytes}
 use Rattle.langtag_registry.specs.Canonical.{singletons, in_order, canonical_primary, canonical_extended, canonical_region, canonical_variants, canonical_record, IsCanonicalForm}
 use Rattle.langtag_registry.specs.Fields.{preferred_region, preferred_variant, preferred_tag}
 use Rattle.langtag_registry.specs.Subtags.{tag_preferred}
-use Rattle.langtag_registry.proofs.ReplacedSubtags.{replaced, replaced-alike, IgnoresCase, value_for-alike, language-alike, region-alike, variant-alike, extlang-alike, registered_extlang-alike}
+use Rattle.langtag_registry.proofs.ReplacedSubtags.{replaced-alike, IgnoresCase, value_for-alike, language-alike, region-alike, variant-alike, extlang-alike, registered_extlang-alike}
 use Rattle.langtag_registry.proofs.TwiceLaws.{Way, as_whole, as_it_is, by_parts, way_of}
 use Rattle.langtag_registry.proofs.ExtensionOrder.{those_of}
 
@@ -35,32 +34,18 @@ region-fold o = grind (arith, common_steps, replaced-alike preferred_region regi
 
 variants-fold : (vs : List (List ℕ)) → map fold_text (canonical_variants (map fold_text vs)) ≡ map fold_text (canonical_variants vs)
 variants-fold [] = refl
-variants-fold (v ∷ vs) =
-    ap (λ z. z ∷ map fold_text (canonical_variants (map fold_text vs))) (replaced-alike preferred_variant variant-alike (fold_text v) v (fold_text-twice v))
-    ∙ ap (λ zs. fold_text (replaced preferred_variant v) ∷ zs) (variants-fold vs)
+variants-fold (v ∷ vs) = grind (arith, common_steps, replaced-alike preferred_variant variant-alike (fold_text v) v, fold_text-twice v, variants-fold vs)
 
 of_singleton-fold :
     (b : ℕ) (es : List Extension) → map fold_extension (those_of b (map fold_extension es)) ≡ map fold_extension (those_of b es)
 of_singleton-fold b [] = refl
-of_singleton-fold b (e ∷ es) =
-    let folded = those_of b (map fold_extension es) in
-    ap (λ c. map fold_extension (cond (fold_byte b == c) (fold_extension e ∷ folded) folded)) (fold_byte-twice e.singleton)
-    ∙ by_test (are_alike_bytes b e.singleton) folded (those_of b es) (of_singleton-fold b es)
-  where
-    by_test :
-        (t : Bool) (folded others : List Extension) → map fold_extension folded ≡ map fold_extension others →
-        map fold_extension (cond t (fold_extension e ∷ folded) folded) ≡ map fold_extension (cond t (e ∷ others) others)
-    by_test t folded others later = grind (arith, common_steps, fold_byte-twice, map-twice, fold_text-twice)
+of_singleton-fold b (e ∷ es) = grind (arith, common_steps, fold_byte-twice, map-twice, fold_text-twice, of_singleton-fold b es)
 
 of_singletons-fold :
     (bs : List ℕ) (es : List Extension) →
     map fold_extension (flat_map (λ b. those_of b (map fold_extension es)) bs) ≡ map fold_extension (flat_map (λ b. those_of b es) bs)
 of_singletons-fold [] es = refl
-of_singletons-fold (b ∷ bs) es =
-    map-append fold_extension (those_of b (map fold_extension es)) _
-    ∙ ap (λ z. z ++ map fold_extension (flat_map (λ c. those_of c (map fold_extension es)) bs)) (of_singleton-fold b es)
-    ∙ ap (λ z. map fold_extension (those_of b es) ++ z) (of_singletons-fold bs es)
-    ∙ sym (map-append fold_extension (those_of b es) _)
+of_singletons-fold (b ∷ bs) es = grind (arith, common_steps, map-append fold_extension, of_singleton-fold b es, of_singletons-fold bs es)
 
 in_order-fold : (es : List Extension) → map fold_extension (in_order (map fold_extension es)) ≡ map fold_extension (in_order es)
 unfolding in_order

@@ -41,13 +41,7 @@ variants_stay : (vs ws : List (List ℕ)) → map fold_text vs ≡ map fold_text
 variants_stay [] [] same stays = refl
 variants_stay [] (w ∷ ws) same stays = absurd cc
 variants_stay (v ∷ vs) [] same stays = absurd cc
-variants_stay (v ∷ vs) (w ∷ ws) same stays =
-    let alike : Alike v w = cc in
-    let rest : map fold_text vs ≡ map fold_text ws = cc in
-    let first : replaced preferred_variant v ≡ v = cc in
-    let others : canonical_variants vs ≡ vs = cc in
-    ap (λ z. z ∷ canonical_variants ws) (alike_stays preferred_variant variant_settled variant-alike v w alike first)
-    ∙ ap (λ zs. w ∷ zs) (variants_stay vs ws rest others)
+variants_stay (v ∷ vs) (w ∷ ws) same stays = grind (arith, common_steps, alike_stays preferred_variant variant_settled variant-alike v w, variants_stay vs ws)
 
 keys_folded : (es : List Extension) → map (λ e. e.singleton) (map fold_extension es) ≡ keys_of es
 keys_folded [] = refl
@@ -61,14 +55,7 @@ order_stays es fs well same stays = grind (arith, common_steps, keys_folded fs, 
 
 alike_record_stays : (r q : Record) → IsWellFormed q → AlikeRecords r q → canonical_record r ≡ r → canonical_record q ≡ q
 alike_record_stays r q well alike stays =
-    let stay = parts_stay r stays in
-    record_stays q
-    record {
-      language = language_stays r.primary q.primary r.extended q.extended (ap (λ z. z.primary) alike) (ap (λ z. z.extended) alike) stay.language;
-      region = region_stays r.region q.region (ap (λ z. z.region) alike) stay.region;
-      variants = variants_stay r.variants q.variants (ap (λ z. z.variants) alike) stay.variants;
-      extensions = order_stays r.extensions q.extensions well.extensions (ap (λ z. z.extensions) alike) stay.extensions;
-    }
+    grind (arith, common_steps, parts_stay r stays, record_stays q, language_stays r.primary q.primary r.extended q.extended, region_stays r.region, variants_stay r.variants, order_stays r.extensions q.extensions)
 
 -- ---- the text
 

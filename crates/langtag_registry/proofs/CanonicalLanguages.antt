@@ -1,5 +1,6 @@
 -- The canonical form of a language with its extended subtags.
-use Rattle.std.proofs.Common.{◌≡◌, ◌↔◌, ℕ, true, false, ◌||◌, Bool, List, [], ◌∷◌, cond, None, Some, refl, sym, ap, ◌∙◌}
+use Rattle.std.proofs.lemmas.Grind.{common_steps}
+use Rattle.std.proofs.Common.{◌≡◌, ◌↔◌, ℕ, true, false, Bool, List, [], ◌∷◌, None, Some, refl, sym, ap, arith}
 use Rattle.std.specs.Prelude.{unwrap_or, find}
 use Rattle.std.specs.List.{list_all, list_any}
 use Rattle.std.specs.Str.{bytes_eq}
@@ -16,7 +17,7 @@ use Rattle.langtag_registry.specs.Subtags.{extlang_subtags}
 use Rattle.langtag_registry.specs.Canonical.{canonical_language, preferred_extlang, canonical_primary, canonical_extended}
 use Rattle.langtag_output.specs.declared.output.Output.{Output}
 use Rattle.langtag_output.specs.Output.{Pushes}
-use Rattle.langtag_registry.proofs.Pushed.{pushes_both, pushes_same, pushes_joined}
+use Rattle.langtag_output.proofs.Pushed.{pushes_both, pushes_same, pushes_joined}
 
 -- ---- extended subtags are registered in small letters
 
@@ -29,16 +30,7 @@ found_small :
     list_any (are_alike text) list ≡ true → find (are_alike text) list ≡ Some (fold_text text)
 found_small [] text small known = absurd cc
 found_small (t ∷ list) text small known =
-    let k = and_parts (bytes_eq (fold_text t) t) (list_all (λ u. bytes_eq (fold_text u) u) list) small in
-    by_test (are_alike text t) refl k.0 known (λ later. found_small list text k.1 later)
-  where
-    by_test :
-        (b : Bool) → are_alike text t ≡ b → bytes_eq (fold_text t) t ≡ true → (b || list_any (are_alike text) list) ≡ true →
-        (list_any (are_alike text) list ≡ true → find (are_alike text) list ≡ Some (fold_text text)) →
-        cond b (Some t) (find (are_alike text) list) ≡ Some (fold_text text)
-    by_test true alike same here later =
-        ap Some (sym ((are_alike-decides text t).0 alike ∙ (bytes_decides (fold_text t) t).0 same))
-    by_test false alike same here later = later here
+    grind (arith, common_steps, and_parts, are_alike-decides text t, bytes_decides (fold_text t) t, found_small list text)
 
 pub extlang_small : (text : List ℕ) → is_registered_extlang text ≡ true → preferred_extlang text ≡ Some (fold_text text)
 unfolding is_registered_extlang preferred_extlang
@@ -46,14 +38,7 @@ extlang_small text known = found_small extlang_subtags text extlangs_small known
 
 not_found : (list : List (List ℕ)) (text : List ℕ) → list_any (are_alike text) list ≡ false → find (are_alike text) list ≡ None
 not_found [] text other = refl
-not_found (t ∷ list) text other =
-    by_test (are_alike text t) other (λ later. not_found list text later)
-  where
-    by_test :
-        (b : Bool) → (b || list_any (are_alike text) list) ≡ false →
-        (list_any (are_alike text) list ≡ false → find (are_alike text) list ≡ None) → cond b (Some t) (find (are_alike text) list) ≡ None
-    by_test true other later = absurd cc
-    by_test false other later = later other
+not_found (t ∷ list) text other = grind (arith, common_steps, not_found list text)
 
 pub extlang_none : (text : List ℕ) → is_registered_extlang text ≡ false → preferred_extlang text ≡ None
 unfolding is_registered_extlang preferred_extlang
@@ -74,9 +59,7 @@ pub extlang_pushed :
     (primary extlang : List ℕ) (extended : List (List ℕ)) (text : List ℕ) (old new : Output) → extended ≡ extlang ∷ [] →
     is_registered_extlang extlang ≡ true → text ≡ canonical_language (fold_text extlang) → Pushes (text ∷ []) old new →
     Pushes (canonical_primary primary extended ∷ canonical_extended extended) old new
-extlang_pushed primary extlang extended text old new one known same these =
-    let becomes : text ∷ [] ≡ canonical_primary primary extended ∷ canonical_extended extended = rw (one, extlang_small extlang known, known, same) refl in
-    pushes_same _ _ old new becomes these
+extlang_pushed primary extlang extended text old new one known same these = grind (arith, common_steps, extlang_small, pushes_same)
 
 -- another stays after it
 pub other_pushed :
@@ -84,9 +67,7 @@ pub other_pushed :
     is_registered_extlang extlang ≡ false → value ≡ unwrap_or (preferred_language primary) primary → Pushes (value ∷ []) old middle →
     Pushes (extlang ∷ []) middle new → Pushes (canonical_primary primary extended ∷ canonical_extended extended) old new
 other_pushed primary value extlang extended old middle new one other same these those =
-    let becomes : value ∷ extlang ∷ [] ≡ canonical_primary primary extended ∷ canonical_extended extended =
-    rw (one, extlang_none extlang other, other, same) refl in
-    pushes_same _ _ old new becomes (pushes_both (value ∷ []) (extlang ∷ []) old middle new these those)
+    grind (arith, common_steps, extlang_none, pushes_both (value ∷ []) (extlang ∷ []) old middle new, pushes_same)
 
 -- ---- where it stays: `none` says that the primary subtag does
 

@@ -1,5 +1,5 @@
 -- The canonical record, part by part, and what a tag becomes by it.
-use Rattle.std.proofs.Common.{◌≡◌, ℕ, List, Option, None, Some, unwrap_or, ◌⊎◌, refl, sym, ap, subst, ◌∙◌, arith}
+use Rattle.std.proofs.Common.{◌≡◌, ℕ, List, Option, None, Some, unwrap_or, ◌⊎◌, refl, sym, ap, subst, ◌∙◌, arith, inl}
 use Rattle.std.proofs.lemmas.Grind.{common_steps}
 use Rattle.langtag_scan.specs.Record.{Record, Spells, spell}
 use Rattle.langtag_scan.specs.Tag.{IsNormal, IsTag}
@@ -7,7 +7,7 @@ use Rattle.langtag_scan.proofs.NormalTexts.{spelled_once}
 use Rattle.langtag.specs.Registered.{IsGrandfathered}
 use Rattle.langtag_registry.specs.Canonical.{canonical_primary, canonical_extended, canonical_region, canonical_variants, in_order, canonical_record, canonical_text, IsCanonicalForm}
 use Rattle.langtag_registry.specs.Fields.{preferred_tag}
-use Rattle.langtag_registry.proofs.TwiceLaws.{whole_settled, preferred_record_stays, Way, as_whole, as_it_is, by_parts, way_of}
+use Rattle.langtag_registry.proofs.TwiceLaws.{whole_settled, preferred_record_stays, form_of, Form, whole_form, own_form, parts_form, again_form}
 use Rattle.langtag_registry.proofs.WellFormedForms.{canonical_record_well_formed}
 use Rattle.langtag_registry.proofs.WholeTags.{record_of, preferred_spelled, preferred_is_tag}
 
@@ -41,15 +41,13 @@ record_form old new r none other spells same = grind (arith, common_steps, spell
 -- it is a tag, as the text that it is of
 pub form_is_tag : (old new : List ℕ) → IsTag old → IsCanonicalForm old new → IsTag new
 unfolding IsTag IsNormal preferred_tag
-form_is_tag old new is p = by_way (way_of old)
+form_is_tag old new is p = by_form (form_of old new p)
   where
-    by_record : (r : Record) → Spells r old → (o : Option (List ℕ)) → preferred_tag (spell (canonical_record r)) ≡ o → new ≡ unwrap_or o (spell (canonical_record r)) → IsTag new
-    by_record r spells o found same = grind (arith, common_steps, canonical_record_well_formed r spells.0, preferred_is_tag (spell (canonical_record r)) new)
-
-    by_way : Way old → IsTag new
-    by_way (as_whole w found) = preferred_is_tag old new (found ∙ ap Some (sym (p.whole w found)))
-    by_way (as_it_is none why) = subst IsTag (sym (p.kept none why)) is
-    by_way (by_parts none other r spells) = by_record r spells (preferred_tag (spell (canonical_record r))) refl (p.parts none other r spells)
+    by_form : Form old new → IsTag new
+    by_form (whole_form found) = preferred_is_tag old new found
+    by_form (own_form none why same) = subst IsTag (sym same) is
+    by_form (parts_form new_one r spells becomes none) = inl (canonical_record r, becomes)
+    by_form (again_form r spells found) = preferred_is_tag _ new found
 
 -- ---- where it is its own canonical form
 

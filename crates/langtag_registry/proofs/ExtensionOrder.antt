@@ -1,9 +1,8 @@
 -- The extensions in the order of their singletons: where they stand so, and their text.
-use Rattle.std.proofs.Common.{◌≡◌, ◌↔◌, ℕ, ◌<◌, ◌≤◌, true, false, Bool, List, [], ◌∷◌, ◌++◌, length, fold, get_or, set, map, filter, cond, slice_index, slice_index_or, refl, sym, ap, ◌∙◌, arith}
+use Rattle.std.proofs.Common.{◌≡◌, ◌↔◌, ℕ, ◌≤◌, true, false, Bool, List, [], ◌∷◌, ◌++◌, length, fold, map, filter, cond, slice_index, slice_index_or, refl, sym, ap, ◌∙◌, arith}
 use Rattle.std.specs.List.{AllByRecursion, flat_map}
-use Rattle.std.proofs.lemmas.Bool.{both_ways}
-use Rattle.std.proofs.lemmas.Grind.{get_or-set_at, common_steps}
-use Rattle.std.proofs.lemmas.List.{get_or-set_other, map-append}
+use Rattle.std.proofs.lemmas.Grind.{common_steps}
+use Rattle.std.proofs.lemmas.List.{map-append}
 use Rattle.std.proofs.lemmas.List.Sums.{fold-append}
 use Rattle.langtag_scan.specs.Case.{fold_byte}
 use Rattle.langtag_scan.specs.Record.{Extension, IsWellFormedExtension, extension_flat}
@@ -16,7 +15,7 @@ use Rattle.langtag_output.specs.declared.output.Output.{Output}
 use Rattle.langtag_registry.specs.Noted.{small_singleton, of_singleton}
 use Rattle.langtag_output.specs.Output.{Pushes, with_subtag}
 use Rattle.langtag_registry.proofs.OrderLaws.{keys_of, in_order-risen, rises_from_in_order}
-use Rattle.langtag_registry.proofs.Pushed.{with_joined, pushes_same, pushes_ended, pushes_joined}
+use Rattle.langtag_output.proofs.Pushed.{with_joined, pushes_same, pushes_ended, pushes_joined}
 use Rattle.langtag_tables.proofs.Rising.{rises_from}
 
 abbrev pub spellings : List Extension → List (List ℕ)
@@ -52,9 +51,7 @@ keys-spelled (e ∷ es) = ap (λ b. fold_byte b ∷ keys (spellings es)) (first_
 
 with_spellings : (text : List ℕ) (es : List Extension) → fold with_subtag text (spellings es) ≡ fold with_subtag text (flat_map extension_flat es)
 with_spellings text [] = refl
-with_spellings text (e ∷ es) =
-    ap (λ t. fold with_subtag t (spellings es)) (with_joined text (e.singleton ∷ []) e.subtags (omega arith))
-    ∙ with_spellings (fold with_subtag text (extension_flat e)) es ∙ sym (fold-append with_subtag text (extension_flat e) (flat_map extension_flat es))
+with_spellings text (e ∷ es) = grind (arith, common_steps, with_joined text (e.singleton ∷ []) e.subtags, with_spellings (fold with_subtag text (extension_flat e)) es, fold-append with_subtag text (extension_flat e))
 
 pub spelled_in_order :
     (es : List Extension) (old new : Output) → Pushes (by_singletons singletons (spellings es)) old new → Pushes (flat_map extension_flat (in_order es)) old new
@@ -80,7 +77,7 @@ all_in_order (e ∷ es) text old new spells some same these =
 pub of_singleton-next :
     (s : ℕ) (texts rest : List (List ℕ)) (x : List ℕ) (b : Bool) → texts ≡ x ∷ rest → are_alike_bytes s (slice_index x 0) ≡ b →
     of_singleton s texts ≡ cond b (x ∷ of_singleton s rest) (of_singleton s rest)
-of_singleton-next s texts rest x b first is = ap (of_singleton s) first ∙ ap (λ t. cond t (x ∷ of_singleton s rest) (of_singleton s rest)) is
+of_singleton-next s texts rest x b first is = grind (arith, common_steps)
 
 -- they stand in order where their singletons rise, and only there
 pub rise_in_order :
@@ -92,7 +89,3 @@ rise_in_order es fits b is = grind (arith, common_steps, keys-spelled es, in_ord
 -- a singleton that is not marked has none before what is left
 abbrev pub AreMarked : List Bool → List (List ℕ) → List (List ℕ) → Type 0
 AreMarked marks all left = (s : ℕ) → slice_index_or marks (fold_byte s) false ≡ false → of_singleton s all ≡ of_singleton s left
-
--- a byte that stays unmarked was so, and is not the one that was marked
-pub unmarked : (marks : List Bool) (k j : ℕ) → k < length marks → get_or (set marks k true) j false ≡ false → (k ≡ j → ⊥) × (get_or marks j false ≡ false)
-unmarked marks k j inside none = grind (arith, common_steps, both_ways, get_or-set_at marks k j true false, get_or-set_other marks k j true false)

@@ -17,7 +17,7 @@ use Rattle.langtag.specs.Repeat.{repeat, repeat_index, repeat_index_after, are_a
 use Rattle.langtag.proofs.RepeatLaws.{IsAt-drop}
 use Rattle.std.proofs.lemmas.List.{at_drop_more, take_more}
 use Rattle.langtag_registry.specs.Registered.{is_registered_language, is_registered_extlang, is_registered_script, is_registered_region, is_registered_variant}
-use Rattle.langtag_registry.specs.Fault.{Told, language, extlang, second_extlang, variant, repeated_variant, repeated_singleton, unless, extlang_faults, language_faults, script_faults, region_faults, variant_faults, singleton_faults, faults}
+use Rattle.langtag_registry.specs.Fault.{Told, language, repeated_singleton, unless, extlang_faults, language_faults, script_faults, region_faults, variant_faults, singleton_faults, faults}
 use Rattle.langtag_registry.specs.Valid.{IsValidRecord}
 use Rattle.std.proofs.lemmas.Bool.{not-true}
 
@@ -65,13 +65,7 @@ module _ {A : Type 0} (alike : A → A → Bool) where
 first-singleton_faults :
     (seen rest : List ℕ) → first (singleton_faults seen rest) ≡ option_map (λ b. repeated_singleton (b ∷ [])) (repeat_after are_alike_bytes seen rest)
 first-singleton_faults seen [] = refl
-first-singleton_faults seen (b ∷ rest) = by_test (list_any (are_alike_bytes b) seen) (first-singleton_faults (seen ++ b ∷ []) rest)
-  where
-    by_test :
-        (t : Bool) → first (singleton_faults (seen ++ b ∷ []) rest) ≡ option_map (λ b. repeated_singleton (b ∷ [])) (repeat_after are_alike_bytes (seen ++ b ∷ []) rest) →
-        first (unless (not t) (repeated_singleton (b ∷ [])) ++ singleton_faults (seen ++ b ∷ []) rest)
-        ≡ option_map (λ b. repeated_singleton (b ∷ [])) (cond t (Some b) (repeat_after are_alike_bytes (seen ++ b ∷ []) rest))
-    by_test t later = grind (arith, common_steps)
+first-singleton_faults seen (b ∷ rest) = grind (arith, common_steps, first-singleton_faults (seen ++ b ∷ []) rest)
 
 pub first_singleton : (list : List ℕ) → first (singleton_faults [] list) ≡ option_map (λ b. repeated_singleton (b ∷ [])) (repeat are_alike_bytes list)
 first_singleton list = first-singleton_faults [] list ∙ ap (option_map (λ b. repeated_singleton (b ∷ []))) (sym (repeat-after are_alike_bytes list))
@@ -88,13 +82,9 @@ variant_later all n v rest from left known new = grind (arith, common_steps, IsA
 
 -- ---- no fault, and valid
 
-none_left : (a b : List Told) → a ++ b ≡ [] → a ≡ []
-none_left [] b none = refl
-none_left (x ∷ a) b none = absurd cc
-
-none_right : (a b : List Told) → a ++ b ≡ [] → b ≡ []
-none_right [] b none = none
-none_right (x ∷ a) b none = absurd cc
+none_both : (a b : List Told) → a ++ b ≡ [] → (a ≡ []) × (b ≡ [])
+none_both [] b none = (refl, none)
+none_both (x ∷ a) b none = absurd cc
 
 none_first : (a : List Told) → first a ≡ None → a ≡ []
 none_first [] none = refl
@@ -105,8 +95,8 @@ holds b t none = grind (arith, common_steps)
 
 extlangs_valid : (ss : List (List ℕ)) → extlang_faults ss ≡ [] → AllByRecursion (λ s. IsTrue (is_registered_extlang s)) ss × (length ss ≤ 1)
 extlangs_valid [] none = (tt, omega arith)
-extlangs_valid (s ∷ []) none = ((holds (is_registered_extlang s) (extlang s) (none_left _ (map second_extlang []) none), tt), omega arith)
-extlangs_valid (s ∷ t ∷ ss) none = let second = none_right (unless (is_registered_extlang s) (extlang s)) (map second_extlang (t ∷ ss)) none in absurd cc
+extlangs_valid (s ∷ []) none = grind (arith, common_steps, holds)
+extlangs_valid (s ∷ t ∷ ss) none = grind (arith, common_steps, none_both)
 
 script_valid : (o : Option (List ℕ)) → script_faults o ≡ [] → IfSome o (λ s. IsTrue (is_registered_script s))
 script_valid o none = grind (arith, common_steps, holds)
@@ -118,12 +108,7 @@ variants_valid :
     (seen vs : List (List ℕ)) → variant_faults seen vs ≡ [] →
     AllByRecursion (λ s. IsTrue (is_registered_variant s)) vs × (repeat_after are_alike seen vs ≡ None)
 variants_valid seen [] none = (tt, refl)
-variants_valid seen (v ∷ vs) none =
-    let known = holds (is_registered_variant v) (variant v) (none_left _ _ none) in
-    let others = none_right (unless (is_registered_variant v) (variant v)) _ none in
-    let new = not-true _ (holds (not (list_any (are_alike v) seen)) (repeated_variant v) (none_left _ _ others)) in
-    let later = variants_valid (seen ++ v ∷ []) vs (none_right (unless (not (list_any (are_alike v) seen)) (repeated_variant v)) _ others) in
-    ((known, later.0), rw new later.1)
+variants_valid seen (v ∷ vs) none = grind (arith, common_steps, none_both, holds, not-true, variants_valid (seen ++ v ∷ []) vs)
 
 none_mapped : (o : Option ℕ) → option_map (λ b. repeated_singleton (b ∷ [])) o ≡ None → o ≡ None
 none_mapped o none = grind (arith, common_steps)
@@ -131,32 +116,12 @@ none_mapped o none = grind (arith, common_steps)
 pub valid_without_fault : (r : Record) → first (faults r) ≡ None → IsValidRecord r
 unfolding faults
 valid_without_fault r none =
-    let l = language_faults r.primary r.extended in
-    let s = script_faults r.script in
-    let g = region_faults r.region in
-    let v = variant_faults [] r.variants in
-    let x = singleton_faults [] (singletons r) in
-    let all : l ++ (s ++ (g ++ (v ++ x))) ≡ [] = none_first _ none in
-    let ln = none_left l _ all in
-    let rest = none_right l _ all in
-    let sn = none_left s _ rest in
-    let rest2 = none_right s _ rest in
-    let gn = none_left g _ rest2 in
-    let rest3 = none_right g _ rest2 in
-    let vn = none_left v _ rest3 in
-    let xn = none_right v _ rest3 in
-    let extlangs = extlangs_valid r.extended (none_right (unless (is_registered_language r.primary) (language r.primary)) _ ln) in
-    let variants = variants_valid [] r.variants vn in
-    record {
-      primary = holds (is_registered_language r.primary) (language r.primary) (none_left _ _ ln);
-      extended = extlangs.0;
-      one_extended = extlangs.1;
-      script = script_valid r.script sn;
-      region = region_valid r.region gn;
-      variants = variants.0;
-      no_repeated_variant = repeat-after are_alike r.variants ∙ variants.1;
-      no_repeated_singleton = none_mapped _ (sym (first_singleton (singletons r)) ∙ ap first xn);
-    }
+    let (l, others) = none_both (language_faults r.primary r.extended) _ (none_first _ none) in
+    let (s, after_script) = none_both (script_faults r.script) _ others in
+    let (g, after_region) = none_both (region_faults r.region) _ after_script in
+    let (v, x) = none_both (variant_faults [] r.variants) _ after_region in
+    let (p, e) = none_both (unless (is_registered_language r.primary) (language r.primary)) _ l in
+    grind (arith, common_steps, holds, extlangs_valid r.extended, script_valid, region_valid, variants_valid [] r.variants, repeat-after are_alike r.variants, none_mapped, first_singleton (singletons r))
 
 -- and back
 
@@ -173,9 +138,7 @@ variants_none :
     (seen vs : List (List ℕ)) → AllByRecursion (λ s. IsTrue (is_registered_variant s)) vs → repeat_after are_alike seen vs ≡ None →
     variant_faults seen vs ≡ []
 variants_none seen [] all none = refl
-variants_none seen (v ∷ vs) all none =
-    let parts = if_seen (list_any (are_alike v) seen) v (repeat_after are_alike (seen ++ v ∷ []) vs) none in
-    rw (all.0, parts.0) (variants_none (seen ++ v ∷ []) vs all.1 parts.1)
+variants_none seen (v ∷ vs) all none = grind (arith, common_steps, if_seen, variants_none (seen ++ v ∷ []) vs)
 
 pub no_fault_of_valid : (r : Record) → IsValidRecord r → first (faults r) ≡ None
 no_fault_of_valid r valid = grind (arith, common_steps, first_fault, script_none, region_none, variants_none, repeat-after, first_singleton)

@@ -1,5 +1,7 @@
 -- A tag that is registered as a whole has at most one variant.
-use Rattle.std.proofs.Common.{◌≡◌, ℕ, ◌≤◌, true, Bool, leb, cond, List, [], ◌∷◌, length, map, filter, None, Some, slice_get, IsTrue, refl, sym, ap, ◌∙◌, arith, zero, suc, length-append, rules}
+use Rattle.langtag_registry.proofs.Members.{member_passes}
+use Rattle.langtag_scan.specs.CaseLaws.{are_alike-decides}
+use Rattle.std.proofs.Common.{◌≡◌, ℕ, ◌≤◌, true, Bool, leb, List, [], ◌∷◌, length, map, filter, None, Some, IsTrue, refl, sym, ap, ◌∙◌, arith, length-append}
 use Rattle.std.specs.List.{list_all, AllByRecursion}
 use Rattle.std.proofs.lemmas.Bool.{and_parts, leb-true}
 use Rattle.std.proofs.lemmas.List.{length-map}
@@ -7,7 +9,7 @@ use Rattle.std.proofs.lemmas.List.Elements.{filter-append}
 use Rattle.std.proofs.lemmas.Grind.{common_steps}
 use Rattle.langtag_scan.specs.Case.{fold_text, Alike, are_alike}
 use Rattle.langtag_scan.specs.Class.{is_letter, is_digit, is_variant}
-use Rattle.langtag_scan.specs.Grandfathered.{Grandfathered, grandfathered_tags}
+use Rattle.langtag_scan.specs.Grandfathered.{grandfathered_tags}
 use Rattle.langtag_scan.specs.Record.{Record, EachRecord, flat}
 use Rattle.langtag_scan.specs.Subtags.{segments}
 use Rattle.langtag_scan.proofs.CaseLaw.{alike_parts}
@@ -29,7 +31,7 @@ preferred_few : list_all has_few (map (λ e. e.subtag) tag_preferred) ≡ true
 unfolding tag_preferred is_variant is_letter is_digit
 preferred_few = refl
 
-grandfathered_few : list_all has_few (map (λ entry. entry.text) grandfathered_tags) ≡ true
+grandfathered_few : list_all (λ entry. has_few entry.text) grandfathered_tags ≡ true
 unfolding grandfathered_tags is_variant is_letter is_digit
 grandfathered_few = refl
 
@@ -42,27 +44,13 @@ alike_subtag :
     (is_good : List ℕ → Bool) (list : List Entry) (text value : List ℕ) → list_all is_good (map (λ e. e.subtag) list) ≡ true →
     value_for list text ≡ Some value → IsAlikeOne is_good text
 alike_subtag is_good [] text value all is = absurd cc
-alike_subtag is_good (e ∷ list) text value all is =
-    let k = and_parts (is_good e.subtag) (list_all is_good (map (λ q. q.subtag) list)) all in
-    by_test (are_alike e.subtag text) refl is k.0 (alike_subtag is_good list text value k.1)
-  where
-    by_test :
-        (b : Bool) → are_alike e.subtag text ≡ b → cond b (Some e.value) (value_for list text) ≡ Some value → is_good e.subtag ≡ true →
-        (value_for list text ≡ Some value → IsAlikeOne is_good text) → IsAlikeOne is_good text
-    by_test b other is first later = search rules
-
-entry_good :
-    (is_good : List ℕ → Bool) (list : List Grandfathered) (k : ℕ) (entry : Grandfathered) → list_all is_good (map (λ e. e.text) list) ≡ true →
-    slice_get list k ≡ Some entry → is_good entry.text ≡ true
-entry_good is_good [] k entry all at = absurd cc
-entry_good is_good (e ∷ list) zero entry all at = grind (arith, common_steps, and_parts (is_good e.text))
-entry_good is_good (e ∷ list) (suc k) entry all at = entry_good is_good list k entry (and_parts (is_good e.text) (list_all is_good (map (λ q. q.text) list)) all).1 at
+alike_subtag is_good (e ∷ list) text value all is = grind (arith, common_steps, and_parts (is_good e.subtag), are_alike-decides e.subtag text, alike_subtag is_good list text value)
 
 -- ---- its variants
 
 filter-all : (vs : List (List ℕ)) → AllByRecursion (λ s. IsTrue (is_variant s)) vs → filter is_variant vs ≡ vs
 filter-all [] all = refl
-filter-all (v ∷ vs) all = rw all.0 (ap (λ ws. v ∷ ws) (filter-all vs all.1))
+filter-all (v ∷ vs) all = grind (arith, common_steps, filter-all vs)
 
 -- they are among the subtags of the class
 variants_counted : (r : Record) → AllByRecursion (λ s. IsTrue (is_variant s)) r.variants → length r.variants ≤ length (filter is_variant (flat r))
@@ -94,4 +82,4 @@ preferred_apart text new is = λ r spells. one_apart r.variants (few_variants te
 pub grandfathered_apart : (text : List ℕ) → IsGrandfathered text → EachRecord text (λ r. repeat are_alike (canonical_variants r.variants) ≡ None)
 unfolding IsGrandfathered IsGrandfatheredAt
 grandfathered_apart text (k, (entry, at, alike)) = λ r spells.
-    one_apart r.variants (few_variants text (entry.text, entry_good has_few grandfathered_tags k entry grandfathered_few at, alike) r spells)
+    one_apart r.variants (few_variants text (entry.text, member_passes (λ e. has_few e.text) grandfathered_tags k entry grandfathered_few at, alike) r spells)

@@ -1,12 +1,12 @@
 -- How long the canonical form of a tag may be.
-use Rattle.std.proofs.Common.{◌≡◌, ℕ, ◌+◌, ◌*◌, ◌≤◌, true, leb, List, [], ◌∷◌, length, map, Option, Some, unwrap_or, IfSome, IsTrue, refl, ap, arith, length-append}
+use Rattle.std.proofs.Common.{◌≡◌, ℕ, ◌+◌, ◌*◌, ◌≤◌, true, leb, List, [], ◌∷◌, length, map, Option, Some, IfSome, IsTrue, refl, ap, arith, length-append}
 use Rattle.std.specs.List.{list_all, AllByRecursion, flat_map, sum_by}
 use Rattle.std.proofs.lemmas.Bool.{leb-true}
 use Rattle.std.proofs.lemmas.Bool.Decides.{nat_tests}
 use Rattle.std.proofs.lemmas.List.Sums.{sum_by-cons}
 use Rattle.std.proofs.lemmas.Grind.{common_steps}
 use Rattle.langtag_scan.specs.Class.{is_region, is_variant}
-use Rattle.langtag_scan.specs.Record.{Extension, Record, IsWellFormed, Spells, extension_flat, one_flat, spell}
+use Rattle.langtag_scan.specs.Record.{Extension, Record, IsWellFormed, extension_flat, one_flat, spell}
 use Rattle.langtag_scan.proofs.Joins.{hyphenated, length-hyphenated}
 use Rattle.langtag_scan.proofs.SubtagFacts.{of_primary, of_variant}
 use Rattle.langtag_registry.specs.Canonical.{canonical_record, canonical_primary, canonical_extended, canonical_region, canonical_variants, in_order, canonical_bound, IsCanonicalForm}
@@ -14,7 +14,7 @@ use Rattle.langtag_registry.specs.Fields.{preferred_tag}
 use Rattle.langtag_registry.specs.Subtags.{tag_preferred}
 use Rattle.langtag_registry.proofs.OrderLaws.{in_order-weight}
 use Rattle.langtag_registry.proofs.ReplacedSubtags.{extlang_cases}
-use Rattle.langtag_registry.proofs.TwiceLaws.{Way, as_whole, as_it_is, by_parts, way_of}
+use Rattle.langtag_registry.proofs.TwiceLaws.{form_of, Form, whole_form, own_form, parts_form, again_form}
 use Rattle.langtag_registry.proofs.Values.{value_good}
 use Rattle.langtag_registry.proofs.WellFormedForms.{canonical_record_well_formed}
 use Rattle.langtag_scan.proofs.Disjoint.{region_short}
@@ -85,14 +85,10 @@ unfolding preferred_tag
 preferred_short text new is = leb-true (length new) 14 (value_good (λ value. leb (length value) 14) tag_preferred text new values_short is)
 
 pub form_bounded : (old new : List ℕ) → IsCanonicalForm old new → length new ≤ canonical_bound (length old)
-form_bounded old new p = by_way (way_of old)
+form_bounded old new p = by_form (form_of old new p)
   where
-    by_text :
-        (r : Record) → Spells r old → (o : Option (List ℕ)) → preferred_tag (spell (canonical_record r)) ≡ o →
-        new ≡ unwrap_or o (spell (canonical_record r)) → length new ≤ 2 * length old + 14
-    by_text r spells o found same = grind (arith, common_steps, form_length r spells.0, preferred_short (spell (canonical_record r)))
-
-    by_way : Way old → length new ≤ 2 * length old + 14
-    by_way (as_whole w is) = let short = preferred_short old w is in omega (arith, short, ap length (p.whole w is))
-    by_way (as_it_is none why) = omega (arith, ap length (p.kept none why))
-    by_way (by_parts none new_one r spells) = by_text r spells (preferred_tag (spell (canonical_record r))) refl (p.parts none new_one r spells)
+    by_form : Form old new → length new ≤ 2 * length old + 14
+    by_form (whole_form is) = omega (arith, preferred_short old new is)
+    by_form (own_form none why same) = omega (arith, ap length same)
+    by_form (parts_form new_one r spells becomes none) = omega (arith, form_length r spells.0, ap length spells.1, ap length becomes.1)
+    by_form (again_form r spells is) = omega (arith, preferred_short _ new is)

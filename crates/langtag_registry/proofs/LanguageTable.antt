@@ -3,7 +3,7 @@ use Rattle.std.proofs.Common.{◌≡◌, ℕ, zero, suc, ◌+◌, ◌*◌, ◌-�
 use Rattle.std.proofs.lemmas.Grind.{common_steps}
 use Prim.Native.Nat.{◌^◌}
 use Rattle.std.specs.List.{list_any, list_all}
-use Rattle.std.proofs.lemmas.Bool.{and_parts, eq-eqb, ne_eqb, leb-true, false_from_ne_true}
+use Rattle.std.proofs.lemmas.Bool.{and_parts, eq-eqb, ne_eqb, leb-true}
 use Rattle.std.proofs.lemmas.List.{get_or_append_left, get_or-append-add, length-map}
 use Rattle.std.proofs.lemmas.List.FromFn.{get_or-map-range_with_len, length-map-range_with_len}
 use Rattle.langtag_scan.specs.Case.{fold_byte, are_alike}
@@ -90,12 +90,7 @@ language_from_bit text letters from =
 pub long_apart : (text : List ℕ) (list : List (List ℕ)) → 3 < length text → list_all is_short list ≡ true → list_any (are_alike text) list ≡ false
 long_apart text [] long all = refl
 long_apart text (first ∷ list) long all =
-    let k = and_parts (is_short first) (list_all is_short list) all in
-    let short = leb-true (length first) 3 k.0 in
-    let apart : are_alike text first ≡ false = false_from_ne_true (are_alike text first) (λ yes.
-    let same = ap length ((are_alike-decides text first).0 yes) in
-    omega (arith, short, long, same, length-map text fold_byte, length-map first fold_byte)) in
-    rw (apart, long_apart text list long k.1) refl
+    grind (arith, common_steps, and_parts, leb-true, are_alike-decides text first, length-map text fold_byte, length-map first fold_byte, long_apart text list)
 
 pub long_language : (text : List ℕ) → 3 < length text → is_registered_language text ≡ false
 unfolding is_registered_language

@@ -17,7 +17,6 @@ pub mod ValidForms
 pub mod NoExtlang
 pub mod CanonicalCase
 pub mod PreferredValues
-pub mod Pushed
 pub mod CanonicalLanguages
 pub mod CanonicalVariants
 pub mod ExtensionOrder

@@ -67,12 +67,7 @@ module _ (r : Record) (end : ℕ) (left : List (List ℕ)) (walked : IsWalked r 
     walk_stopped is = sym (turn ∙ ap (λ b. cond b (misplaced_after r (walked.before ++ v ∷ []) rest) (Some v)) is)
 
     pub walk_later : (text : List ℕ) → text ≡ v → fits_after (take end (spell r)) v ≡ true → IsWalked r (end + (1 + length text)) rest
-    walk_later text same is = record {
-      before = walked.before ++ v ∷ [];
-      cut = walked.cut ∙ ap (λ vs. walked.before ++ vs) next ∙ sym (append_assoc walked.before (v ∷ []) rest);
-      end_at = ap (λ n. n + (1 + length text)) walked.end_at ∙ ap (λ t. length (spell (up_to r walked.before)) + (1 + length t)) same ∙ variant_end r walked.before v;
-      so_far = turn ∙ ap (λ b. cond b (misplaced_after r (walked.before ++ v ∷ []) rest) (Some v)) is;
-    }
+    walk_later text same is = grind (arith, common_steps, turn, append_assoc walked.before (v ∷ []) rest, variant_end r walked.before v)
 
 -- ---- the text
 

@@ -1,34 +1,30 @@
 -- The canonical form of a valid tag has no extended language, but for the grandfathered `zh-min`.
-use Rattle.std.proofs.Common.{◌≡◌, ℕ, zero, suc, true, false, Bool, not, ◌||◌, List, [], ◌∷◌, map, codes, Option, None, Some, is_some, slice_get, unwrap_or, inl, inr, refl, sym, ap, subst, ◌∙◌, arith}
+use Rattle.langtag_registry.proofs.Members.{member_passes}
+use Rattle.std.proofs.Common.{◌≡◌, ℕ, true, false, Bool, not, ◌||◌, List, [], ◌∷◌, map, codes, None, Some, is_some, inl, inr, refl, sym, ◌∙◌, arith}
 use Rattle.std.specs.List.{list_all}
-use Rattle.std.proofs.lemmas.Bool.{and_parts, or_cases, both_ways, not-true}
+use Rattle.std.proofs.lemmas.Bool.{or_cases, both_ways, not-true}
 use Rattle.std.proofs.lemmas.Grind.{common_steps}
 use Rattle.langtag_scan.specs.Case.{fold_byte, fold_text, Alike, are_alike}
 use Rattle.langtag_scan.specs.CaseLaws.{are_alike-decides}
 use Rattle.langtag_scan.specs.Class.{is_letter, is_extended}
 use Rattle.langtag_scan.specs.Grandfathered.{Grandfathered, grandfathered_tags}
-use Rattle.langtag_scan.specs.Record.{Record, Spells, EachRecord, flat, spell}
+use Rattle.langtag_scan.specs.Record.{Record, Spells, EachRecord, flat}
 use Rattle.langtag_scan.specs.Subtags.{segments}
 use Rattle.langtag_scan.specs.Tag.{IsNormal}
 use Rattle.langtag_scan.proofs.CaseLaw.{alike_parts}
-use Rattle.langtag_scan.proofs.NormalTexts.{spelled_once, spelled_segments}
+use Rattle.langtag_scan.proofs.NormalTexts.{spelled_segments}
 use Rattle.langtag.specs.Registered.{IsGrandfathered, IsGrandfatheredAt}
 use Rattle.langtag_registry.specs.Canonical.{canonical_record, IsCanonicalForm}
 use Rattle.langtag_registry.specs.Fields.{preferred_tag}
 use Rattle.langtag_registry.specs.Subtags.{tag_preferred}
 use Rattle.langtag_registry.specs.Valid.{IsValidRecord, IsValid}
 use Rattle.langtag_registry.proofs.AlikeForms.{preferred_tag-alike}
-use Rattle.langtag_registry.proofs.TwiceLaws.{Way, as_whole, as_it_is, by_parts, way_of}
+use Rattle.langtag_registry.proofs.TwiceLaws.{form_of, Form, whole_form, own_form, parts_form, again_form, each_from_one}
 use Rattle.langtag_registry.proofs.ValidForms.{no_extended}
-use Rattle.langtag_registry.proofs.WellFormedForms.{canonical_record_well_formed}
 use Rattle.langtag_registry.proofs.WholeTags.{record_of, simple_record, preferred_spelled}
 
 abbrev HasNone : Record → Type 0
 HasNone r = r.extended ≡ []
-
--- one record that has none is each
-each_from_one : (text : List ℕ) (r : Record) → Spells r text → HasNone r → EachRecord text HasNone
-each_from_one text r spells none q other = ap (λ z. z.extended) (spelled_once q r other.0 spells.0 (other.1 ∙ sym spells.1)) ∙ none
 
 -- ---- the grandfathered tags without a Preferred-Value: by computation
 
@@ -42,11 +38,6 @@ is_fit entry = is_some (preferred_tag entry.text) || (are_alike (codes "zh-min")
 all_fit : list_all is_fit grandfathered_tags ≡ true
 unfolding grandfathered_tags tag_preferred preferred_tag fold_byte is_extended is_letter
 all_fit = refl
-
-entry_fit : (list : List Grandfathered) (k : ℕ) (entry : Grandfathered) → list_all is_fit list ≡ true → slice_get list k ≡ Some entry → is_fit entry ≡ true
-entry_fit [] k entry all at = absurd cc
-entry_fit (e ∷ list) zero entry all at = grind (arith, common_steps, and_parts (is_fit e) (list_all is_fit list) all)
-entry_fit (e ∷ list) (suc k) entry all at = entry_fit list k entry (and_parts (is_fit e) (list_all is_fit list) all).1 at
 
 second_of_flat : (r : Record) (e : List ℕ) (es : List (List ℕ)) → r.extended ≡ e ∷ es → second_is_extended (flat r) ≡ is_extended e
 second_of_flat r e es is = rw is
@@ -67,17 +58,7 @@ none_folded (s ∷ ss) none = absurd cc
 grandfathered_none : (old : List ℕ) → preferred_tag old ≡ None → (Alike (codes "zh-min") old → ⊥) → IsGrandfathered old → EachRecord old HasNone
 unfolding IsGrandfathered IsGrandfatheredAt
 grandfathered_none old none other (k, (entry, at, alike)) = λ r spells.
-    let like = alike_parts old entry.text (sym alike) r spells in
-    elim (or_cases (is_some (preferred_tag entry.text)) _ (entry_fit grandfathered_tags k entry all_fit at)) [
-      | inl preferred ↦ absurd (both_ways (is_some (preferred_tag entry.text)) (ap is_some (preferred_tag-alike entry.text old alike ∙ none)) preferred)
-      | inr others ↦
-          elim (or_cases (are_alike (codes "zh-min") entry.text) _ others) [
-            | inl same ↦ absurd (other ((are_alike-decides (codes "zh-min") entry.text).0 same ∙ alike))
-            | inr second ↦
-                let there : like.0.extended ≡ [] = none_extended like.0 entry.text like.1 (not-true (second_is_extended (segments entry.text)) second) in
-                none_folded r.extended (ap (λ z. z.extended) like.2 ∙ ap (map fold_text) there)
-          ]
-    ]
+    grind (arith, common_steps, alike_parts old entry.text (sym alike) r spells, member_passes is_fit grandfathered_tags k entry all_fit at, or_cases, both_ways, preferred_tag-alike entry.text old alike, are_alike-decides (codes "zh-min") entry.text, not-true, none_extended, none_folded)
 
 -- ---- every valid tag
 
@@ -86,27 +67,20 @@ unfolding canonical_record
 canonical_none r valid = no_extended r.extended valid.extended valid.one_extended
 
 preferred_none : (text new : List ℕ) → preferred_tag text ≡ Some new → EachRecord new HasNone
-preferred_none text new is = each_from_one new (record_of new) (preferred_spelled text new is) (simple_record new).extended
+preferred_none text new is = each_from_one HasNone new (record_of new) (preferred_spelled text new is) (simple_record new).extended
 
 pub no_extlang_form :
     (old new : List ℕ) → IsValid old → (Alike (codes "zh-min") new → ⊥) → IsCanonicalForm old new → EachRecord new (λ r. r.extended ≡ [])
 unfolding IsValid IsNormal
-no_extlang_form old new valid other p = by_way (way_of old)
+no_extlang_form old new valid other p = by_form (form_of old new p)
   where
-    by_text :
-        (r : Record) → Spells r old → IsValidRecord r → (o : Option (List ℕ)) → preferred_tag (spell (canonical_record r)) ≡ o →
-        new ≡ unwrap_or o (spell (canonical_record r)) → EachRecord new HasNone
-    by_text r spells is None none same =
-        subst (λ z. EachRecord z HasNone) (sym same)
-        (each_from_one (spell (canonical_record r)) (canonical_record r) (canonical_record_well_formed r spells.0, refl) (canonical_none r is))
-    by_text r spells is (Some w) found same = subst (λ z. EachRecord z HasNone) (sym same) (preferred_none (spell (canonical_record r)) w found)
-
-    by_way : Way old → EachRecord new HasNone
-    by_way (as_whole w is) = subst (λ z. EachRecord z HasNone) (sym (p.whole w is)) (preferred_none old w is)
-    by_way (as_it_is none (inl old_one)) = grind (arith, common_steps, grandfathered_none old none)
-    by_way (as_it_is none (inr no_normal)) = λ r spells. absurd (no_normal (r, (spells.0, spells.1 ∙ p.kept none (inr no_normal))))
-    by_way (by_parts none new_one r spells) =
+    by_form : Form old new → EachRecord new HasNone
+    by_form (whole_form is) = preferred_none old new is
+    by_form (own_form none (inl old_one) same) = grind (arith, common_steps, grandfathered_none old none)
+    by_form (own_form none (inr no_normal) same) = λ r spells. absurd (no_normal (r, (spells.0, spells.1 ∙ same)))
+    by_form (parts_form new_one r spells becomes none) =
         elim valid.1 [
           | inl old_one ↦ absurd (new_one old_one)
-          | inr each ↦ by_text r spells (each r spells) (preferred_tag (spell (canonical_record r))) refl (p.parts none new_one r spells)
+          | inr each ↦ each_from_one HasNone new (canonical_record r) becomes (canonical_none r (each r spells))
         ]
+    by_form (again_form r spells is) = preferred_none _ new is

@@ -1,7 +1,7 @@
 -- Extensions in the order of their singletons: they are the same ones, in order, and those that stand in order stay.
-use Rattle.std.proofs.Common.{◌≡◌, ◌≢◌, ℕ, ◌+◌, ◌<◌, ◌≤◌, true, false, ◌==◌, ◌||◌, not, Bool, leb, ltb, List, [], ◌∷◌, ◌++◌, map, filter, append-nil, refl, sym, ap, ◌∙◌, arith, inl, inr, IsTrue}
+use Rattle.std.proofs.Common.{◌≡◌, ◌≢◌, ℕ, ◌+◌, ◌<◌, ◌≤◌, true, false, ◌==◌, ◌||◌, not, Bool, leb, ltb, List, [], ◌∷◌, ◌++◌, map, filter, refl, sym, ap, ◌∙◌, arith, IsTrue}
 use Rattle.std.specs.List.{list_any, list_all, flat_map, sum_by, AllByRecursion}
-use Rattle.std.proofs.lemmas.Bool.{and_parts, leb-true, le-leb, ltb-true, eqb-true, eq-eqb, ne_eqb, or_parts, both_ways, agree_below_at}
+use Rattle.std.proofs.lemmas.Bool.{and_parts, leb-true, le-leb, ltb-true, eqb-true, ne_eqb, or_parts, both_ways, agree_below_at}
 use Rattle.std.proofs.lemmas.Bool.Decides.{eqb_tells}
 use Rattle.std.proofs.lemmas.List.Elements.{filter-append}
 use Rattle.std.proofs.lemmas.List.Folds.{flat_map-map}
@@ -46,11 +46,7 @@ module _ {A : Type 0} (key : A → ℕ) where
   gather-none : (low k : ℕ) (keys : List ℕ) (xs : List A) → climbs_from low keys ≡ true → k ≤ low → filter (has k) (gather keys xs) ≡ []
   gather-none low k [] xs climbs le = refl
   gather-none low k (j ∷ keys) xs climbs le =
-      let parts = and_parts (ltb low j) (climbs_from j keys) climbs in
-      let above = ltb-true low j parts.0 in
-      filter-append (has k) (filter (has j) xs) (gather keys xs)
-      ∙ ap (λ ys. ys ++ filter (has k) (gather keys xs)) (filter-other j k (λ same. absurd (omega (arith, same, above, le))) xs)
-      ∙ gather-none j k keys xs parts.1 (omega (arith, above, le))
+      grind (arith, common_steps, and_parts, ltb-true low j, filter-append (has k), filter-other j k, gather-none j k keys xs)
 
   -- of each key that is asked for, the same ones in the same order
   gather-keeps :
@@ -58,27 +54,13 @@ module _ {A : Type 0} (key : A → ℕ) where
       filter (has k) (gather keys xs) ≡ filter (has k) xs
   gather-keeps low k [] xs climbs among = absurd cc
   gather-keeps low k (j ∷ keys) xs climbs among =
-      let parts = and_parts (ltb low j) (climbs_from j keys) climbs in
-      filter-append (has k) (filter (has j) xs) (gather keys xs)
-      ∙ elim (eqb_tells j k) [
-        | inl same ↦
-            ap (λ i. filter (has k) (filter (has i) xs) ++ filter (has k) (gather keys xs)) same.1
-            ∙ ap (λ ys. ys ++ filter (has k) (gather keys xs)) (filter-same k xs)
-            ∙ ap (λ ys. filter (has k) xs ++ ys) (gather-none j k keys xs parts.1 (omega (arith, same.1)))
-            ∙ append-nil (filter (has k) xs)
-        | inr other ↦
-            ap (λ ys. ys ++ filter (has k) (gather keys xs)) (filter-other j k (λ same. other.1 (sym same)) xs)
-            ∙ gather-keeps j k keys xs parts.1 (rw other.0 at among)
-      ]
+      grind (arith, common_steps, and_parts, ltb-true low j, eqb_tells j k, filter-append (has k), filter-same k xs, filter-other j k, gather-none j k keys xs, gather-keeps j k keys xs)
 
   -- a key that is not asked for has none
   gather-absent : (k : ℕ) (keys : List ℕ) (xs : List A) → list_any (λ j. j == k) keys ≡ false → filter (has k) (gather keys xs) ≡ []
   gather-absent k [] xs absent = refl
   gather-absent k (j ∷ keys) xs absent =
-      let parts = or_parts (j == k) (list_any (λ i. i == k) keys) absent in
-      filter-append (has k) (filter (has j) xs) (gather keys xs)
-      ∙ ap (λ ys. ys ++ filter (has k) (gather keys xs)) (filter-other j k (λ same. both_ways (j == k) parts.0 (eq-eqb j k (sym same))) xs)
-      ∙ gather-absent k keys xs parts.1
+      grind (arith, common_steps, or_parts, eqb_tells j k, both_ways, filter-append (has k), filter-other j k, gather-absent k keys xs)
 
   -- gathered by keys that are asked for, what was gathered is what the list gives
   gather-twice_of :
@@ -112,10 +94,7 @@ module _ {A : Type 0} (key : A → ℕ) where
   -- a list whose keys rise from a number has none of a key below it
   rises_above : (low k : ℕ) (xs : List A) → rises_from low (map key xs) ≡ true → k < low → filter (has k) xs ≡ []
   rises_above low k [] rises lt = refl
-  rises_above low k (x ∷ xs) rises lt =
-      let parts = and_parts (leb low (key x)) (rises_from (key x) (map key xs)) rises in
-      let le = leb-true low (key x) parts.0 in
-      rw (ne_eqb k (key x) (λ same. absurd (omega (arith, same, le, lt)))) (rises_above (key x) k xs parts.1 (omega (arith, le, lt)))
+  rises_above low k (x ∷ xs) rises lt = grind (arith, common_steps, and_parts, leb-true low, ne_eqb k (key x), rises_above (key x) k xs)
 
   -- the first of a list whose keys rise comes first
   gather-first :
@@ -123,16 +102,7 @@ module _ {A : Type 0} (key : A → ℕ) where
       gather keys (x ∷ xs) ≡ x ∷ gather keys xs
   gather-first low [] x xs climbs among rises = absurd cc
   gather-first low (j ∷ keys) x xs climbs among rises =
-      let parts = and_parts (ltb low j) (climbs_from j keys) climbs in
-      elim (eqb_tells j (key x)) [
-        | inl same ↦
-            rw same.0 (ap (λ ys. x ∷ (filter (has j) xs ++ ys)) (gather-below j keys x xs parts.1 (omega (arith, same.1))))
-        | inr other ↦
-            let later : IsAmong keys x = rw other.0 at among in
-            let above = below_climb j (key x) keys parts.1 later in
-            let none = rises_above (key x) j xs rises above in
-            rw (other.0, none) (gather-first j keys x xs parts.1 later rises)
-      ]
+      grind (arith, common_steps, and_parts, eqb_tells j (key x), gather-below j keys x xs, below_climb j (key x) keys, rises_above (key x) j xs, gather-first j keys x xs)
 
   gather-nil : (keys : List ℕ) → gather keys [] ≡ []
   gather-nil [] = refl
@@ -142,9 +112,7 @@ module _ {A : Type 0} (key : A → ℕ) where
       (low from : ℕ) (keys : List ℕ) (xs : List A) → climbs_from low keys ≡ true → AllByRecursion (IsAmong keys) xs →
       rises_from from (map key xs) ≡ true → gather keys xs ≡ xs
   gather-risen low from keys [] climbs among rises = gather-nil keys
-  gather-risen low from keys (x ∷ xs) climbs among rises =
-      let parts = and_parts (leb from (key x)) (rises_from (key x) (map key xs)) rises in
-      gather-first low keys x xs climbs among.0 parts.1 ∙ ap (λ ys. x ∷ ys) (gather-risen low (key x) keys xs climbs among.1 parts.1)
+  gather-risen low from keys (x ∷ xs) climbs among rises = grind (arith, common_steps, and_parts, gather-first low keys x xs, gather-risen low (key x) keys xs)
 
   -- ---- what is gathered rises
 
@@ -160,10 +128,7 @@ module _ {A : Type 0} (key : A → ℕ) where
 
   gather-rises : (low : ℕ) (keys : List ℕ) (xs : List A) → climbs_from low keys ≡ true → rises_from low (map key (gather keys xs)) ≡ true
   gather-rises low [] xs climbs = refl
-  gather-rises low (j ∷ keys) xs climbs =
-      let parts = and_parts (ltb low j) (climbs_from j keys) climbs in
-      let above = ltb-true low j parts.0 in
-      rises_past low j xs (gather keys xs) (omega (arith, above)) (gather-rises j keys xs parts.1)
+  gather-rises low (j ∷ keys) xs climbs = grind (arith, common_steps, and_parts, ltb-true low j, rises_past low j xs, gather-rises j keys xs)
 
   -- ---- what is gathered weighs no more
 
@@ -172,22 +137,7 @@ module _ {A : Type 0} (key : A → ℕ) where
       sum_by weight (gather keys (x ∷ xs)) ≤ weight x + sum_by weight (gather keys xs)
   gather-first_weight weight low [] x xs climbs = omega arith
   gather-first_weight weight low (j ∷ keys) x xs climbs =
-      let parts = and_parts (ltb low j) (climbs_from j keys) climbs in
-      let these = filter (has j) xs in
-      let without = sum_by-append weight these (gather keys xs) in
-      elim (eqb_tells j (key x)) [
-        | inl same ↦
-            rw same.0
-            (let all = sum_by-append weight (x ∷ these) (gather keys (x ∷ xs)) in
-            let first = sum_by-cons weight x these in
-            let others = ap (sum_by weight) (gather-below j keys x xs parts.1 (omega (arith, same.1))) in
-            omega (arith, all, first, others, without))
-        | inr other ↦
-            rw other.0
-            (let all = sum_by-append weight these (gather keys (x ∷ xs)) in
-            let later = gather-first_weight weight j keys x xs parts.1 in
-            omega (arith, all, later, without))
-      ]
+      grind (arith, common_steps, and_parts, ltb-true low j, eqb_tells j (key x), sum_by-append weight, sum_by-cons weight x, gather-below j keys x xs, gather-first_weight weight j keys x xs)
 
   gather-weight : (weight : A → ℕ) (low : ℕ) (keys : List ℕ) (xs : List A) → climbs_from low keys ≡ true → sum_by weight (gather keys xs) ≤ sum_by weight xs
   gather-weight weight low keys [] climbs = let none = ap (sum_by weight) (gather-nil keys) in omega (arith, none)
@@ -262,9 +212,7 @@ in_order-same es well singleton =
     ∙ gather-same key 0 (fold_byte singleton) folded_singletons es singletons_climb (known_each es well)
 
 pub in_order-twice : (es : List Extension) → in_order (in_order es) ≡ in_order es
-in_order-twice es =
-    in_order-gather (in_order es) ∙ ap (gather key folded_singletons) (in_order-gather es)
-    ∙ gather-twice_of key 0 folded_singletons folded_singletons es singletons_climb singletons_once ∙ sym (in_order-gather es)
+in_order-twice es = grind (arith, common_steps, in_order-gather, gather-twice_of key 0 folded_singletons folded_singletons es, singletons_climb, singletons_once)
 
 -- what holds of each of them holds of each in order
 pub in_order-each : (P : Extension → Type 0) (es : List Extension) → AllByRecursion P es → AllByRecursion P (in_order es)

@@ -1,14 +1,12 @@
 -- The walk over the prefixes of a variant.
-use Rattle.std.proofs.Common.{◌≡◌, ℕ, zero, suc, ◌+◌, ◌<◌, ◌≤◌, true, false, ◌==◌, Bool, cond, List, [], ◌∷◌, length, get_or, map, drop, refl, ap, sym, ◌∙◌, arith}
-use Rattle.std.specs.List.{list_all, list_any}
-use Rattle.std.proofs.lemmas.Bool.{and_parts}
+use Rattle.std.proofs.Common.{◌≡◌, ℕ, ◌+◌, ◌<◌, ◌≤◌, true, false, ◌==◌, Bool, cond, List, [], ◌∷◌, length, get_or, map, drop, refl, ap, sym, ◌∙◌, arith}
+use Rattle.std.specs.List.{list_any}
 use Rattle.std.proofs.lemmas.List.{length-map, get_or-map, at_drop_more}
 use Rattle.std.proofs.lemmas.Grind.{common_steps}
-use Rattle.langtag_scan.specs.Case.{are_alike}
+use Rattle.langtag_scan.specs.Case.{are_alike, folded_number}
 use Rattle.langtag_scan.specs.Class.{are_alphanumeric}
 use Rattle.langtag_range.specs.Extended.{test_extended}
 use Rattle.langtag_registry.specs.Entry.{Entry, values_for}
-use Rattle.langtag_scan.specs.Case.{folded_number}
 use Rattle.langtag_registry.specs.Prefix.{some_matches, fits_after}
 use Rattle.langtag_registry.specs.Subtags.{variant_prefixes}
 use Rattle.langtag_scan.proofs.FoldedNumbers.{folded_number-tells}
@@ -22,11 +20,6 @@ module _ {A B C : Type 0} (f : A → C) (g : B → C) (xs : List A) (ys : List B
 
   pub same_at : (i : ℕ) (a : A) (b : B) (c : C) → i < length xs → f (get_or xs i a) ≡ g (get_or ys i b)
   same_at i a b c inside = grind (arith, common_steps, get_or-map f xs i a c inside, get_or-map g ys i b c, length-same)
-
-pub list_all_get : {A : Type 0} (p : A → Bool) (xs : List A) (i : ℕ) (a : A) → list_all p xs ≡ true → i < length xs → p (get_or xs i a) ≡ true
-list_all_get p [] i a all inside = absurd (omega (arith, inside))
-list_all_get p (x ∷ xs) zero a all inside = (and_parts (p x) (list_all p xs) all).0
-list_all_get p (x ∷ xs) (suc i) a all inside = list_all_get p xs i a (and_parts (p x) (list_all p xs) all).1 (omega (arith, inside))
 
 -- a number is that of an entry's subtag where the texts are alike
 pub number_tells :

@@ -1,5 +1,5 @@
 -- Extensions in order repeat no singleton where they repeated none before.
-use Rattle.std.proofs.Common.{◌≡◌, ℕ, ◌+◌, ◌≤◌, true, false, Bool, cond, List, [], ◌∷◌, ◌++◌, length, map, filter, length-append, append_assoc, append-nil, None, Some, refl, sym, ap, subst, ◌∙◌, arith}
+use Rattle.std.proofs.Common.{◌≡◌, ℕ, ◌+◌, ◌≤◌, true, false, Bool, cond, List, [], ◌∷◌, ◌++◌, length, map, filter, length-append, append_assoc, append-nil, None, Some, refl, sym, subst, ◌∙◌, arith}
 use Rattle.std.specs.List.{list_any, AllByRecursion}
 use Rattle.std.proofs.lemmas.Bool.{or_parts}
 use Rattle.std.proofs.lemmas.Bool.Decides.{eqb_tells}
@@ -45,14 +45,7 @@ once_from_none seen (x ∷ xs) once none = by_test (list_any (are_alike_bytes x)
 none_from_once : (seen xs : List ℕ) → AreOnce (seen ++ xs) → repeat_after are_alike_bytes seen xs ≡ None
 none_from_once seen [] once = refl
 none_from_once seen (x ∷ xs) once =
-    by_test (list_any (are_alike_bytes x) seen) refl
-    (none_from_once (seen ++ x ∷ []) xs (λ b. subst (λ all. times b all ≤ 1) (sym (append_assoc seen (x ∷ []) xs)) (once b)))
-  where
-    by_test :
-        (t : Bool) → list_any (are_alike_bytes x) seen ≡ t → repeat_after are_alike_bytes (seen ++ x ∷ []) xs ≡ None →
-        cond t (Some x) (repeat_after are_alike_bytes (seen ++ x ∷ []) xs) ≡ None
-    by_test true is later = grind (arith, common_steps, times-append x seen (x ∷ xs), times-some x seen is, eqb_tells)
-    by_test false is later = later
+    grind (arith, common_steps, append_assoc seen (x ∷ []) xs, times-append x seen (x ∷ xs), times-some x seen, eqb_tells, once x, none_from_once (seen ++ x ∷ []) xs)
 
 abbrev singletons_of : List Extension → List ℕ
 singletons_of es = map (λ e. e.singleton) es
@@ -67,8 +60,4 @@ pub in_order-once :
 in_order-once es well none =
     let once = once_from_none [] (singletons_of es) (λ b. omega arith) (sym (repeat-after are_alike_bytes (singletons_of es)) ∙ none) in
     repeat-after are_alike_bytes (singletons_of (in_order es))
-    ∙ none_from_once [] (singletons_of (in_order es)) (λ b.
-    let same : times b (singletons_of (in_order es)) ≡ times b (singletons_of es) =
-    times-singletons b (in_order es) ∙ ap length (in_order-same es well b) ∙ sym (times-singletons b es) in
-    let before = once b in
-    omega (arith, same, before))
+    ∙ none_from_once [] (singletons_of (in_order es)) (λ b. grind (arith, common_steps, once b, times-singletons b, in_order-same es well b))

@@ -5,7 +5,7 @@ use Rattle.std.specs.Option.{option_map_or}
 use Rattle.std.proofs.lemmas.Bool.{and_parts}
 use Rattle.std.proofs.lemmas.Grind.{common_steps}
 use Rattle.langtag_scan.specs.Case.{fold_byte, are_alike}
-use Rattle.langtag_scan.specs.Record.{Record, Spells, spell}
+use Rattle.langtag_scan.specs.Record.{Record, Spells, spell, EachRecord}
 use Rattle.langtag_scan.specs.Tag.{IsNormal}
 use Rattle.langtag_scan.proofs.NormalTexts.{spelled_once, normal_or_not}
 use Rattle.langtag.specs.Registered.{IsGrandfathered, text_of}
@@ -108,19 +108,36 @@ pub data Way (old : List ℕ) : Type 0 where
 
 pub way_of : (old : List ℕ) → Way old
 unfolding IsNormal
-way_of old = by_whole (preferred_tag old) refl
+way_of old = by_whole (preferred_tag old) refl (is_grandfathered old) (normal_or_not old)
   where
-    by_normal : preferred_tag old ≡ None → (IsGrandfathered old → ⊥) → IsNormal old ⊎ (IsNormal old → ⊥) → Way old
-    by_normal none new (inl normal) = by_parts none new normal.0 normal.1
-    by_normal none new (inr other) = as_it_is none (inr other)
+    by_whole : (o : Option (List ℕ)) → preferred_tag old ≡ o → IsGrandfathered old ⊎ (IsGrandfathered old → ⊥) → IsNormal old ⊎ (IsNormal old → ⊥) → Way old
+    by_whole (Some w) is old_one normal = as_whole w is
+    by_whole None none (inl is) normal = as_it_is none (inl is)
+    by_whole None none (inr new) (inl normal) = by_parts none new normal.0 normal.1
+    by_whole None none (inr new) (inr other) = as_it_is none (inr other)
 
-    by_old : preferred_tag old ≡ None → IsGrandfathered old ⊎ (IsGrandfathered old → ⊥) → Way old
-    by_old none (inl is) = as_it_is none (inl is)
-    by_old none (inr new) = by_normal none new (normal_or_not old)
+-- and what the canonical form is by each: that of parts may have a Preferred-Value as a whole
+pub data Form (old new : List ℕ) : Type 0 where
+  whole_form : preferred_tag old ≡ Some new → Form old new
+  own_form : preferred_tag old ≡ None → IsGrandfathered old ⊎ (IsNormal old → ⊥) → new ≡ old → Form old new
+  parts_form : (IsGrandfathered old → ⊥) → (r : Record) → Spells r old → Spells (canonical_record r) new → preferred_tag new ≡ None → Form old new
+  again_form : (r : Record) → Spells r old → preferred_tag (spell (canonical_record r)) ≡ Some new → Form old new
 
-    by_whole : (o : Option (List ℕ)) → preferred_tag old ≡ o → Way old
-    by_whole None none = by_old none (is_grandfathered old)
-    by_whole (Some w) is = as_whole w is
+pub form_of : (old new : List ℕ) → IsCanonicalForm old new → Form old new
+form_of old new p = by_way (way_of old)
+  where
+    by_text : (IsGrandfathered old → ⊥) → (r : Record) → Spells r old → (o : Option (List ℕ)) → preferred_tag (spell (canonical_record r)) ≡ o → new ≡ unwrap_or o (spell (canonical_record r)) → Form old new
+    by_text new_one r spells None is same = parts_form new_one r spells (canonical_record_well_formed r spells.0, sym same) (ap preferred_tag same ∙ is)
+    by_text new_one r spells (Some w) is same = again_form r spells (is ∙ ap Some (sym same))
+
+    by_way : Way old → Form old new
+    by_way (as_whole w is) = whole_form (is ∙ ap Some (sym (p.whole w is)))
+    by_way (as_it_is none why) = own_form none why (p.kept none why)
+    by_way (by_parts none new_one r spells) = by_text new_one r spells _ refl (p.parts none new_one r spells)
+
+-- what holds of one record of a text holds of each
+pub each_from_one : (P : Record → Type 0) (text : List ℕ) (r : Record) → Spells r text → P r → EachRecord text P
+each_from_one P text r spells holds q other = subst P (spelled_once r q spells.0 other.0 (spells.1 ∙ sym other.1)) holds
 
 -- two canonical forms of a text are equal
 pub one_form : (old new other : List ℕ) → IsCanonicalForm old new → IsCanonicalForm old other → new ≡ other
@@ -133,14 +150,10 @@ one_form old new other p q = by_way (way_of old)
 
 -- a canonical form is its own
 pub form_twice : (old new : List ℕ) → IsCanonicalForm old new → IsCanonicalForm new new
-form_twice old new p = by_way (way_of old)
+form_twice old new p = by_form (form_of old new p)
   where
-    by_text :
-        (r : Record) → Spells r old → (o : Option (List ℕ)) → preferred_tag (spell (canonical_record r)) ≡ o →
-        new ≡ unwrap_or o (spell (canonical_record r)) → IsCanonicalForm new new
-    by_text r spells o found is = grind (arith, common_steps, itself, canonical_record_well_formed, canonical_record-twice, preferred_itself)
-
-    by_way : Way old → IsCanonicalForm new new
-    by_way (as_whole w is) = subst (λ z. IsCanonicalForm z z) (sym (p.whole w is)) (preferred_itself old w is)
-    by_way (as_it_is none why) = subst (λ z. IsCanonicalForm old z → IsCanonicalForm z z) (sym (p.kept none why)) (λ same. same) p
-    by_way (by_parts none new r spells) = by_text r spells (preferred_tag (spell (canonical_record r))) refl (p.parts none new r spells)
+    by_form : Form old new → IsCanonicalForm new new
+    by_form (whole_form is) = preferred_itself old new is
+    by_form (own_form none why same) = subst (λ z. IsCanonicalForm z new) (sym same) p
+    by_form (parts_form new_one r spells becomes none) = itself new (canonical_record r) none becomes (canonical_record-twice r)
+    by_form (again_form r spells is) = preferred_itself _ new is

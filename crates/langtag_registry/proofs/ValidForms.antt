@@ -1,13 +1,14 @@
 -- The canonical form of a valid tag is valid where no two variants become the same, and only there.
-use Rattle.std.proofs.Common.{◌≡◌, ℕ, ◌-◌, ◌/◌, ◌%◌, ◌≤◌, ◌==◌, true, Bool, ◌&&◌, leb, ltb, List, [], length, get_or, map, Option, None, Some, is_none, unwrap_or, IsTrue, inl, inr, refl, sym, ap, subst, ◌∙◌, arith, rules}
+use Rattle.std.proofs.Common.{◌≡◌, ℕ, ◌-◌, ◌/◌, ◌%◌, ◌≤◌, ◌==◌, true, Bool, ◌&&◌, leb, ltb, List, [], length, get_or, map, Option, None, Some, is_none, IsTrue, inl, inr, refl, sym, ap, subst, ◌∙◌, arith, rules}
+use Rattle.std.proofs.lemmas.Bool.Decides.{nat_tests}
 use Rattle.std.proofs.lemmas.Grind.{common_steps}
 use Prim.Native.Nat.{◌^◌}
 use Rattle.std.specs.List.{list_all, AllByRecursion}
 use Rattle.std.specs.Option.{option_map_or}
-use Rattle.std.proofs.lemmas.Bool.{and_parts, leb-true, ltb-true}
+use Rattle.std.proofs.lemmas.Bool.{and_parts}
 use Rattle.langtag_scan.specs.Case.{fold_byte, are_alike}
 use Rattle.langtag_scan.specs.Class.{is_letter, are_letters}
-use Rattle.langtag_scan.specs.Record.{Record, IsWellFormed, Spells, EachRecord, spell}
+use Rattle.langtag_scan.specs.Record.{Record, IsWellFormed, Spells, EachRecord}
 use Rattle.langtag_scan.specs.Tag.{IsTag, IsNormal}
 use Rattle.langtag_scan.proofs.NormalTexts.{spelled_once}
 use Rattle.langtag_scan.proofs.SubtagLists.{each_from_test}
@@ -23,7 +24,7 @@ use Rattle.langtag_registry.proofs.FewVariants.{preferred_apart, grandfathered_a
 use Rattle.langtag_registry.proofs.LanguageTable.{language_bit_at, language_from_bit}
 use Rattle.langtag_registry.proofs.ReplacedSubtags.{replaced, replaced-holds, if_some-map, each-map, extlang_cases, found_good}
 use Rattle.langtag_registry.proofs.SingletonsOnce.{in_order-once}
-use Rattle.langtag_registry.proofs.TwiceLaws.{canonical_record-twice, Way, as_whole, as_it_is, by_parts, way_of}
+use Rattle.langtag_registry.proofs.TwiceLaws.{canonical_record-twice, Form, whole_form, own_form, parts_form, form_of, again_form, each_from_one}
 use Rattle.langtag_registry.proofs.Values.{value_good}
 use Rattle.langtag_registry.proofs.WellFormedForms.{canonical_record_well_formed}
 use Rattle.langtag_registry.proofs.WholeTags.{record_of, simple_record, preferred_spelled, if_some_from_test}
@@ -39,12 +40,7 @@ has_bit text =
     && (get_or LANGUAGE_BITS ((letter_number text - 27) / 64) 0 / 2 ^ ((letter_number text - 27) % 64) % 2 == 1)))
 
 registered_from_bit : (text : List ℕ) → has_bit text ≡ true → is_registered_language text ≡ true
-registered_from_bit text h =
-    let a = and_parts _ _ h in
-    let b = and_parts _ _ a.1 in
-    let c = and_parts _ _ b.1 in
-    sym (language_from_bit text a.0 (leb-true 27 (letter_number text) b.0))
-    ∙ language_bit_at (letter_number text - 27) (ltb-true (letter_number text - 27) 18304 c.0) ∙ c.1
+registered_from_bit text h = grind (arith, common_steps, nat_tests, and_parts, language_from_bit text, language_bit_at (letter_number text - 27))
 
 new_languages_known : list_all has_bit (map (λ e. e.value) language_preferred) ≡ true
 unfolding language_preferred letter_number fold_byte is_letter
@@ -129,23 +125,7 @@ few_extended r none = rw none (omega arith)
 
 preferred_valid : (text new : List ℕ) → preferred_tag text ≡ Some new → IsValid new
 preferred_valid text new is =
-    let r = record_of new in
-    let simple = simple_record new in
-    let a = and_parts _ _ (whole_valid_of text new is) in
-    let b = and_parts _ _ a.1 in
-    let c = and_parts _ _ b.1 in
-    let d = and_parts _ _ c.1 in
-    valid_spelled new r (preferred_spelled text new is)
-    record {
-      primary = registered_from_bit r.primary a.0;
-      extended = rw simple.extended tt;
-      one_extended = few_extended r simple.extended;
-      script = if_some_from_test is_registered_script r.script b.0;
-      region = if_some_from_test is_registered_region r.region c.0;
-      variants = each_from_test is_registered_variant r.variants d.0;
-      no_repeated_variant = is_none-None _ d.1;
-      no_repeated_singleton = rw simple.extensions refl;
-    }
+    grind (arith, common_steps, and_parts, whole_valid_of, simple_record new, valid_spelled new (record_of new), preferred_spelled, registered_from_bit, few_extended, if_some_from_test, each_from_test, is_none-None)
 
 -- ---- every valid tag
 
@@ -153,25 +133,17 @@ preferred_valid text new is =
 pub valid_form :
     (old new : List ℕ) → IsValid old → EachRecord old (λ r. repeat are_alike (canonical_variants r.variants) ≡ None) → IsCanonicalForm old new → IsValid new
 unfolding IsValid
-valid_form old new valid once p = by_way (way_of old)
+valid_form old new valid once p = by_form (form_of old new p)
   where
-    by_text :
-        (r : Record) → Spells r old → IsValidRecord r → (o : Option (List ℕ)) → preferred_tag (spell (canonical_record r)) ≡ o →
-        new ≡ unwrap_or o (spell (canonical_record r)) → IsValid new
-    by_text r spells is None none same =
-        let q = canonical_record r in
-        let well = canonical_record_well_formed r spells.0 in
-        subst IsValid (sym same) (valid_spelled (spell q) q (well, refl) (canonical_record_valid r spells.0 is (once r spells)))
-    by_text r spells is (Some w) found same = subst IsValid (sym same) (preferred_valid (spell (canonical_record r)) w found)
-
-    by_way : Way old → IsValid new
-    by_way (as_whole w is) = subst IsValid (sym (p.whole w is)) (preferred_valid old w is)
-    by_way (as_it_is none why) = subst IsValid (sym (p.kept none why)) valid
-    by_way (by_parts none new_one r spells) =
+    by_form : Form old new → IsValid new
+    by_form (whole_form is) = preferred_valid old new is
+    by_form (own_form none why same) = subst IsValid (sym same) valid
+    by_form (parts_form new_one r spells becomes none) =
         elim valid.1 [
           | inl old_one ↦ absurd (new_one old_one)
-          | inr each ↦ by_text r spells (each r spells) (preferred_tag (spell (canonical_record r))) refl (p.parts none new_one r spells)
+          | inr each ↦ valid_spelled new (canonical_record r) becomes (canonical_record_valid r spells.0 (each r spells) (once r spells))
         ]
+    by_form (again_form r spells is) = preferred_valid _ new is
 
 -- ---- only where no two variants become the same
 
@@ -193,16 +165,14 @@ apart_where_valid r text spells valid =
 pub apart_form :
     (old new : List ℕ) → IsCanonicalForm old new → IsValid new → EachRecord old (λ r. repeat are_alike (canonical_variants r.variants) ≡ None)
 unfolding IsNormal
-apart_form old new p valid r spells = by_way (way_of old)
+apart_form old new p valid = by_form (form_of old new p)
   where
-    by_text :
-        (o : Option (List ℕ)) → preferred_tag (spell (canonical_record r)) ≡ o → new ≡ unwrap_or o (spell (canonical_record r)) →
-        repeat are_alike (canonical_variants r.variants) ≡ None
-    by_text None none same = apart_where_valid r new (canonical_record_well_formed r spells.0, sym same) valid
-    by_text (Some w) found same = search (rules, same_variants, preferred_apart, canonical_record_well_formed)
-
-    by_way : Way old → repeat are_alike (canonical_variants r.variants) ≡ None
-    by_way (as_whole w is) = preferred_apart old w is r spells
-    by_way (as_it_is none (inl old_one)) = grandfathered_apart old old_one r spells
-    by_way (as_it_is none (inr no_normal)) = absurd (no_normal (r, spells))
-    by_way (by_parts none new_one q other) = by_text (preferred_tag (spell (canonical_record r))) refl (p.parts none new_one r spells)
+    by_form : Form old new → EachRecord old (λ r. repeat are_alike (canonical_variants r.variants) ≡ None)
+    by_form (whole_form is) = preferred_apart old new is
+    by_form (own_form none (inl old_one) same) = grandfathered_apart old old_one
+    by_form (own_form none (inr no_normal) same) = λ r spells. absurd (no_normal (r, spells))
+    by_form (parts_form new_one r spells becomes none) =
+        each_from_one (λ q. repeat are_alike (canonical_variants q.variants) ≡ None) old r spells (apart_where_valid r new becomes valid)
+    by_form (again_form r spells is) =
+        each_from_one (λ q. repeat are_alike (canonical_variants q.variants) ≡ None) old r spells
+        (same_variants r (preferred_apart _ new is (canonical_record r) (canonical_record_well_formed r spells.0, refl)))

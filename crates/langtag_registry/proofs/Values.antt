@@ -33,10 +33,7 @@ pub value_found :
 value_found low [] text i climbs plain good inside at = absurd (omega (arith, inside))
 value_found low (e ∷ list) text zero climbs plain good inside at = rw (alike_by_number e list text true plain good (eq-eqb _ _ (sym at))) refl
 value_found low (e ∷ list) text (suc i) climbs plain good inside at =
-    let later = (and_parts (ltb low (folded_number e.subtag)) (climbs_from (folded_number e.subtag) (numbers_of list)) climbs).1 in
-    let above = above_first (folded_number e.subtag) (numbers_of list) i later (omega (arith, inside)) in
-    rw (alike_by_number e list text false plain good (ne_eqb _ _ (λ same. absurd (omega (arith, same, above, at)))))
-    (value_found (folded_number e.subtag) list text i later (and_parts (are_alphanumeric e.subtag) (are_plain list) plain).1 good (omega (arith, inside)) at)
+    grind (arith, common_steps, and_parts, above_first, alike_by_number, ne_eqb, value_found (folded_number e.subtag) list text i)
 
 pub value_absent :
     (list : List Entry) (text : List ℕ) → are_plain list ≡ true → are_alphanumeric text ≡ true →
@@ -64,12 +61,7 @@ pub value_of_long :
     None ≡ value_for list text
 value_of_long most [] text long all = refl
 value_of_long most (e ∷ list) text long all =
-    let k = and_parts (ltb (length e.subtag) (most + 1)) (list_all (λ q. ltb (length q.subtag) (most + 1)) list) all in
-    let short = ltb-true (length e.subtag) (most + 1) k.0 in
-    let apart : are_alike e.subtag text ≡ false = false_from_ne_true (are_alike e.subtag text) (λ yes.
-    let same = ap length ((are_alike-decides e.subtag text).0 yes) in
-    omega (arith, short, long, same, length-map e.subtag fold_byte, length-map text fold_byte)) in
-    rw (apart) (value_of_long most list text long k.1)
+    grind (arith, common_steps, and_parts, ltb-true, are_alike-decides e.subtag text, length-map e.subtag fold_byte, length-map text fold_byte, value_of_long most list text)
 
 -- what holds of each value holds of the one that is found
 pub value_good :
@@ -110,9 +102,7 @@ end_found :
 end_found low [] text i climbs inside at = absurd (omega (arith, inside))
 end_found low (e ∷ list) text zero climbs inside at = grind (arith, common_steps, and_parts, end_absent, above_first)
 end_found low (e ∷ list) text (suc i) climbs inside at =
-    let later = (and_parts (ltb low (end_number e.subtag)) (climbs_from (end_number e.subtag) (ends_of list)) climbs).1 in
-    let above = above_first (end_number e.subtag) (ends_of list) i later (omega (arith, inside)) in
-    rw (apart_by_ends e.subtag text (λ same. absurd (omega (arith, same, above, at)))) (end_found (end_number e.subtag) list text i later (omega (arith, inside)) at)
+    grind (arith, common_steps, and_parts, above_first, apart_by_ends, end_found (end_number e.subtag) list text i)
 
 -- the value at the index that was found, if the text there is alike
 abbrev pub ending_at : List Entry → List ℕ → Result ℕ ℕ → Option (List ℕ)

@@ -36,15 +36,4 @@ canonical_variants_well_formed = grind (arith, common_steps, each-map, replaced-
 pub canonical_record_well_formed : (r : Record) → IsWellFormed r → IsWellFormed (canonical_record r)
 unfolding canonical_record
 canonical_record_well_formed r well =
-    let language = canonical_language_well_formed r.primary r.extended (record { first = well.primary; others = well.extended; few = well.few; short = well.short }) in
-    record {
-      primary = language.first;
-      extended = language.others;
-      few = language.few;
-      short = language.short;
-      script = well.script;
-      region = canonical_region_well_formed r.region well.region;
-      variants = canonical_variants_well_formed r.variants well.variants;
-      extensions = in_order-each IsWellFormedExtension r.extensions well.extensions;
-      private_use = well.private_use;
-    }
+    grind (arith, common_steps, canonical_language_well_formed r.primary r.extended, canonical_region_well_formed, canonical_variants_well_formed, in_order-each IsWellFormedExtension)

@@ -61,13 +61,7 @@ well_formed r simple p s g v =
     grind (arith, common_steps, if_some_from_test is_script r.script s, if_some_from_test is_region r.region g, each_from_test is_variant r.variants v)
 
 spelled_from_test : (text : List ℕ) → is_spelled text ≡ true → Spells (record_of text) text
-spelled_from_test text h =
-    let r = record_of text in
-    let a = and_parts _ _ h in
-    let p = and_parts _ _ a.0 in
-    let s = and_parts _ _ p.1 in
-    let g = and_parts _ _ s.1 in
-    (well_formed r (simple_record text) p.0 s.0 g.0 g.1, (bytes_decides (spell r) text).0 a.1)
+spelled_from_test text h = grind (arith, common_steps, and_parts, well_formed, simple_record text, bytes_decides (spell (record_of text)) text)
 
 -- the Preferred-Value of a tag is spelled by its record
 pub preferred_spelled : (text new : List ℕ) → preferred_tag text ≡ Some new → Spells (record_of new) new

@@ -84,7 +84,7 @@ fn push_extlang(out: &mut Output<'_>, extlang: ExtendedLangTag<'_>)
 }
 
 /// Returns an extended subtag in lowercase, which is its case in the registry.
-#[tactic(auto, unfolding(langtag_scan::specs::Case::fold_byte))]
+#[tactic(auto, using(langtag_scan::proofs::Disjoint::extended_three), unfolding(langtag_scan::specs::Case::fold_byte))]
 fn in_small_letters(extlang: ExtendedLangTag<'_>) -> [u8; 3]
     ensures { result ≡ fold_text (extended_lang_tag_text extlang.entry) }
 {

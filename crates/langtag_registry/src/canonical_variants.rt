@@ -8,6 +8,7 @@ use crate::preferred::preferred_variant;
 use langtag_place::Variants;
 
 /// Returns whether none of these variants has a Preferred-Value.
+#[tactic(auto, using(crate::proofs::CanonicalVariants::variants_stay))]
 pub(crate) fn are_canonical_variants(variants: Variants<'_>) -> bool
     ensures { (result ≡ true) ↔ (canonical_variants (subtags (variants_text variants.entry)) ≡ subtags (variants_text variants.entry)) }
 {

@@ -13,6 +13,7 @@ use langtag_scan::into_smallcase;
 pub const SINGLETONS: [u8; 35] = *b"0123456789abcdefghijklmnopqrstuvwyz";
 
 /// Returns whether extensions are in order, which means that no singleton is less than the singleton before it.
+#[tactic(auto, using(crate::proofs::ExtensionOrder::rise_in_order, std::proofs::lemmas::Bool::Decides::nat_tests))]
 pub(crate) fn are_in_order(extensions: Extensions<'_>) -> bool
     ensures { (es : List model.Extension) → SpellsExtensions es (extensions_text extensions.entry) → (result ≡ true) ↔ (in_order es ≡ es) }
 {

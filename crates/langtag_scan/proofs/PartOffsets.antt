@@ -5,8 +5,7 @@ use Rattle.std.proofs.lemmas.Grind.{common_steps}
 use Rattle.langtag_scan.specs.Ends.{to_script, to_region, to_variants, to_extensions, ends_of}
 use Rattle.langtag_scan.specs.Record.{Record, extension_flat, one_flat, private_part_flat, flat, spell}
 use Rattle.langtag_scan.specs.Subtags.{join}
-use Rattle.langtag_scan.specs.Parts.{language_part, private_use_part, parts, text_between}
-use Rattle.langtag_scan.specs.Parts.{AreInOrder}
+use Rattle.langtag_scan.specs.Parts.{language_part, private_use_part, parts, text_between, AreInOrder}
 use Rattle.langtag_scan.specs.declared.ends.Ends.{Ends}
 use Rattle.langtag_scan.proofs.Joins.{join-hyphenated, hyphenated-append, hyphenated-present, join-append, take-join, length-join, length-hyphenated, joined, joined-one, joined-private, text_between-join, text_between-lists, hyphenated}
 

@@ -6,11 +6,10 @@ use Rattle.std.specs.Option.{option_map_or}
 use Rattle.std.specs.Str.{bytes_eq}
 use Rattle.std.proofs.lemmas.Bool.Decides.{nat_tests}
 use Rattle.langtag_extension.specs.Spelling.{find_extension}
-use Rattle.langtag_likely.proofs.AlikeFields.{AlikeFields}
-use Rattle.langtag_likely.specs.Likely.{Fields}
-use Rattle.langtag_likely.proofs.TextLaws.{alike_forms}
-use Rattle.langtag_likely.specs.Maximal.{subtag_of}
-use Rattle.langtag_likely.specs.MaximalLaws.{IsAlikeForm}
+use Rattle.langtag.proofs.Alike.{AlikeFields}
+use Rattle.langtag.specs.Fields.{Fields, subtag_of}
+use Rattle.langtag.proofs.FormLaws.{alike_forms}
+use Rattle.langtag.specs.Form.{IsAlikeForm}
 use Rattle.langtag_scan.proofs.CaseLaw.{classes-fold, fold_byte-twice, fold_text-twice, join-fold, length-fold, map-twice}
 use Rattle.langtag_scan.specs.AlikeRecords.{AlikeRecords, fold_extension}
 use Rattle.langtag_scan.specs.Case.{Alike, are_alike, fold_byte, fold_text}

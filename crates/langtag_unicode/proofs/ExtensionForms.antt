@@ -5,15 +5,14 @@ use Rattle.std.proofs.lemmas.List.Splits.{length-slice_split}
 use Rattle.langtag_extension.specs.Spelling.{SpellsExtension, extension_spelling}
 use Rattle.langtag_output.specs.declared.output.Output.{Output}
 use Rattle.langtag_output.specs.Output.{Pushes, with_subtag}
-use Rattle.langtag_registry.proofs.Pushed.{pushes_both, pushes_ended, pushes_same, with_joined}
+use Rattle.langtag_output.proofs.Pushed.{pushes_both, pushes_ended, pushes_same, with_joined}
 use Rattle.langtag_scan.proofs.Joins.{take-join}
 use Rattle.langtag_scan.proofs.PartOffsets.{ends_in_order}
 use Rattle.langtag_scan.proofs.SubtagFacts.{of_primary}
-use Rattle.langtag_scan.specs.Ends.{ends_of}
+use Rattle.langtag_scan.specs.Ends.{ends_of, to_variants}
 use Rattle.langtag_scan.specs.Record.{Extension, IsWellFormed, IsWellFormedExtension, Record, extension_flat, one_flat, private_part_flat, spell}
 use Rattle.langtag_scan.specs.Subtags.{is_hyphen, join, segments}
 use Rattle.langtag_unicode.specs.Form.{extension_form, extensions_record, forms_after, is_language_id, is_language_or_none, is_of, is_transform, transform_form, unicode_form}
-use Rattle.langtag_scan.specs.Ends.{to_variants}
 
 -- some extensions are left, and their forms are put after those before them
 pub record AreLeft (all : List Extension) (after_u after_t : Bool) (texts : List (List ℕ)) (start out : Output) : Type 0 where

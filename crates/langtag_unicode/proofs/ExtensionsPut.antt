@@ -6,7 +6,7 @@ use Rattle.langtag_extension.specs.Spelling.{SpellsExtension, extension_spelling
 use Rattle.langtag_output.specs.declared.output.Output.{Output}
 use Rattle.langtag_output.specs.Output.{Pushes}
 use Rattle.langtag_scan.specs.Record.{Extension, IsWellFormedExtension, extension_flat}
-use Rattle.langtag_registry.proofs.Pushed.{pushes_both, pushes_joined, pushes_same}
+use Rattle.langtag_output.proofs.Pushed.{pushes_both, pushes_joined, pushes_same}
 
 -- some extensions are left; what is put for them comes after what was put before, and then all is put
 pub record AreLeft (put : List Extension → List (List ℕ)) (all : List (List ℕ)) (texts : List (List ℕ)) (start out : Output) : Type 0 where

@@ -1,7 +1,7 @@
 -- The form of a tag's extensions is its own form.
 use Rattle.std.proofs.Common.{◌≡◌, ℕ, Bool, true, false, not, ◌&&◌, ◌||◌, ◌==◌, List, [], ◌∷◌, refl, sym, ap, subst, ◌∙◌, eqb-true}
 use Rattle.std.specs.List.{AllByRecursion}
-use Rattle.langtag_likely.proofs.TextLaws.{composed}
+use Rattle.langtag.proofs.FormLaws.{composed}
 use Rattle.langtag_scan.specs.Case.{fold_byte}
 use Rattle.langtag_scan.specs.Record.{Extension, IsWellFormed, IsWellFormedExtension, Record}
 use Rattle.langtag_unicode.specs.Form.{IsExtensionsForm, extension_form, extensions_record, forms_after, is_of, is_transform, transform_form}

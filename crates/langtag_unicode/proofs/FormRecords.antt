@@ -20,7 +20,7 @@ use Rattle.langtag_unicode.specs.Form as form
 use Rattle.langtag_unicode.specs.Form.{extension_form, extensions_record, forms_after, in_alphabet, is_of, is_transform, letters_and_digits, put_among, transform_form, transform_value, unicode_form, unicode_value}
 use Rattle.langtag_unicode.specs.Keywords.{before_key, is_key, value_of}
 use Rattle.langtag_unicode.specs.Transform.{is_field_key}
-use Rattle.langtag_registry.proofs.PrefixLaws.{list_all_get}
+use Rattle.langtag_tables.proofs.Elements.{list_all_get}
 use Rattle.langtag_unicode.proofs.Each.{each-alphabet, each-before}
 use Rattle.langtag_unicode.proofs.ExtensionForms.{form_by, form_tested}
 use Rattle.langtag_unicode.proofs.FormSizes.{field-two, key-two}

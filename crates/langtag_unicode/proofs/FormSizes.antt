@@ -7,7 +7,7 @@ use Rattle.std.specs.Str.{bytes_eq}
 use Rattle.std.specs.List.{flat_map, list_all}
 use Rattle.std.specs.Option.{option_map, option_map_or}
 use Rattle.langtag_scan.proofs.NormalTexts.{normal_or_not}
-use Rattle.langtag_likely.proofs.RowsFound.{alike_length}
+use Rattle.langtag.proofs.Alike.{alike_length}
 use Rattle.langtag_scan.proofs.CaseLaw.{length-fold}
 use Rattle.langtag_scan.proofs.Joins.{length-join}
 use Rattle.langtag_scan.proofs.SubtagLists.{join-subtags}

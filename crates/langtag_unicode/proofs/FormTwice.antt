@@ -1,8 +1,7 @@
 -- The form of the extension `u`, and of `t`, is its own form.
 use Rattle.std.proofs.Common.{◌≡◌, ℕ, Bool, true, false, not, cond, ◌&&◌, ◌==◌, List, [], ◌∷◌, ◌++◌, length, map, refl, sym, ap, subst, ◌∙◌}
-use Rattle.langtag_likely.specs.Good.{is_region_field, is_script_field}
-use Rattle.langtag_likely.specs.Likely.{Fields}
-use Rattle.langtag_likely.specs.Maximal.{subtag_of}
+use Rattle.langtag.specs.FieldClasses.{is_region_field, is_script_field}
+use Rattle.langtag.specs.Fields.{Fields, subtag_of}
 use Rattle.langtag_scan.proofs.CaseLaw.{classes-fold, fold_text-twice, length-fold}
 use Rattle.langtag_scan.specs.Case.{fold_text}
 use Rattle.langtag_scan.specs.Class.{is_primary, is_region, is_script, is_variant}

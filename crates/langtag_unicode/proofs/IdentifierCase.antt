@@ -5,11 +5,12 @@ use Rattle.std.specs.List.{list_any}
 use Rattle.std.specs.Option.{is_some, option_map_or}
 use Rattle.std.specs.Prelude.{codes}
 use Rattle.std.specs.Str.{bytes_eq}
-use Rattle.langtag_likely.proofs.AlikeFields.{AlikeFields, added-alike, alone_alike, are_alike-left, are_alike-right, by_options, by_same, known-alike, likely_for-alike, or_other-alike}
+use Rattle.langtag_likely.proofs.AlikeFields.{added-alike, alone_alike, by_options, by_same, known-alike, likely_for-alike, or_other-alike}
+use Rattle.langtag.proofs.Alike.{AlikeFields, are_alike-left, are_alike-right}
 use Rattle.langtag_likely.specs.Aliases.{language_aliases, region_replacements}
-use Rattle.langtag_likely.specs.Likely.{Fields, language_alone, or_else, or_other}
+use Rattle.langtag_likely.specs.Likely.{language_alone, or_else, or_other}
+use Rattle.langtag.specs.Fields.{Fields, subtag_of}
 use Rattle.langtag_likely.specs.Matching.{language_replaced, region_alone, with_language_from}
-use Rattle.langtag_likely.specs.Maximal.{subtag_of}
 use Rattle.langtag_scan.specs.Case.{Alike, are_alike, fold_text}
 use Rattle.langtag_scan.specs.Record.{one_flat}
 use Rattle.langtag_scan.specs.Subtags.{segments}

@@ -8,16 +8,16 @@ use Rattle.std.specs.Prelude.{IfSome, IsTrue, codes, find}
 use Rattle.langtag.specs.Repeat.{are_alike_bytes, repeat}
 use Rattle.langtag_case.proofs.RecommendedLaws.{recommended_alike}
 use Rattle.langtag_case.specs.RecommendedCase.{recommended_text}
-use Rattle.langtag_likely.proofs.FieldClasses.{from_region, from_script}
+use Rattle.langtag.proofs.FieldClasses.{from_region, from_script}
 use Rattle.langtag_likely.specs.Aliases.{language_aliases, region_replacements}
-use Rattle.langtag_likely.specs.Good.{is_region_field, is_script_field}
+use Rattle.langtag.specs.FieldClasses.{is_region_field, is_script_field}
 use Rattle.langtag_likely.specs.Likely as likely
-use Rattle.langtag_likely.specs.Likely.{Fields, Likely, are_alike_fields, filled, language_alone, likely_for, looked_up, or_else, or_other}
+use Rattle.langtag_likely.specs.Likely.{Likely, are_alike_fields, filled, language_alone, likely_for, looked_up, or_else, or_other}
+use Rattle.langtag.specs.Fields.{Fields, subtag_of}
 use Rattle.langtag_likely.specs.LikelySubtags.{language_rows, likely_subtags, other_rows}
 use Rattle.langtag_likely.specs.Matching.{language_replaced, region_alone, with_language_from}
-use Rattle.langtag_likely.specs.Maximal.{subtag_of}
 use Rattle.langtag_output.specs.Output.{with_subtag}
-use Rattle.langtag_registry.proofs.Pushed.{with_joined}
+use Rattle.langtag_output.proofs.Pushed.{with_joined}
 use Rattle.langtag_scan.proofs.NormalTexts.{spelled_once}
 use Rattle.langtag_scan.proofs.SubtagFacts.{of_primary}
 use Rattle.langtag_scan.specs.Case.{are_alike, fold_byte}

@@ -4,11 +4,12 @@ use Rattle.std.proofs.lemmas.Bool.{cond_both, false_from_ne_true, false≢true, 
 use Rattle.std.specs.List.{AllByRecursion, list_all}
 use Rattle.std.specs.Option.{is_none, is_some, option_map_or}
 use Rattle.std.specs.Prelude.{IsTrue, codes}
-use Rattle.langtag_likely.proofs.AlikeFields.{are_alike-left, are_alike-right, likely_for-alike}
+use Rattle.langtag_likely.proofs.AlikeFields.{likely_for-alike}
+use Rattle.langtag.proofs.Alike.{are_alike-left, are_alike-right}
 use Rattle.langtag_likely.specs.Aliases.{language_aliases, region_replacements}
-use Rattle.langtag_likely.specs.Likely.{Fields, language_alone, likely_for}
+use Rattle.langtag_likely.specs.Likely.{language_alone, likely_for}
+use Rattle.langtag.specs.Fields.{Fields, subtag_of}
 use Rattle.langtag_likely.specs.Matching.{language_replaced, region_alone, with_language_from}
-use Rattle.langtag_likely.specs.Maximal.{subtag_of}
 use Rattle.langtag_scan.proofs.SubtagLists.{each-append, each_from_test}
 use Rattle.langtag_scan.specs.Case.{Alike, are_alike}
 use Rattle.langtag_scan.specs.CaseLaws.{are_alike-decides}

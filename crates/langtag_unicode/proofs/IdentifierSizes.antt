@@ -9,9 +9,9 @@ use Rattle.std.specs.List.{AllPairs, list_all, list_any}
 use Rattle.std.specs.Option.{is_some, option_map_or}
 use Rattle.std.specs.Str.{bytes_eq}
 use Rattle.langtag_likely.specs.Aliases.{language_aliases, region_replacements}
-use Rattle.langtag_likely.specs.Likely.{Fields, Likely, language_alone, likely_for, or_else, or_other}
+use Rattle.langtag_likely.specs.Likely.{Likely, language_alone, likely_for, or_else, or_other}
+use Rattle.langtag.specs.Fields.{Fields, subtag_of}
 use Rattle.langtag_likely.specs.Matching.{language_replaced, region_alone, with_language_from}
-use Rattle.langtag_likely.specs.Maximal.{subtag_of}
 use Rattle.langtag_scan.proofs.SubtagLists.{each_from_test}
 use Rattle.langtag_scan.specs.Case.{are_alike, fold_byte, fold_text}
 use Rattle.langtag_scan.specs.CaseLaws.{are_alike-decides}

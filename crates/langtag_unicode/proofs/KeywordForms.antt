@@ -7,7 +7,7 @@ use Rattle.langtag_scan.specs.Subtags.{join, subtags}
 use Rattle.langtag_scan.specs.CaseLaws.{are_alike-decides}
 use Rattle.langtag_unicode.specs.Keywords.{before_key, value_of}
 use Rattle.langtag_unicode.specs.Form.{keyword_form}
-use Rattle.langtag_registry.proofs.ExtensionOrder.{unmarked}
+use Rattle.langtag_tables.proofs.Elements.{unmarked}
 
 -- a key whose place is not marked stands only in what is left
 abbrev pub AreMarkedSo : (List ℕ → ℕ) → (List ℕ → Bool) → List Bool → List (List ℕ) → List (List ℕ) → Type 0

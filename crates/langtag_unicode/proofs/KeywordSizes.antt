@@ -6,8 +6,8 @@ use Rattle.std.specs.List.{flat_map}
 use Rattle.std.specs.Option.{is_some}
 use Rattle.langtag_extension.specs.Spelling.{find_extension}
 use Rattle.langtag_scan.proofs.NormalTexts.{normal_or_not}
-use Rattle.langtag_likely.proofs.RowsFound.{alike_length}
-use Rattle.langtag_likely.specs.Maximal.{IsForm}
+use Rattle.langtag.proofs.Alike.{alike_length}
+use Rattle.langtag.specs.Form.{IsForm}
 use Rattle.langtag_scan.specs.Case.{are_alike}
 use Rattle.langtag_scan.specs.Record.{Extension, Record, extension_flat, spell}
 use Rattle.langtag_scan.specs.Subtags.{subtags}

@@ -7,7 +7,7 @@ use Rattle.std.specs.List.{AllByRecursion, flat_map, list_all, list_any}
 use Rattle.std.specs.Option.{is_none, option_and_then, option_map_or}
 use Rattle.langtag.specs.Repeat.{are_alike_bytes, repeat, repeat_index_after}
 use Rattle.langtag_extension.specs.Spelling.{find_extension}
-use Rattle.langtag_likely.specs.Likely.{Fields}
+use Rattle.langtag.specs.Fields.{Fields}
 use Rattle.langtag_likely.specs.Matching.{language_replaced}
 use Rattle.langtag_scan.proofs.CaseLaw.{is_digit-fold, is_letter-fold}
 use Rattle.langtag_scan.proofs.SubtagLists.{each-append}

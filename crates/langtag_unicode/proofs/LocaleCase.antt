@@ -7,9 +7,8 @@ use Rattle.std.specs.List.{list_any}
 use Rattle.std.specs.Option.{is_none, option_and_then}
 use Rattle.langtag.specs.Repeat.{are_alike_bytes, repeat, repeat_index_after}
 use Rattle.langtag_case.proofs.RecommendedLaws.{alike_recommended}
-use Rattle.langtag_likely.proofs.AlikeFields.{AlikeFields}
-use Rattle.langtag_likely.specs.Likely.{Fields}
-use Rattle.langtag_likely.specs.Maximal.{subtag_of}
+use Rattle.langtag.proofs.Alike.{AlikeFields}
+use Rattle.langtag.specs.Fields.{Fields, subtag_of}
 use Rattle.langtag_scan.proofs.CaseLaw.{fold_byte-twice, fold_text-twice, spelled_alike}
 use Rattle.langtag_scan.specs.AlikeRecords.{AlikeRecords, fold_extension, fold_private_use, fold_record}
 use Rattle.langtag_scan.specs.Case.{Alike, are_alike, fold_byte, fold_text}

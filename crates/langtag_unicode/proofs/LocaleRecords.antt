@@ -7,11 +7,10 @@ use Rattle.std.specs.Option.{option_map_or}
 use Rattle.langtag_case.proofs.RecommendedLaws.{recommended_alike}
 use Rattle.langtag_extension.proofs.ExtensionLookUp.{extension_found}
 use Rattle.langtag_extension.specs.Spelling.{find_extension}
-use Rattle.langtag_likely.proofs.FieldClasses.{from_region, from_script}
-use Rattle.langtag_likely.specs.Good.{is_region_field, is_script_field}
-use Rattle.langtag_likely.specs.Likely.{Fields}
+use Rattle.langtag.proofs.FieldClasses.{from_region, from_script}
+use Rattle.langtag.specs.FieldClasses.{is_region_field, is_script_field}
+use Rattle.langtag.specs.Fields.{Fields, subtag_of}
 use Rattle.langtag_likely.specs.Matching.{language_replaced}
-use Rattle.langtag_likely.specs.Maximal.{subtag_of}
 use Rattle.langtag_scan.proofs.CaseLaw.{alike_tag, classes-fold}
 use Rattle.langtag_scan.proofs.Disjoint.{region_two_three, script_four, variant_long}
 use Rattle.langtag_scan.proofs.SubtagFacts.{IsSubtag, of_primary, of_region, of_script, of_variant}

@@ -5,7 +5,7 @@ use Rattle.std.specs.Option.{is_none, option_map_or}
 use Rattle.langtag.specs.Repeat.{are_alike_bytes, repeat}
 use Rattle.langtag_extension.proofs.ExtensionLookUp.{extension_found}
 use Rattle.langtag_extension.specs.Spelling.{find_extension}
-use Rattle.langtag_likely.specs.Likely.{Fields}
+use Rattle.langtag.specs.Fields.{Fields}
 use Rattle.langtag_scan.proofs.SubtagLists.{each_from_test, test_from_each}
 use Rattle.langtag_scan.specs.Case.{are_alike, fold_byte}
 use Rattle.langtag_scan.specs.Record.{Extension, IsWellFormed, IsWellFormedExtension, Record}

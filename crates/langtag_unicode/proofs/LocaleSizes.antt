@@ -7,8 +7,7 @@ use Rattle.std.specs.List.{flat_map, list_all}
 use Rattle.std.specs.Option.{option_map_or}
 use Rattle.langtag.proofs.RepeatLaws.{repeat-first}
 use Rattle.langtag_extension.specs.Spelling.{find_extension}
-use Rattle.langtag_likely.specs.Likely.{Fields}
-use Rattle.langtag_likely.specs.Maximal.{subtag_of}
+use Rattle.langtag.specs.Fields.{Fields, subtag_of}
 use Rattle.langtag_scan.proofs.NormalTexts.{spelled_once}
 use Rattle.langtag_scan.proofs.PartOffsets.{length-spell}
 use Rattle.langtag_scan.specs.Case.{are_alike, fold_byte}

@@ -3,7 +3,7 @@ use Rattle.std.proofs.Common.{◌≡◌, ℕ, Bool, true, false, cond, List, [],
 use Rattle.std.proofs.lemmas.Bool.{false≢true}
 use Rattle.std.specs.Prelude.{find}
 use Rattle.std.specs.List.{list_all, list_any}
-use Rattle.langtag_likely.specs.Good.{is_language_field, is_region_field, is_script_field}
+use Rattle.langtag.specs.FieldClasses.{is_language_field, is_region_field, is_script_field}
 use Rattle.langtag_scan.specs.Case.{are_alike, fold_byte}
 use Rattle.langtag_scan.specs.Class.{is_digit, is_letter, is_primary, is_region, is_script}
 use Rattle.langtag_scan.specs.Subtags.{segments}

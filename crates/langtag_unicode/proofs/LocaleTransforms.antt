@@ -3,9 +3,8 @@ use Rattle.std.proofs.Common.{◌≡◌, ℕ, ◌≤◌, leb, Bool, true, false,
 use Rattle.std.proofs.lemmas.Bool.{false≢true, leb-true}
 use Rattle.std.specs.List.{AllByRecursion, flat_map, list_all, list_any}
 use Rattle.std.proofs.lemmas.Bool.Decides.{nat_tests}
-use Rattle.langtag_likely.specs.Good.{is_region_field, is_script_field}
-use Rattle.langtag_likely.specs.Likely.{Fields}
-use Rattle.langtag_likely.specs.Maximal.{subtag_of}
+use Rattle.langtag.specs.FieldClasses.{is_region_field, is_script_field}
+use Rattle.langtag.specs.Fields.{Fields, subtag_of}
 use Rattle.langtag_scan.proofs.CaseLaw.{is_digit-fold, is_letter-fold, length-fold}
 use Rattle.langtag_scan.proofs.Disjoint.{first_no_digit, letter_no_digit, region_short, region_two_three, script_four, variant_long}
 use Rattle.langtag_scan.proofs.SubtagFacts.{of_extension_subtag}

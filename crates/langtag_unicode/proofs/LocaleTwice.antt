@@ -7,8 +7,7 @@ use Rattle.langtag_case.proofs.RecommendedLaws.{recommended_alike}
 use Rattle.langtag_case.specs.RecommendedCase.{recommended_text}
 use Rattle.langtag_extension.proofs.ExtensionLookUp.{extension_found}
 use Rattle.langtag_extension.specs.Spelling.{find_extension}
-use Rattle.langtag_likely.specs.Likely.{Fields}
-use Rattle.langtag_likely.specs.Maximal.{subtag_of}
+use Rattle.langtag.specs.Fields.{Fields, subtag_of}
 use Rattle.langtag_scan.proofs.CaseLaw.{alike_parts}
 use Rattle.langtag_scan.specs.Case.{fold_byte, fold_text}
 use Rattle.langtag_scan.specs.Record.{Extension, IsWellFormed, IsWellFormedExtension, Record, spell}

@@ -2,7 +2,7 @@
 use Rattle.std.proofs.Common.{◌≡◌, ℕ, Bool, true, false, ◌&&◌, List, [], ◌∷◌, ◌++◌, Option, Some, refl, ap, ◌∙◌}
 use Rattle.std.proofs.lemmas.Bool.{false≢true}
 use Rattle.std.specs.List.{flat_map}
-use Rattle.langtag_likely.specs.Maximal.{subtag_of}
+use Rattle.langtag.specs.Fields.{subtag_of}
 use Rattle.langtag_scan.specs.Case.{fold_text}
 use Rattle.langtag_scan.specs.Record.{one_flat}
 use Rattle.langtag_unicode.specs.Alphabet.{is_after, is_before_best, is_better}

@@ -12,7 +12,7 @@ use Rattle.langtag_scan.proofs.CaseLaw.{is_letter-fold, is_digit-fold, length-fo
 use Rattle.langtag.proofs.RepeatLaws.{IsAt-drop}
 use Rattle.langtag_unicode.specs.Keywords.{Keyword, before_key, value_among, value_of, is_key, is_new_key, keywords_after, keywords_of, each_once_after}
 use Rattle.langtag_unicode.specs.Transform.{is_field_key}
-use Rattle.langtag_likely.proofs.AlikeFields.{alike_is, are_alike-right}
+use Rattle.langtag.proofs.Alike.{alike_is, are_alike-right}
 
 -- ---- a step
 

@@ -12,7 +12,7 @@ use Rattle.langtag.specs.Part.{PartOf}
 use Rattle.langtag.specs.Registered.{IsGrandfathered}
 use Rattle.langtag_language.proofs.Rules.{subtags-extension}
 use Rattle.langtag_language.specs.Language.{SpellsLanguageExtension}
-use Rattle.langtag_likely.proofs.RowsFound.{alike_length}
+use Rattle.langtag.proofs.Alike.{alike_length}
 use Rattle.langtag_registry.proofs.WholeTags.{preferred_spelled, record_of, simple_record}
 use Rattle.langtag_registry.specs.Entry.{Entry, value_for}
 use Rattle.langtag_registry.specs.Fields.{preferred_tag}

@@ -9,7 +9,7 @@ use Rattle.langtag_scan.specs.Case.{are_alike, fold_byte, fold_text}
 use Rattle.langtag_scan.specs.Class.{is_primary, is_region, is_script, is_variant}
 use Rattle.langtag_scan.specs.Record.{Extension, Record}
 use Rattle.langtag_scan.specs.Subtags.{join, subtags}
-use Rattle.langtag_likely.specs.Maximal.{IsForm}
+use Rattle.langtag.specs.Form.{IsForm}
 use Rattle.langtag_unicode.specs.Alias.{alias_for, type_alias_for}
 use Rattle.langtag_unicode.specs.Aliases.{subdivision_aliases, transform_type_aliases, unicode_type_aliases}
 use Rattle.langtag_unicode.specs.Keywords.{before_key, is_key, value_of}

@@ -8,10 +8,10 @@ use Rattle.langtag.specs.Registered.{IsGrandfathered}
 use Rattle.langtag_case.specs.RecommendedCase.{recommended_text}
 use Rattle.langtag_extension.specs.Spelling.{find_extension}
 use Rattle.langtag_likely.specs.Aliases.{region_replacements}
-use Rattle.langtag_likely.specs.Likely.{Fields, add_likely, known, likely_for, or_else, or_other}
+use Rattle.langtag_likely.specs.Likely.{add_likely, known, likely_for, or_else, or_other}
+use Rattle.langtag.specs.Fields.{Fields, subtag_of}
 use Rattle.langtag_likely.specs.LikelySubtags.{likely_subtags}
 use Rattle.langtag_likely.specs.Matching.{language_replaced, region_alone}
-use Rattle.langtag_likely.specs.Maximal.{subtag_of}
 use Rattle.langtag_registry.specs.Canonical.{singletons}
 use Rattle.langtag_registry.specs.Fields.{preferred_tag}
 use Rattle.langtag_registry.specs.Registered.{is_registered_extlang}

@@ -4,7 +4,7 @@ ghost use Rattle.std.specs.Option.{option_map};
 ghost use Rattle.langtag.specs.Text.{lang_tag_buf_text, lang_tag_text, normal_lang_tag_text};
 ghost use Rattle.langtag_language.specs.Language.{EachLanguageSpelling};
 ghost use Rattle.langtag_language.specs.Text.{language_text};
-ghost use Rattle.langtag_likely.specs.Good.{is_language_field, is_region_field, is_script_field};
+ghost use Rattle.langtag.specs.FieldClasses.{is_language_field, is_region_field, is_script_field};
 ghost use Rattle.langtag_likely.specs.Texts.{field_texts};
 ghost use Rattle.langtag_output.specs.Output.{IsCounted};
 ghost use Rattle.langtag_output.specs.Writes.{Writes};
@@ -161,7 +161,7 @@ fn fields_of<'a>(tag: NormalLangTag<'a>) -> TagFields<'a>
     }
 }
 
-#[tactic(auto, using(langtag_likely::proofs::FieldClasses::from_primary))]
+#[tactic(auto, using(langtag::proofs::FieldClasses::from_primary))]
 fn primary_field<'a>(language: Language<'a>) -> &'a [u8]
     ensures field { EachLanguageSpelling (language_text language.entry) (λ primary extended. result.now ≡ primary) }
     ensures in_class { IsTrue (is_language_field result.now) }

@@ -2,7 +2,7 @@
 ghost use Rattle.std.specs.Prelude.{◌≡◌, ◌↔◌, ◌<◌, ◌≤◌, ◌+◌, ◌^◌, ℕ, List, [], None, Some, false, IfOk, IsErrOf, IsTrue, OnErr, is_ok, length};
 ghost use Rattle.std.specs.List.{AllByRecursion};
 ghost use Rattle.langtag.specs.Text.{lang_tag_buf_text, lang_tag_text, normal_lang_tag_text};
-ghost use Rattle.langtag_likely.specs.Maximal.{IsForm};
+ghost use Rattle.langtag.specs.Form.{IsForm};
 ghost use Rattle.langtag_output.specs.Output.{IsCounted};
 ghost use Rattle.langtag_output.specs.Writes.{Writes};
 ghost use Rattle.langtag_scan.specs.Case.{are_alike};

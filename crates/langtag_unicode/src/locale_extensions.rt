@@ -4,7 +4,7 @@ ghost use Rattle.std.specs.List.{AllByRecursion, flat_map};
 ghost use Rattle.std.specs.Option.{option_map};
 ghost use Rattle.langtag_extension.specs.Spelling.{SpellsExtension, SpellsExtensions};
 ghost use Rattle.langtag_extension.specs.Text.{extension_text, extensions_text};
-ghost use Rattle.langtag_likely.specs.Maximal.{subtag_of};
+ghost use Rattle.langtag.specs.Fields.{subtag_of};
 ghost use Rattle.langtag_likely.specs.Texts.{field_texts};
 ghost use Rattle.langtag_output.specs.Output.{Pushes};
 ghost use Rattle.langtag_scan.proofs.SubtagFacts.{IsSubtag};

@@ -2,7 +2,7 @@
 ghost use Rattle.std.specs.Prelude.{◌≡◌, IfSome, IsTrue, map};
 ghost use Rattle.std.specs.List.{fold};
 ghost use Rattle.std.specs.Option.{option_map};
-ghost use Rattle.langtag_likely.specs.Good.{is_language_field, is_region_field, is_script_field};
+ghost use Rattle.langtag.specs.FieldClasses.{is_language_field, is_region_field, is_script_field};
 ghost use Rattle.langtag_likely.specs.Likely.{or_other};
 ghost use Rattle.langtag_likely.specs.Texts.{field_texts};
 ghost use Rattle.langtag_scan.specs.Subtags.{segments, segments_left};

@@ -2,7 +2,7 @@
 ghost use Rattle.std.specs.Prelude.{◌≡◌, ◌↔◌, [], None, Some, IfOk, IsErrOf, OnErr, OnOk, alloc_error};
 ghost use Rattle.std.specs.Result.{IsOkUnless};
 ghost use Rattle.langtag.specs.Text.{lang_tag_buf_text, normal_lang_tag_text};
-ghost use Rattle.langtag_likely.specs.Maximal.{IsForm};
+ghost use Rattle.langtag.specs.Form.{IsForm};
 ghost use Rattle.langtag_scan.specs.Record as model;
 ghost use Rattle.langtag_scan.specs.Subtags.{subtags};
 ghost use Rattle.langtag_scan.specs.Tag.{IsNormal};

@@ -1,6 +1,6 @@
 use Rattle.std.proofs.Common.{◌<◌, Some, option_map, refl, ap, ◌∙◌, arith, length}
 use Rattle.langtag_likely.specs.declared.alias_tables.TheConstants.{REGION_ALIAS_NAMES}
-use Rattle.langtag_likely.specs.Good.{is_region_field}
+use Rattle.langtag.specs.FieldClasses.{is_region_field}
 use Rattle.langtag_likely.specs.Aliases.{region_aliases}
 use Rattle.langtag_likely.specs.Texts.{field_texts}
 use Rattle.langtag_likely.proofs.AliasTables.{region_at, region_found, region_alias_count, region_aliases_alone, region_aliases_good}

@@ -5,7 +5,7 @@ use Rattle.langtag_scan.specs.Tag.{IsNormal}
 use Rattle.langtag_likely.specs.Likely.{remove_likely}
 use Rattle.langtag_likely.specs.LikelySubtags.{likely_subtags}
 use Rattle.langtag_likely.specs.Maximal.{minimal_record, put_fields}
-use Rattle.langtag_likely.proofs.FormLaws.{kept_written, record_written}
+use Rattle.langtag.proofs.FormLaws.{kept_written, record_written}
 use Rattle.langtag_likely.proofs.forms.write_minimized.Goals as goal
 
 pub returns-in_default : goal.returns-in_default

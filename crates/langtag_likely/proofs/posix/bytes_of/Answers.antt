@@ -1,7 +1,7 @@
 use Rattle.std.proofs.Common.{◌≡◌, length, sym, ap, subst, arith, take_at}
 use Rattle.langtag_range.specs.Locale.{locale_place}
 use Rattle.langtag_likely.specs.Posix.{IsTagOfName, with_said}
-use Rattle.langtag_likely.proofs.FormLaws.{written_whole}
+use Rattle.langtag.proofs.FormLaws.{written_whole}
 use Rattle.langtag_likely.proofs.PosixLaws.{written_of}
 use Rattle.langtag_likely.proofs.posix.bytes_of.Goals as goal
 use Rattle.langtag_range.specs.Wanted.{hyphened}

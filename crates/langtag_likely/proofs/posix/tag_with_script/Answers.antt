@@ -3,7 +3,7 @@ use Rattle.langtag.specs.Text.{lang_tag_text}
 use Rattle.langtag_place.specs.Text.{script_text}
 use Rattle.langtag.specs.Edit.{SetsScript}
 use Rattle.langtag_scan.specs.Tag.{IsTag}
-use Rattle.langtag_likely.proofs.FormLaws.{kept_form}
+use Rattle.langtag.proofs.FormLaws.{kept_form}
 use Rattle.langtag_likely.proofs.PosixLaws.{set_script}
 use Rattle.langtag_likely.proofs.posix.tag_with_script.Goals as goal
 

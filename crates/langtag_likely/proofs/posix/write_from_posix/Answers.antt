@@ -3,10 +3,10 @@ use Rattle.langtag.specs.Text.{lang_tag_text}
 use Rattle.langtag_place.specs.Text.{script_text}
 use Rattle.langtag_range.specs.Locale.{locale_place}
 use Rattle.langtag_likely.specs.Likely.{or_else}
-use Rattle.langtag_likely.specs.Maximal.{IsForm}
+use Rattle.langtag.specs.Form.{IsForm}
 use Rattle.langtag_likely.specs.Modifiers.{modifier_script, modifier_variant}
 use Rattle.langtag_likely.specs.Posix.{IsLocalePlace, modifier_of, said_script, script_behind, with_said_script, with_said_variant}
-use Rattle.langtag_likely.proofs.FormLaws.{rewritten}
+use Rattle.langtag.proofs.FormLaws.{rewritten}
 use Rattle.langtag_likely.proofs.PosixLaws.{form_composed, modifier_variant-fits, said_script-fits, script_or, script_well_formed, variant_of}
 use Rattle.langtag_likely.proofs.posix.write_from_posix.Goals as goal
 use Rattle.langtag_range.specs.Wanted.{hyphened}

@@ -1,4 +1,4 @@
-use Rattle.langtag_likely.proofs.FormLaws.{kept_written}
+use Rattle.langtag.proofs.FormLaws.{kept_written}
 use Rattle.langtag_likely.proofs.PosixLaws.{is_variants}
 use Rattle.langtag_likely.proofs.posix.write_with_variant.Goals as goal
 

@@ -4,7 +4,7 @@ use Rattle.langtag.specs.Text.{normal_lang_tag_text}
 use Rattle.langtag_likely.specs.Maximal.{put_fields}
 use Rattle.langtag_likely.specs.Texts.{field_texts}
 use Rattle.langtag_likely.proofs.FieldClasses.{language_length, script_length, region_length}
-use Rattle.langtag_likely.proofs.FormLaws.{rewritten}
+use Rattle.langtag.proofs.FormLaws.{rewritten}
 use Rattle.langtag_likely.proofs.PutLaws.{put_length, put_spelled}
 use Rattle.langtag_likely.proofs.put.write_fields.Goals as goal
 

@@ -1,6 +1,6 @@
 use Rattle.std.proofs.Common.{[], get_or, refl, ap, ◌∙◌, arith}
 use Rattle.langtag_likely.specs.declared.tables.TheConstants.{SCRIPT_NAMES, LANGUAGE_SCRIPTS, REGION_NAMES, LANGUAGE_REGIONS}
-use Rattle.langtag_likely.specs.Good.{is_script_field, is_region_field}
+use Rattle.langtag.specs.FieldClasses.{is_script_field, is_region_field}
 use Rattle.langtag_likely.proofs.KeyNumbers.{column_good}
 use Rattle.langtag_likely.proofs.RowLaws.{language_at}
 use Rattle.langtag_likely.proofs.TableRows.{language_count, language_scripts, language_regions, scripts_good, regions_good}

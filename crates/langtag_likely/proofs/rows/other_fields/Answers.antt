@@ -1,6 +1,6 @@
 use Rattle.std.proofs.Common.{[], get_or, refl, ap, ◌∙◌, arith}
 use Rattle.langtag_likely.specs.declared.tables.TheConstants.{LANGUAGE_NAMES, OTHER_LANGUAGES, SCRIPT_NAMES, OTHER_SCRIPTS, REGION_NAMES, OTHER_REGIONS}
-use Rattle.langtag_likely.specs.Good.{is_language_field, is_script_field, is_region_field}
+use Rattle.langtag.specs.FieldClasses.{is_language_field, is_script_field, is_region_field}
 use Rattle.langtag_likely.proofs.KeyNumbers.{column_good}
 use Rattle.langtag_likely.proofs.RowLaws.{other_at}
 use Rattle.langtag_likely.proofs.TableRows.{other_count, other_languages, other_scripts, other_regions, languages_good, scripts_good, regions_good}

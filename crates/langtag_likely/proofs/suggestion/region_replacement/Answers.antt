@@ -1,7 +1,7 @@
 use Rattle.std.proofs.Common.{◌<◌, Some, option_map, ap, ◌∙◌, arith, length}
 use Rattle.langtag_likely.specs.declared.alias_tables.TheConstants.{REPLACEMENT_NAMES}
 use Rattle.langtag_likely.specs.Aliases.{region_replacements}
-use Rattle.langtag_likely.specs.Good.{is_region_field}
+use Rattle.langtag.specs.FieldClasses.{is_region_field}
 use Rattle.langtag_likely.specs.Texts.{field_texts}
 use Rattle.langtag_likely.proofs.AliasTables.{at_index, replacement_count, replacement_names, replacements_good, replaced_region}
 use Rattle.langtag_likely.proofs.KeyNumbers.{name_good}

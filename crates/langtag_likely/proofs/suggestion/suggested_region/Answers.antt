@@ -2,7 +2,7 @@ use Rattle.std.proofs.Common.{rules, ◌≡◌, ◌<◌, true, Some, option_map,
 use Rattle.langtag_scan.specs.Class.{is_region}
 use Rattle.langtag_likely.specs.declared.alias_tables.TheConstants.{REPLACEMENT_NAMES}
 use Rattle.langtag_likely.specs.Aliases.{region_replacements}
-use Rattle.langtag_likely.specs.Good.{is_region_field}
+use Rattle.langtag.specs.FieldClasses.{is_region_field}
 use Rattle.langtag_likely.specs.Suggestion.{suggested_region}
 use Rattle.langtag_likely.proofs.AliasTables.{at_index, replacement_count, replacement_names, replacements_good, replacement_found}
 use Rattle.langtag_likely.proofs.KeyNumbers.{name_good}

@@ -1,5 +1,5 @@
 use Rattle.std.proofs.Common.{◌≡◌, IsTrue, length}
-use Rattle.langtag_likely.specs.Good.{is_language_field}
+use Rattle.langtag.specs.FieldClasses.{is_language_field}
 use Rattle.langtag_likely.specs.TextFields.{after_language, last_language, counted_parts}
 use Rattle.langtag_likely.proofs.text_fields.last_extended.Given as goal
 

@@ -1,6 +1,5 @@
-use Rattle.std.proofs.Common.{◌≡◌, ◌∙◌, [], ◌++◌, length, take, length-take, ap, append-nil, arith, ◌≤◌, Err}
+use Rattle.std.proofs.Common.{◌≡◌, ◌∙◌, [], ◌++◌, length, take, length-take, ap, append-nil, arith, ◌≤◌}
 use Rattle.std.proofs.lemmas.Result.{err_from_is_err_and, on_ok_weaker}
-use Rattle.langtag_lines.specs.declared.run_error.RunError.TheVariants.{Memory}
 use Rattle.std.proofs.KnownBytes.{Consumes-nil, Consumes-trans, Consumes-whole}
 use Rattle.langtag_lines.specs.Lines.{complete_lines, rest_of, lines_of}
 use Rattle.langtag_lines.specs.Report.{AnswersBy, read_len}
@@ -34,12 +33,8 @@ returns-in_err-take_bytes g c =
     let few : length more ≤ read_len = omega (arith, length-take c.in-Ok.count c.read.new.buf) in
     let (e, is, same_error) = err_from_is_err_and c.from_residual.result c.from_residual.ensures.1 in
     record {
-      report = run_stopped _ _ _ _ _ e is (λ failed. c.in_err-take_bytes.ensures.other cc) (λ memory.
-          let same : Err c.in_err-take_bytes.field-0.0 ≡ Err Memory = cc in (
-            seen ++ more,
-            Consumes-trans _ _ _ _ _ read c.in-Ok.ensures.bytes.0,
-            written_first _ _ _ seen _ more rest few written (c.in_err-take_bytes.ensures.memory same),
-          ));
+      report = run_stopped _ _ _ _ _ e is (λ failed. c.in_err-take_bytes.ensures.other cc)
+          (λ memory. (seen ++ more, Consumes-trans _ _ _ _ _ read c.in-Ok.ensures.bytes.0, written_first _ _ _ seen _ more rest few written (c.in_err-take_bytes.ensures.memory cc)));
     }
 
 pub returns-then-count-eq0 : goal.returns-then-count-eq0

@@ -1,9 +1,8 @@
-use Rattle.std.proofs.Common.{arith, ◌≡◌, ◌∙◌, ◌+◌, None, [], ◌++◌, take, drop, ap, sym, refl, append-nil, append_assoc, Err, rules}
+use Rattle.std.proofs.Common.{arith, ◌≡◌, ◌∙◌, ◌+◌, None, [], ◌++◌, take, drop, ap, sym, refl, append-nil, append_assoc, rules}
 use Rattle.std.proofs.lemmas.Result.{err_from_is_err_and, on_ok_weaker}
 use Rattle.std.specs.List.{position}
 use Rattle.std.proofs.lemmas.Grind.{common_steps}
 use Rattle.langtag_lines.proofs.Outcomes.{OnOk-by}
-use Rattle.langtag_lines.specs.declared.run_error.RunError.TheVariants.{Memory}
 use Rattle.langtag_lines.specs.Lines.{is_line_feed, complete_lines, rest_of, ended}
 use Rattle.langtag_lines.proofs.Lines.{complete_lines-free, rest_of-free_text, first_line, no_line}
 use Rattle.langtag_lines.proofs.Written.{free_rest, rest_more, written_more, written_before, Answers-nil, Answers-same, Answers-held, Answers-empty, Answers-written, ends_line, leaves_line}
@@ -21,12 +20,8 @@ loop-len-init g c =
 pub returns-in_err-end_line-clause-memory : goal.returns-in_err-end_line-clause-memory
 returns-in_err-end_line-clause-memory g c = λ memory.
     let (taken, are, rest, written) = c.loop-len.invariant in
-    let line = g.L.GatheredLine.bytes c.args.line.now in
     let p = err_from_is_err_and c.from_residual.result c.from_residual.ensures.1 in
-    let same : Err c.in_err-end_line.field-0.0 ≡ Err Memory = cc in
-    let stand = Answers-written _ _ _ _ _ written (c.in_err-end_line.ensures.memory same) in
-    let whole = append_assoc line taken c.loop-len.left.now ∙ ap (λ l. line ++ l) are in
-    rw (← whole) (written_before _ _ (line ++ taken) c.loop-len.left.now stand)
+    written_before _ _ _ _ _ taken _ _ are written (c.in_err-end_line.ensures.memory cc)
 
 pub loop-len-preserved : goal.loop-len-preserved
 loop-len-preserved g c =
@@ -48,12 +43,8 @@ loop-len-preserved g c =
 pub returns-in_err-gather-clause-memory : goal.returns-in_err-gather-clause-memory
 returns-in_err-gather-clause-memory g c = λ memory.
     let (taken, are, rest, written) = c.loop-len.invariant in
-    let line = g.L.GatheredLine.bytes c.args.line.now in
     let p = err_from_is_err_and c.from_residual-in_err-gather.result c.from_residual-in_err-gather.ensures.1 in
-    let same : Err c.in_err-gather.field-0.0 ≡ Err Memory = cc in
-    let stand = Answers-written _ _ _ _ _ written (c.in_err-gather.ensures.memory same) in
-    let whole = append_assoc line taken c.loop-len.left.now ∙ ap (λ l. line ++ l) are in
-    rw (← whole) (written_before _ _ (line ++ taken) c.loop-len.left.now stand)
+    written_before _ _ _ _ _ taken _ _ are written (c.in_err-gather.ensures.memory cc)
 
 pub returns-clause-ok : goal.returns-clause-ok
 returns-clause-ok g c =

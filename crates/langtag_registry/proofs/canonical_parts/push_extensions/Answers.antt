@@ -5,7 +5,7 @@ use Rattle.langtag_extension.specs.Text.{extensions_text}
 use Rattle.langtag_registry.specs.Canonical.{singletons}
 use Rattle.langtag_registry.specs.Noted.{of_singleton}
 use Rattle.langtag_registry.proofs.ExtensionOrder.{by_singletons, spellings, spelled_in_order, none_in_order, all_in_order}
-use Rattle.langtag_registry.proofs.Pushed.{pushes_same, pushes_both, pushes_ended}
+use Rattle.langtag_output.proofs.Pushed.{pushes_same, pushes_both, pushes_ended}
 use Rattle.langtag_registry.proofs.canonical_parts.push_extensions.Goals as goal
 
 pub returns-then-is_empty : goal.returns-then-is_empty

@@ -4,7 +4,7 @@ use Rattle.std.proofs.lemmas.Grind.{common_steps}
 use Rattle.langtag_extension.specs.Text.{extension_text, extensions_left}
 use Rattle.langtag_registry.specs.Noted.{of_singleton}
 use Rattle.langtag_registry.proofs.ExtensionOrder.{of_singleton-next}
-use Rattle.langtag_registry.proofs.Pushed.{pushes_same, pushes_next, pushes_ended}
+use Rattle.langtag_output.proofs.Pushed.{pushes_same, pushes_next, pushes_ended}
 use Rattle.langtag_registry.proofs.canonical_parts.push_extensions_of.Goals as goal
 
 pub loop-extension-init : goal.loop-extension-init

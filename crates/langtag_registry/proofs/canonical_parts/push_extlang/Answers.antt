@@ -2,7 +2,7 @@ use Rattle.std.proofs.Common.{arith}
 use Rattle.std.proofs.lemmas.Grind.{common_steps}
 use Rattle.langtag_scan.proofs.CaseLaw.{fold_text-twice}
 use Rattle.langtag_tables.proofs.Letters.{extended_primary}
-use Rattle.langtag_registry.proofs.Pushed.{pushes_same}
+use Rattle.langtag_output.proofs.Pushed.{pushes_same}
 use Rattle.langtag_registry.proofs.ReplacedSubtags.{language-alike}
 use Rattle.langtag_registry.proofs.canonical_parts.push_extlang.Goals as goal
 

@@ -5,7 +5,7 @@ use Rattle.langtag_registry.specs.Canonical.{canonical_language}
 use Rattle.langtag_registry.specs.Fields.{preferred_language}
 use Rattle.langtag_registry.proofs.CanonicalLanguages.{several_pushed, extlang_pushed, other_pushed}
 use Rattle.langtag_registry.proofs.CanonicalVariants.{view_of}
-use Rattle.langtag_registry.proofs.Pushed.{pushes_same}
+use Rattle.langtag_output.proofs.Pushed.{pushes_same}
 use Rattle.langtag_registry.proofs.canonical_parts.push_language.Goals as goal
 
 pub returns-in_default-next-clause-pushed : goal.returns-in_default-next-clause-pushed

@@ -4,7 +4,7 @@ use Rattle.langtag_place.specs.Text.{variant_text, variants_left}
 use Rattle.langtag_registry.specs.Canonical.{canonical_variants}
 use Rattle.langtag_registry.specs.Fields.{preferred_variant}
 use Rattle.langtag_registry.proofs.CanonicalVariants.{view_of}
-use Rattle.langtag_registry.proofs.Pushed.{pushes_same, pushes_next, pushes_ended}
+use Rattle.langtag_output.proofs.Pushed.{pushes_same, pushes_next, pushes_ended}
 use Rattle.langtag_registry.proofs.canonical_parts.push_variants.Goals as goal
 
 pub loop-variant-init : goal.loop-variant-init

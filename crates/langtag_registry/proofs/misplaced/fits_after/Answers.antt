@@ -6,7 +6,8 @@ use Rattle.langtag_place.specs.Text.{variant_text}
 use Rattle.langtag_range.specs.Extended.{test_extended}
 use Rattle.langtag_scan.specs.Case.{folded_number}
 use Rattle.langtag_registry.specs.Subtags.{variant_prefixes}
-use Rattle.langtag_registry.proofs.PrefixLaws.{length-same, same_at, list_all_get, number_tells, left_first, left_matched, left_unmatched, left_other, left_ended}
+use Rattle.langtag_registry.proofs.PrefixLaws.{length-same, same_at, number_tells, left_first, left_matched, left_unmatched, left_other, left_ended}
+use Rattle.langtag_tables.proofs.Elements.{list_all_get}
 use Rattle.langtag_registry.proofs.PrefixTables.{prefixed_alphanumeric}
 use Rattle.langtag_registry.proofs.Values.{no_entry}
 use Rattle.langtag_registry.proofs.misplaced.fits_after.Goals.{then-number-key+else-matches_prefix, else-number-key}

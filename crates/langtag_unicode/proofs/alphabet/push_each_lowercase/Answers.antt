@@ -1,5 +1,5 @@
 use Rattle.std.proofs.Common.{map, refl, sym, ap, ◌∙◌}
-use Rattle.langtag_registry.proofs.Pushed.{pushes_ended, pushes_next, pushes_same}
+use Rattle.langtag_output.proofs.Pushed.{pushes_ended, pushes_next, pushes_same}
 use Rattle.langtag_scan.specs.Case.{fold_text}
 use Rattle.langtag_unicode.proofs.alphabet.push_each_lowercase.Goals as goal
 

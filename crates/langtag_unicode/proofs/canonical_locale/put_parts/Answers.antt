@@ -4,7 +4,7 @@ use Rattle.langtag.specs.Text.{normal_lang_tag_text}
 use Rattle.langtag_likely.specs.Texts.{field_texts}
 use Rattle.langtag_output.specs.Output.{HasText}
 use Rattle.langtag_registry.proofs.FaultLaws.{variants_listed}
-use Rattle.langtag_registry.proofs.Pushed.{pushes_both, pushes_same}
+use Rattle.langtag_output.proofs.Pushed.{pushes_both, pushes_same}
 use Rattle.langtag_scan.specs.Record.{extension_flat, private_part_flat, spell}
 use Rattle.langtag_unicode.specs.LocaleForm.{extensions_in_order, identifier_flat, identifier_form, locale_record, new_variants, record_fields}
 use Rattle.langtag_unicode.proofs.IdentifierForms.{locale_joined}

@@ -1,5 +1,5 @@
 use Rattle.std.proofs.Common.{arith}
-use Rattle.langtag_likely.proofs.FormLaws.{rewritten}
+use Rattle.langtag.proofs.FormLaws.{rewritten}
 use Rattle.langtag_unicode.proofs.IdentifierForms.{form_is}
 use Rattle.langtag_unicode.proofs.canonical_locale.write_locale_form.Goals as goal
 

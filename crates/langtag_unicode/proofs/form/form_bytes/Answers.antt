@@ -1,8 +1,8 @@
 use Rattle.std.proofs.Common.{◌≡◌, length, sym, ap, subst, arith}
 use Rattle.std.proofs.lemmas.List.{take_at}
 use Rattle.langtag.specs.Text.{lang_tag_text}
-use Rattle.langtag_likely.specs.Maximal.{IsForm}
-use Rattle.langtag_likely.proofs.FormLaws.{written_whole}
+use Rattle.langtag.specs.Form.{IsForm}
+use Rattle.langtag.proofs.FormLaws.{written_whole}
 use Rattle.langtag_unicode.specs.Form.{extensions_record}
 use Rattle.langtag_unicode.proofs.form.form_bytes.Goals as goal
 

@@ -1,5 +1,5 @@
 use Rattle.std.proofs.Common.{◌∷◌, [], true, false, refl, sym, ap, ◌∙◌, arith}
-use Rattle.langtag_registry.proofs.Pushed.{pushes_joined, pushes_same}
+use Rattle.langtag_output.proofs.Pushed.{pushes_joined, pushes_same}
 use Rattle.langtag_scan.specs.Record.{extension_flat}
 use Rattle.langtag_scan.specs.Subtags.{subtags}
 use Rattle.langtag_unicode.specs.Form.{extension_form, transform_form, unicode_form}

@@ -1,6 +1,6 @@
 use Rattle.std.proofs.Common.{◌∷◌, ◌++◌, [], length, take, sym, ap, ◌∙◌, arith}
 use Rattle.std.proofs.lemmas.List.{length-take}
-use Rattle.langtag_registry.proofs.Pushed.{pushes_joined, pushes_same}
+use Rattle.langtag_output.proofs.Pushed.{pushes_joined, pushes_same}
 use Rattle.langtag_scan.proofs.SubtagFacts.{of_primary}
 use Rattle.langtag_scan.specs.Record.{one_flat}
 use Rattle.langtag_scan.specs.Subtags.{join}

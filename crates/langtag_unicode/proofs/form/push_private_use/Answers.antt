@@ -1,6 +1,6 @@
 use Rattle.std.proofs.Common.{◌∷◌, [], ap, sym, ◌∙◌, option_map}
 use Rattle.langtag_private.specs.Text.{private_use_text}
-use Rattle.langtag_registry.proofs.Pushed.{private_pushed, pushes_same}
+use Rattle.langtag_output.proofs.Pushed.{private_pushed, pushes_same}
 use Rattle.langtag_unicode.proofs.form.push_private_use.Goals as goal
 
 pub returns-in-Some-clause-pushed : goal.returns-in-Some-clause-pushed

@@ -1,5 +1,5 @@
 use Rattle.std.proofs.Common.{◌∷◌, [], ap}
-use Rattle.langtag_registry.proofs.Pushed.{pushes_both, pushes_same}
+use Rattle.langtag_output.proofs.Pushed.{pushes_both, pushes_same}
 use Rattle.langtag_scan.specs.Subtags.{segments_left, subtags}
 use Rattle.langtag_unicode.specs.Form.{in_alphabet, keywords_form, unicode_form, unicode_value}
 use Rattle.langtag_unicode.specs.Keywords.{before_key, is_key}

@@ -1,6 +1,6 @@
 use Rattle.std.proofs.Common.{◌++◌, [], sym, ap, ◌∙◌}
 use Rattle.std.specs.List.{flat_map}
-use Rattle.langtag_registry.proofs.Pushed.{pushes_both, pushes_same}
+use Rattle.langtag_output.proofs.Pushed.{pushes_both, pushes_same}
 use Rattle.langtag_scan.specs.Record.{extension_flat}
 use Rattle.langtag_unicode.specs.Edit.{at_place, extension_of}
 use Rattle.langtag_unicode.specs.EditText.{edited_by}

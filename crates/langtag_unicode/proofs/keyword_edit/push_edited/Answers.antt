@@ -1,7 +1,7 @@
 use Rattle.std.proofs.Common.{List, ◌++◌, sym, ◌∙◌}
 use Rattle.std.specs.List.{flat_map}
 use Rattle.langtag_extension.specs.Text.{extension_text, extensions_left}
-use Rattle.langtag_registry.proofs.Pushed.{pushes_both, pushes_same}
+use Rattle.langtag_output.proofs.Pushed.{pushes_both, pushes_same}
 use Rattle.langtag_scan.specs.Record.{Extension, extension_flat}
 use Rattle.langtag_unicode.specs.Edit.{at_place, changed_from, with_changed_u}
 use Rattle.langtag_unicode.specs.EditText.{edited_by}

@@ -3,7 +3,7 @@ use Rattle.std.specs.List.{flat_map}
 use Rattle.langtag_extension.specs.Text.{extension_text, extensions_left}
 use Rattle.langtag_scan.specs.Record.{extension_flat}
 use Rattle.langtag_unicode.proofs.ExtensionsPut.{extension-pushed, left-ended, left-next}
-use Rattle.langtag_registry.proofs.Pushed.{pushes_ended}
+use Rattle.langtag_output.proofs.Pushed.{pushes_ended}
 use Rattle.langtag_unicode.proofs.keyword_edit.push_extensions.Goals as goal
 
 pub loop-extension-preserved : goal.loop-extension-preserved

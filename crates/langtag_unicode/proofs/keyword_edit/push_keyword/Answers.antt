@@ -1,5 +1,5 @@
 use Rattle.std.proofs.Common.{◌∷◌, sym, ◌∙◌}
-use Rattle.langtag_registry.proofs.Pushed.{pushes_ended, pushes_next, pushes_same}
+use Rattle.langtag_output.proofs.Pushed.{pushes_ended, pushes_next, pushes_same}
 use Rattle.langtag_unicode.proofs.keyword_edit.push_keyword.Goals as goal
 
 pub loop-subtag-preserved : goal.loop-subtag-preserved

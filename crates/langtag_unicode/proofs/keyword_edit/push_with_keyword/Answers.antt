@@ -1,6 +1,6 @@
 use Rattle.std.proofs.Common.{◌≡◌, ◌∷◌, ◌++◌, false, true, option_map, unwrap_or, sym, ap, ◌∙◌}
 use Rattle.std.specs.Option.{is_some}
-use Rattle.langtag_registry.proofs.Pushed.{pushes_both, pushes_next, pushes_same}
+use Rattle.langtag_output.proofs.Pushed.{pushes_both, pushes_next, pushes_same}
 use Rattle.langtag_scan.specs.Subtags.{segments_left, subtags}
 use Rattle.langtag_unicode.specs.Edit.{is_place, without_keyword}
 use Rattle.langtag_unicode.proofs.KeywordEdits.{put-here, put-later, put_at_standing, standing-some, standing-text}

@@ -1,5 +1,5 @@
 use Rattle.std.proofs.Common.{◌≡◌, ◌∷◌, sym, ap, ◌∙◌}
-use Rattle.langtag_registry.proofs.Pushed.{pushes_ended, pushes_next, pushes_same}
+use Rattle.langtag_output.proofs.Pushed.{pushes_ended, pushes_next, pushes_same}
 use Rattle.langtag_scan.specs.Subtags.{segments_left}
 use Rattle.langtag_unicode.specs.Edit.{without_within}
 use Rattle.langtag_unicode.proofs.KeywordEdits.{without-gone, without-kept}

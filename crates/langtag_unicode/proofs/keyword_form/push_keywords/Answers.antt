@@ -1,7 +1,7 @@
 use Rattle.std.proofs.Common.{◌≡◌, ◌∷◌, ◌++◌, [], ℕ, None, false, get_or, drop, refl, sym, ap, ◌+◌, ◌∙◌}
 use Rattle.std.proofs.lemmas.List.{at_drop_all, at_drop_more}
 use Rattle.std.specs.List.{flat_map}
-use Rattle.langtag_registry.proofs.Pushed.{pushes_both, pushes_ended, pushes_same}
+use Rattle.langtag_output.proofs.Pushed.{pushes_both, pushes_ended, pushes_same}
 use Rattle.langtag_scan.specs.Case.{fold_byte}
 use Rattle.langtag_scan.specs.Subtags.{subtags}
 use Rattle.langtag_unicode.specs.Form.{keywords_from, letters_and_digits}

@@ -1,7 +1,7 @@
 use Rattle.std.proofs.Common.{◌++◌, [], sym, subst, ◌∙◌, rules}
 use Rattle.std.specs.List.{flat_map}
 use Rattle.langtag_output.specs.Output.{HasText}
-use Rattle.langtag_registry.proofs.Pushed.{pushes_both}
+use Rattle.langtag_output.proofs.Pushed.{pushes_both}
 use Rattle.langtag_scan.specs.Record.{extension_flat, private_part_flat, spell}
 use Rattle.langtag_unicode.specs.Edit.{with_changed_u}
 use Rattle.langtag_unicode.specs.EditText.{edited_by, edited_record_by, value_subtags}

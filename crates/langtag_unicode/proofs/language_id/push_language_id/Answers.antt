@@ -1,5 +1,5 @@
 use Rattle.std.proofs.Common.{◌∷◌, ◌++◌, [], map, sym, ap, ◌∙◌}
-use Rattle.langtag_registry.proofs.Pushed.{pushes_both, pushes_same}
+use Rattle.langtag_output.proofs.Pushed.{pushes_both, pushes_same}
 use Rattle.langtag_scan.specs.Case.{fold_text}
 use Rattle.langtag_scan.specs.Class.{is_region, is_script}
 use Rattle.langtag_scan.specs.Subtags.{segments, segments_left}

@@ -1,7 +1,7 @@
 use Rattle.std.proofs.Common.{◌≡◌, option_map, sym, ap, ◌∙◌}
 use Rattle.langtag_extension.specs.Spelling.{find_extension}
 use Rattle.langtag_extension.specs.Text.{extension_text, singleton_byte}
-use Rattle.langtag_registry.proofs.Pushed.{pushes_ended, pushes_same}
+use Rattle.langtag_output.proofs.Pushed.{pushes_ended, pushes_same}
 use Rattle.langtag_unicode.proofs.LocaleExtensions.{at_found, at_nothing, found_one, none_found}
 use Rattle.langtag_unicode.specs.Locale.{is_locale_extension}
 use Rattle.langtag_unicode.proofs.LocaleTables.{found_has}

@@ -1,8 +1,7 @@
 use Rattle.std.proofs.Common.{◌∷◌, ◌++◌, [], ap, ◌∙◌}
-use Rattle.langtag_likely.specs.Likely.{Fields}
-use Rattle.langtag_likely.specs.Maximal.{subtag_of}
+use Rattle.langtag.specs.Fields.{Fields, subtag_of}
 use Rattle.langtag_likely.specs.Texts.{field_texts}
-use Rattle.langtag_registry.proofs.Pushed.{pushes_both, pushes_same}
+use Rattle.langtag_output.proofs.Pushed.{pushes_both, pushes_same}
 use Rattle.langtag_scan.specs.Record.{one_flat}
 use Rattle.langtag_scan.specs.Subtags.{segments_left}
 use Rattle.langtag_unicode.specs.LocaleForm.{identifier_flat, identifier_form, variants_form}

@@ -1,5 +1,5 @@
 use Rattle.std.proofs.Common.{false, sym, ap, ◌∙◌}
-use Rattle.langtag_registry.proofs.Pushed.{pushes_ended, pushes_same}
+use Rattle.langtag_output.proofs.Pushed.{pushes_ended, pushes_same}
 use Rattle.langtag_scan.specs.Subtags.{segments_left, subtags}
 use Rattle.langtag_unicode.specs.Form.{are_fields, is_language_or_none}
 use Rattle.langtag_unicode.specs.Keywords.{before_key}

@@ -1,5 +1,5 @@
 use Rattle.std.proofs.Common.{◌∷◌, []}
-use Rattle.langtag_registry.proofs.Pushed.{pushes_both}
+use Rattle.langtag_output.proofs.Pushed.{pushes_both}
 use Rattle.langtag_scan.specs.Subtags.{subtags}
 use Rattle.langtag_unicode.specs.Form.{keywords_form, transform_value}
 use Rattle.langtag_unicode.specs.Keywords.{before_key}

@@ -1,6 +1,6 @@
 use Rattle.std.proofs.Common.{ap, ◌∙◌}
 use Rattle.std.specs.List.{fold, list_all}
-use Rattle.langtag_likely.specs.Good.{is_language_field}
+use Rattle.langtag.specs.FieldClasses.{is_language_field}
 use Rattle.langtag_scan.specs.Subtags.{segments_left}
 use Rattle.langtag_unicode.specs.Alias.{TypeAlias}
 use Rattle.langtag_unicode.specs.LocaleForm.{language_after}

@@ -1,7 +1,7 @@
 use Rattle.std.proofs.Common.{ap, refl, sym, ◌∙◌}
 use Rattle.std.specs.List.{list_all}
 use Rattle.std.specs.Option.{option_map}
-use Rattle.langtag_likely.specs.Good.{is_region_field}
+use Rattle.langtag.specs.FieldClasses.{is_region_field}
 use Rattle.langtag_scan.specs.Case.{are_alike}
 use Rattle.langtag_scan.specs.Subtags.{segments}
 use Rattle.langtag_unicode.specs.Alias.{alias_for}

@@ -1,6 +1,6 @@
 use Rattle.std.proofs.Common.{ap, sym, ◌∙◌}
 use Rattle.std.specs.Option.{option_map}
-use Rattle.langtag_likely.specs.Good.{is_language_field}
+use Rattle.langtag.specs.FieldClasses.{is_language_field}
 use Rattle.langtag_scan.specs.Case.{are_alike}
 use Rattle.langtag_unicode.specs.Alias.{alias_for}
 use Rattle.langtag_unicode.specs.LocaleAliases.{sign_languages}

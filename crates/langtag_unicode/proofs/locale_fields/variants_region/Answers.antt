@@ -1,6 +1,6 @@
 use Rattle.std.proofs.Common.{ap, ◌∙◌}
 use Rattle.std.specs.List.{list_all}
-use Rattle.langtag_likely.specs.Good.{is_region_field}
+use Rattle.langtag.specs.FieldClasses.{is_region_field}
 use Rattle.langtag_scan.specs.Subtags.{segments_left}
 use Rattle.langtag_unicode.specs.Alias.{Alias}
 use Rattle.langtag_unicode.specs.LocaleForm.{variants_region}

@@ -1,5 +1,5 @@
 use Rattle.std.proofs.Common.{◌≡◌, Some, None, option_map, length, refl, sym, ap, ◌∙◌, arith}
-use Rattle.langtag_registry.proofs.Pushed.{pushes_ended, pushes_next, pushes_same}
+use Rattle.langtag_output.proofs.Pushed.{pushes_ended, pushes_next, pushes_same}
 use Rattle.langtag_scan.specs.Case.{fold_text}
 use Rattle.langtag_scan.specs.Subtags.{segments_left}
 use Rattle.langtag_unicode.specs.Alphabet.{first_after}

@@ -1,5 +1,5 @@
 -- Subtags that are put into an output, after a text.
-use Rattle.std.proofs.Common.{◌≡◌, ℕ, ◌≤◌, List, [], ◌∷◌, ◌++◌, length, fold, Option, Some, None, sym, ap, subst, ◌∙◌, arith, append_assoc, append-nil, length-append}
+use Rattle.std.proofs.Common.{◌≡◌, ℕ, ◌≤◌, List, [], ◌∷◌, ◌++◌, length, fold, Option, Some, None, sym, ap, subst, arith, append_assoc, append-nil, length-append}
 use Rattle.std.specs.List.{flat_map}
 use Rattle.std.specs.Option.{option_map}
 use Rattle.std.proofs.lemmas.List.Sums.{fold-append}
@@ -17,9 +17,7 @@ use Rattle.langtag_output.proofs.WithSubtag.{with_subtag-some}
 -- after a text with bytes, a hyphen stands before each
 with_subtags-some : (text : List ℕ) (ss : List (List ℕ)) → 1 ≤ length text → fold with_subtag text ss ≡ text ++ hyphenated ss
 with_subtags-some text [] some = sym (append-nil text)
-with_subtags-some text (s ∷ ss) some =
-    ap (λ t. fold with_subtag t ss) (with_subtag-some text s some)
-    ∙ with_subtags-some (text ++ 45 ∷ s) ss (omega (arith, some, length-append text (45 ∷ s))) ∙ append_assoc text (45 ∷ s) (hyphenated ss)
+with_subtags-some text (s ∷ ss) some = grind (arith, common_steps, with_subtag-some text s, with_subtags-some (text ++ 45 ∷ s) ss, length-append, append_assoc)
 
 -- some that are joined already follow as each of them does
 pub with_joined : (text s : List ℕ) (ss : List (List ℕ)) → 1 ≤ length s → with_subtag text (join (s ∷ ss)) ≡ fold with_subtag text (s ∷ ss)
