@@ -20,7 +20,7 @@ use Rattle.langtag.specs.Fields.{Fields}
 use Rattle.langtag_likely.specs.Matching.{language_replaced, matching_fields, matching_form}
 use Rattle.langtag_likely.specs.TextFields.{last_language, counted_parts, text_fields}
 use Rattle.langtag_likely.proofs.AddedTwice.{either_way}
-use Rattle.langtag_likely.proofs.AliasTables.{aliases_lead}
+use Rattle.langtag_likely.proofs.AliasTables.{aliases_listed}
 use Rattle.langtag_likely.proofs.AlikeFields.{by_options}
 use Rattle.langtag_likely.proofs.CommonTexts.{some_length}
 use Rattle.langtag_likely.proofs.CompletedForms.{completed_language}
@@ -163,7 +163,7 @@ module _ (one : List ℕ) (letters : ℕ × ℕ) (begins : first_two one ≡ Som
   replaced_other :
       (f : Fields) → is_among (replacing language_aliases) one ≡ false → (Alike one f.language → ⊥) → length f.language ≡ 2 → IsOther one (language_replaced f).language
   unfolding language_replaced
-  replaced_other f apart there two = grind (arith, nat_tests, alias_other language_aliases aliases_lead (language_alone f))
+  replaced_other f apart there two = grind (arith, nat_tests, alias_other language_aliases aliases_listed.lead (language_alone f))
 
   form_other :
       (text : List ℕ) → IsShort text → (first_two text ≡ Some letters → ⊥) → is_among (replacing language_aliases) one ≡ false →

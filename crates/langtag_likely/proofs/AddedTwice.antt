@@ -68,8 +68,7 @@ rows_settled = refl
 -- ---- a language whose bit is set has a row
 
 some_first : (a b : Option Fields) → is_some a ≡ true → is_some (or_else a b) ≡ true
-some_first None b h = absurd cc
-some_first (Some v) b h = refl
+some_first a b h = grind arith
 
 pub row_by_bit : (language : List ℕ) → has_bit language ≡ true → is_some (likely_for likely_subtags (of_language language)) ≡ true
 unfolding has_bit
@@ -91,40 +90,32 @@ looked_up_other f none = grind (arith, all_other)
 -- ---- texts that are there
 
 clash : {P : Type 0} (b : Bool) → b ≡ true → b ≡ false → P
-clash true t f = absurd cc
-clash false t f = absurd cc
+clash b t f = grind arith
 
 -- what holds either way
 pub either_way : {P : Type 0} (b : Bool) → (b ≡ true → P) → (b ≡ false → P) → P
-either_way true one other = one refl
-either_way false one other = other refl
+either_way b one other = grind arith
 
 by_or : {P : Type 0} (a b : Bool) → (a ≡ true → P) → (b ≡ true → P) → (a || b) ≡ true → P
-by_or true b f g h = f refl
-by_or false b f g h = g h
+by_or a b f g h = grind arith
 
 pub absent : (a : List ℕ) → is_there a ≡ false → a ≡ []
-absent [] h = refl
-absent (x ∷ a) h = absurd cc
+absent a h = grind arith
 
 there_alike : (a b : List ℕ) → Alike a b → is_there a ≡ is_there b
 there_alike a b h = grind arith
 
 pub or_other_there : (a b : List ℕ) → is_there a ≡ true → or_other a b ≡ a
-or_other_there [] b h = absurd cc
-or_other_there (x ∷ a) b h = refl
+or_other_there a b h = grind arith
 
 pub or_other_absent : (a b : List ℕ) → is_there a ≡ false → or_other a b ≡ b
-or_other_absent [] b h = refl
-or_other_absent (x ∷ a) b h = absurd cc
+or_other_absent a b h = grind arith
 
 there_other : (a b : List ℕ) → is_there b ≡ true → is_there (or_other a b) ≡ true
-there_other [] b h = h
-there_other (x ∷ a) b h = refl
+there_other a b h = grind arith
 
 other_test : (unknown a b : List ℕ) → are_alike unknown a ≡ false → are_alike unknown b ≡ false → are_alike unknown (or_other a b) ≡ false
-other_test unknown [] b ha hb = hb
-other_test unknown (x ∷ a) b ha hb = ha
+other_test unknown a b ha hb = grind arith
 
 pub known_stays : (unknown a : List ℕ) → are_alike unknown a ≡ false → known unknown a ≡ a
 known_stays unknown a h = ap (λ t. cond t [] a) h
@@ -210,20 +201,16 @@ field_alike :
 field_alike field to from key is same kept there = grind (arith, alike_is from to)
 
 not_first : (a b : List ℕ) → is_there (or_other a b) ≡ false → is_there a ≡ false
-not_first [] b h = refl
-not_first (x ∷ a) b h = h
+not_first a b h = grind arith
 
 and_false : (a b : Bool) → (a && b) ≡ false → a ≡ true → b ≡ false
-and_false true b h it = h
-and_false false b h it = absurd cc
+and_false a b h it = grind arith
 
 and_false-turned : (a b : Bool) → (a && b) ≡ false → b ≡ true → a ≡ false
-and_false-turned true b h it = clash b it h
-and_false-turned false b h it = refl
+and_false-turned a b h it = grind arith
 
 absent_key : (field from key : List ℕ) → (key ≡ field) ⊎ (key ≡ []) → Alike from key → is_there field ≡ false → is_there from ≡ false
-absent_key field from key (inl is) same none = there_alike from key same ∙ ap is_there is ∙ none
-absent_key field from key (inr is) same none = there_alike from key same ∙ ap is_there is
+absent_key field from key h3 same none = grind (arith, there_alike)
 
 -- ---- fields, the row that was found for them, and what it makes of them
 
@@ -264,12 +251,6 @@ module _ (f : Fields) (row : Likely) (key : Fields) (is_key : IsKey f key) (from
 
       unwritten : is_there f.language ≡ false → is_some (likely_for likely_subtags (language_alone most)) ≡ true
       unwritten it = search (rules, alone_other)
-
-  script_there : is_there most.script ≡ true
-  script_there = there_other f.script row.to.script whole.script
-
-  region_there : is_there most.region ≡ true
-  region_there = there_other f.region row.to.region whole.region
 
   script_not : are_alike (codes "Zzzz") most.script ≡ false
   script_not = other_test (codes "Zzzz") f.script row.to.script script_known whole.script_known
@@ -318,7 +299,7 @@ module _ (f : Fields) (row : Likely) (key : Fields) (is_key : IsKey f key) (from
   added_again =
       let same : known_fields most ≡ most = rw (known_stays (codes "Zzzz") most.script script_not, known_stays (codes "ZZ") most.region region_not) refl in
       ap (add_likely likely_subtags) same
-      ∙ either_way (is_there most.language) (λ there. whole_again most there script_there region_there (alone_found there)) unknown_again
+      ∙ either_way (is_there most.language) (λ there. whole_again most there (there_other f.script row.to.script whole.script) (there_other f.region row.to.region whole.region) (alone_found there)) unknown_again
 
 -- ---- whatever is added to fields that are known
 

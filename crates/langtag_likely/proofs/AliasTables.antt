@@ -9,7 +9,6 @@ use Rattle.langtag_scan.proofs.Ascii.{IsAscii-each, alphanumeric_below}
 use Rattle.langtag_scan.proofs.FoldedNumbers.{folded_number-tells}
 use Rattle.langtag_scan.proofs.SubtagFacts.{of_region}
 use Rattle.langtag_tables.specs.Numbers.{letter_number}
-use Rattle.langtag_likely.specs.Aliases as list
 use Rattle.langtag_likely.specs.Aliases.{language_aliases, region_aliases, region_replacements}
 use Rattle.langtag.specs.FieldClasses.{is_language_field, is_script_field, is_region_field}
 use Rattle.langtag_likely.specs.Likely.{Likely, are_alike_fields, likely_for, language_alone}
@@ -17,7 +16,6 @@ use Rattle.langtag.specs.Fields.{Fields}
 use Rattle.langtag_likely.specs.Matching.{region_alone}
 use Rattle.langtag_likely.specs.Numbers.{name_at, name_text, first_index}
 use Rattle.langtag_likely.specs.Rows.{no_row}
-use Rattle.langtag_likely.specs.Suggestion.{suggested_region}
 use Rattle.langtag_likely.specs.declared.alias_tables.TheConstants as table
 use Rattle.langtag_likely.specs.declared.alias_tables.TheConstants.{ALIAS_LANGUAGES, ALIAS_SCRIPT_NAMES, ALIAS_SCRIPTS, ALIAS_REGION_NAMES, ALIAS_REGIONS, REGION_ALIAS_NAMES}
 use Rattle.langtag_likely.proofs.RowLaws.{is_language, language_number, language-tells}
@@ -38,98 +36,54 @@ region-tells f plain row good = grind (arith, nil_from_length, folded_number-tel
 
 -- ---- the tables
 
-pub alias_numbers : table.ALIAS_KEYS ≡ map (λ row. letter_number row.from.language) list.language_aliases
-unfolding list.language_aliases letter_number fold_byte
-alias_numbers = refl
+-- the table of deprecated languages: its columns, and the classes of its names
+pub record AreAliases : Type 0 where
+  pub numbers : table.ALIAS_KEYS ≡ map (λ row. letter_number row.from.language) language_aliases
+  pub count : length language_aliases ≡ length table.ALIAS_LANGUAGES
+  pub languages : map name_text table.ALIAS_LANGUAGES ≡ map (λ row. row.to.language) language_aliases
+  pub scripts : map (name_at table.ALIAS_SCRIPT_NAMES) table.ALIAS_SCRIPTS ≡ map (λ row. row.to.script) language_aliases
+  pub regions : map (name_at table.ALIAS_REGION_NAMES) table.ALIAS_REGIONS ≡ map (λ row. row.to.region) language_aliases
+  pub alone : list_all is_language language_aliases ≡ true
+  pub short : list_all is_short_row language_aliases ≡ true
+  -- each leads to a language
+  pub lead : list_all (λ row. ltb 0 (length row.to.language)) language_aliases ≡ true
+  pub languages_good : list_all (λ name. is_language_field (name_text name)) table.ALIAS_LANGUAGES ≡ true
+  pub scripts_good : list_all (λ name. is_script_field (name_text name)) table.ALIAS_SCRIPT_NAMES ≡ true
+  pub regions_good : list_all (λ name. is_region_field (name_text name)) table.ALIAS_REGION_NAMES ≡ true
 
-pub alias_languages : map name_text table.ALIAS_LANGUAGES ≡ map (λ row. row.to.language) list.language_aliases
-unfolding list.language_aliases fold_byte
-alias_languages = refl
+pub aliases_listed : AreAliases
+unfolding language_aliases letter_number is_letter is_digit is_primary is_script is_region fold_byte
+aliases_listed = record {
+  numbers = refl;
+  count = refl;
+  languages = refl;
+  scripts = refl;
+  regions = refl;
+  alone = refl;
+  short = refl;
+  lead = refl;
+  languages_good = refl;
+  scripts_good = refl;
+  regions_good = refl;
+}
 
-pub alias_scripts : map (name_at table.ALIAS_SCRIPT_NAMES) table.ALIAS_SCRIPTS ≡ map (λ row. row.to.script) list.language_aliases
-unfolding list.language_aliases fold_byte
-alias_scripts = refl
+-- a table of deprecated regions: each has one region in place of it
+pub record AreRegions (rows : List Likely) (keys : List ℕ) (names : List (List ℕ)) : Type 0 where
+  pub numbers : keys ≡ map (λ row. folded_number row.from.region) rows
+  pub count : length rows ≡ length names
+  pub regions : map name_text names ≡ map (λ row. row.to.region) rows
+  pub languages : map (λ row. row.to.language) rows ≡ map (λ row. []) rows
+  pub scripts : map (λ row. row.to.script) rows ≡ map (λ row. []) rows
+  pub alone : list_all is_region_alone rows ≡ true
+  pub good : list_all (λ name. is_region_field (name_text name)) names ≡ true
 
-pub alias_regions : map (name_at table.ALIAS_REGION_NAMES) table.ALIAS_REGIONS ≡ map (λ row. row.to.region) list.language_aliases
-unfolding list.language_aliases fold_byte
-alias_regions = refl
+pub region_aliases_listed : AreRegions region_aliases table.REGION_ALIAS_KEYS table.REGION_ALIAS_NAMES
+unfolding region_aliases folded_number is_region is_letter is_digit fold_byte
+region_aliases_listed = record { numbers = refl; count = refl; regions = refl; languages = refl; scripts = refl; alone = refl; good = refl }
 
-pub aliases_alone : list_all is_language list.language_aliases ≡ true
-unfolding list.language_aliases is_letter fold_byte
-aliases_alone = refl
-
-pub aliases_short : list_all is_short_row list.language_aliases ≡ true
-unfolding list.language_aliases fold_byte
-aliases_short = refl
-
-pub alias_count : length list.language_aliases ≡ length table.ALIAS_LANGUAGES
-unfolding list.language_aliases fold_byte
-alias_count = refl
-
--- each leads to a language
-pub aliases_lead : list_all (λ row. ltb 0 (length row.to.language)) list.language_aliases ≡ true
-unfolding list.language_aliases fold_byte
-aliases_lead = refl
-
-pub alias_languages_good : list_all (λ name. is_language_field (name_text name)) table.ALIAS_LANGUAGES ≡ true
-unfolding is_primary is_letter
-alias_languages_good = refl
-
-pub alias_scripts_good : list_all (λ name. is_script_field (name_text name)) table.ALIAS_SCRIPT_NAMES ≡ true
-unfolding is_script is_letter
-alias_scripts_good = refl
-
-pub alias_regions_good : list_all (λ name. is_region_field (name_text name)) table.ALIAS_REGION_NAMES ≡ true
-unfolding is_region is_letter is_digit
-alias_regions_good = refl
-
-pub region_alias_numbers : table.REGION_ALIAS_KEYS ≡ map (λ row. folded_number row.from.region) list.region_aliases
-unfolding list.region_aliases folded_number fold_byte
-region_alias_numbers = refl
-
-pub region_alias_names : map name_text table.REGION_ALIAS_NAMES ≡ map (λ row. row.to.region) list.region_aliases
-unfolding list.region_aliases fold_byte
-region_alias_names = refl
-
-pub region_alias_languages : map (λ row. row.to.language) list.region_aliases ≡ map (λ row. []) list.region_aliases
-unfolding list.region_aliases fold_byte
-region_alias_languages = refl
-
-pub region_alias_scripts : map (λ row. row.to.script) list.region_aliases ≡ map (λ row. []) list.region_aliases
-unfolding list.region_aliases fold_byte
-region_alias_scripts = refl
-
-pub region_aliases_alone : list_all is_region_alone list.region_aliases ≡ true
-unfolding list.region_aliases is_letter is_digit fold_byte
-region_aliases_alone = refl
-
-pub region_alias_count : length list.region_aliases ≡ length table.REGION_ALIAS_NAMES
-unfolding list.region_aliases fold_byte
-region_alias_count = refl
-
-pub region_aliases_good : list_all (λ name. is_region_field (name_text name)) table.REGION_ALIAS_NAMES ≡ true
-unfolding is_region is_letter is_digit
-region_aliases_good = refl
-
-pub replacement_numbers : table.REPLACEMENT_KEYS ≡ map (λ row. folded_number row.from.region) list.region_replacements
-unfolding list.region_replacements folded_number fold_byte
-replacement_numbers = refl
-
-pub replacement_names : map name_text table.REPLACEMENT_NAMES ≡ map (λ row. row.to.region) list.region_replacements
-unfolding list.region_replacements fold_byte
-replacement_names = refl
-
-pub replacements_alone : list_all is_region_alone list.region_replacements ≡ true
-unfolding list.region_replacements is_letter is_digit fold_byte
-replacements_alone = refl
-
-pub replacement_count : length list.region_replacements ≡ length table.REPLACEMENT_NAMES
-unfolding list.region_replacements fold_byte
-replacement_count = refl
-
-pub replacements_good : list_all (λ name. is_region_field (name_text name)) table.REPLACEMENT_NAMES ≡ true
-unfolding is_region is_letter is_digit
-replacements_good = refl
+pub replacements_listed : AreRegions region_replacements table.REPLACEMENT_KEYS table.REPLACEMENT_NAMES
+unfolding region_replacements folded_number is_region is_letter is_digit fold_byte
+replacements_listed = record { numbers = refl; count = refl; regions = refl; languages = refl; scripts = refl; alone = refl; good = refl }
 
 -- ---- what a list has at an index
 
@@ -153,7 +107,7 @@ pub alias_found :
     option_map (λ i. (get_or language_aliases i no_row).to) o ≡ likely_for language_aliases (language_alone f)
 alias_found f keys number o letters keys_are number_is is =
     ap (option_map (λ i. (get_or language_aliases i no_row).to)) (is ∙ ap (λ list. first_index list number) keys_are ∙ ap (first_index (map alias_key language_aliases)) number_is)
-    ∙ found_by_number language_number is_language (language_alone f) (language-tells f.language letters) language_aliases aliases_alone
+    ∙ found_by_number language_number is_language (language_alone f) (language-tells f.language letters) language_aliases aliases_listed.alone
 
 pub alias_at :
     (i : ℕ) (language script region : List ℕ) → i < length language_aliases →
@@ -161,9 +115,9 @@ pub alias_at :
     record { language = language; script = script; region = region } ≡ (get_or language_aliases i no_row).to
 alias_at i language script region inside language_is script_is region_is =
     let row = get_or language_aliases i no_row in
-    ap (λ l. record { language = l; script = script; region = region }) (language_is ∙ at_index language_aliases _ (λ row. row.to.language) i alias_languages inside)
-    ∙ ap (λ s. record { language = row.to.language; script = s; region = region }) (script_is ∙ at_index language_aliases _ (λ row. row.to.script) i alias_scripts inside)
-    ∙ ap (λ r. record { language = row.to.language; script = row.to.script; region = r }) (region_is ∙ at_index language_aliases _ (λ row. row.to.region) i alias_regions inside)
+    ap (λ l. record { language = l; script = script; region = region }) (language_is ∙ at_index language_aliases _ (λ row. row.to.language) i aliases_listed.languages inside)
+    ∙ ap (λ s. record { language = row.to.language; script = s; region = region }) (script_is ∙ at_index language_aliases _ (λ row. row.to.script) i aliases_listed.scripts inside)
+    ∙ ap (λ r. record { language = row.to.language; script = row.to.script; region = r }) (region_is ∙ at_index language_aliases _ (λ row. row.to.region) i aliases_listed.regions inside)
 
 -- ---- regions
 
@@ -183,9 +137,9 @@ pub region_at :
     record { language = []; script = []; region = region } ≡ (get_or region_aliases i no_row).to
 region_at i region inside region_is =
     let row = get_or region_aliases i no_row in
-    ap (λ r. record { language = []; script = []; region = r }) (region_is ∙ at_index region_aliases _ (λ row. row.to.region) i region_alias_names inside)
-    ∙ ap (λ l. record { language = l; script = []; region = row.to.region }) (none_at region_aliases (λ row. row.to.language) i region_alias_languages inside)
-    ∙ ap (λ s. record { language = row.to.language; script = s; region = row.to.region }) (none_at region_aliases (λ row. row.to.script) i region_alias_scripts inside)
+    ap (λ r. record { language = []; script = []; region = r }) (region_is ∙ at_index region_aliases _ (λ row. row.to.region) i region_aliases_listed.regions inside)
+    ∙ ap (λ l. record { language = l; script = []; region = row.to.region }) (none_at region_aliases (λ row. row.to.language) i region_aliases_listed.languages inside)
+    ∙ ap (λ s. record { language = row.to.language; script = s; region = row.to.region }) (none_at region_aliases (λ row. row.to.script) i region_aliases_listed.scripts inside)
 
 pub utf8_name : (name : List ℕ) → are_alphanumeric name ≡ true → IsUtf8 name
 utf8_name name plain = IsUtf8-from_ascii name (IsAscii-each is_alphanumeric alphanumeric_below name plain)
@@ -193,18 +147,10 @@ utf8_name name plain = IsUtf8-from_ascii name (IsAscii-each is_alphanumeric alph
 -- ---- regions
 
 region_in : (o : Option ℕ) → option_map (λ i. (get_or region_replacements i no_row).to.region) o ≡ option_map (λ to. to.region) (option_map (λ i. (get_or region_replacements i no_row).to) o)
-region_in None = refl
-region_in (Some i) = refl
+region_in o = grind arith
 
 pub replaced_region :
     (f : Fields) (keys : List ℕ) (o : Option ℕ) → are_alphanumeric f.region ≡ true → keys ≡ map region_key region_replacements → o ≡ first_index keys (folded_number f.region) →
     option_map (λ i. (get_or region_replacements i no_row).to.region) o ≡ option_map (λ to. to.region) (likely_for region_replacements (region_alone f))
 replaced_region f keys o plain keys_are found =
-    region_in o ∙ ap (option_map (λ to. to.region)) (region_found region_replacements replacements_alone f keys (folded_number f.region) o plain keys_are refl found)
-
-pub replacement_found :
-    (code keys : List ℕ) (o : Option ℕ) → is_region code ≡ true → keys ≡ map region_key region_replacements → o ≡ first_index keys (folded_number code) →
-    option_map (λ i. (get_or region_replacements i no_row).to.region) o ≡ suggested_region code
-unfolding suggested_region
-replacement_found code keys o is keys_are found =
-    rw is (replaced_region (record { language = []; script = []; region = code }) keys o (of_region code is).alphanumeric keys_are found)
+    region_in o ∙ ap (option_map (λ to. to.region)) (region_found region_replacements replacements_listed.alone f keys (folded_number f.region) o plain keys_are refl found)

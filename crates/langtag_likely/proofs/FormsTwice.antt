@@ -29,12 +29,10 @@ alike_none (x ∷ a) h = absurd cc
 
 -- a field that was filled has what was written
 known_back : (unknown most few form v : List ℕ) → few ≡ known unknown most → Alike most form → form ≡ or_other few v → known unknown form ≡ few
-known_back unknown most [] form v is same made = alike_none _ (sym (known-alike unknown most form same) ∙ ap fold_text (sym is))
-known_back unknown most (x ∷ few) form v is same made = ap (known unknown) (made ∙ is) ∙ known_twice unknown most ∙ sym is
+known_back unknown most few form v is same made = grind (arith, alike_none, known-alike, known_twice)
 
 language_back : (most form v : List ℕ) → Alike most form → form ≡ or_other most v → form ≡ most
-language_back [] form v same made = alike_none form (sym same)
-language_back (x ∷ most) form v same made = made
+language_back most form v same made = grind (arith, alike_none)
 
 -- ---- fields that suffice
 
@@ -46,8 +44,7 @@ record Suffices (m few : Fields) : Type 0 where
   same : AlikeFields m form
 
 some_value : {A P : Type 0} (o : Option A) → (o ≡ None → P) → ((v : A) → o ≡ Some v → P) → P
-some_value None none some = none refl
-some_value (Some v) none some = some v refl
+some_value o none some = grind arith
 
 sufficed : (m few : Fields) → suffices likely_subtags m few ≡ true → Suffices m few
 sufficed m few h =
@@ -136,8 +133,7 @@ module _ (m : Fields) (again : add_likely likely_subtags (known_fields m) ≡ So
 -- ---- the language of a tag whose fields are put
 
 there_by_length : (a : List ℕ) → 2 ≤ length a → is_there a ≡ true
-there_by_length [] h = absurd (omega (arith, h))
-there_by_length (x ∷ a) h = refl
+there_by_length a h = grind arith
 
 last_there : (p e : List ℕ) (es : List (List ℕ)) → AllByRecursion (λ s. IsTrue (is_extended s)) (e ∷ es) → is_there (language_field p (e ∷ es)) ≡ true
 last_there p e [] all = there_by_length e (primary_length e (extended_primary e all.0))
@@ -169,18 +165,17 @@ min_of : (q : Record) (m : Fields) → add_likely likely_subtags (fields_of q) �
 unfolding minimal_record
 min_of q m is = ap (λ o. option_map_or (put_fields q) (option_map (least likely_subtags) o) q) is
 
-max_none : (q : Record) → add_likely likely_subtags (fields_of q) ≡ None → maximal_record q ≡ q
-unfolding maximal_record
-max_none q is = ap (λ o. option_map_or (put_fields q) o q) is
-
-min_none : (q : Record) → add_likely likely_subtags (fields_of q) ≡ None → minimal_record q ≡ q
-unfolding minimal_record
-min_none q is = ap (λ o. option_map_or (put_fields q) (option_map (least likely_subtags) o) q) is
-
 -- nothing is known of the record
 record HasNone (r : Record) : Type 0 where
   max_is : maximal_record r ≡ r
   min_is : minimal_record r ≡ r
+
+none_is : (r : Record) → add_likely likely_subtags (fields_of r) ≡ None → HasNone r
+unfolding maximal_record minimal_record
+none_is r is = record {
+  max_is = ap (λ o. option_map_or (put_fields r) o r) is;
+  min_is = ap (λ o. option_map_or (put_fields r) (option_map (least likely_subtags) o) r) is;
+}
 
 -- it has likely subtags
 record HasMost (r : Record) : Type 0 where
@@ -194,7 +189,7 @@ forms_of : (r : Record) → IsWellFormed r → HasNone r ⊎ HasMost r
 forms_of r fits = by_option (add_likely likely_subtags (fields_of r)) refl
   where
     by_option : (o : Option Fields) → add_likely likely_subtags (fields_of r) ≡ o → HasNone r ⊎ HasMost r
-    by_option None is = inl (record { max_is = max_none r is; min_is = min_none r is })
+    by_option None is = inl (none_is r is)
     by_option (Some m) is =
         let h = added (fields_of r) m (fields_known r) is in
         inr (record {

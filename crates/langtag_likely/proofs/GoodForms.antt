@@ -49,8 +49,7 @@ row_good (row ∷ rows) key to all is = grind (arith, row_good rows key to, and_
 
 either_good : (a b : Option Fields) → IfGood a → IfGood b → IfGood (or_else a b)
 unfolding IfGood
-either_good None b ga gb = gb
-either_good (Some f) b ga gb = ga
+either_good a b ga gb = grind arith
 
 looked_up-good : (key : Fields) → IfGood (looked_up likely_subtags key)
 unfolding IfGood
@@ -99,8 +98,7 @@ put_fields-well_formed r f well good = grind arith
 
 put-well_formed : (r : Record) (o : Option Fields) → IsWellFormed r → IfGood o → IsWellFormed (option_map_or (put_fields r) o r)
 unfolding IfGood
-put-well_formed r None well good = well
-put-well_formed r (Some f) well good = put_fields-well_formed r f well (good f refl)
+put-well_formed r o well good = grind (arith, put_fields-well_formed)
 
 pub maximal_well_formed : (r : Record) → IsWellFormed r → IsWellFormed (maximal_record r)
 unfolding maximal_record
@@ -125,16 +123,10 @@ region_size o is = grind (arith, region_short, length-append)
 -- the fields of another tag
 put_length : (r : Record) (f : Fields) → IsWellFormed (put_fields r f) → length (spell (put_fields r f)) ≤ length (spell r) + 17
 put_length r f well =
-    let old = length-spell r in
-    let new = length-spell (put_fields r f) in
-    let language = (of_primary (put_language r.primary r.extended f.language) well.primary).short in
-    let script = script_size (subtag_of f.script) well.script in
-    let region = region_size (subtag_of f.region) well.region in
-    omega (arith, old, new, language, script, region)
+    omega (arith, length-spell r, length-spell (put_fields r f), (of_primary _ well.primary).short, script_size _ well.script, region_size _ well.region)
 
 by_fields : (r : Record) (o : Option Fields) → IsWellFormed (option_map_or (put_fields r) o r) → length (spell (option_map_or (put_fields r) o r)) ≤ length (spell r) + 17
-by_fields r None well = omega arith
-by_fields r (Some f) well = put_length r f well
+by_fields r o well = grind (arith, put_length)
 
 pub maximal_length : (r : Record) → IsWellFormed r → length (spell (maximal_record r)) ≤ length (spell r) + 17
 unfolding maximal_record

@@ -45,8 +45,7 @@ pub region_inside : (r : Record) → (ends_of r).region ≤ length (spell r)
 region_inside r = grind (arith, ends_in_order r)
 
 subtag-length : (s : List ℕ) → length (hyphenated (one_flat (subtag_of s))) ≤ length s + 1
-subtag-length [] = omega arith
-subtag-length (b ∷ s) = let same = ap length (append-nil s) in omega (arith, same)
+subtag-length s = grind (arith, append-nil)
 
 put_language-length : (p : List ℕ) (es : List (List ℕ)) (l : List ℕ) → length (put_language p es l) ≤ length p + length l
 put_language-length p es l = grind arith

@@ -25,8 +25,7 @@ module _ (is_good : Likely → Bool) (key : Fields) (apart : (row : Likely) → 
 
 append-test :
     (b : Bool) (to : Fields) (xs ys all : Option Fields) → all ≡ or_else xs ys → cond b (Some to) all ≡ or_else (cond b (Some to) xs) ys
-append-test true to xs ys all same = refl
-append-test false to xs ys all same = same
+append-test b to xs ys all same = grind arith
 
 pub likely_for-append : (xs ys : List Likely) (key : Fields) → likely_for (xs ++ ys) key ≡ or_else (likely_for xs key) (likely_for ys key)
 likely_for-append [] ys key = refl
@@ -35,12 +34,7 @@ likely_for-append (row ∷ xs) ys key =
 
 -- ---- by the lengths of fields
 
-record HaveLengths (a b : Fields) : Type 0 where
-  language : length a.language ≡ length b.language
-  script : length a.script ≡ length b.script
-  region : length a.region ≡ length b.region
-
-alike_lengths : (a b : Fields) → are_alike_fields a b ≡ true → HaveLengths a b
+alike_lengths : (a b : Fields) → are_alike_fields a b ≡ true → (length a.language ≡ length b.language) × (length a.script ≡ length b.script) × (length a.region ≡ length b.region)
 alike_lengths a b alike = grind (arith, alike_length)
 
 -- a language of at most three letters
