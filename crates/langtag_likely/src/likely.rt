@@ -1,6 +1,5 @@
 //! Adding and removing the likely subtags of fields (UTS #35, part 1, section 'Likely Subtags').
-ghost use Rattle.std.specs.Prelude.{◌≡◌};
-ghost use Rattle.std.specs.Option.{option_map};
+ghost use Rattle.std.specs.Prelude.{◌≡◌, option_map};
 ghost use Rattle.langtag_likely.specs.Likely.{filled, add_likely, looked_up, suffices, least, remove_likely};
 ghost use Rattle.langtag_likely.specs.LikelySubtags.{likely_subtags};
 ghost use Rattle.langtag_likely.specs.Texts.{field_texts};

@@ -1,6 +1,5 @@
 //! The fields by which two tags are compared (UTS #35, part 1, section 'Language Matching').
-ghost use Rattle.std.specs.Prelude.{◌≡◌};
-ghost use Rattle.std.specs.Option.{option_map};
+ghost use Rattle.std.specs.Prelude.{◌≡◌, option_map};
 ghost use Rattle.langtag_likely.specs.Matching as spec;
 ghost use Rattle.langtag_likely.specs.Texts.{field_texts};
 
