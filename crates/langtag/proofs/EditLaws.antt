@@ -1,6 +1,6 @@
 -- A record with another part is well formed, it spells the text in which that part is replaced, and its parts end where
 -- their lengths add up to.
-use Rattle.std.proofs.Common.{◌≡◌, ℕ, ◌≤◌, IsTrue, List, [], ◌∷◌, ◌++◌, length, Option, None, Some, IfSome, unwrap_or, refl, sym, ap, ◌∙◌, arith, append_assoc, append-nil}
+use Rattle.std.proofs.Common.{◌≡◌, ℕ, ◌≤◌, IsTrue, List, [], ◌∷◌, ◌++◌, length, Option, None, Some, IfSome, unwrap_or, refl, ap, arith, append_assoc, append-nil}
 use Rattle.std.specs.List.{AllByRecursion, flat_map, replace_range}
 use Rattle.std.specs.Option.{option_map}
 use Rattle.std.proofs.lemmas.Grind.{common_steps}
@@ -46,18 +46,8 @@ ends_from-part_lengths r = grind (arith, common_steps, ends_equal, length-join, 
 abbrev lengths : ℕ → ℕ → ℕ → ℕ → ℕ → ℕ → Lengths
 lengths l s g v x p = record { language = l; script = s; region = g; variants = v; extensions = x; private_use = p }
 
--- where lengths are equal
-lengths_equal :
-    (l s g v x p s' g' v' x' p' : ℕ) → s ≡ s' → g ≡ g' → v ≡ v' → x ≡ x' → p ≡ p' →
-    lengths l s g v x p ≡ lengths l s' g' v' x' p'
-lengths_equal l s g v x p s' g' v' x' p' es eg ev ex ep = rw (es, eg, ev, ex, ep) refl
-
--- lengths are found again between the ends that they add up to
-lengths_of-ends_from : (m : Lengths) → lengths_of (ends_from m) ≡ m
-lengths_of-ends_from m = grind (arith, common_steps, lengths_equal m.language)
-
 lengths_of-ends_of : (r : Record) → lengths_of (ends_of r) ≡ part_lengths r
-lengths_of-ends_of r = ap lengths_of (sym (ends_from-part_lengths r)) ∙ lengths_of-ends_from (part_lengths r)
+lengths_of-ends_of r = grind (arith, common_steps, ends_from-part_lengths)
 
 -- ---- an edit of a text and the change of its record
 

@@ -5,7 +5,8 @@ use Rattle.langtag_scan.specs.Case.{Alike}
 use Rattle.langtag_scan.specs.Found.{IsFoundOf, is_normal, is_private_use, irregular_index}
 use Rattle.langtag_scan.specs.Tag.{IsNormal, IsPrivate, IsIrregularAt, IsIrregular, IsTag}
 use Rattle.langtag_scan.specs.declared.finding.Finding.{Finding}
-use Rattle.langtag_scan.proofs.CaseLaw.{alike_normal, alike_private, alike_irregular}
+use Rattle.langtag_scan.specs.CaseLaws.{are_alike-decides}
+use Rattle.langtag_scan.proofs.CaseLaw.{alike_parts, alike_normal, alike_private, alike_irregular}
 use Rattle.langtag_scan.proofs.FoundLaws.{tag_found, normal_found, private_found, found_had}
 use Rattle.langtag_scan.proofs.IrregularTexts.{irregular_fold}
 use Rattle.langtag_scan.proofs.OneKind.{normal_no_private, normal_no_irregular, private_no_irregular}
@@ -53,3 +54,6 @@ pub ruleset one_kind = (normal_no_private, normal_no_irregular, private_no_irreg
 pub alike_kinds : (t u : List ℕ) → Alike t u → AreOfOneKind t u
 alike_kinds t u alike =
     grind (arith, common_steps, alike_normal t u alike, alike_normal u t (sym alike), alike_private t u alike, alike_private u t (sym alike), alike_irregular)
+
+-- what is so of a text that an equal text has
+pub ruleset alike_laws = (are_alike-decides, alike_kinds, alike_parts)

@@ -1,11 +1,11 @@
 -- The derived comparisons of the grandfathered tags, and the order of tags of which one begins the other.
-use Rattle.std.proofs.Common.{◌≡◌, ◌==◌, ℕ, List, map, refl, ap, ◌∙◌, arith}
+use Rattle.std.proofs.Common.{◌≡◌, ◌==◌, ℕ, List, ap, ◌∙◌, arith}
 use Rattle.std.proofs.Math.Facts.{Fits-of_lt}
 use Rattle.std.proofs.lemmas.Grind.{common_steps}
 use denote.Enum.Declared.{tag_of}
 use Rattle.std.specs.Hash.{usize}
 use Rattle.std.specs.Ordering.{nat_cmp}
-use Rattle.std.specs.declared.cmp.Ordering.TheVariants.{Equal, Greater}
+use Rattle.std.specs.declared.cmp.Ordering.TheVariants.{Greater}
 use Rattle.std.proofs.lemmas.List.{get_or-map}
 use Rattle.std.proofs.lemmas.Option.{slice_get_within, get_or_from_slice_get}
 use Rattle.langtag_scan.specs.Case.{EndsFirst, case_cmp}
@@ -17,9 +17,7 @@ use Rattle.langtag.specs.contracts.grandfathered.GrandfatheredLangTagHash.TheImp
 use Rattle.langtag.specs.contracts.grandfathered.GrandfatheredLangTagOrd.TheImpl as tag_order
 use Rattle.langtag.specs.contracts.grandfathered.GrandfatheredLangTagPartialEq.TheImpl as tag_equality
 use Rattle.langtag.specs.contracts.grandfathered.GrandfatheredLangTag.{the_type}
-use Rattle.langtag.specs.declared.grandfathered.GrandfatheredLangTag.TheVariants.{EnGbOed}
 use Rattle.langtag.specs.declared.grandfathered.GrandfatheredLangTag.{GrandfatheredLangTag}
-use Rattle.langtag.specs.declared.grandfathered.TheConstants.{GRANDFATHERED}
 use Rattle.langtag.proofs.RegisteredLaws.{listed}
 use Rattle.langtag.specs.Order.{TagsCompareByIndex}
 use Rattle.langtag.specs.Registered.{index_of}
@@ -31,20 +29,8 @@ tag_of-index tag = grind (arith, common_steps)
 equal : (a b : GrandfatheredLangTag) → tag_equality.eq-value.it a b ≡ (index_of a == index_of b)
 equal a b = ap (λ n. n == tag_of the_type b) (tag_of-index a) ∙ ap (λ n. index_of a == n) (tag_of-index b)
 
--- what two functions answer alike along `GRANDFATHERED` they answer alike
-each_tag :
-    {Y : Type 0} (f g : GrandfatheredLangTag → Y) (d : Y) → map f GRANDFATHERED ≡ map g GRANDFATHERED →
-    (tag : GrandfatheredLangTag) → f tag ≡ g tag
-each_tag f g d same tag = grind (arith, common_steps, slice_get_within, listed, get_or_from_slice_get, get_or-map)
-
-ordered_along :
-    (a : GrandfatheredLangTag) →
-    map (λ b. tag_order.cmp-value.it a b) GRANDFATHERED ≡ map (λ b. nat_cmp (index_of a) (index_of b)) GRANDFATHERED
-ordered_along EnGbOed = refl
-ordered_along a = refl
-
 ordered : (a b : GrandfatheredLangTag) → tag_order.cmp-value.it a b ≡ nat_cmp (index_of a) (index_of b)
-ordered a b = each_tag (λ b. tag_order.cmp-value.it a b) (λ b. nat_cmp (index_of a) (index_of b)) Equal (ordered_along a) b
+ordered a b = grind (arith, common_steps, slice_get_within, listed, get_or_from_slice_get, get_or-map)
 
 -- and what it feeds to a hasher
 hashed : (tag : GrandfatheredLangTag) → tag_hash.hash_input-value.it tag ≡ usize (index_of tag)

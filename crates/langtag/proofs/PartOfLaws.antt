@@ -5,11 +5,6 @@ use Rattle.langtag_scan.specs.Record.{Record, EachRecord}
 use Rattle.langtag_scan.specs.Tag.{IsNormal}
 use Rattle.langtag.specs.Part.{PartOf}
 
--- a tag of another kind has no part
-pub no_part : {A : Type 0} {text : List ℕ} {part_of : Record → A} {none answer : A} →
-    (IsNormal text → ⊥) → answer ≡ none → PartOf text part_of none answer
-no_part other same = record { part = λ r spells. absurd (other (normal_spelled _ r spells)); absent = λ _. same }
-
 -- a normal tag has that of its record
 pub part_found : {A : Type 0} {text : List ℕ} {part_of : Record → A} {none answer : A} →
     IsNormal text → EachRecord text (λ r. answer ≡ part_of r) → PartOf text part_of none answer

@@ -12,6 +12,7 @@ use Rattle.langtag_scan.specs.declared.ends.Ends.{Ends}
 use Rattle.langtag_language.specs.Language.{IsLanguage}
 use Rattle.langtag_place.specs.Variants.{IsVariants}
 use Rattle.langtag_extension.specs.Spelling.{IsExtensions}
+use Rattle.langtag_scan.proofs.SpelledTexts.{ends_had, offsets_kept}
 use Rattle.langtag.proofs.PartsFound.{language_found, script_found, region_found, variants_found, extensions_found, private_use_found}
 
 pub IsLanguage-cut : (text : List ℕ) (ends : Ends) → HasEnds text ends → IsLanguage (take ends.language text)
@@ -56,3 +57,16 @@ pub IsPrivate-cut :
 unfolding HasEnds
 IsPrivate-cut text ends part (r, spells, at) cut =
     private_spelled part r.private_use (cut ∙ private_use_found text ends (r, spells, at) r spells) spells.0.private_use
+
+-- what the accessors cite
+pub ruleset language_rules = (IsLanguage-cut, language_found, ends_had, offsets_kept)
+
+pub ruleset script_rules = (is_script-cut, script_found, ends_had, offsets_kept)
+
+pub ruleset region_rules = (is_region-cut, region_found, ends_had, offsets_kept)
+
+pub ruleset variants_rules = (IsVariants-cut, variants_found, ends_had, offsets_kept)
+
+pub ruleset extensions_rules = (IsExtensions-cut, extensions_found, ends_had, offsets_kept)
+
+pub ruleset private_use_rules = (IsPrivate-cut, private_use_found, ends_had, offsets_kept)

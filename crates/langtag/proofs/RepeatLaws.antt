@@ -148,3 +148,7 @@ pub AreFlagsOf-set :
     fold ≡ fold_byte b → fold < 128 → AreFlagsOf flags (take n bytes) → AreFlagsOf (set flags fold true) (take (n + 1) bytes)
 AreFlagsOf-set flags bytes n b fold rest at all is below before c inside =
     grind (arith, common_steps, list_any_more, eqb_tells, get_or-set_at, or_right, get_or-set_other, or-false)
+
+pub ruleset repeat_laws = (repeat-first, repeat_index-first)
+
+pub ruleset few_steps = (repeat-later, IsAt-drop)

@@ -39,9 +39,6 @@ IsAbsent-place block number place rises at apart =
           ];
     }
 
-pub list_any-absent : (block : List ℕ) (number : ℕ) → IsAbsent block number → list_any (λ other. other == number) block ≡ false
-list_any-absent block number absent = grind (arith, common_steps, list_any_none, eqb_tells)
-
 -- ---- one more number is met
 
 push-other : (numbers : List ℕ) (number x : ℕ) → (number ≡ x → ⊥) → list_any (λ other. other == x) (numbers ++ number ∷ []) ≡ list_any (λ other. other == x) numbers
@@ -60,7 +57,7 @@ AreMet-present block met after numbers number place room at inside same is befor
 pub again-absent :
     (block numbers : List ℕ) (number : ℕ) → IsAbsent block number →
     false ≡ (list_any (λ other. other == number) block && list_any (λ other. other == number) numbers)
-again-absent block numbers number absent = sym (ap (λ b. b && list_any (λ other. other == number) numbers) (list_any-absent block number absent))
+again-absent block numbers number absent = grind (arith, common_steps, list_any_none, eqb_tells)
 
 -- ---- the variants before an index
 

@@ -147,7 +147,7 @@ impl GrandfatheredLangTag {
     /// # Errors
     ///
     /// Returns the same slice if it is not a grandfathered tag, such as `b"fr"`.
-    #[tactic(auto, using(crate::proofs::RegisteredLaws::one_index, crate::proofs::OrderLaws::tags_compare, crate::proofs::RegisteredLaws::grandfathered_tag))]
+    #[tactic(auto, using(crate::proofs::RegisteredLaws::one_index, crate::proofs::OrderLaws::tags_compare, crate::proofs::RegisteredLaws::grandfathered_tag, crate::proofs::RegisteredLaws::first_alike_found, crate::proofs::RegisteredLaws::none_alike), unfolding(crate::specs::Registered::IsGrandfathered))]
     pub fn new(bytes: &[u8]) -> Result<Self, &[u8]>
         ensures accepts { IsTrue (is_ok result) ↔ IsGrandfathered bytes.now }
         ensures same_tag { IfOk result (λ tag. IsGrandfatheredAt (index_of tag) bytes.now) }
@@ -234,6 +234,7 @@ impl GrandfatheredLangTag {
 
     /// Returns the tag with the registered spelling: `GrandfatheredLangTag::ILux.as_lang_tag().kind()` is
     /// `Kind::Grandfathered`.
+    #[tactic(auto, using(crate::proofs::RegisteredLaws::spelling_tag))]
     pub fn as_lang_tag(&self) -> LangTag<'static>
         ensures { lang_tag_text result ≡ text_of self.now }
     {

@@ -219,7 +219,7 @@ impl<'a> LangTag<'a> {
     /// LangTag::new("zh-Hant")?.eq_str("ZH-hant"); // true
     /// LangTag::new("zh-Hant")?.eq_str("zh_Hant"); // false
     /// ```
-    #[tactic(auto, using(crate::proofs::OrderLaws::tag_ends_first))]
+    #[tactic(auto, using(crate::proofs::OrderLaws::tag_ends_first, crate::proofs::KeptFound::alike_laws))]
     pub fn eq_str(&self, other: &str) -> bool
         ensures test { result ≡ are_alike (lang_tag_text self.now) other.now }
         ensures same_kind { IsTrue result → AreOfOneKind (lang_tag_text self.now) other.now }
@@ -243,6 +243,7 @@ impl<'a> LangTag<'a> {
     /// LangTag::new("x-a")?.kind(); // Kind::PrivateUse
     /// LangTag::new("i-lux")?.kind(); // Kind::Grandfathered
     /// ```
+    #[tactic(auto, using(crate::proofs::KeptFound::typed_kind))]
     pub fn kind(&self) -> Kind
         ensures kind { IsOfKind (lang_tag_text self.now) result }
         ensures by_index { KindsCompareByIndex }
@@ -261,6 +262,7 @@ impl<'a> LangTag<'a> {
     /// let tag = LangTag::new("i-lux")?;
     /// matches!(tag.as_typed(), TypedLangTag::Grandfathered(GrandfatheredLangTag::ILux)); // true
     /// ```
+    #[tactic(auto, using(crate::proofs::KeptFound::found_kept, crate::proofs::KeptFound::kept_as))]
     pub fn as_typed(&self) -> TypedLangTag<'a>
         ensures { IsTypedAs (lang_tag_text self.now) result }
     {
@@ -446,7 +448,7 @@ impl<'a> LangTag<'a> {
 }
 
 /// The parts of a normal tag; a tag of another kind has none.
-#[tactic(auto, using(crate::proofs::PartOfLaws::part_found))]
+#[tactic(auto, using(crate::proofs::PartOfLaws::part_found, langtag_scan::proofs::SpelledTexts::normal_spelled))]
 impl<'a> LangTag<'a> {
     ghost use Rattle.langtag_language.specs.Text.{language_text};
     ghost use Rattle.langtag_place.specs.Text.{script_text, region_text, variants_text};

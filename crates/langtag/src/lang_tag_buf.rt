@@ -159,6 +159,7 @@ impl LangTagBuf {
     /// tag.make_recommended_case();
     /// tag.as_str(); // "mn-Cyrl-MN"
     /// ```
+    #[tactic(auto, using(crate::proofs::AlikeFound::ascii_found, crate::proofs::AlikeFound::found_alike, langtag_case::proofs::RecommendedLaws::alike_of_recommended, langtag_case::proofs::RecommendedLaws::alike_recommended, langtag_case::proofs::RecordLaw::spelled_in_case, crate::proofs::KeptFound::alike_kinds, langtag_scan::proofs::CaseLaw::alike_parts))]
     pub fn make_recommended_case(&mut self)
         ensures case { lang_tag_buf_text self.new ≡ recommended_text (lang_tag_buf_text self.old) }
         ensures same_block { SameBlock (string_vec (lang_tag_buf_string self.old)) (string_vec (lang_tag_buf_string self.new)) }

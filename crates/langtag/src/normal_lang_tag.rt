@@ -185,7 +185,7 @@ impl<'a> NormalLangTag<'a> {
     ///
     /// NormalLangTag::new("sl-IT")?.eq_str("SL-it"); // true
     /// ```
-    #[tactic(auto, using(crate::proofs::OrderLaws::normal_ends_first))]
+    #[tactic(auto, using(crate::proofs::OrderLaws::normal_ends_first, crate::proofs::KeptFound::alike_laws))]
     pub fn eq_str(&self, other: &str) -> bool
         ensures test { result ≡ are_alike (normal_lang_tag_text self.now) other.now }
         ensures alike_parts { IsTrue result → EachRecord (normal_lang_tag_text self.now) (λ r. IsSpelledAlike r other.now) }
@@ -221,6 +221,7 @@ impl<'a> NormalLangTag<'a> {
     /// let ends = NormalLangTag::new("sl-IT")?.ends();
     /// (ends.language, ends.script, ends.region, ends.whole); // (2, 2, 5, 5)
     /// ```
+    #[tactic(auto, using(langtag_scan::proofs::SpelledTexts::ends_each, langtag_scan::proofs::SpelledTexts::ends_had))]
     pub fn ends(&self) -> Ends
         ensures { EachRecord (normal_lang_tag_text self.now) (λ r. result ≡ ends_of r) }
     {
@@ -234,6 +235,7 @@ impl<'a> NormalLangTag<'a> {
     ///
     /// NormalLangTag::new("zh-min-Latn-TW")?.language().as_str(); // "zh-min"
     /// ```
+    #[tactic(auto, using(crate::proofs::PartRules::language_rules))]
     pub fn language(&self) -> Language<'a>
         ensures { EachRecord (normal_lang_tag_text self.now) (λ r. language_text result ≡ language_part r) }
     {
@@ -249,6 +251,7 @@ impl<'a> NormalLangTag<'a> {
     /// tag.script().map(|script| script.as_str()); // Some("Latn")
     /// NormalLangTag::new("zh-TW")?.script(); // None
     /// ```
+    #[tactic(auto, using(crate::proofs::PartRules::script_rules))]
     pub fn script(&self) -> Option<Script<'a>>
         ensures { EachRecord (normal_lang_tag_text self.now) (λ r. option_map script_text result ≡ r.script) }
     {
@@ -265,6 +268,7 @@ impl<'a> NormalLangTag<'a> {
     /// tag.region().map(|region| region.as_str()); // Some("TW")
     /// NormalLangTag::new("zh-Latn")?.region(); // None
     /// ```
+    #[tactic(auto, using(crate::proofs::PartRules::region_rules))]
     pub fn region(&self) -> Option<Region<'a>>
         ensures { EachRecord (normal_lang_tag_text self.now) (λ r. option_map region_text result ≡ r.region) }
     {
@@ -280,6 +284,7 @@ impl<'a> NormalLangTag<'a> {
     /// NormalLangTag::new("sl-rozaj-1994")?.variants().as_str(); // "rozaj-1994"
     /// NormalLangTag::new("sl")?.variants().as_str(); // ""
     /// ```
+    #[tactic(auto, using(crate::proofs::PartRules::variants_rules))]
     pub fn variants(&self) -> Variants<'a>
         ensures { EachRecord (normal_lang_tag_text self.now) (λ r. variants_text result ≡ variants_part r) }
     {
@@ -294,6 +299,7 @@ impl<'a> NormalLangTag<'a> {
     /// NormalLangTag::new("en-a-bb-u-co-x-y")?.extensions().as_str(); // "a-bb-u-co"
     /// NormalLangTag::new("en-x-y")?.extensions().as_str(); // ""
     /// ```
+    #[tactic(auto, using(crate::proofs::PartRules::extensions_rules))]
     pub fn extensions(&self) -> Extensions<'a>
         ensures { EachRecord (normal_lang_tag_text self.now) (λ r. extensions_text result ≡ extensions_part r) }
     {
@@ -309,6 +315,7 @@ impl<'a> NormalLangTag<'a> {
     /// tag.private_use().map(|part| part.as_str()); // Some("x-y")
     /// NormalLangTag::new("en-a-bb")?.private_use(); // None
     /// ```
+    #[tactic(auto, using(crate::proofs::PartRules::private_use_rules))]
     pub fn private_use(&self) -> Option<PrivateUse<'a>>
         ensures { EachRecord (normal_lang_tag_text self.now) (λ r. option_map private_use_text result ≡ private_use_part r) }
     {
@@ -348,6 +355,7 @@ impl<'a> NormalLangTag<'a> {
     /// tag.repeated_variant().map(|variant| variant.as_str()); // Some("1996")
     /// NormalLangTag::new("de-1996")?.repeated_variant(); // None
     /// ```
+    #[tactic(auto, using(crate::proofs::RepeatLaws::repeat_laws, langtag_scan::proofs::SpelledTexts::offsets_kept))]
     pub fn repeated_variant(&self) -> Option<Variant<'a>>
         ensures repeated { EachRecord (normal_lang_tag_text self.now) (λ r. option_map variant_text result ≡ repeat are_alike r.variants) }
         ensures first { (variants : List (List ℕ)) → IsFirstRepeat are_alike variants (repeat are_alike variants) }
@@ -364,6 +372,7 @@ impl<'a> NormalLangTag<'a> {
     ///
     /// NormalLangTag::new("de-1996-1996")?.repeated_variant_index(); // Some(1)
     /// ```
+    #[tactic(auto, using(crate::proofs::RepeatLaws::repeat_laws, langtag_scan::proofs::SpelledTexts::offsets_kept))]
     pub fn repeated_variant_index(&self) -> Option<usize>
         ensures repeated { EachRecord (normal_lang_tag_text self.now) (λ r. result ≡ repeat_index are_alike r.variants) }
         ensures first { (variants : List (List ℕ)) → IsFirstRepeatAt are_alike variants (repeat_index are_alike variants) }
@@ -382,6 +391,7 @@ impl<'a> NormalLangTag<'a> {
     /// let tag = NormalLangTag::new("fr-a-bb-A-cc")?;
     /// tag.repeated_singleton().map(|singleton| singleton.unwrap()); // Some(b'A')
     /// ```
+    #[tactic(auto, using(crate::proofs::RepeatLaws::repeat_laws, langtag_scan::proofs::SpelledTexts::offsets_kept))]
     pub fn repeated_singleton(&self) -> Option<Singleton>
         ensures repeated { EachRecord (normal_lang_tag_text self.now) (λ r.
             option_map singleton_byte result ≡ repeat are_alike_bytes (map (λ e. e.singleton) r.extensions)) }
@@ -399,6 +409,7 @@ impl<'a> NormalLangTag<'a> {
     ///
     /// NormalLangTag::new("fr-a-bb-A-cc")?.repeated_singleton_index(); // Some(1)
     /// ```
+    #[tactic(auto, using(crate::proofs::RepeatLaws::repeat_laws, langtag_scan::proofs::SpelledTexts::offsets_kept))]
     pub fn repeated_singleton_index(&self) -> Option<usize>
         ensures repeated { EachRecord (normal_lang_tag_text self.now) (λ r.
             result ≡ repeat_index are_alike_bytes (map (λ e. e.singleton) r.extensions)) }

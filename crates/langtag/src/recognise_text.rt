@@ -13,6 +13,7 @@ use langtag_scan::{Ends, Found, Metered, recognise};
 ///
 /// Every constructor that parses a tag calls this function. It is inlined, since the recogniser is only one short loop.
 #[inline(always)]
+#[tactic(auto, using(crate::proofs::KeptFound::irregular_found))]
 pub(crate) fn recognise_bytes(bytes: &[u8]) -> Option<Recognised>
     ensures { MatchOption result (IsTag bytes.now → ⊥) (λ found. IsFoundOf bytes.now (finding_of found)) }
 {
@@ -41,6 +42,7 @@ pub(crate) fn recognise_text(text: &str) -> Option<Recognised>
 }
 
 /// Returns where the parts of a normal tag end, or `None` if the text is not a normal tag.
+#[tactic(auto, using(langtag_scan::proofs::FoundLaws::found_ends, langtag_scan::proofs::TagLaws::tag_normal))]
 pub(crate) fn normal_ends(text: &str) -> Option<Ends>
     ensures { MatchOption result (IsNormal text.now → ⊥) (λ ends. HasEnds text.now ends) }
 {

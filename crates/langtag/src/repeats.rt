@@ -30,6 +30,7 @@ pub(crate) fn first_repeated_variant(variants: Variants<'_>) -> Option<usize>
 }
 
 /// Returns what [`first_repeated_variant`] returns, by comparing each variant with the variants before it.
+#[tactic(auto, using(crate::proofs::RepeatLaws::few_steps))]
 fn first_repeated_of_few(variants: Variants<'_>) -> Option<usize>
     requires few { length (variants_text variants) ≤ 143 }
     ensures { result ≡ repeat_index are_alike (subtags (variants_text variants.entry)) }

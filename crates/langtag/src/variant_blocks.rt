@@ -108,6 +108,7 @@ fn place_of(number: u64, block: &[u64]) -> usize
 }
 
 /// Returns the number that [`folded_number`] gives for a variant, which has at most eight bytes.
+#[tactic(auto, using(langtag_scan::proofs::SubtagFacts::of_variant))]
 fn number_of(variant: Variant<'_>) -> u64
     ensures { result ≡ folded_number (variant_text variant.entry) }
 {

@@ -24,13 +24,6 @@ cased-none : (s : List ℕ) → cased 0 s ≡ fold_text s
 cased-none [] = refl
 cased-none (b ∷ s) = ap (λ t. fold_byte b ∷ t) (cased-none s)
 
--- two bytes
-cased-two : (s : List ℕ) → length s ≡ 2 → by_length s ≡ cased 2 s
-cased-two [] two = absurd (omega (arith, two))
-cased-two (a ∷ []) two = absurd (omega (arith, two))
-cased-two (a ∷ b ∷ []) two = refl
-cased-two (a ∷ b ∷ c ∷ s) two = absurd (omega (arith, two))
-
 -- ---- a piece
 
 -- what stands after a subtag: nothing, or a hyphen and others
@@ -109,7 +102,7 @@ module _ (text : List ℕ) (end : ℕ) (within : end ≤ length text) (free : No
 
   -- of two bytes
   pub piece-two : end ≡ 2 → BeginsWith text 2 2 (later_text text) × BeginsWith text 2 0 (recommended_text text)
-  piece-two two = grind (arith, common_steps, piece-many 2, cased-two s (size ∙ two), size)
+  piece-two two = grind (arith, common_steps, piece-many 2, size)
 
   -- of four bytes
   pub piece-four : end ≡ 4 → BeginsWith text 4 1 (later_text text) × BeginsWith text 4 0 (recommended_text text)

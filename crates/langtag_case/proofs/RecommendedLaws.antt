@@ -54,10 +54,6 @@ by_length-fold s = rw (length-fold s, map-same to_ascii_uppercase fold_byte to_a
 fold-cond : (v : Bool) (a b s : List ℕ) → fold_text a ≡ fold_text s → fold_text b ≡ fold_text s → fold_text (cond v a b) ≡ fold_text s
 fold-cond v a b s h k = grind (arith, common_steps)
 
--- so does the case by length
-fold-by_length : (s : List ℕ) → fold_text (by_length s) ≡ fold_text s
-fold-by_length s = grind (arith, common_steps, fold-cond, map-same, fold-upper, fold_text-twice)
-
 -- the fold is as long
 single-fold : (s : List ℕ) → is_single (fold_text s) ≡ is_single s
 single-fold s = ap (λ n. n == 1) (length-fold s)
@@ -73,7 +69,7 @@ recommended_subtag-fold before s = grind (arith, common_steps, length-map before
 
 -- and folds as it did
 fold-recommended_subtag : (before : List (List ℕ)) (s : List ℕ) → fold_text (recommended_subtag before s) ≡ fold_text s
-fold-recommended_subtag before s = fold-cond ((length before == 0) || list_any is_single before) _ _ s (fold_text-twice s) (fold-by_length s)
+fold-recommended_subtag before s = grind (arith, common_steps, fold-cond, fold_text-twice, map-same, fold-upper)
 
 -- ---- lists of subtags
 

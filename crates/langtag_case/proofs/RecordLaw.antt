@@ -84,13 +84,6 @@ module _ (test : List ℕ → Bool) (put : List ℕ → List ℕ) (cases : (s : 
   one-cased : (o : Option (List ℕ)) (us : List (List ℕ)) → IfSome o (λ s. IsTrue (test s)) → later (one_flat o ++ us) ≡ one_flat (option_map put o) ++ later us
   one-cased o us fits = grind (arith, common_steps, part-cased)
 
--- extensions and the private use part, folded
-tail-fold :
-    (es : List Extension) (p : Option PrivateUse) →
-    map fold_text (flat_map extension_flat es ++ private_part_flat p)
-    ≡ flat_map extension_flat (map fold_extension es) ++ private_part_flat (option_map fold_private_use p)
-tail-fold es p = simp (map-append, extensions-fold, private_part-fold)
-
 -- the first of them begins with a singleton, after which all is small
 tail-cased :
     (es : List Extension) (p : Option PrivateUse) →
@@ -98,7 +91,7 @@ tail-cased :
     ≡ flat_map extension_flat (map fold_extension es) ++ private_part_flat (option_map fold_private_use p)
 tail-cased [] None = refl
 tail-cased [] (Some p) = refl
-tail-cased (e ∷ es) p = tail-fold (e ∷ es) p
+tail-cased (e ∷ es) p = grind (arith, common_steps, map-append, extensions-fold, private_part-fold)
 
 -- ---- the law
 

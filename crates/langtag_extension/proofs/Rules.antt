@@ -17,13 +17,10 @@ use Rattle.langtag_extension.proofs.Joins.{join-group_texts, join-spellings}
 
 -- ---- one extension
 
-extension_subtag_long : (s : List ℕ) → is_extension_subtag s ≡ true → (2 ≤ length s) × (length s ≤ 8) × (are_alphanumeric s ≡ true)
-unfolding is_extension_subtag
-extension_subtag_long s h = grind (arith, common_steps, and_parts (has_length 2 8 s) (are_alphanumeric s) h, between_true 2 8 (length s))
-
 -- no subtag after the singleton opens an extension
 goes_on-extension_subtag : (s : List ℕ) → is_extension_subtag s ≡ true → goes_on s ≡ true
-goes_on-extension_subtag s h = let k = extension_subtag_long s h in grind (arith, common_steps)
+unfolding is_extension_subtag
+goes_on-extension_subtag s h = grind (arith, common_steps, and_parts, between_true)
 
 goes_on-each : (ss : List (List ℕ)) → AllByRecursion (λ s. IsTrue (is_extension_subtag s)) ss → list_all goes_on ss ≡ true
 goes_on-each [] fits = refl
@@ -62,13 +59,9 @@ IsExtension-decided text answer tested = grind (arith, common_steps, IsExtension
 -- the steps from the one to the other
 pub ruleset extension_rules = (IsExtension-from_test, is_extension_text-from_rule, IsExtension-decided)
 
--- the subtags after the singleton
-are_extension_subtags-after : (ss : List (List ℕ)) → is_extension_list ss ≡ true → are_extension_subtags (drop 1 ss) ≡ true
-are_extension_subtags-after ss pass = grind (arith, common_steps, and_parts)
-
 -- they are subtags of an extension
 pub are_extension_subtags-from_test : (text : List ℕ) → IsTrue (is_extension_text text) → IsTrue (are_extension_subtags (drop 1 (subtags text)))
-are_extension_subtags-from_test text pass = are_extension_subtags-after (subtags text) pass
+are_extension_subtags-from_test text pass = grind (arith, common_steps, and_parts)
 
 -- what stands after the singleton
 pub ruleset after_singleton = (are_extension_subtags-from_test, length-after_first)

@@ -12,14 +12,10 @@ use Rattle.langtag_scan.proofs.SubtagFacts.{singleton_alphanumeric}
 pub singleton_below : (b : ℕ) → is_singleton b ≡ true → b < 128
 singleton_below b h = alphanumeric_below b (singleton_alphanumeric b h)
 
--- and no greater number is one
-pub is_singleton_above : (b : ℕ) → 128 ≤ b → is_singleton b ≡ false
-is_singleton_above b above = false_from_ne_true (is_singleton b) (λ h. let below = singleton_below b h in omega arith)
-
 -- a singleton is written as its one byte
 pub encode_singleton : (b : ℕ) → is_singleton b ≡ true → encode_utf8 b ≡ b ∷ []
 encode_singleton b h = encode_ascii b (singleton_below b h)
 
 -- a character that is not ASCII is no singleton
 pub singleton_is_ascii : (b : ℕ) → is_ascii b ≡ false → is_singleton b ≡ false
-singleton_is_ascii b h = is_singleton_above b (grind (arith, common_steps))
+singleton_is_ascii b h = grind (arith, common_steps, false_from_ne_true, singleton_below)

@@ -34,15 +34,11 @@ list_all-next_subtag text end next below hyphen after within free long before =
     let goes : list_all goes_on (part ∷ []) ≡ true = grind (arith, common_steps) in
     rw (cut, slice_split-push (take end text) part kept, drop-append-le 1 parts (part ∷ []) (omega (arith, length-slice_split is_hyphen (take end text))), list_all-append goes_on (drop 1 parts) (part ∷ []), before) goes
 
--- before an opening subtag a group ends
-put_first-opened : (parts : List (List ℕ)) → opens parts ≡ true → (p : List ℕ) → put_first p (groups parts) ≡ (p ∷ []) ∷ groups parts
-put_first-opened parts opened p = grind (arith, common_steps)
-
 -- a subtag, those that go on with it, and others from one that opens
 pub groups-first :
     (p : List ℕ) (prefix rest : List (List ℕ)) → list_all goes_on prefix ≡ true → opens rest ≡ true →
     groups (p ∷ prefix ++ rest) ≡ (p ∷ prefix) ∷ groups rest
-groups-first p [] rest long opened = put_first-opened rest opened p
+groups-first p [] rest long opened = grind (arith, common_steps)
 groups-first p (f ∷ prefix) rest long opened = grind (arith, common_steps, groups-first f prefix rest)
 
 -- the groups of a text that is cut before an opening subtag

@@ -1,5 +1,5 @@
 -- A language is cut at its first hyphen into its primary subtag and its extension.
-use Rattle.std.proofs.Common.{◌≡◌, ℕ, ◌+◌, ◌<◌, ◌≤◌, true, IsTrue, List, [], ◌∷◌, ◌++◌, length, slice_index, take, drop, get_or, refl, sym, ap, ◌∙◌, arith}
+use Rattle.std.proofs.Common.{◌≡◌, ℕ, ◌+◌, ◌<◌, ◌≤◌, IsTrue, List, [], ◌∷◌, ◌++◌, length, slice_index, take, drop, get_or, refl, sym, ap, ◌∙◌, arith}
 use Rattle.std.specs.List.{slice_range}
 use Rattle.std.proofs.lemmas.List.{take-append-drop, drop_more}
 use Rattle.std.proofs.lemmas.List.Splits.{slice_split_none, slice_split_at, length-slice_split}
@@ -8,7 +8,7 @@ use Rattle.std.proofs.lemmas.Grind.{common_steps}
 use Rattle.langtag_scan.specs.Class.{is_primary, is_extended}
 use Rattle.langtag_scan.specs.Subtags.{is_hyphen, segments, subtags, NoHyphenWithin, IsHyphenFree}
 use Rattle.langtag_language.specs.Language.{IsLanguageExtension}
-use Rattle.langtag_language.specs.Decided.{are_language, is_language_extension, is_language}
+use Rattle.langtag_language.specs.Decided.{is_language}
 use Rattle.langtag_language.proofs.Rules.{IsLanguageExtension-from_test}
 
 -- the first subtag ends at the first hyphen
@@ -23,13 +23,6 @@ segments_cut text end below free hyphen =
 
 subtags_some : (text : List ℕ) → IsTrue (is_language text) → subtags text ≡ segments text
 subtags_some text h = grind (arith, common_steps)
-
--- what stands after the primary subtag is an extension
-is_extension_after :
-    (primary rest : List ℕ) → are_language (primary ∷ segments rest) ≡ true →
-    IsTrue (is_language_extension rest) × (segments rest ≡ subtags rest)
-unfolding is_extended
-is_extension_after primary rest h = grind (arith, common_steps, and_parts, length-slice_split, leb-true, le-leb)
 
 -- a language without a hyphen
 pub record IsAlone (text : List ℕ) : Type 0 where
@@ -51,5 +44,5 @@ pub language_cut :
     (text bytes : List ℕ) (end : ℕ) → IsTrue (is_language text) → bytes ≡ text → end ≤ length bytes → NoHyphenWithin bytes 0 end →
     (end < length bytes → slice_index bytes end ≡ 45) → (end ≡ length text → ⊥) →
     IsCut text (slice_range text 0 end) (drop (end + 1) text)
-language_cut text bytes end h same within free hyphen more =
-    grind (arith, common_steps, subtags_some text h, segments_cut text end, is_extension_after, and_parts, IsLanguageExtension-from_test)
+unfolding is_extended
+language_cut text bytes end h same within free hyphen more = grind (arith, common_steps, subtags_some text h, segments_cut text end, length-slice_split, leb-true, le-leb, and_parts, IsLanguageExtension-from_test)

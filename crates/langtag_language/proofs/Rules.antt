@@ -8,7 +8,7 @@ use Rattle.langtag_scan.specs.Subtags.{join, subtags}
 use Rattle.langtag_scan.proofs.SubtagFacts.{of_primary, of_extended}
 use Rattle.langtag_scan.proofs.SubtagLists.{each_from_test, test_from_each, each_subtag, subtags-joined, join-subtags}
 use Rattle.langtag_language.specs.Language.{SpellsLanguageExtension, IsLanguageExtension, SpellsLanguage, IsLanguage}
-use Rattle.langtag_language.specs.Decided.{are_extended, are_language_extension, are_language, is_language_extension, is_language}
+use Rattle.langtag_language.specs.Decided.{are_extended, are_language, is_language_extension, is_language}
 
 -- ---- extlang
 
@@ -16,16 +16,9 @@ use Rattle.langtag_language.specs.Decided.{are_extended, are_language_extension,
 pub subtags-extension : (extended : List (List ℕ)) (text : List ℕ) → SpellsLanguageExtension extended text → subtags text ≡ extended
 subtags-extension extended text spells = ap subtags (sym spells.joined) ∙ subtags-joined extended (each_subtag is_extended of_extended extended spells.members)
 
-are_language_extension-from_rule : (ss : List (List ℕ)) (text : List ℕ) → SpellsLanguageExtension ss text → are_language_extension ss ≡ true
-are_language_extension-from_rule ss text spells = grind (arith, common_steps, le-leb, test_from_each is_extended)
-
-SpellsLanguageExtension-from_list :
-    (ss : List (List ℕ)) (text : List ℕ) → join ss ≡ text → are_language_extension ss ≡ true → SpellsLanguageExtension ss text
-SpellsLanguageExtension-from_list ss text joined h = grind (arith, common_steps, and_parts, each_from_test is_extended, leb-true)
-
 -- from the test to the rule
 pub SpellsLanguageExtension-from_test : (text : List ℕ) → IsTrue (is_language_extension text) → SpellsLanguageExtension (subtags text) text
-SpellsLanguageExtension-from_test text h = SpellsLanguageExtension-from_list (subtags text) text (join-subtags text) h
+SpellsLanguageExtension-from_test text h = grind (arith, common_steps, join-subtags, and_parts, each_from_test, leb-true)
 
 pub IsLanguageExtension-from_test : (text : List ℕ) → IsTrue (is_language_extension text) → IsLanguageExtension text
 IsLanguageExtension-from_test text h = (subtags text, SpellsLanguageExtension-from_test text h)
@@ -36,7 +29,7 @@ are_extended-from_test text h = test_from_each is_extended (subtags text) (Spell
 
 -- and back
 pub is_language_extension-from_rule : (text : List ℕ) → IsLanguageExtension text → IsTrue (is_language_extension text)
-is_language_extension-from_rule text r = ap are_language_extension (subtags-extension r.0 text r.1) ∙ are_language_extension-from_rule r.0 text r.1
+is_language_extension-from_rule text r = grind (arith, common_steps, subtags-extension, le-leb, test_from_each)
 
 -- both ways, of an answer that is the test
 pub IsLanguageExtension-decided : (text : List ℕ) (answer : Bool) → answer ≡ is_language_extension text → IsTrue answer ↔ IsLanguageExtension text
@@ -57,11 +50,6 @@ pub subtags-language :
 subtags-language primary extended text spells =
     ap subtags (sym spells.joined) ∙ subtags-joined (primary ∷ extended) (of_primary primary spells.first, each_subtag is_extended of_extended extended spells.others)
 
-are_language-from_rule :
-    (primary : List ℕ) (extended : List (List ℕ)) (text : List ℕ) → SpellsLanguage primary extended text →
-    are_language (primary ∷ extended) ≡ true
-are_language-from_rule primary extended text spells = grind (arith, common_steps, test_from_each, le-leb)
-
 IsLanguage-from_list : (ss : List (List ℕ)) (text : List ℕ) → join ss ≡ text → are_language ss ≡ true → IsLanguage text
 IsLanguage-from_list ss text joined h = grind (arith, common_steps, and_parts, each_from_test is_extended, leb-true, nil_from_length)
 
@@ -71,7 +59,7 @@ IsLanguage-from_test text h = IsLanguage-from_list (subtags text) text (join-sub
 
 -- and back
 pub is_language-from_rule : (text : List ℕ) → IsLanguage text → IsTrue (is_language text)
-is_language-from_rule text r = ap are_language (subtags-language r.0 r.1 text r.2) ∙ are_language-from_rule r.0 r.1 text r.2
+is_language-from_rule text r = grind (arith, common_steps, subtags-language, test_from_each, le-leb)
 
 -- both ways, of an answer that is the test
 pub IsLanguage-decided : (text : List ℕ) (answer : Bool) → answer ≡ is_language text → IsTrue answer ↔ IsLanguage text

@@ -19,11 +19,6 @@ subtags-private text p fits joined =
 pub others_spelled : (text : List ℕ) (others : List (List ℕ)) → others ≡ drop 1 (subtags text) → EachPrivateUseSpelling text (λ members. others ≡ members)
 others_spelled text others list p fits joined = list ∙ ap (drop 1) (subtags-private text p fits joined)
 
-are_private_use-from_rule :
-    (mark : ℕ) (ss : List (List ℕ)) → IsWellFormedPrivateUse (record { mark = mark; subtags = ss }) →
-    are_private_use ((mark ∷ []) ∷ ss) ≡ true
-are_private_use-from_rule mark ss fits = grind (arith, common_steps, test_from_each is_private_subtag)
-
 IsPrivate-from_list : (ss : List (List ℕ)) (text : List ℕ) → join ss ≡ text → are_private_use ss ≡ true → IsPrivate text
 unfolding IsPrivate
 IsPrivate-from_list [] text joined h = absurd cc
@@ -41,7 +36,7 @@ IsPrivate-from_test text h = IsPrivate-from_list (subtags text) text (join-subta
 -- and back
 pub is_private_use-from_rule : (text : List ℕ) → IsPrivate text → IsTrue (is_private_use_text text)
 unfolding IsPrivate
-is_private_use-from_rule text r = ap are_private_use (subtags-private text r.0 r.1 r.2) ∙ are_private_use-from_rule r.0.mark r.0.subtags r.1
+is_private_use-from_rule text r = grind (arith, common_steps, subtags-private, test_from_each)
 
 -- both ways, of an answer that is the test
 pub IsPrivate-decided : (text : List ℕ) (answer : Bool) → answer ≡ is_private_use_text text → IsTrue answer ↔ IsPrivate text
@@ -52,12 +47,9 @@ pub ruleset private_rules = (IsPrivate-from_test, is_private_use-from_rule, IsPr
 
 -- ---- the subtags after the mark
 
-are_private-after : (ss : List (List ℕ)) → are_private_use ss ≡ true → are_private (drop 1 ss) ≡ true
-are_private-after ss h = grind (arith, common_steps, and_parts)
-
 -- they are private use subtags
 pub are_private-from_test : (text : List ℕ) → IsTrue (is_private_use_text text) → IsTrue (are_private (drop 1 (subtags text)))
-are_private-from_test text h = are_private-after (subtags text) h
+are_private-from_test text h = grind (arith, common_steps, and_parts)
 
 -- what stands after the mark
 pub ruleset after_mark = (are_private-from_test, length-after_first)

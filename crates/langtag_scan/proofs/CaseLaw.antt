@@ -8,7 +8,7 @@ use Rattle.std.proofs.lemmas.List.{length-map, map-append}
 use Rattle.std.proofs.lemmas.Grind.{common_steps}
 use Rattle.langtag_scan.specs.Case.{fold_byte, fold_text, Alike}
 use Rattle.langtag_scan.specs.AlikeRecords.{fold_extension, fold_private_use, fold_record, AlikeRecords, IsSpelledAlike}
-use Rattle.langtag_scan.specs.Class.{is_letter, is_digit, is_alphanumeric, starts_with_digit, is_primary, is_extended, is_script, is_region, is_variant, is_extension_subtag, is_private_subtag, is_mark, is_singleton}
+use Rattle.langtag_scan.specs.Class.{is_letter, is_digit, is_alphanumeric, is_primary, is_extended, is_script, is_region, is_variant, is_extension_subtag, is_private_subtag, is_mark, is_singleton}
 use Rattle.langtag_scan.specs.Ends.{ends_of}
 use Rattle.langtag_scan.specs.Record.{Extension, PrivateUse, Record, IsWellFormedExtension, IsWellFormedPrivateUse, IsWellFormed, extension_flat, one_flat, private_part_flat, flat, spell, EachRecord}
 use Rattle.langtag_scan.specs.Stage.{Stage, Start, Classes, is_one, classes_of, next_stage}
@@ -52,10 +52,6 @@ hyphen-fold b = grind (arith, nat_tests)
 is_alphanumeric-fold : (b : ℕ) → is_alphanumeric (fold_byte b) ≡ is_alphanumeric b
 is_alphanumeric-fold b = rw (is_letter-fold b, is_digit-fold b) refl
 
-is_singleton-fold : (b : ℕ) → is_singleton (fold_byte b) ≡ is_singleton b
-unfolding is_singleton
-is_singleton-fold b = rw (is_alphanumeric-fold b, is_mark-fold b) refl
-
 -- ---- the classes of subtags
 
 -- the fold of a text has as many bytes
@@ -71,14 +67,10 @@ module _ (p : ℕ → Bool) (same : (b : ℕ) → p (fold_byte b) ≡ p b) where
   is_one-fold : (s : List ℕ) → is_one p (fold_text s) ≡ is_one p s
   is_one-fold s = grind (arith, common_steps)
 
-starts_with_digit-fold : (s : List ℕ) → starts_with_digit (fold_text s) ≡ starts_with_digit s
-starts_with_digit-fold s = grind (arith, common_steps, is_digit-fold)
-
 -- a subtag and its fold are of the same classes
 pub classes-fold : (s : List ℕ) → classes_of (fold_text s) ≡ classes_of s
-unfolding is_primary is_extended is_script is_region is_variant is_extension_subtag is_private_subtag
-classes-fold s =
-    simp (all-fold, is_letter-fold, is_digit-fold, is_alphanumeric-fold, length-fold, starts_with_digit-fold, is_one-fold, is_mark-fold, is_singleton-fold)
+unfolding is_primary is_extended is_script is_region is_variant is_extension_subtag is_private_subtag is_singleton
+classes-fold s = grind (arith, common_steps, all-fold, is_letter-fold, is_digit-fold, is_alphanumeric-fold, length-fold, is_one-fold, is_mark-fold)
 
 -- so the fold is of a class where the subtag is
 abbrev IsOf : (Classes → Bool) → List ℕ → Type 0

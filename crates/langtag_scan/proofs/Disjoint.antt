@@ -4,17 +4,13 @@ use Rattle.std.proofs.lemmas.Bool.{eqb-true, and_parts}
 use Rattle.std.specs.Prelude.{⊤}
 use Rattle.std.proofs.lemmas.Bool.Decides.{nat_tests}
 use Rattle.std.proofs.lemmas.Grind.{common_steps}
-use Rattle.langtag_scan.specs.Class.{is_letter, is_digit, are_letters, are_digits, are_alphanumeric, starts_with_digit, is_extended, is_script, is_region, is_variant, is_extension_subtag, is_mark, is_singleton}
+use Rattle.langtag_scan.specs.Class.{is_letter, is_digit, are_letters, are_digits, are_alphanumeric, starts_with_digit, is_extended, is_script, is_region, is_variant, is_extension_subtag, is_singleton}
 use Rattle.langtag_scan.specs.Stage.{Stage, AfterScript, AfterRegion, AfterVariant, AfterSingleton, AfterMark, Classes, classes_of, next_stage}
 use Rattle.langtag_scan.proofs.Steps.{leads_to, may_follow}
 
 pub letter_no_digit : (b : ℕ) → is_letter b ≡ true → is_digit b ≡ true → ⊥
 unfolding is_letter is_digit
 letter_no_digit b l d = grind (arith, nat_tests)
-
-pub singleton_no_mark : (b : ℕ) → is_singleton b ≡ true → is_mark b ≡ false
-unfolding is_singleton
-singleton_no_mark b h = grind (arith, nat_tests)
 
 pub extended_three : (s : List ℕ) → is_extended s ≡ true → (length s ≡ 3) × (are_letters s ≡ true)
 unfolding is_extended
@@ -41,27 +37,9 @@ variant_long s h = grind (arith, nat_tests)
 pub first_no_digit : (s : List ℕ) → are_letters s ≡ true → starts_with_digit s ≡ true → ⊥
 first_no_digit s l d = grind (arith, common_steps, and_parts, letter_no_digit)
 
-pub digits_begin : (s : List ℕ) → 1 ≤ length s → are_digits s ≡ true → starts_with_digit s ≡ true
-digits_begin s n d = grind (arith, common_steps, and_parts)
-
-abbrev IsOfNoPart : Classes → Type 0
-IsOfNoPart c = (c.extended ≡ false) × (c.script ≡ false) × (c.region ≡ false) × (c.variant ≡ false) × (c.extension_subtag ≡ false)
-
--- none of the classes that are tested before that of a stage
-abbrev IsFirst : Stage → Classes → Type 0
-IsFirst AfterScript c = c.extended ≡ false
-IsFirst AfterRegion c = (c.extended ≡ false) × (c.script ≡ false)
-IsFirst AfterVariant c = (c.extended ≡ false) × (c.script ≡ false) × (c.region ≡ false)
-IsFirst AfterMark c = IsOfNoPart c
-IsFirst AfterSingleton c = IsOfNoPart c × (c.mark ≡ false)
-IsFirst _ c = ⊤
-
-pub first_class : (after : Stage) (s : List ℕ) → leads_to after (classes_of s) ≡ true → IsFirst after (classes_of s)
-unfolding is_extended is_script is_region is_variant is_extension_subtag
-first_class after s h = grind (arith, common_steps, nat_tests, first_no_digit s, digits_begin s, singleton_no_mark)
-
--- so a subtag of the class of a stage leads there, where the stage may follow
+-- a subtag of the class of a stage leads there, where the stage may follow
 pub reached :
     (stage after : Stage) (s : List ℕ) → may_follow stage after ≡ true → leads_to after (classes_of s) ≡ true →
     next_stage stage s ≡ Some after
-reached stage after s follows class = let first = first_class after s class in grind (arith, nat_tests, follows, class, first)
+unfolding is_extended is_script is_region is_variant is_extension_subtag is_singleton
+reached stage after s follows class = grind (arith, common_steps, first_no_digit, and_parts)

@@ -5,7 +5,7 @@ use Rattle.std.proofs.lemmas.List.{map-append, take-append-drop, length-map, tak
 use Rattle.std.proofs.Math.Seq.{take-append_seam}
 use Rattle.std.proofs.lemmas.Grind.{common_steps}
 use Rattle.langtag_scan.specs.Tag.{IsIrregular, IsIrregularAt, IsTag}
-use Rattle.langtag_scan.specs.Viable.{IsViable, IsIrregularPrefix, filling, fill}
+use Rattle.langtag_scan.specs.Viable.{IsViable, IsIrregularPrefix, fill}
 use Rattle.langtag_scan.specs.Stage.{Stage, Start, after_stage}
 use Rattle.langtag_scan.specs.Subtags.{is_hyphen, segments}
 use Rattle.langtag_scan.specs.Machine.{outcome_of, IsRefused, all_at, end_at}
@@ -106,8 +106,5 @@ fill_from_viable p (u, inl normal) = inl (filled_tag p u (λ refused. refused.no
 fill_from_viable p (u, inr (inl private)) = inl (filled_tag p u (λ refused. refused.not_private private))
 fill_from_viable p (u, inr (inr (k, irregular))) = inr (prefix_from_irregular p u k irregular)
 
-viable_from_fill : (p : List ℕ) → IsTag (fill p) ⊎ IsIrregularPrefix p → IsViable p
-viable_from_fill p h = grind (arith, common_steps, viable_from_tag p (filling (begun p)), irregular_from_prefix p)
-
 pub viable_fill : (p : List ℕ) → IsViable p ↔ (IsTag (fill p) ⊎ IsIrregularPrefix p)
-viable_fill p = (fill_from_viable p, viable_from_fill p)
+viable_fill p = grind (arith, common_steps, fill_from_viable, viable_from_tag, irregular_from_prefix)

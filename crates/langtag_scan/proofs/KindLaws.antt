@@ -5,7 +5,7 @@ use Rattle.std.specs.Prelude.{fold}
 use Rattle.std.proofs.lemmas.Bool.{le-leb, and_parts, false_from_ne_true, both_ways}
 use Rattle.std.proofs.lemmas.Bool.Decides.{nat_tests}
 use Rattle.std.proofs.lemmas.Grind.{common_steps}
-use Rattle.langtag_scan.specs.Class.{is_letter, is_digit, is_alphanumeric, are_letters, are_digits, are_alphanumeric, starts_with_digit, is_primary, is_extended, is_script, is_region, is_variant, is_extension_subtag, is_private_subtag, is_mark, is_singleton}
+use Rattle.langtag_scan.specs.Class.{is_letter, is_digit, is_alphanumeric, are_letters, are_digits, are_alphanumeric, is_primary, is_extended, is_script, is_region, is_variant, is_extension_subtag, is_private_subtag, is_mark, is_singleton}
 use Rattle.langtag_scan.specs.Kind.{Kind, Empty, kind_after, kind_of, has_letters, has_digits, begins_with_digit, is_kind_of_mark, classes_by}
 use Rattle.langtag_scan.specs.Stage.{is_one, classes_of}
 use Rattle.langtag_scan.proofs.Disjoint.{letter_no_digit}
@@ -52,9 +52,6 @@ begins-kind : (s : List ℕ) (kind : Kind) → is_some_kind kind ≡ true → be
 begins-kind [] kind some = refl
 begins-kind (b ∷ s) kind some = begins-kind s (kind_after kind b) (some_after kind b) ∙ begins-after kind b some
 
-starts-kind : (s : List ℕ) → are_alphanumeric s ≡ true → starts_with_digit s ≡ begins_with_digit (kind_of s)
-starts-kind s h = grind (arith, common_steps, and_parts, digit-letter, begins-kind, some_after, nat_tests)
-
 not_one : (n : ℕ) (v : Bool) → (eqb (suc (suc n)) 1 && v) ≡ false
 not_one n v = rw (ne_eqb (suc (suc n)) 1 (λ e. omega arith)) refl
 
@@ -67,7 +64,7 @@ singleton-kind s h = grind (arith, common_steps, and_parts, one_mark, not_one (l
 
 pub classes_of-kind : (s : List ℕ) → length s ≤ 8 → are_alphanumeric s ≡ true → classes_of s ≡ classes_by (kind_of s) (length s)
 unfolding is_primary is_extended is_script is_region is_variant is_extension_subtag is_private_subtag
-classes_of-kind s short h = grind (arith, common_steps, letters-kind, digits-kind, starts-kind, singleton-kind, le-leb, and-true, one_mark, not_one)
+classes_of-kind s short h = grind (arith, common_steps, letters-kind, digits-kind, and_parts, digit-letter, begins-kind, some_after, singleton-kind, le-leb, and-true, one_mark, not_one)
 
 -- letters alone
 pub letters-kind_of : (s : List ℕ) → are_letters s ≡ has_letters (kind_of s)

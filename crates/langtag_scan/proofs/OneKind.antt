@@ -1,5 +1,5 @@
 -- No text is of two of the three cases of a tag.
-use Rattle.std.proofs.Common.{◌≡◌, ℕ, ◌<◌, Bool, true, false, List, map, refl, arith}
+use Rattle.std.proofs.Common.{◌≡◌, ℕ, ◌<◌, Bool, false, List, map, refl, arith}
 use Rattle.std.proofs.lemmas.Bool.{agree_below_at, both_ways}
 use Rattle.std.proofs.lemmas.Grind.{common_steps}
 use Rattle.langtag_scan.specs.Case.{fold_byte, fold_text}
@@ -15,14 +15,10 @@ use Rattle.langtag_scan.proofs.CaseLaw.{runs-fold, runs_private-fold, segments_t
 use Rattle.langtag_scan.proofs.IrregularTexts.{irregular_fold}
 use Rattle.langtag_scan.proofs.Runs.{runs}
 
--- no subtags are those of a normal text and of a private one
-runs_once : (ss : List (List ℕ)) → runs Start ss ≡ true → runs_private ss ≡ true → ⊥
-unfolding runs
-runs_once ss normal private = grind (arith, common_steps, one_no_primary)
-
 -- no normal text is private
 pub normal_no_private : (t : List ℕ) → IsNormal t → IsPrivate t → ⊥
-normal_no_private t normal private = runs_once (segments t) (runs_from_normal t normal) (runs_from_private t private)
+unfolding runs
+normal_no_private t normal private = grind (arith, common_steps, runs_from_normal, runs_from_private, one_no_primary)
 
 -- where the fold changes nothing of a test of lists of subtags, and no text of the table passes it, no irregular text does
 irregular_fails :

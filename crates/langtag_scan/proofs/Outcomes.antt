@@ -1,5 +1,5 @@
 -- What the stages find of a text is what it is: a normal tag with the ends of its parts, a private use tag, or neither.
-use Rattle.std.proofs.Common.{◌≡◌, ℕ, Bool, true, false, cond, leb, List, [], ◌∷◌, length, Some, None, refl, sym, ap, subst, arith, ◌∙◌}
+use Rattle.std.proofs.Common.{◌≡◌, ℕ, Bool, true, false, cond, List, [], ◌∷◌, Some, None, refl, sym, ap, subst, arith, ◌∙◌}
 use Rattle.std.specs.Prelude.{Option, MatchOption}
 use Rattle.std.specs.Option.{option_map_or}
 use Rattle.std.proofs.lemmas.Bool.{both_ways}
@@ -7,8 +7,8 @@ use Rattle.std.proofs.lemmas.Grind.{common_steps}
 use Rattle.langtag_scan.specs.Class.{is_primary, is_mark}
 use Rattle.langtag_scan.specs.Ends.{HasEnds}
 use Rattle.langtag_scan.specs.Found.{IsFoundOf}
-use Rattle.langtag_scan.specs.Machine.{all_at, end_at, index_after, found_by, outcome, outcome_of, IsRefused}
-use Rattle.langtag_scan.specs.Stage.{Stage, Start, Language, InPrivate, AfterMark, AfterFirstMark, InPrivateTag, is_one, may_end, next_stage}
+use Rattle.langtag_scan.specs.Machine.{all_at, end_at, index_after, outcome, outcome_of, IsRefused}
+use Rattle.langtag_scan.specs.Stage.{Stage, Start, InPrivate, AfterMark, AfterFirstMark, InPrivateTag, is_one, next_stage}
 use Rattle.langtag_scan.specs.Subtags.{segments}
 use Rattle.langtag_scan.specs.Tag.{IsNormal}
 use Rattle.langtag_scan.specs.declared.ends.Ends.{Ends}
@@ -27,10 +27,6 @@ use Rattle.langtag_scan.proofs.Runs.{runs, ends_after}
 abbrev found_if : Bool → Finding → Option Finding
 found_if run f = cond run (Some f) None
 
-found-inside : (stage : Stage) (e : Ends) → is_outside stage ≡ false → found_by stage e ≡ Normal e
-unfolding is_outside
-found-inside stage e inside = grind (arith, common_steps)
-
 one_more :
     (found : Stage → Option Finding) (run : Stage → Bool) (ends : Stage → Ends) (e : Ends) (o : Option Stage) →
     ((after : Stage) → o ≡ Some after → found after ≡ found_if (run after) (Normal (ends after))) →
@@ -41,8 +37,8 @@ one_more found run ends e o same = grind (arith, common_steps)
 normal_outcome :
     (ss : List (List ℕ)) (stage : Stage) (e : Ends) → is_outside stage ≡ false →
     outcome stage e ss ≡ found_if (runs stage ss) (Normal (ends_after stage e ss))
-unfolding outcome runs ends_after
-normal_outcome [] stage e inside = ap (found_if (may_end stage)) (found-inside stage e inside)
+unfolding outcome runs ends_after is_outside
+normal_outcome [] stage e inside = grind (arith, common_steps)
 normal_outcome (s ∷ ss) stage e inside =
     ap (found_after e (index_after stage e s) ss) (after-inside stage s inside)
     ∙ one_more (λ after. outcome after (end_at after (index_after stage e s) e) ss) (λ after. runs after ss) (λ after. ends_after after (end_at after (index_after stage e s) e) ss) e (next_stage stage s)
@@ -60,23 +56,12 @@ marked_outcome (s ∷ ss) e = private_outcome (s ∷ ss) e
 
 -- ---- the whole text: its first subtag says which rule it follows
 
-primary_outcome :
-    (s : List ℕ) (ss : List (List ℕ)) (e : Ends) → is_primary s ≡ true →
-    outcome Start e (s ∷ ss) ≡ found_if (runs Start (s ∷ ss)) (Normal (ends_after Start e (s ∷ ss)))
-unfolding outcome runs ends_after is_outside
-primary_outcome s ss e primary = rw primary (normal_outcome ss (Language (cond (leb (length s) 3) 0 3)) _ refl)
-
 other_outcome :
     (s : List ℕ) (ss : List (List ℕ)) (e : Ends) → is_primary s ≡ false → outcome Start e (s ∷ ss) ≡ found_if (runs_private (s ∷ ss)) PrivateUse
 unfolding outcome
 other_outcome s ss e other = grind (arith, common_steps, marked_outcome)
 
 -- ---- what the rules say of the text
-
--- where a normal tag may end, the ends are those of the record
-found_with : (t : List ℕ) → IsNormal t → IsFoundOf t (Normal (ends_after Start (all_at 0) (segments t)))
-unfolding IsNormal HasEnds
-found_with t n = grind (arith, common_steps, spelled_segments n.0 n.1.0, ends_after-flat n.0 n.1.0)
 
 primary_unmarked : (s : List ℕ) → is_primary s ≡ true → is_one is_mark s ≡ false
 primary_unmarked s h = grind (arith, common_steps, one_no_primary)
@@ -90,13 +75,14 @@ abbrev pub Decides : List ℕ → Option Finding → Type 0
 Decides t found = MatchOption found (IsRefused t) (λ f. IsFoundOf t f)
 
 by_rules : (t s : List ℕ) (ss : List (List ℕ)) → segments t ≡ s ∷ ss → outcome_of t ≡ found_of t (runs Start (segments t)) (runs_private (segments t))
-unfolding runs
-by_rules t s ss at = grind (arith, common_steps, primary_outcome, primary_unmarked, other_outcome)
+unfolding runs outcome ends_after is_outside
+by_rules t s ss at = grind (arith, common_steps, normal_outcome, primary_unmarked, other_outcome)
 
 decides :
     (t : List ℕ) (normal private : Bool) → runs Start (segments t) ≡ normal → runs_private (segments t) ≡ private →
     Decides t (found_of t normal private)
-decides t normal private n p = grind (arith, common_steps, found_with, normal_from_runs, private_from_runs, both_ways, runs_from_normal, runs_from_private)
+unfolding IsNormal HasEnds
+decides t normal private n p = grind (arith, common_steps, spelled_segments, ends_after-flat, normal_from_runs, private_from_runs, both_ways, runs_from_normal, runs_from_private)
 
 -- ---- the law
 

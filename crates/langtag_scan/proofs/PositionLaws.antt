@@ -87,12 +87,6 @@ place_before_within o = grind (arith, common_steps)
 pub tracks_nothing : Tracks [] (replicate 6 0) (Some (fresh Start))
 tracks_nothing = grind (arith, common_steps, reads_nothing, empty_begun Start)
 
-pub stopped-append : (p u : List ℕ) → HasStopped p → HasStopped (p ++ u)
-stopped-append p u stopped = record {
-  not_normal = λ v normal. stopped.not_normal (u ++ v) (rw append_assoc at normal);
-  not_private = λ v private. stopped.not_private (u ++ v) (rw append_assoc at private);
-}
-
 module _ (q places : List ℕ) (s : Begun) (known : IsTracked q places s) where
   -- the stage after the subtag follows from what is known of it
   pub stage_is : stage_after s ≡ after_stage s.stage known.bytes
@@ -145,7 +139,7 @@ module _ (q places : List ℕ) (s : Begun) (known : IsTracked q places s) where
 
 -- one byte more
 pub tracks_push : (q places : List ℕ) (b : ℕ) (o : Option Begun) → Tracks q places o → Tracks (q ++ b ∷ []) (set places (place_before (option_map_or (begun_after b) o None)) (length q)) (option_map_or (begun_after b) o None)
-tracks_push q places b o known = grind (arith, common_steps, stopped-append q (b ∷ []), by_hyphen q places)
+tracks_push q places b o known = grind (arith, common_steps, append_assoc, by_hyphen q places)
 
 -- ---- the irregular texts
 

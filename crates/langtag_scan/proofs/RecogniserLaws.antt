@@ -1,5 +1,5 @@
 -- What the position after some bytes says of them: whether a tag begins so, and what they are as a whole text.
-use Rattle.std.proofs.Common.{◌≡◌, ℕ, ◌+◌, ◌<◌, Bool, true, false, cond, ◌&&◌, List, [], ◌∷◌, ◌++◌, length, take, get_or, set, Option, Some, None, refl, sym, ap, subst, ◌∙◌, arith, append-nil, inl, inr}
+use Rattle.std.proofs.Common.{◌≡◌, ℕ, ◌+◌, ◌<◌, Bool, true, false, cond, ◌&&◌, List, [], ◌∷◌, ◌++◌, length, take, get_or, set, Option, Some, None, refl, sym, ap, subst, ◌∙◌, arith, append-nil}
 use Rattle.std.specs.List.{position}
 use Rattle.std.specs.Prelude.{replicate}
 use Rattle.std.specs.Option.{option_map_or, is_none}
@@ -39,17 +39,9 @@ viable_possible p k within possible = grind (arith, common_steps, possible_viabl
 pub viable_nothing : IsViable []
 viable_nothing = viable_possible [] 0 (omega arith) refl
 
--- where nothing of the three kinds may follow, no tag begins so
-not_viable : (p : List ℕ) → HasStopped p → ((k : ℕ) → k < 17 → is_possible p k ≡ false) → IsViable p → ⊥
-unfolding IsViable IsTag IsIrregular
-not_viable p stopped gone (u, inl normal) = stopped.not_normal u normal
-not_viable p stopped gone (u, inr (inl private)) = stopped.not_private u private
-not_viable p stopped gone (u, inr (inr (k, irregular))) =
-    let possible = possible_prefix p u k irregular in
-    both_ways (is_possible p k) (gone k possible.0) possible.1
-
 by_dead : (q places : List ℕ) (b : Option Begun) (o : Option (List ℕ)) → Tracks q places b → FollowsIrregular q o → (is_none b && is_none o) ≡ true → IsViable q → ⊥
-by_dead q places b o known follows dead = grind (arith, common_steps, not_viable q)
+unfolding IsViable IsTag IsIrregular
+by_dead q places b o known follows dead = grind (arith, common_steps, possible_prefix, both_ways)
 
 pub dead_not_viable : (q places : List ℕ) → Tracks q places (position_of q).begun → is_dead (position_of q) ≡ true → IsViable q → ⊥
 dead_not_viable q places tracks dead = by_dead q places _ _ tracks (follows_irregular q) dead

@@ -1,5 +1,5 @@
 -- How the stages run over the segments of a text, and what is found where a subtag goes on or ends.
-use Rattle.std.proofs.Common.{◌≡◌, ℕ, ◌<◌, ◌⊎◌, true, false, eqb, List, [], ◌∷◌, ◌++◌, length, Option, Some, None, inl, inr, refl, ap, arith, append_assoc, sym, subst, ◌∙◌}
+use Rattle.std.proofs.Common.{◌≡◌, ℕ, ◌<◌, true, false, eqb, List, [], ◌∷◌, ◌++◌, length, Option, Some, None, refl, ap, arith, append_assoc, sym, subst, ◌∙◌}
 use Rattle.std.proofs.lemmas.Bool.{and_parts}
 use Rattle.std.specs.List.{All, onto_first}
 use Rattle.std.specs.Option.{option_map_or}
@@ -8,9 +8,9 @@ use Rattle.std.proofs.lemmas.List.Elements.{All-from_recursion}
 use Rattle.std.proofs.lemmas.List.Folds.{list_all-append}
 use Rattle.std.proofs.lemmas.List.Splits.{slice_split_none, slice_split_at, slice_split-cons_no, slice_split-cons_yes}
 use Rattle.std.proofs.lemmas.Grind.{common_steps}
-use Rattle.langtag_scan.specs.Class.{is_letter, is_alphanumeric, has_length, are_letters, are_alphanumeric, is_primary, is_mark}
+use Rattle.langtag_scan.specs.Class.{is_letter, is_alphanumeric, are_alphanumeric, is_primary}
 use Rattle.langtag_scan.specs.Subtags.{is_hyphen, segments}
-use Rattle.langtag_scan.specs.Stage.{Stage, Start, is_one, next_stage, after_stage}
+use Rattle.langtag_scan.specs.Stage.{Stage, Start, next_stage, after_stage}
 use Rattle.langtag_scan.specs.Machine.{end_at, index_after, outcome, IsBegun}
 use Rattle.langtag_scan.specs.declared.ends.Ends.{Ends}
 use Rattle.langtag_scan.specs.declared.finding.Finding.{Finding}
@@ -65,17 +65,10 @@ begun_push stage s b held first less h =
 pub begun_parts : (stage : Stage) (s v : List ℕ) → IsBegun stage (s ++ v) → IsBegun stage s × IsBegun stage v
 begun_parts stage s v h = grind (arith, common_steps, length-append, and_parts, list_all-append)
 
--- a first subtag is a primary one or a mark
-pub first_kind : (s : List ℕ) (after : Stage) → after_stage Start s ≡ Some after → (is_primary s ≡ true) ⊎ (is_one is_mark s ≡ true)
-first_kind s after e = grind (arith, common_steps, chosen)
-
-start_letters : (s : List ℕ) (after : Stage) → after_stage Start s ≡ Some after → are_letters s ≡ true
-unfolding is_primary
-start_letters s after e = elim (first_kind s after e) [ inl h ↦ (and_parts (has_length 2 8 s) (are_letters s) h).1 | inr h ↦ mark_letters s h ]
-
 -- a subtag that a tag has
 pub after_begun : (stage after : Stage) (s : List ℕ) → after_stage stage s ≡ Some after → IsBegun stage s
-after_begun stage after s e = grind (arith, common_steps, after_subtag stage s after e, start_letters s after)
+unfolding is_primary
+after_begun stage after s e = grind (arith, common_steps, after_subtag stage s after e, and_parts, mark_letters, chosen)
 
 -- ---- a byte more: where something is found, the subtag goes on with it
 

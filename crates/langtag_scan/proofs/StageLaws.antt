@@ -4,7 +4,7 @@ use Rattle.std.proofs.lemmas.Grind.{common_steps}
 use Rattle.langtag_scan.specs.Stage.{Stage, Start, AfterFirstMark, InPrivateTag, next_stage, after_stage}
 use Rattle.langtag_scan.specs.Machine.{index_after}
 use Rattle.langtag_scan.specs.declared.ends.Ends.{Ends}
-use Rattle.langtag_scan.proofs.Steps.{may_follow, after_class, next_step}
+use Rattle.langtag_scan.proofs.Steps.{after_class, next_step}
 
 -- ---- which stages follow
 
@@ -15,13 +15,9 @@ is_outside AfterFirstMark = true
 is_outside InPrivateTag = true
 is_outside _ = false
 
--- after a subtag of a normal tag, one has begun
-follower_inside : (stage after : Stage) → may_follow stage after ≡ true → is_outside after ≡ false
-unfolding is_outside
-follower_inside stage after h = grind (arith, common_steps)
-
 pub next_inside : (stage after : Stage) (s : List ℕ) → next_stage stage s ≡ Some after → is_outside after ≡ false
-next_inside stage after s e = follower_inside stage after (next_step stage after s e).0
+unfolding is_outside
+next_inside stage after s e = grind (arith, common_steps, next_step)
 
 -- and it goes on as a normal tag does
 pub after-inside : (stage : Stage) (s : List ℕ) → is_outside stage ≡ false → after_stage stage s ≡ next_stage stage s

@@ -16,7 +16,7 @@ use Rattle.langtag_scan.specs.Class.{is_letter, is_digit, is_mark}
 use Rattle.langtag_scan.specs.Grandfathered.{grandfathered_tags, irregular_texts}
 use Rattle.langtag_scan.specs.Irregular.{folded_texts, folded_at, is_possible, is_prefix}
 use Rattle.langtag_scan.specs.Kind.{Kind, Empty, Mark, Letters, Digits, LetterFirst, DigitFirst}
-use Rattle.langtag_scan.specs.Position.{Begun, Position, begun_after, possible_index, irregular_after, position_after, position_of, part_before, ending_of, is_dead, nothing_read}
+use Rattle.langtag_scan.specs.Position.{Begun, Position, possible_index, irregular_after, position_after, position_of, part_before, ending_of, is_dead, nothing_read}
 use Rattle.langtag_scan.specs.Stage.{Stage, Start, Language, Extended, AfterScript, AfterRegion, AfterVariant, AfterSingleton, InExtension, AfterMark, InPrivate, AfterFirstMark, InPrivateTag}
 use Rattle.langtag_scan.specs.States.{states_of, states_along}
 use Rattle.langtag_scan.specs.Tracking.{Stands, next_number, is_reached, state_of, begun_number}
@@ -162,10 +162,6 @@ bytes_classed b within = agree_below_at (λ b. ltb (class_of b) 29 && is_alike_b
 pub class_within : (b : ℕ) → b < 256 → class_of b < 29
 class_within b within = ltb-true _ _ (and_parts (ltb (class_of b) 29) _ (bytes_classed b within)).0
 
-begun_after-same : (o : Option Begun) (c b : ℕ) → eqb c 45 ≡ eqb b 45 → is_letter c ≡ is_letter b → is_digit c ≡ is_digit b → is_mark c ≡ is_mark b →
-    option_map_or (begun_after c) o None ≡ option_map_or (begun_after b) o None
-begun_after-same o c b hyphens letters digits marks = grind (arith, common_steps)
-
 -- no irregular text has another byte
 outside : (p : List ℕ) (c : ℕ) (o : Option ℕ) → is_text_byte c ≡ false → possible_index (p ++ c ∷ []) ≡ o → o ≡ None
 outside p c None other at = refl
@@ -192,7 +188,7 @@ irregular_after-same (Some p) c b hyphens letters folds =
 position_after-same :
     (p : Position) (c b : ℕ) → eqb c 45 ≡ eqb b 45 → is_letter c ≡ is_letter b → is_digit c ≡ is_digit b → is_mark c ≡ is_mark b →
     (eqb (fold_byte c) (fold_byte b) || not (is_text_byte b)) ≡ true → position_after p c ≡ position_after p b
-position_after-same p c b hyphens letters digits marks folds = grind (arith, common_steps, begun_after-same, irregular_after-same)
+position_after-same p c b hyphens letters digits marks folds = grind (arith, common_steps, irregular_after-same)
 
 position_after-class : (p : Position) (b : ℕ) → b < 256 → position_after p (class_byte (class_of b)) ≡ position_after p b
 position_after-class p b within =
@@ -203,13 +199,9 @@ position_after-class p b within =
     let marks = and_parts (beq (is_mark c) (is_mark b)) _ digits.1 in
     position_after-same p c b (same_from_beq _ _ hyphens.0) (same_from_beq _ _ letters.0) (same_from_beq _ _ digits.0) (same_from_beq _ _ marks.0) marks.1
 
--- a position does not change with the case of letters
-position_after-fold : (p : Position) (b : ℕ) → position_after p (fold_byte b) ≡ position_after p b
-position_after-fold p b = grind (arith, common_steps, position_after-same, hyphen-fold, is_letter-fold, is_digit-fold, is_mark-fold, eq-eqb, fold_byte-twice)
-
 position_from-fold : (q : List ℕ) (p : Position) → fold position_after p (fold_text q) ≡ fold position_after p q
 position_from-fold [] p = refl
-position_from-fold (b ∷ q) p = ap (λ x. fold position_after x (fold_text q)) (position_after-fold p b) ∙ position_from-fold q (position_after p b)
+position_from-fold (b ∷ q) p = grind (arith, common_steps, position_after-same, hyphen-fold, is_letter-fold, is_digit-fold, is_mark-fold, eq-eqb, fold_byte-twice)
 
 -- ---- what the tables say of a state
 

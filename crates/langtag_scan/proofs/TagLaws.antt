@@ -30,10 +30,6 @@ pub viable_from_tag : (p u : List ℕ) → IsTag (p ++ u) → IsViable p
 unfolding IsViable
 viable_from_tag p u tag = (u, tag)
 
-pub viable_prefix : (p u : List ℕ) → IsViable (p ++ u) → IsViable p
-unfolding IsViable
-viable_prefix p u (v, tag) = (u ++ v, subst IsTag (append_assoc p u v) tag)
-
 -- a text with a prefix that is not viable is not a tag
 pub no_tag_dead : (t : List ℕ) (i : ℕ) → (IsViable (take i t) → ⊥) → IsTag t → ⊥
 no_tag_dead t i dead tag = dead (viable_from_tag (take i t) (drop i t) (subst IsTag (sym (take-append-drop i t)) tag))
@@ -42,7 +38,8 @@ no_tag_dead t i dead tag = dead (viable_from_tag (take i t) (drop i t) (subst Is
 
 -- each prefix of a viable prefix is viable
 pub prefixes_viable : (t : List ℕ) (i k : ℕ) → IsViable (take i t) → k ≤ i → IsViable (take k t)
-prefixes_viable t i k v le = grind (arith, common_steps, take-take k i t le, take-append-drop k (take i t), viable_prefix (take k t) (drop k (take i t)))
+unfolding IsViable
+prefixes_viable t i k v le = grind (arith, common_steps, take-take k i t le, take-append-drop k (take i t), append_assoc)
 
 -- a text stops at its first prefix that is not viable, or else at its end
 pub stop_at : (t : List ℕ) (i : ℕ) → i ≤ length t → ((k : ℕ) → k < i → IsViable (take k t)) → (IsViable (take i t) → ⊥) → IsStop t i

@@ -1,28 +1,10 @@
-use Rattle.std.proofs.Common.{rules}
-use Rattle.langtag_scan.proofs.CaseLaw.{alike_parts}
-use Rattle.langtag_case.proofs.RecommendedLaws.{alike_of_recommended, alike_recommended}
+use Rattle.langtag_case.proofs.RecommendedLaws.{alike_of_recommended}
 use Rattle.langtag_case.proofs.RecordLaw.{spelled_in_case}
-use Rattle.langtag.proofs.AlikeFound.{ascii_found, found_alike}
 use Rattle.langtag.proofs.KeptFound.{alike_kinds}
 use Rattle.langtag.proofs.lang_tag_buf.LangTagBuf.make_recommended_case.Goals as goal
-
-pub put_recommended_case-requires : goal.put_recommended_case-requires
-put_recommended_case-requires c = ascii_found _ _ c.args.self.now.kept_found
-
-pub invariant_of-self : goal.invariant_of-self
-invariant_of-self c = search (rules, alike_of_recommended, found_alike)
 
 pub returns-clause-record : goal.returns-clause-record
 returns-clause-record c = spelled_in_case _ _ c.put_recommended_case.ensures.case
 
-pub returns-clause-alike : goal.returns-clause-alike
-returns-clause-alike c = alike_of_recommended _ _ c.put_recommended_case.ensures.case
-
 pub returns-clause-same_kind : goal.returns-clause-same_kind
 returns-clause-same_kind c = alike_kinds _ _ (alike_of_recommended _ _ c.put_recommended_case.ensures.case)
-
-pub returns-clause-alike_parts : goal.returns-clause-alike_parts
-returns-clause-alike_parts c = alike_parts _ _ (alike_of_recommended _ _ c.put_recommended_case.ensures.case)
-
-pub returns-clause-one_key : goal.returns-clause-one_key
-returns-clause-one_key c = alike_recommended

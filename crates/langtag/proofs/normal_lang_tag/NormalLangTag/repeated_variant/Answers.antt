@@ -1,13 +1,11 @@
 use Rattle.std.proofs.Common.{ap, ◌∙◌, slice_get}
 use Rattle.std.specs.Option.{option_and_then}
 use Rattle.std.proofs.lemmas.Iterator.Consumers.{YieldsList-from_first, nth_from_yields_List}
-use Rattle.langtag_scan.specs.Case.{are_alike}
 use Rattle.langtag_scan.specs.Class.{is_variant}
 use Rattle.langtag_scan.specs.Subtags.{subtags}
 use Rattle.langtag_scan.proofs.SubtagFacts.{of_variant}
 use Rattle.langtag_scan.proofs.SubtagLists.{each_subtag, subtags-joined}
 use Rattle.langtag_place.specs.Text.{variant_text, variants_left}
-use Rattle.langtag.proofs.RepeatLaws.{repeat-first}
 use Rattle.langtag.proofs.normal_lang_tag.NormalLangTag.repeated_variant.Goals as goal
 
 pub returns-clause-repeated : goal.returns-clause-repeated
@@ -17,6 +15,3 @@ returns-clause-repeated c r spells =
     nth_from_yields_List c.nth.result c.nth.new.self c.in_ok-index.index c.nth.ensures.ran walk
     ∙ ap (λ texts. slice_get texts c.in_ok-index.index) listed
     ∙ ap (option_and_then (slice_get r.variants)) (c.in_ok-index.ensures.repeated r spells)
-
-pub returns-clause-first : goal.returns-clause-first
-returns-clause-first c = repeat-first are_alike

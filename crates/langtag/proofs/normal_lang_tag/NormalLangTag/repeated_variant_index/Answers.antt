@@ -5,7 +5,6 @@ use Rattle.langtag_scan.specs.Subtags.{subtags}
 use Rattle.langtag_scan.proofs.SubtagFacts.{of_variant}
 use Rattle.langtag_scan.proofs.SubtagLists.{each_subtag, subtags-joined}
 use Rattle.langtag.specs.Repeat.{repeat_index}
-use Rattle.langtag.proofs.RepeatLaws.{repeat_index-first}
 use Rattle.langtag.proofs.normal_lang_tag.NormalLangTag.repeated_variant_index.Goals as goal
 
 pub returns-clause-repeated : goal.returns-clause-repeated
@@ -13,6 +12,3 @@ returns-clause-repeated c r spells =
     c.first_repeated_variant.ensures
     ∙ ap (λ text. repeat_index are_alike (subtags text)) (c.variants.ensures r spells)
     ∙ ap (repeat_index are_alike) (subtags-joined r.variants (each_subtag is_variant of_variant r.variants spells.0.variants))
-
-pub returns-clause-first : goal.returns-clause-first
-returns-clause-first c = repeat_index-first are_alike
