@@ -26,21 +26,12 @@ record IsCutAs (input : List ℕ) (lines : List (List ℕ)) (rest : List ℕ) : 
   cut : IsCutInto input lines rest
   grows : (more : List ℕ) → pieces (input ++ more) ≡ lines ++ pieces (rest ++ more)
 
-cut_at_line_feed :
-    (b : ℕ) (bs : List ℕ) (lines : List (List ℕ)) (rest : List ℕ) → is_line_feed b ≡ true → IsCutAs bs lines rest →
-    IsCutAs (b ∷ bs) ([] ∷ lines) rest
-cut_at_line_feed b bs lines rest feed cut =
-    grind (arith, nat_tests, slice_split-cons_yes is_line_feed b bs feed, eqb-true b 10 feed, All-nil, slice_split-cons_yes is_line_feed b)
-
-cut_at_other : (b : ℕ) (bs : List ℕ) (lines : List (List ℕ)) (rest : List ℕ) → is_line_feed b ≡ false → IsCutAs bs lines rest
-    → (lines' : List (List ℕ)) × (rest' : List ℕ) × IsCutAs (b ∷ bs) lines' rest'
-cut_at_other b bs [] rest plain cut = ([], b ∷ rest, grind (arith, nat_tests, slice_split-cons_no is_line_feed b, All-cons))
-cut_at_other b bs (l ∷ ls) rest plain cut = ((b ∷ l) ∷ ls, rest, grind (arith, nat_tests, slice_split-cons_no is_line_feed b, All-cons))
-
 cut_of_cons : (b : ℕ) (bs : List ℕ) (t : Bool) → is_line_feed b ≡ t → ((lines : List (List ℕ)) × (rest : List ℕ) × IsCutAs bs lines rest)
     → (lines : List (List ℕ)) × (rest : List ℕ) × IsCutAs (b ∷ bs) lines rest
-cut_of_cons b bs true feed (lines, rest, cut) = ([] ∷ lines, rest, cut_at_line_feed b bs lines rest feed cut)
-cut_of_cons b bs false plain (lines, rest, cut) = cut_at_other b bs lines rest plain cut
+cut_of_cons b bs true feed (lines, rest, cut) =
+    ([] ∷ lines, rest, grind (arith, nat_tests, eqb-true b 10 feed, All-nil, slice_split-cons_yes is_line_feed b))
+cut_of_cons b bs false plain ([], rest, cut) = ([], b ∷ rest, grind (arith, nat_tests, slice_split-cons_no is_line_feed b, All-cons))
+cut_of_cons b bs false plain (l ∷ ls, rest, cut) = ((b ∷ l) ∷ ls, rest, grind (arith, nat_tests, slice_split-cons_no is_line_feed b, All-cons))
 
 cut_of : (input : List ℕ) → (lines : List (List ℕ)) × (rest : List ℕ) × IsCutAs input lines rest
 cut_of [] = ([], [], record { split = refl; cut = record { joined = refl; lines_free = tt; rest_free = All-nil (λ x. is_line_feed x ≡ false) }; grows = λ more. refl })

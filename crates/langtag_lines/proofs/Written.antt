@@ -38,12 +38,6 @@ lines_more input rest more is = complete_lines-append input more ∙ ap (λ r. c
 few_lines : (n : ℕ) (input : List ℕ) → length (complete_lines (take n input)) ≤ length (complete_lines input)
 few_lines n input = grind (arith, nat_tests, take-append-drop n input, complete_lines-append, length-append)
 
--- nor than what stood before a read, but for the bytes that a read may bring
-few_before :
-    (input more : List ℕ) → length more ≤ read_len →
-    length (complete_lines (take (length (input ++ more) - read_len) (input ++ more))) ≤ length (complete_lines input)
-few_before input more few = grind (arith, nat_tests, length-append input more, take-append-le, few_lines)
-
 pub free_rest : (input rest : List ℕ) → rest ≡ rest_of input → NoLineFeed rest
 free_rest input rest is = subst NoLineFeed (sym is) (lines_cut input).rest_free
 
@@ -128,7 +122,7 @@ module _ {IsAnswer : List ℕ → List ℕ → Type 0} where
       ((k : ℕ) × AnswersBy IsAnswer b c (take k (complete_lines (rest ++ more)))) → FirstAnswersBy IsAnswer a c (input ++ more)
   written_first a b c input rest more is few p (k, q) =
       let prefix = lines_more input rest more is in
-      (length (complete_lines input) + k, omega (arith, few_before input more few), rw (prefix, take-append-add) (Answers-trans a b c _ _ p q))
+      (length (complete_lines input) + k, grind (arith, nat_tests, length-append input more, take-append-le, few_lines), rw (prefix, take-append-add) (Answers-trans a b c _ _ p q))
 
   -- or to all that were read
   pub written_whole : (a b : Option (List ℕ)) (input : List ℕ) → AnswersBy IsAnswer a b (complete_lines input) → FirstAnswersBy IsAnswer a b input

@@ -1,28 +1,23 @@
 -- The case of letters changes nothing in whether a tag is its own canonical form.
-use Rattle.std.proofs.Common.{◌≡◌, ℕ, List, [], ◌∷◌, map, Option, None, Some, option_map, unwrap_or, refl, sym, ap, ◌∙◌, arith}
-use Rattle.std.specs.List.{AllByRecursion}
+use Rattle.std.proofs.Common.{◌≡◌, ℕ, List, [], ◌∷◌, map, Option, option_map, refl, sym, ap, ◌∙◌, arith}
 use Rattle.std.proofs.lemmas.Grind.{common_steps}
 use Rattle.langtag_scan.specs.AlikeRecords.{fold_extension, AlikeRecords}
 use Rattle.langtag_scan.specs.Case.{fold_byte, fold_text, Alike}
-use Rattle.langtag_scan.specs.Record.{Extension, Record, IsWellFormed, IsWellFormedExtension}
+use Rattle.langtag_scan.specs.Record.{Extension, Record, IsWellFormed}
 use Rattle.langtag_scan.proofs.CaseLaw.{alike_parts}
-use Rattle.langtag_registry.specs.Canonical.{canonical_primary, canonical_extended, canonical_region, canonical_variants, in_order, canonical_record, IsCanonicalForm}
+use Rattle.langtag_registry.specs.Canonical.{canonical_primary, canonical_extended, canonical_region, canonical_variants, canonical_record, IsCanonicalForm}
 use Rattle.langtag_registry.specs.Fields.{preferred_variant, preferred_tag}
 use Rattle.langtag_registry.proofs.AlikeForms.{preferred_tag-alike, grandfathered_alike}
 use Rattle.langtag_registry.proofs.OrderLaws.{keys_of, in_order-risen, rises_from_in_order}
-use Rattle.langtag_registry.proofs.CanonicalParts.{record_stays, parts_stay, own_record, kept_form}
+use Rattle.langtag_registry.proofs.CanonicalParts.{record_stays, parts_stay, own_record, kept_form, preferred_goes}
 use Rattle.langtag_registry.proofs.ReplacedSubtags.{replaced, IsSettled, IgnoresCase, language_settled, language-alike, region_settled, region-alike, variant_settled, variant-alike, extlang_cases, extlang-alike, registered_extlang-alike}
-use Rattle.langtag_registry.proofs.TwiceLaws.{itself, whole_settled, Way, as_whole, as_it_is, by_parts, way_of}
+use Rattle.langtag_registry.proofs.TwiceLaws.{itself, Way, as_whole, as_it_is, by_parts, way_of}
 
 -- ---- a subtag that stays, and one that is alike
 
 module _ (preferred : List ℕ → Option (List ℕ)) (settled : IsSettled preferred) (ignores : IgnoresCase preferred) where
-  -- it has no Preferred-Value
-  none_of_staying : (s : List ℕ) → replaced preferred s ≡ s → preferred s ≡ None
-  none_of_staying s stays = grind (arith, common_steps)
-
   alike_stays : (s t : List ℕ) → Alike s t → replaced preferred s ≡ s → replaced preferred t ≡ t
-  alike_stays s t alike stays = ap (λ o. unwrap_or o t) (sym (ignores s t alike) ∙ none_of_staying s stays)
+  alike_stays s t alike stays = grind (arith, common_steps, ignores s t)
 
 -- ---- each part
 
@@ -47,15 +42,11 @@ keys_folded : (es : List Extension) → map (λ e. e.singleton) (map fold_extens
 keys_folded [] = refl
 keys_folded (e ∷ es) = ap (λ ns. fold_byte e.singleton ∷ ns) (keys_folded es)
 
-order_stays :
-    (es fs : List Extension) → AllByRecursion IsWellFormedExtension fs → map fold_extension es ≡ map fold_extension fs → in_order es ≡ es → in_order fs ≡ fs
-order_stays es fs well same stays = grind (arith, common_steps, keys_folded fs, keys_folded es, in_order-risen fs well, rises_from_in_order es stays)
-
 -- ---- the record
 
 alike_record_stays : (r q : Record) → IsWellFormed q → AlikeRecords r q → canonical_record r ≡ r → canonical_record q ≡ q
 alike_record_stays r q well alike stays =
-    grind (arith, common_steps, parts_stay r stays, record_stays q, language_stays r.primary q.primary r.extended q.extended, region_stays r.region, variants_stay r.variants, order_stays r.extensions q.extensions)
+    grind (arith, common_steps, parts_stay r stays, record_stays q, language_stays r.primary q.primary r.extended q.extended, region_stays r.region, variants_stay r.variants, keys_folded, in_order-risen q.extensions, rises_from_in_order r.extensions)
 
 -- ---- the text
 
@@ -66,13 +57,9 @@ canonical_in_any_case text other alike p = by_way (way_of other)
     same = preferred_tag-alike text other alike
 
     by_way : Way other → IsCanonicalForm other other
-    by_way (as_whole w is) =
-        let found : preferred_tag text ≡ Some w = same ∙ is in
-        let none : preferred_tag text ≡ None = ap preferred_tag (p.whole w found) ∙ whole_settled text w found in
-        absurd cc
+    by_way (as_whole w is) = absurd (preferred_goes text w (same ∙ is) p)
     by_way (as_it_is none why) = kept_form other other none why refl
     by_way (by_parts none new q spells) =
         let like = alike_parts other text (sym alike) q spells in
-        let r = like.0 in
-        let own = p.parts (same ∙ none) (λ old. new (grandfathered_alike text other alike old)) r like.1 in
-        itself other q none spells (alike_record_stays r q spells.0 (sym like.2) (own_record text r like.1 own))
+        let own = p.parts (same ∙ none) (λ old. new (grandfathered_alike text other alike old)) like.0 like.1 in
+        itself other q none spells (alike_record_stays like.0 q spells.0 (sym like.2) (own_record text like.0 like.1 own))

@@ -21,10 +21,6 @@ use Rattle.langtag_output.proofs.Pushed.{pushes_both, pushes_same, pushes_joined
 
 -- ---- extended subtags are registered in small letters
 
-extlangs_small : list_all (λ text. bytes_eq (fold_text text) text) extlang_subtags ≡ true
-unfolding extlang_subtags fold_byte
-extlangs_small = refl
-
 found_small :
     (list : List (List ℕ)) (text : List ℕ) → list_all (λ t. bytes_eq (fold_text t) t) list ≡ true →
     list_any (are_alike text) list ≡ true → find (are_alike text) list ≡ Some (fold_text text)
@@ -33,8 +29,8 @@ found_small (t ∷ list) text small known =
     grind (arith, common_steps, and_parts, are_alike-decides text t, bytes_decides (fold_text t) t, found_small list text)
 
 pub extlang_small : (text : List ℕ) → is_registered_extlang text ≡ true → preferred_extlang text ≡ Some (fold_text text)
-unfolding is_registered_extlang preferred_extlang
-extlang_small text known = found_small extlang_subtags text extlangs_small known
+unfolding is_registered_extlang preferred_extlang extlang_subtags fold_byte
+extlang_small text known = found_small extlang_subtags text refl known
 
 not_found : (list : List (List ℕ)) (text : List ℕ) → list_any (are_alike text) list ≡ false → find (are_alike text) list ≡ None
 not_found [] text other = refl

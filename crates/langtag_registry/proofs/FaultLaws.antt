@@ -1,6 +1,5 @@
 -- The first fault of a record, part by part, and that a record is valid where it has no fault.
 use Rattle.std.proofs.Common.{append_assoc, ◌≡◌, ℕ, ◌+◌, ◌≤◌, Bool, true, false, not, cond, List, [], ◌∷◌, ◌++◌, length, map, take, drop, Option, None, Some, IsTrue, slice_get, refl, sym, ap, ◌∙◌, arith}
-use Rattle.std.specs.Prelude.{IfSome}
 use Rattle.std.specs.List.{list_any, position, position_from, AllByRecursion}
 use Rattle.std.specs.Option.{option_map, option_or, option_and_then}
 use Rattle.std.proofs.lemmas.Iterator.Adapters.{position_from-zero}
@@ -16,7 +15,7 @@ use Rattle.langtag_language.specs.Language.{SpellsLanguage}
 use Rattle.langtag.specs.Repeat.{repeat, repeat_index, repeat_index_after, are_alike_bytes}
 use Rattle.langtag.proofs.RepeatLaws.{IsAt-drop}
 use Rattle.std.proofs.lemmas.List.{at_drop_more, take_more}
-use Rattle.langtag_registry.specs.Registered.{is_registered_language, is_registered_extlang, is_registered_script, is_registered_region, is_registered_variant}
+use Rattle.langtag_registry.specs.Registered.{is_registered_language, is_registered_extlang, is_registered_variant}
 use Rattle.langtag_registry.specs.Fault.{Told, language, repeated_singleton, unless, extlang_faults, language_faults, script_faults, region_faults, variant_faults, singleton_faults, faults}
 use Rattle.langtag_registry.specs.Valid.{IsValidRecord}
 use Rattle.std.proofs.lemmas.Bool.{not-true}
@@ -98,20 +97,11 @@ extlangs_valid [] none = (tt, omega arith)
 extlangs_valid (s ∷ []) none = grind (arith, common_steps, holds)
 extlangs_valid (s ∷ t ∷ ss) none = grind (arith, common_steps, none_both)
 
-script_valid : (o : Option (List ℕ)) → script_faults o ≡ [] → IfSome o (λ s. IsTrue (is_registered_script s))
-script_valid o none = grind (arith, common_steps, holds)
-
-region_valid : (o : Option (List ℕ)) → region_faults o ≡ [] → IfSome o (λ s. IsTrue (is_registered_region s))
-region_valid o none = grind (arith, common_steps, holds)
-
 variants_valid :
     (seen vs : List (List ℕ)) → variant_faults seen vs ≡ [] →
     AllByRecursion (λ s. IsTrue (is_registered_variant s)) vs × (repeat_after are_alike seen vs ≡ None)
 variants_valid seen [] none = (tt, refl)
 variants_valid seen (v ∷ vs) none = grind (arith, common_steps, none_both, holds, not-true, variants_valid (seen ++ v ∷ []) vs)
-
-none_mapped : (o : Option ℕ) → option_map (λ b. repeated_singleton (b ∷ [])) o ≡ None → o ≡ None
-none_mapped o none = grind (arith, common_steps)
 
 pub valid_without_fault : (r : Record) → first (faults r) ≡ None → IsValidRecord r
 unfolding faults
@@ -121,27 +111,18 @@ valid_without_fault r none =
     let (g, after_region) = none_both (region_faults r.region) _ after_script in
     let (v, x) = none_both (variant_faults [] r.variants) _ after_region in
     let (p, e) = none_both (unless (is_registered_language r.primary) (language r.primary)) _ l in
-    grind (arith, common_steps, holds, extlangs_valid r.extended, script_valid, region_valid, variants_valid [] r.variants, repeat-after are_alike r.variants, none_mapped, first_singleton (singletons r))
+    grind (arith, common_steps, holds, extlangs_valid r.extended, variants_valid [] r.variants, repeat-after are_alike r.variants, first_singleton (singletons r))
 
 -- and back
-
-script_none : (o : Option (List ℕ)) → IfSome o (λ s. IsTrue (is_registered_script s)) → script_faults o ≡ []
-script_none o known = grind (arith, common_steps)
-
-region_none : (o : Option (List ℕ)) → IfSome o (λ s. IsTrue (is_registered_region s)) → region_faults o ≡ []
-region_none o known = grind (arith, common_steps)
-
-if_seen : (b : Bool) (v : List ℕ) (later : Option (List ℕ)) → cond b (Some v) later ≡ None → (b ≡ false) × (later ≡ None)
-if_seen b v later none = grind (arith, common_steps)
 
 variants_none :
     (seen vs : List (List ℕ)) → AllByRecursion (λ s. IsTrue (is_registered_variant s)) vs → repeat_after are_alike seen vs ≡ None →
     variant_faults seen vs ≡ []
 variants_none seen [] all none = refl
-variants_none seen (v ∷ vs) all none = grind (arith, common_steps, if_seen, variants_none (seen ++ v ∷ []) vs)
+variants_none seen (v ∷ vs) all none = grind (arith, common_steps, variants_none (seen ++ v ∷ []) vs)
 
 pub no_fault_of_valid : (r : Record) → IsValidRecord r → first (faults r) ≡ None
-no_fault_of_valid r valid = grind (arith, common_steps, first_fault, script_none, region_none, variants_none, repeat-after, first_singleton)
+no_fault_of_valid r valid = grind (arith, common_steps, first_fault, variants_none, repeat-after, first_singleton)
 
 -- ---- the parts of a record, and what was found
 

@@ -1,7 +1,7 @@
 -- A tag that is registered as a whole has at most one variant.
 use Rattle.langtag_registry.proofs.Members.{member_passes}
 use Rattle.langtag_scan.specs.CaseLaws.{are_alike-decides}
-use Rattle.std.proofs.Common.{◌≡◌, ℕ, ◌≤◌, true, Bool, leb, List, [], ◌∷◌, length, map, filter, None, Some, IsTrue, refl, sym, ap, ◌∙◌, arith, length-append}
+use Rattle.std.proofs.Common.{◌≡◌, ℕ, ◌≤◌, true, Bool, leb, List, [], ◌∷◌, length, map, filter, None, Some, IsTrue, refl, sym, ap, arith, length-append}
 use Rattle.std.specs.List.{list_all, AllByRecursion}
 use Rattle.std.proofs.lemmas.Bool.{and_parts, leb-true}
 use Rattle.std.proofs.lemmas.List.{length-map}
@@ -27,14 +27,6 @@ use Rattle.langtag_registry.specs.Subtags.{tag_preferred}
 abbrev has_few : List ℕ → Bool
 has_few text = leb (length (filter is_variant (segments text))) 1
 
-preferred_few : list_all has_few (map (λ e. e.subtag) tag_preferred) ≡ true
-unfolding tag_preferred is_variant is_letter is_digit
-preferred_few = refl
-
-grandfathered_few : list_all (λ entry. has_few entry.text) grandfathered_tags ≡ true
-unfolding grandfathered_tags is_variant is_letter is_digit
-grandfathered_few = refl
-
 -- ---- the registered text that a text is alike
 
 abbrev IsAlikeOne : (List ℕ → Bool) → List ℕ → Type 0
@@ -59,15 +51,11 @@ variants_counted r all = grind (arith, common_steps, filter-append, length-appen
 few_variants : (text : List ℕ) → IsAlikeOne has_few text → EachRecord text (λ r. length r.variants ≤ 1)
 few_variants text (one, few, alike) = λ r spells.
     let like = alike_parts text one (sym alike) r spells in
-    let q = like.0 in
-    let same : length r.variants ≡ length q.variants =
-    sym (length-map r.variants fold_text) ∙ ap (λ z. length z.variants) like.2 ∙ length-map q.variants fold_text in
-    let count = variants_counted q like.1.0.variants in
-    let all : filter is_variant (segments one) ≡ filter is_variant (flat q) =
-    ap (λ t. filter is_variant (segments t)) (sym like.1.1) ∙ ap (filter is_variant) (spelled_segments q like.1.0) in
+    let same = ap (λ z. length z.variants) like.2 in
+    let all = ap (λ t. length (filter is_variant (segments t))) like.1.1 in
+    let found = ap (λ ss. length (filter is_variant ss)) (spelled_segments like.0 like.1.0) in
     let most = leb-true (length (filter is_variant (segments one))) 1 few in
-    let counts = ap length all in
-    omega (arith, same, count, most, counts)
+    omega (arith, length-map r.variants fold_text, length-map like.0.variants fold_text, variants_counted like.0 like.1.0.variants, same, all, found, most)
 
 one_apart : (vs : List (List ℕ)) → length vs ≤ 1 → repeat are_alike (canonical_variants vs) ≡ None
 one_apart [] few = refl
@@ -76,10 +64,10 @@ one_apart (v ∷ w ∷ vs) few = absurd (omega (arith, few))
 
 -- so they stay apart
 pub preferred_apart : (text new : List ℕ) → preferred_tag text ≡ Some new → EachRecord text (λ r. repeat are_alike (canonical_variants r.variants) ≡ None)
-unfolding preferred_tag
-preferred_apart text new is = λ r spells. one_apart r.variants (few_variants text (alike_subtag has_few tag_preferred text new preferred_few is) r spells)
+unfolding preferred_tag tag_preferred is_variant is_letter is_digit
+preferred_apart text new is = λ r spells. one_apart r.variants (few_variants text (alike_subtag has_few tag_preferred text new refl is) r spells)
 
 pub grandfathered_apart : (text : List ℕ) → IsGrandfathered text → EachRecord text (λ r. repeat are_alike (canonical_variants r.variants) ≡ None)
-unfolding IsGrandfathered IsGrandfatheredAt
+unfolding IsGrandfathered IsGrandfatheredAt grandfathered_tags is_variant is_letter is_digit
 grandfathered_apart text (k, (entry, at, alike)) = λ r spells.
-    one_apart r.variants (few_variants text (entry.text, member_passes (λ e. has_few e.text) grandfathered_tags k entry grandfathered_few at, alike) r spells)
+    one_apart r.variants (few_variants text (entry.text, member_passes (λ e. has_few e.text) grandfathered_tags k entry refl at, alike) r spells)

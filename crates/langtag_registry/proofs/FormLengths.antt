@@ -1,6 +1,6 @@
 -- How long the canonical form of a tag may be.
-use Rattle.std.proofs.Common.{◌≡◌, ℕ, ◌+◌, ◌*◌, ◌≤◌, true, leb, List, [], ◌∷◌, length, map, Option, Some, IfSome, IsTrue, refl, ap, arith, length-append}
-use Rattle.std.specs.List.{list_all, AllByRecursion, flat_map, sum_by}
+use Rattle.std.proofs.Common.{◌≡◌, ℕ, ◌+◌, ◌*◌, ◌≤◌, true, leb, List, [], ◌∷◌, length, Option, Some, IfSome, IsTrue, refl, ap, arith, length-append}
+use Rattle.std.specs.List.{AllByRecursion, flat_map, sum_by}
 use Rattle.std.proofs.lemmas.Bool.{leb-true}
 use Rattle.std.proofs.lemmas.Bool.Decides.{nat_tests}
 use Rattle.std.proofs.lemmas.List.Sums.{sum_by-cons}
@@ -9,7 +9,7 @@ use Rattle.langtag_scan.specs.Class.{is_region, is_variant}
 use Rattle.langtag_scan.specs.Record.{Extension, Record, IsWellFormed, extension_flat, one_flat, spell}
 use Rattle.langtag_scan.proofs.Joins.{hyphenated, length-hyphenated}
 use Rattle.langtag_scan.proofs.SubtagFacts.{of_primary, of_variant}
-use Rattle.langtag_registry.specs.Canonical.{canonical_record, canonical_primary, canonical_extended, canonical_region, canonical_variants, in_order, canonical_bound, IsCanonicalForm}
+use Rattle.langtag_registry.specs.Canonical.{canonical_record, canonical_extended, canonical_variants, in_order, canonical_bound, IsCanonicalForm}
 use Rattle.langtag_registry.specs.Fields.{preferred_tag}
 use Rattle.langtag_registry.specs.Subtags.{tag_preferred}
 use Rattle.langtag_registry.proofs.OrderLaws.{in_order-weight}
@@ -63,26 +63,17 @@ pub form_length : (r : Record) → IsWellFormed r → 5 * length (spell (canonic
 unfolding canonical_record
 form_length r well =
     let new = canonical_record_well_formed r well in
-    let old_all = length-spell r in
-    let new_all = length-spell (canonical_record r) in
-    let primary = (of_primary (canonical_primary r.primary r.extended) new.primary).short in
-    let extended = extended_size r.extended in
-    let region = region_size (canonical_region r.region) new.region in
     let variants = variants_size r.variants (canonical_variants r.variants) well.variants new.variants (variants_as_many r.variants) in
     let old_extensions = size-extensions r.extensions in
     let new_extensions = size-extensions (in_order r.extensions) in
     let extensions = in_order-weight extension_size r.extensions in
-    omega (arith, old_all, new_all, primary, extended, region, variants, old_extensions, new_extensions, extensions)
+    omega (arith, length-spell r, length-spell (canonical_record r), (of_primary _ new.primary).short, extended_size r.extended, region_size _ new.region, variants, old_extensions, new_extensions, extensions)
 
 -- ---- every text
 
-values_short : list_all (λ value. leb (length value) 14) (map (λ e. e.value) tag_preferred) ≡ true
-unfolding tag_preferred
-values_short = refl
-
 preferred_short : (text new : List ℕ) → preferred_tag text ≡ Some new → length new ≤ 14
-unfolding preferred_tag
-preferred_short text new is = leb-true (length new) 14 (value_good (λ value. leb (length value) 14) tag_preferred text new values_short is)
+unfolding preferred_tag tag_preferred
+preferred_short text new is = leb-true (length new) 14 (value_good (λ value. leb (length value) 14) tag_preferred text new refl is)
 
 pub form_bounded : (old new : List ℕ) → IsCanonicalForm old new → length new ≤ canonical_bound (length old)
 form_bounded old new p = by_form (form_of old new p)

@@ -31,10 +31,6 @@ all_letters = refl
 abbrev pub is_short : List ℕ → Bool
 is_short text = leb (length text) 3
 
-all_short : list_all is_short language_subtags ≡ true
-unfolding language_subtags
-all_short = refl
-
 -- ---- a bit of the table
 
 length-bits : (word : ℕ) → length (bits word) ≡ 64
@@ -93,5 +89,5 @@ long_apart text (first ∷ list) long all =
     grind (arith, common_steps, and_parts, leb-true, are_alike-decides text first, length-map text fold_byte, length-map first fold_byte, long_apart text list)
 
 pub long_language : (text : List ℕ) → 3 < length text → is_registered_language text ≡ false
-unfolding is_registered_language
-long_language text long = long_apart text language_subtags long all_short
+unfolding is_registered_language language_subtags
+long_language text long = long_apart text language_subtags long refl

@@ -24,19 +24,6 @@ rest_of r left = left ++ (flat_map extension_flat r.extensions ++ private_part_f
 spell-cut : (r : Record) (before left : List (List ℕ)) → r.variants ≡ before ++ left → spell r ≡ join (r.primary ∷ (others r before ++ rest_of r left))
 spell-cut r before left cut = grind (arith, common_steps, append_assoc)
 
--- ---- the texts before variants
-
-module _ (r : Record) (before left : List (List ℕ)) (cut : r.variants ≡ before ++ left) where
-  pub take-up_to : take (length (spell (up_to r before))) (spell r) ≡ spell (up_to r before)
-  take-up_to = rw (spell-up_to r before, spell-cut r before left cut) (take-join r.primary (others r before) (rest_of r left))
-
-  pub up_to-within : length (spell (up_to r before)) ≤ length (spell r)
-  up_to-within =
-      grind (arith, common_steps, length-join-append r.primary (others r before) (rest_of r left), spell-up_to r before, spell-cut r before left cut)
-
-pub variant_end : (r : Record) (before : List (List ℕ)) (v : List ℕ) → length (spell (up_to r before)) + (1 + length v) ≡ length (spell (up_to r (before ++ v ∷ [])))
-variant_end r before v = grind (arith, common_steps, length-join-append, append_assoc, spell-up_to, append-nil)
-
 -- ---- the walk
 
 -- some variants stand before the end, and all of them fit
@@ -51,10 +38,10 @@ walk_first r end left at all = grind (arith, common_steps, append-nil, spell-up_
 
 module _ (r : Record) (end : ℕ) (left : List (List ℕ)) (walked : IsWalked r end left) where
   pub text_here : take end (spell r) ≡ spell (up_to r walked.before)
-  text_here = ap (λ n. take n (spell r)) walked.end_at ∙ take-up_to r walked.before left walked.cut
+  text_here = rw (walked.end_at, spell-up_to r walked.before, spell-cut r walked.before left walked.cut) (take-join r.primary (others r walked.before) (rest_of r left))
 
   pub end_within : end ≤ length (spell r)
-  end_within = let at = walked.end_at in let within = up_to-within r walked.before left walked.cut in omega (arith, at, within)
+  end_within = grind (arith, common_steps, length-join-append r.primary (others r walked.before) (rest_of r left), spell-up_to r walked.before, spell-cut r walked.before left walked.cut)
 
   pub walk_ended : left ≡ [] → None ≡ misplaced r
   walk_ended none = sym (walked.so_far ∙ ap (misplaced_after r walked.before) none)
@@ -67,7 +54,7 @@ module _ (r : Record) (end : ℕ) (left : List (List ℕ)) (walked : IsWalked r 
     walk_stopped is = sym (turn ∙ ap (λ b. cond b (misplaced_after r (walked.before ++ v ∷ []) rest) (Some v)) is)
 
     pub walk_later : (text : List ℕ) → text ≡ v → fits_after (take end (spell r)) v ≡ true → IsWalked r (end + (1 + length text)) rest
-    walk_later text same is = grind (arith, common_steps, turn, append_assoc walked.before (v ∷ []) rest, variant_end r walked.before v)
+    walk_later text same is = grind (arith, common_steps, turn, append_assoc walked.before (v ∷ []) rest, length-join-append, spell-up_to, append-nil)
 
 -- ---- the text
 

@@ -191,17 +191,13 @@ known_each : (es : List Extension) → AllByRecursion IsWellFormedExtension es �
 known_each [] well = tt
 known_each (e ∷ es) well = (singleton_known e.singleton well.0.singleton, known_each es well.1)
 
--- they are in order: each singleton is at most the next one, ignoring case
-pub in_order-rises : (es : List Extension) → rises_from 0 (keys_of (in_order es)) ≡ true
-in_order-rises es = rw (in_order-gather es) (gather-rises key 0 folded_singletons es singletons_climb)
-
--- and where they were, they stay
+-- where each singleton is at most the next one, ignoring case, they stay
 pub in_order-risen : (es : List Extension) → AllByRecursion IsWellFormedExtension es → rises_from 0 (keys_of es) ≡ true → in_order es ≡ es
 in_order-risen es well rises = in_order-gather es ∙ gather-risen key 0 0 folded_singletons es singletons_climb (known_each es well) rises
 
 -- only there
 pub rises_from_in_order : (es : List Extension) → in_order es ≡ es → rises_from 0 (keys_of es) ≡ true
-rises_from_in_order es stays = ap (λ z. rises_from 0 (keys_of z)) (sym stays) ∙ in_order-rises es
+rises_from_in_order es stays = ap (λ z. rises_from 0 (keys_of z)) (sym stays ∙ in_order-gather es) ∙ gather-rises key 0 folded_singletons es singletons_climb
 
 -- each singleton has the same extensions, in the same order
 pub in_order-same :

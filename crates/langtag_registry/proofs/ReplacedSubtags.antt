@@ -60,59 +60,39 @@ value_for-alike (e ∷ list) a b same = grind (arith, common_steps, value_for-al
 values_settled : (list : List Entry) → list_all (λ n. not (is_some (value_for list n))) (map (λ e. e.value) list) ≡ true → IsSettled (value_for list)
 values_settled list none s new is = none_from_test (value_for list new) (value_good (λ n. not (is_some (value_for list n))) list s new none is)
 
-new_languages_stay : list_all (λ n. not (is_some (preferred_language n))) (map (λ e. e.value) language_preferred) ≡ true
-unfolding language_preferred preferred_language fold_byte
-new_languages_stay = refl
-
-new_languages_short : list_all (λ n. leb (length n) 3) (map (λ e. e.value) language_preferred) ≡ true
-unfolding language_preferred
-new_languages_short = refl
-
-new_regions_stay : list_all (λ n. not (is_some (preferred_region n))) (map (λ e. e.value) region_preferred) ≡ true
-unfolding region_preferred preferred_region fold_byte
-new_regions_stay = refl
-
-new_variants_stay : list_all (λ n. not (is_some (preferred_variant n))) (map (λ e. e.value) variant_preferred) ≡ true
-unfolding variant_preferred preferred_variant fold_byte
-new_variants_stay = refl
-
 -- ---- languages
 
 pub language_settled : IsSettled preferred_language
-unfolding preferred_language
-language_settled = values_settled language_preferred new_languages_stay
+unfolding preferred_language language_preferred fold_byte
+language_settled = values_settled language_preferred refl
 
 pub language-alike : IgnoresCase preferred_language
 unfolding preferred_language
 language-alike a b alike = value_for-alike language_preferred a b alike
 
 pub new_language_short : (s new : List ℕ) → preferred_language s ≡ Some new → length new ≤ 3
-unfolding preferred_language
-new_language_short s new is = leb-true (length new) 3 (value_good (λ n. leb (length n) 3) language_preferred s new new_languages_short is)
+unfolding preferred_language language_preferred
+new_language_short s new is = leb-true (length new) 3 (value_good (λ n. leb (length n) 3) language_preferred s new refl is)
 
 -- ---- regions and variants
 
 pub region_settled : IsSettled preferred_region
-unfolding preferred_region
-region_settled = values_settled region_preferred new_regions_stay
+unfolding preferred_region region_preferred fold_byte
+region_settled = values_settled region_preferred refl
 
 pub region-alike : IgnoresCase preferred_region
 unfolding preferred_region
 region-alike a b alike = value_for-alike region_preferred a b alike
 
 pub variant_settled : IsSettled preferred_variant
-unfolding preferred_variant
-variant_settled = values_settled variant_preferred new_variants_stay
+unfolding preferred_variant variant_preferred fold_byte
+variant_settled = values_settled variant_preferred refl
 
 pub variant-alike : IgnoresCase preferred_variant
 unfolding preferred_variant
 variant-alike a b alike = value_for-alike variant_preferred a b alike
 
 -- ---- extended languages
-
-extlangs_extended : list_all is_extended extlang_subtags ≡ true
-unfolding extlang_subtags is_extended is_letter
-extlangs_extended = refl
 
 -- what holds of each member holds of the one that is found
 pub found_good :
@@ -133,8 +113,8 @@ unfolding preferred_extlang is_registered_extlang
 extlang_cases s = grind (arith, common_steps, is_some-find (are_alike s) extlang_subtags)
 
 pub new_extlang_extended : (s new : List ℕ) → preferred_extlang s ≡ Some new → is_extended new ≡ true
-unfolding preferred_extlang
-new_extlang_extended s new is = found_good (are_alike s) is_extended extlang_subtags new extlangs_extended is
+unfolding preferred_extlang extlang_subtags is_extended is_letter
+new_extlang_extended s new is = found_good (are_alike s) is_extended extlang_subtags new refl is
 
 pub extlang-alike : IgnoresCase preferred_extlang
 unfolding preferred_extlang

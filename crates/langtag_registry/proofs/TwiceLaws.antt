@@ -1,5 +1,6 @@
 -- A text has one canonical form, and that is its own.
-use Rattle.std.proofs.Common.{◌≡◌, ℕ, true, Bool, not, ◌&&◌, List, [], ◌∷◌, map, Option, None, Some, is_some, unwrap_or, inl, inr, ◌⊎◌, refl, sym, ap, subst, ◌∙◌, arith, rules}
+use Rattle.langtag_registry.proofs.CanonicalVariants.{variants_stay}
+use Rattle.std.proofs.Common.{◌≡◌, ℕ, true, Bool, not, ◌&&◌, List, [], ◌∷◌, Option, None, Some, is_some, unwrap_or, inl, inr, ◌⊎◌, refl, sym, ap, subst, ◌∙◌, arith, rules}
 use Rattle.std.specs.List.{list_all, position}
 use Rattle.std.specs.Option.{option_map_or}
 use Rattle.std.proofs.lemmas.Bool.{and_parts}
@@ -11,7 +12,7 @@ use Rattle.langtag_scan.proofs.NormalTexts.{spelled_once, normal_or_not}
 use Rattle.langtag.specs.Registered.{IsGrandfathered, text_of}
 use Rattle.langtag.specs.declared.grandfathered.TheConstants.{GRANDFATHERED}
 use Rattle.langtag.proofs.RegisteredLaws.{first_alike_found, none_alike}
-use Rattle.langtag_registry.specs.Canonical.{canonical_primary, canonical_extended, canonical_region, canonical_variants, canonical_record, IsCanonicalForm}
+use Rattle.langtag_registry.specs.Canonical.{canonical_variants, canonical_record, IsCanonicalForm}
 use Rattle.langtag_registry.specs.Fields.{preferred_language, preferred_region, preferred_variant, preferred_tag}
 use Rattle.langtag_registry.specs.Subtags.{language_preferred, region_preferred, variant_preferred, tag_preferred}
 use Rattle.langtag_registry.proofs.OrderLaws.{in_order-twice, in_order-risen}
@@ -22,13 +23,6 @@ use Rattle.langtag_registry.proofs.WholeTags.{record_of, simple_record, preferre
 
 -- ---- the canonical record of a canonical record is itself
 
-record IsTwice (primary : List ℕ) (extended : List (List ℕ)) : Type 0 where
-  first : canonical_primary (canonical_primary primary extended) (canonical_extended extended) ≡ canonical_primary primary extended
-  others : canonical_extended (canonical_extended extended) ≡ canonical_extended extended
-
-region_twice : (o : Option (List ℕ)) → canonical_region (canonical_region o) ≡ canonical_region o
-region_twice o = grind (arith, common_steps, replaced-twice preferred_region region_settled, region_settled)
-
 variants_twice : (vs : List (List ℕ)) → canonical_variants (canonical_variants vs) ≡ canonical_variants vs
 variants_twice [] = refl
 variants_twice (v ∷ vs) = grind (arith, common_steps, replaced-twice preferred_variant variant_settled v, variant_settled v, variants_twice vs)
@@ -36,7 +30,7 @@ variants_twice (v ∷ vs) = grind (arith, common_steps, replaced-twice preferred
 pub canonical_record-twice : (r : Record) → canonical_record (canonical_record r) ≡ canonical_record r
 unfolding canonical_record
 canonical_record-twice r =
-    grind (arith, common_steps, region_twice r.region, variants_twice r.variants, in_order-twice r.extensions, replaced-twice, language_settled, extlang_cases)
+    grind (arith, common_steps, variants_twice r.variants, in_order-twice r.extensions, replaced-twice, language_settled, extlang_cases, region_settled)
 
 -- ---- the Preferred-Value of a whole tag stays: by computation
 
@@ -47,21 +41,6 @@ stays text =
     && (option_map_or (λ g. not (is_some (preferred_region g))) (record_of text).region true
     && list_all (λ v. not (is_some (preferred_variant v))) (record_of text).variants))
 
-all_stay : list_all stays (map (λ e. e.value) tag_preferred) ≡ true
-unfolding tag_preferred language_preferred region_preferred variant_preferred preferred_tag preferred_language preferred_region preferred_variant fold_byte
-all_stay = refl
-
-variants_stay : (vs : List (List ℕ)) → list_all (λ v. not (is_some (preferred_variant v))) vs ≡ true → canonical_variants vs ≡ vs
-variants_stay [] h = refl
-variants_stay (v ∷ vs) h =
-    grind (arith, common_steps, and_parts (not (is_some (preferred_variant v))), none_from_test (preferred_variant v), variants_stay vs)
-
-record_stays :
-    (r : Record) → r.extended ≡ [] → r.extensions ≡ [] → preferred_language r.primary ≡ None → canonical_region r.region ≡ r.region →
-    canonical_variants r.variants ≡ r.variants → canonical_record r ≡ r
-unfolding canonical_record
-record_stays r alone none language region variants = grind (arith, common_steps, in_order-risen)
-
 -- ---- a text that is its own canonical form
 
 pub itself : (text : List ℕ) (r : Record) → preferred_tag text ≡ None → Spells r text → canonical_record r ≡ r → IsCanonicalForm text text
@@ -70,13 +49,12 @@ itself text r none spells same = record {
   kept = λ _ _. refl;
   parts = λ _ _ q other.
       let one : q ≡ r = spelled_once q r other.0 spells.0 (other.1 ∙ sym spells.1) in
-      let again : spell (canonical_record q) ≡ text = ap (λ z. spell (canonical_record z)) one ∙ ap spell same ∙ spells.1 in
-      sym (ap (λ t. unwrap_or (preferred_tag t) t) again ∙ ap (λ o. unwrap_or o text) none);
+      rw (one, same, spells.1, none) refl;
 }
 
 stays_of : (text new : List ℕ) → preferred_tag text ≡ Some new → stays new ≡ true
-unfolding preferred_tag
-stays_of text new is = value_good stays tag_preferred text new all_stay is
+unfolding preferred_tag tag_preferred language_preferred region_preferred variant_preferred preferred_language preferred_region preferred_variant fold_byte
+stays_of text new is = value_good stays tag_preferred text new refl is
 
 -- it has no Preferred-Value itself
 pub whole_settled : (text new : List ℕ) → preferred_tag text ≡ Some new → preferred_tag new ≡ None
@@ -84,8 +62,9 @@ whole_settled text new is = none_from_test (preferred_tag new) (and_parts _ _ (s
 
 -- nor do its subtags
 pub preferred_record_stays : (text new : List ℕ) → preferred_tag text ≡ Some new → canonical_record (record_of new) ≡ record_of new
+unfolding canonical_record
 preferred_record_stays text new is =
-    grind (arith, common_steps, simple_record new, and_parts, stays_of text new is, record_stays, none_from_test, variants_stay)
+    grind (arith, common_steps, simple_record new, and_parts, stays_of text new is, none_from_test, variants_stay, in_order-risen)
 
 pub preferred_itself : (text new : List ℕ) → preferred_tag text ≡ Some new → IsCanonicalForm new new
 preferred_itself text new is = search (rules, itself, whole_settled, preferred_spelled, preferred_record_stays)

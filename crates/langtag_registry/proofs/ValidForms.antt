@@ -1,5 +1,5 @@
 -- The canonical form of a valid tag is valid where no two variants become the same, and only there.
-use Rattle.std.proofs.Common.{◌≡◌, ℕ, ◌-◌, ◌/◌, ◌%◌, ◌≤◌, ◌==◌, true, Bool, ◌&&◌, leb, ltb, List, [], length, get_or, map, Option, None, Some, is_none, IsTrue, inl, inr, refl, sym, ap, subst, ◌∙◌, arith, rules}
+use Rattle.std.proofs.Common.{◌≡◌, ℕ, ◌-◌, ◌/◌, ◌%◌, ◌≤◌, ◌==◌, true, Bool, ◌&&◌, leb, ltb, List, [], length, get_or, None, Some, is_none, IsTrue, inl, inr, refl, sym, ap, subst, ◌∙◌, arith, rules}
 use Rattle.std.proofs.lemmas.Bool.Decides.{nat_tests}
 use Rattle.std.proofs.lemmas.Grind.{common_steps}
 use Prim.Native.Nat.{◌^◌}
@@ -22,7 +22,7 @@ use Rattle.langtag_registry.specs.Subtags.{language_preferred, region_preferred,
 use Rattle.langtag_registry.specs.Valid.{IsValidRecord, IsValid}
 use Rattle.langtag_registry.proofs.FewVariants.{preferred_apart, grandfathered_apart}
 use Rattle.langtag_registry.proofs.LanguageTable.{language_bit_at, language_from_bit}
-use Rattle.langtag_registry.proofs.ReplacedSubtags.{replaced, replaced-holds, if_some-map, each-map, extlang_cases, found_good}
+use Rattle.langtag_registry.proofs.ReplacedSubtags.{replaced-holds, if_some-map, each-map, extlang_cases, found_good}
 use Rattle.langtag_registry.proofs.SingletonsOnce.{in_order-once}
 use Rattle.langtag_registry.proofs.TwiceLaws.{canonical_record-twice, Form, whole_form, own_form, parts_form, form_of, again_form, each_from_one}
 use Rattle.langtag_registry.proofs.Values.{value_good}
@@ -42,47 +42,23 @@ has_bit text =
 registered_from_bit : (text : List ℕ) → has_bit text ≡ true → is_registered_language text ≡ true
 registered_from_bit text h = grind (arith, common_steps, nat_tests, and_parts, language_from_bit text, language_bit_at (letter_number text - 27))
 
-new_languages_known : list_all has_bit (map (λ e. e.value) language_preferred) ≡ true
-unfolding language_preferred letter_number fold_byte is_letter
-new_languages_known = refl
-
-extlangs_known : list_all has_bit extlang_subtags ≡ true
-unfolding extlang_subtags letter_number fold_byte is_letter
-extlangs_known = refl
-
-new_regions_known : list_all is_registered_region (map (λ e. e.value) region_preferred) ≡ true
-unfolding region_preferred is_registered_region region_subtags fold_byte
-new_regions_known = refl
-
-new_variants_known : list_all is_registered_variant (map (λ e. e.value) variant_preferred) ≡ true
-unfolding variant_preferred is_registered_variant variant_subtags fold_byte
-new_variants_known = refl
-
 new_language_known : (s new : List ℕ) → preferred_language s ≡ Some new → is_registered_language new ≡ true
-unfolding preferred_language
-new_language_known s new is = registered_from_bit new (value_good has_bit language_preferred s new new_languages_known is)
+unfolding preferred_language language_preferred letter_number fold_byte is_letter
+new_language_known s new is = registered_from_bit new (value_good has_bit language_preferred s new refl is)
 
 new_extlang_known : (s new : List ℕ) → preferred_extlang s ≡ Some new → is_registered_language new ≡ true
-unfolding preferred_extlang
-new_extlang_known s new is = registered_from_bit new (found_good (are_alike s) has_bit extlang_subtags new extlangs_known is)
+unfolding preferred_extlang extlang_subtags letter_number fold_byte is_letter
+new_extlang_known s new is = registered_from_bit new (found_good (are_alike s) has_bit extlang_subtags new refl is)
 
 new_region_known : (s new : List ℕ) → preferred_region s ≡ Some new → is_registered_region new ≡ true
-unfolding preferred_region
-new_region_known s new is = value_good is_registered_region region_preferred s new new_regions_known is
+unfolding preferred_region region_preferred is_registered_region region_subtags fold_byte
+new_region_known s new is = value_good is_registered_region region_preferred s new refl is
 
 new_variant_known : (s new : List ℕ) → preferred_variant s ≡ Some new → is_registered_variant new ≡ true
-unfolding preferred_variant
-new_variant_known s new is = value_good is_registered_variant variant_preferred s new new_variants_known is
+unfolding preferred_variant variant_preferred is_registered_variant variant_subtags fold_byte
+new_variant_known s new is = value_good is_registered_variant variant_preferred s new refl is
 
 -- ---- the canonical record of a valid one
-
-record IsValidLanguage (primary : List ℕ) (extended : List (List ℕ)) : Type 0 where
-  first : IsTrue (is_registered_language primary)
-  others : AllByRecursion (λ s. IsTrue (is_registered_extlang s)) extended
-  one : length extended ≤ 1
-
-canonical_primary_known : (p : List ℕ) → IsTrue (is_registered_language p) → IsTrue (is_registered_language (replaced preferred_language p))
-canonical_primary_known p known = replaced-holds preferred_language (λ s. IsTrue (is_registered_language s)) p known (new_language_known p)
 
 -- one extended language that is registered goes
 pub no_extended : (es : List (List ℕ)) → AllByRecursion (λ s. IsTrue (is_registered_extlang s)) es → length es ≤ 1 → canonical_extended es ≡ []
@@ -93,7 +69,7 @@ canonical_record_valid :
     IsValidRecord (canonical_record r)
 unfolding canonical_record
 canonical_record_valid r well valid once =
-    search (rules, no_extended, if_some-map, replaced-holds, new_region_known, each-map, new_variant_known, in_order-once, canonical_primary_known, extlang_cases, new_extlang_known)
+    search (rules, no_extended, if_some-map, replaced-holds, new_region_known, each-map, new_variant_known, in_order-once, new_language_known, extlang_cases, new_extlang_known)
 
 -- a text is valid that a valid record spells
 valid_spelled : (text : List ℕ) (r : Record) → Spells r text → IsValidRecord r → IsValid text
@@ -109,23 +85,13 @@ is_whole_valid text =
     && (option_map_or is_registered_region (record_of text).region true
     && (list_all is_registered_variant (record_of text).variants && is_none (repeat are_alike (record_of text).variants))))
 
-all_valid : list_all is_whole_valid (map (λ e. e.value) tag_preferred) ≡ true
-unfolding tag_preferred letter_number fold_byte is_letter is_registered_script is_registered_region is_registered_variant script_subtags region_subtags variant_subtags
-all_valid = refl
-
 whole_valid_of : (text new : List ℕ) → preferred_tag text ≡ Some new → is_whole_valid new ≡ true
-unfolding preferred_tag
-whole_valid_of text new is = value_good is_whole_valid tag_preferred text new all_valid is
-
-is_none-None : (o : Option (List ℕ)) → is_none o ≡ true → o ≡ None
-is_none-None o h = grind (arith, common_steps)
-
-few_extended : (r : Record) → r.extended ≡ [] → length r.extended ≤ 1
-few_extended r none = rw none (omega arith)
+unfolding preferred_tag tag_preferred letter_number fold_byte is_letter is_registered_script is_registered_region is_registered_variant script_subtags region_subtags variant_subtags
+whole_valid_of text new is = value_good is_whole_valid tag_preferred text new refl is
 
 preferred_valid : (text new : List ℕ) → preferred_tag text ≡ Some new → IsValid new
 preferred_valid text new is =
-    grind (arith, common_steps, and_parts, whole_valid_of, simple_record new, valid_spelled new (record_of new), preferred_spelled, registered_from_bit, few_extended, if_some_from_test, each_from_test, is_none-None)
+    grind (arith, common_steps, and_parts, whole_valid_of, simple_record new, valid_spelled new (record_of new), preferred_spelled, registered_from_bit, if_some_from_test, each_from_test)
 
 -- ---- every valid tag
 

@@ -1,5 +1,5 @@
 -- The Preferred-Value of a whole tag is a normal tag of a simple record: by computation.
-use Rattle.std.proofs.Common.{◌≡◌, ℕ, ◌<◌, true, Bool, ltb, List, [], ◌∷◌, length, map, Option, None, Some, IsTrue, inl, refl, arith}
+use Rattle.std.proofs.Common.{◌≡◌, ℕ, ◌<◌, true, Bool, List, [], ◌∷◌, length, map, Option, None, Some, IsTrue, inl, refl, arith}
 use Rattle.std.specs.Prelude.{◌&&◌, IfSome}
 use Rattle.std.specs.List.{list_all}
 use Rattle.std.specs.Option.{option_map_or}
@@ -73,10 +73,6 @@ unfolding IsTag IsNormal
 preferred_is_tag text new is = inl (record_of new, spelled_from_test new (value_good is_spelled tag_preferred text new all_spelled is))
 
 -- no longer text has one
-subtags_short : list_all (λ e. ltb (length e.subtag) 17) tag_preferred ≡ true
-unfolding tag_preferred
-subtags_short = refl
-
 pub none_longer : (text : List ℕ) → 16 < length text → None ≡ preferred_tag text
-unfolding preferred_tag
-none_longer text long = value_of_long 16 tag_preferred text long subtags_short
+unfolding preferred_tag tag_preferred
+none_longer text long = value_of_long 16 tag_preferred text long refl

@@ -26,10 +26,7 @@ pub returns-clause-pushed : goal.returns-clause-pushed
 returns-clause-pushed c = λ primary extended spells.
     let extlang = extended_lang_tag_text c.in-Some.extlang in
     let here = c.primary-primary.ensures.member primary extended spells in
-    let value : c.as_bytes-2.result.now ≡ unwrap_or (preferred_language primary) primary =
-    c.as_bytes-2.ensures ∙ ap primary_language_text c.unwrap_or-2.ensures ∙ view_of primary_language_text c.preferred_language-2.result c.primary-primary.result
-    ∙ ap (λ o. unwrap_or o (primary_language_text c.primary-primary.result)) c.preferred_language-2.ensures
-    ∙ ap (λ p. unwrap_or (preferred_language p) p) here in
+    let value : c.as_bytes-2.result.now ≡ unwrap_or (preferred_language primary) primary = cc (here, view_of primary_language_text c.preferred_language-2.result c.primary-primary.result) in
     other_pushed primary c.as_bytes-2.result.now extlang extended _ _ _
     (sym (c.extension_subtags-extlangs.ensures.members primary extended spells) ∙ c.in-Some.ensures.steps ∙ ap (λ rest. extlang ∷ rest) c.in-None.ensures.steps.0)
     (sym c.is_registered_extlang.ensures ∙ c.if-is_registered_extlang.false) value c.push_subtag-2.ensures.pushed

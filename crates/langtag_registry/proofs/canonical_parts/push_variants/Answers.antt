@@ -1,4 +1,4 @@
-use Rattle.std.proofs.Common.{sym, ap, ◌∙◌, unwrap_or, arith}
+use Rattle.std.proofs.Common.{sym, ap, ◌∙◌, unwrap_or, arith, ◌≡◌}
 use Rattle.std.proofs.lemmas.Grind.{common_steps}
 use Rattle.langtag_place.specs.Text.{variant_text, variants_left}
 use Rattle.langtag_registry.specs.Canonical.{canonical_variants}
@@ -13,9 +13,7 @@ loop-variant-init c = grind (arith, common_steps, pushes_same)
 pub loop-variant-preserved : goal.loop-variant-preserved
 loop-variant-preserved c =
     let v = variant_text c.in-Some.variant in
-    let becomes =
-    c.as_bytes.ensures ∙ ap variant_text c.unwrap_or.ensures ∙ view_of variant_text c.preferred_variant.result c.in-Some.variant
-    ∙ ap (λ o. unwrap_or o v) c.preferred_variant.ensures in
+    let becomes : c.as_bytes.result.now ≡ unwrap_or (preferred_variant v) v = cc (view_of variant_text c.preferred_variant.result c.in-Some.variant) in
     record {
       can_next = tt;
       is_finite = tt;

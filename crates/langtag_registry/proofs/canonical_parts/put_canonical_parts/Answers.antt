@@ -1,14 +1,9 @@
-use Rattle.std.proofs.Common.{[], subst, ◌∙◌, rules}
-use Rattle.langtag_scan.specs.Record.{spell}
-use Rattle.langtag_registry.specs.Canonical.{canonical_record}
-use Rattle.langtag_output.specs.Output.{HasText}
+use Rattle.std.proofs.Common.{[], arith}
+use Rattle.std.proofs.lemmas.Grind.{common_steps}
 use Rattle.langtag_output.proofs.Pushed.{record_joined}
 use Rattle.langtag_registry.proofs.WellFormedForms.{canonical_record_well_formed}
 use Rattle.langtag_registry.proofs.canonical_parts.put_canonical_parts.Goals as goal
 
 pub returns : goal.returns
 returns c = λ r spells.
-    let has : HasText c.args.buffer.now c.push_parts.new.out (spell (canonical_record r)) =
-    subst (HasText c.args.buffer.now c.push_parts.new.out) (record_joined (canonical_record r) (canonical_record_well_formed r spells.0))
-    (c.push_parts.ensures.pushed r spells c.args.buffer.now [] c.new-out.ensures.empty) in
-    record { counted = c.len.ensures ∙ has.counted; written = λ fits. search (rules, has.written fits) }
+    grind (arith, common_steps, record_joined, canonical_record_well_formed r spells.0, c.push_parts.ensures.pushed r spells c.args.buffer.now [])

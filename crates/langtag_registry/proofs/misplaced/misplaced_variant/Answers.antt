@@ -31,4 +31,4 @@ loop-variant-preserved c = record {
 }
 
 pub returns : goal.returns
-returns c = λ r spells. walk_ended r _ _ (c.loop-variant.invariant.walked r spells) c.in-None.ensures.steps.0
+returns c = grind (arith, common_steps, walk_ended)
