@@ -1,6 +1,6 @@
 #!/usr/bin/env python3
-"""Writes the tables and the lists of the crate langtag_unicode from Unicode's CLDR. The aliases of types, of subdivisions and of language
-identifiers are in data/. The aliases of regions are those of langtag_likely, in ../likely/data. Also writes CLDR's own cases, which are in
+"""Writes the tables and the lists of the crates langtag_unicode and langtag_locale from Unicode's CLDR. The aliases of types, of
+subdivisions and of language identifiers are in data/. The aliases of regions are those of langtag_likely, in ../likely/data. Also writes CLDR's own cases, which are in
 data/ too, as the rows of ../rows/cldr.txt.
 
 usage: generate.py            writes them from the data whose checksums are in data.sha256
@@ -200,9 +200,9 @@ def rule_lists(identifiers: Identifiers) -> str:
 
 def written(crates: pathlib.Path, aliases: Aliases, identifiers: Identifiers) -> dict[pathlib.Path, str]:
     """Returns the files that are made from the data: the path and the text of each."""
-    crate = crates / "langtag_unicode"
-    return {crate / "src/alias_tables.rt": tables(aliases), crate / "specs/Aliases.antt": lists(aliases),
-            crate / "src/locale_tables.rt": rule_tables(identifiers), crate / "specs/LocaleAliases.antt": rule_lists(identifiers),
+    unicode, locale = crates / "langtag_unicode", crates / "langtag_locale"
+    return {unicode / "src/alias_tables.rt": tables(aliases), unicode / "specs/Aliases.antt": lists(aliases),
+            locale / "src/locale_tables.rt": rule_tables(identifiers), locale / "specs/LocaleAliases.antt": rule_lists(identifiers),
             ROWS / "cldr.txt": cases.rows(DATA / cases.NAME, version())}
 
 

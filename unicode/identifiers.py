@@ -22,7 +22,7 @@ def fields(text: str) -> tuple[str, str, str, tuple[str, ...]] | None:
 
 
 class Identifiers:
-    """The aliases of language identifiers, by the steps of the form: see specs/LocaleForm.antt of langtag_unicode."""
+    """The aliases of language identifiers, by the steps of the form: see specs/LocaleForm.antt of langtag_locale."""
 
     def __init__(self, rows, languages, regions, registry) -> None:
         self.variant_languages, self.sign_languages, self.variant_pairs = [], [], []

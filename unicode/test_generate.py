@@ -14,7 +14,7 @@ import from_cldr
 import generate
 
 WRITTEN = ["langtag_unicode/src/alias_tables.rt", "langtag_unicode/specs/Aliases.antt",
-           "langtag_unicode/src/locale_tables.rt", "langtag_unicode/specs/LocaleAliases.antt"]
+           "langtag_locale/src/locale_tables.rt", "langtag_locale/specs/LocaleAliases.antt"]
 
 
 class Generating(unittest.TestCase):

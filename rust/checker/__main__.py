@@ -11,7 +11,7 @@ import pathlib
 import sys
 
 from compare import Difference, compare
-from forms import CRATES, ELSEWHERE, with_errors, with_nested_chains, with_paths
+from forms import CRATES, ELSEWHERE, SHOWING, with_errors, with_nested_chains, with_paths
 from ghosts import without_ghosts
 from kinds import HERE, LIMIT, read_kinds
 from marks import without_imports, without_marks
@@ -54,6 +54,10 @@ class Checker:
         old = with_nested_chains(with_errors(with_paths(old, crate, counts), counts), counts)
         new = without_marks(words_of(path.read_text(encoding="utf-8")), counts)
         old, imported = without_imports(old)
+        if source.name == "lib.rt" and crate in SHOWING:
+            shown = self.shown_by(SHOWING[crate])
+            imported |= shown
+            counts["shown elsewhere"] += len(shown)
         new, imports = without_imports(new)
         kept_inside = {name for name in imported - imports if "pub(crate) " + name.removeprefix("pub ") in imports}
         counts["export"] += len(kept_inside)
@@ -62,6 +66,12 @@ class Checker:
         for name in set(counts) - set(self.names):
             raise Difference(f"`{name}` is no kind of kinds.txt")
         compare(without_layout(old), without_layout(new), self.kinds, counts)
+
+    def shown_by(self, crate):
+        """Returns what the lib.rt of a crate exports to users, by its path in the single Rust crate."""
+        text, _, _ = (self.sources / crate / "src/lib.rt").read_text(encoding="utf-8").partition("\n// For ")
+        _, exports = without_imports(words_of(text))
+        return {f"pub use crate::{CRATES[crate]}::{name.rpartition('::')[2]}" for name in exports if name.startswith("pub use ")}
 
     def run(self, only=None):
         """Checks all files, or one."""

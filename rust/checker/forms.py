@@ -20,10 +20,13 @@ CRATES = {
     "langtag_likely": "likely",
     "langtag_choice": "choice",
     "langtag_unicode": "unicode",
+    "langtag_locale": "locale",
     "langtag_c": "calls",
 }
 # The crates whose modules are not below src. The C library also has the modules below src.
 ELSEWHERE = {"langtag_c": "../c/src"}
+# The modules that also export what another crate exports.
+SHOWING = {"langtag_unicode": "langtag_locale"}
 # The error whose message ends with a suggestion, which is written by hand.
 SUGGESTING = "InvalidSubtag"
 IMPLS = """impl{generics} fmt::Display for {type} {{ fn fmt(&self, f: &mut fmt::Formatter<'_>) -> fmt::Result {{ {body} }} }}

@@ -10,10 +10,10 @@ import subprocess
 import sys
 import tempfile
 
-from crates import MODULES
+from crates import MODULES, SHOWN_IN
 from docs import erase_docs
 from errors import erase_derives
-from exports import keep_inside, lent_by
+from exports import exports_of, keep_inside, lent_by, with_exports
 from features import mark_owning, owning_items
 from ghosts import erase_ghosts
 from memory import erase_allocators
@@ -27,7 +27,7 @@ CRATES = RUST.parent / "crates"
 
 def erase(source, module):
     """Returns the code of a source without its contracts, and the names of its free functions with a condition."""
-    code = Code(source.read_text(encoding="utf-8"))
+    code = Code(text_of(source, module))
     conditional = erase_ghosts(code)
     erase_derives(code)
     erase_allocators(code)
@@ -38,6 +38,15 @@ def erase(source, module):
     add_imports(code)
     erase_docs(code, module)
     return code, conditional
+
+
+def text_of(source, module):
+    """Returns the text of a source. The lib.rt of a module also exports the items of the crates that it shows to users."""
+    text = source.read_text(encoding="utf-8")
+    for crate, shower in SHOWN_IN.items():
+        if module.crate == shower and source.stem == "lib":
+            text = with_exports(text, crate, exports_of(CRATES / crate / "src/lib.rt"))
+    return text
 
 
 def head(source):

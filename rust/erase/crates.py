@@ -25,12 +25,16 @@ MODULES = [
     Module("langtag_likely", "src/likely", "crate::likely"),
     Module("langtag_choice", "src/choice", "crate::choice"),
     Module("langtag_unicode", "src/unicode", "crate::unicode"),
+    Module("langtag_locale", "src/locale", "crate::locale"),
     # The C library is a separate crate, rust/c, which also has the modules above.
     Module("langtag_c", "c/src/calls", "crate::calls"),
 ]
 
 # The modules that users name. The items of other modules are at the root, if src/lib.rs exports them.
 PUBLIC = {"crate::matching", "crate::registry", "crate::likely", "crate::choice", "crate::unicode"}
+
+# The crates whose public items users find in the module of another crate, which exports them, too.
+SHOWN_IN = {"langtag_locale": "langtag_unicode"}
 
 
 def path_of(crate):
@@ -40,5 +44,5 @@ def path_of(crate):
 
 def public_path_of(crate):
     """Returns the path under which users find the items of a crate: `langtag::registry`, or `langtag` for items at the root."""
-    path = path_of(crate)
+    path = path_of(SHOWN_IN.get(crate, crate))
     return path.replace("crate", "langtag") if path in PUBLIC else path and "langtag"

@@ -9,6 +9,18 @@ def lent_by(root):
     return set(re.findall(r"(\w+)[,;}]", uses))
 
 
+def exports_of(root):
+    """Returns the names that a lib.rt exports to users."""
+    text, _, _ = root.read_text(encoding="utf-8").partition("\n// For ")
+    return [name for listed in re.findall(r"^pub use \w+::([^;]*);", text, re.M) for name in re.findall(r"\w+", listed)]
+
+
+def with_exports(text, crate, names):
+    """Adds an export of names of another crate to the text of a lib.rt."""
+    own, mark, lent = text.partition("\n\n// For ")
+    return f"{own.rstrip()}\npub use {crate}::{{{', '.join(names)}}};\n{mark}{lent}"
+
+
 def keep_inside(code, names):
     place = 0
     while (place := code.find("pub use", place)) >= 0:

@@ -109,6 +109,7 @@ pub mod choice;
 mod extension;
 mod language;
 pub mod likely;
+mod locale;
 pub mod matching;
 mod output;
 mod place;

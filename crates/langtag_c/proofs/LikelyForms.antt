@@ -14,10 +14,10 @@ use Rattle.langtag.proofs.FormLaws.{form_is_tag}
 use Rattle.langtag_likely.proofs.GoodForms.{maximal_well_formed, minimal_well_formed}
 use Rattle.langtag_likely.proofs.PosixLaws.{said_well_formed}
 use Rattle.langtag_unicode.proofs.FormRecords.{form_well_formed}
-use Rattle.langtag_unicode.proofs.LocaleRecords.{locale_tag}
-use Rattle.langtag_unicode.proofs.WholeForms.{not_both, whole_of_record}
+use Rattle.langtag_locale.proofs.LocaleRecords.{locale_tag}
+use Rattle.langtag_locale.proofs.WholeForms.{not_both, whole_of_record}
 use Rattle.langtag_unicode.specs.Form.{IsExtensionsForm, extensions_record}
-use Rattle.langtag_unicode.specs.LocaleForm.{IsWholeForm}
+use Rattle.langtag_locale.specs.LocaleForm.{IsWholeForm}
 use Rattle.langtag_c.proofs.TagLengths.{some_tag}
 
 pub some_canonical : (old new : List ℕ) → IsTag old → IsCanonicalForm old new → 1 ≤ length new

@@ -3,11 +3,11 @@ ghost use Rattle.std.specs.Prelude.{◌≡◌, ◌↔◌, ◌<◌, ◌≤◌, �
 ghost use Rattle.langtag.specs.Part.{PartOf};
 ghost use Rattle.langtag_scan.specs.Tag.{IsTag};
 ghost use Rattle.langtag_output.specs.Writes.{Writes};
-ghost use Rattle.langtag_unicode.specs.Locale.{is_locale_record};
-ghost use Rattle.langtag_unicode.specs.LocaleForm.{IsWholeForm};
+ghost use Rattle.langtag_locale.specs.Locale.{is_locale_record};
+ghost use Rattle.langtag_locale.specs.LocaleForm.{IsWholeForm};
 
 use crate::tag::tag_of;
-use langtag_unicode::{is_locale, write_locale_form};
+use langtag_locale::{is_locale, write_locale_form};
 
 /// Returns whether bytes are a Unicode locale identifier (UTS #35, part 1, section 'Unicode Locale Identifier'): `true`
 /// for `de-1996-u-co-phonebk`, `false` for `x-a` and `zh-yue`.

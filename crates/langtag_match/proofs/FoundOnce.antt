@@ -3,6 +3,7 @@ use Rattle.std.proofs.Common.{◌≡◌, ℕ, ◌≤◌, ◌&&◌, ◌||◌, Boo
 use Rattle.std.specs.List.{filter}
 use Rattle.std.specs.List.Sorted.{IsPermutation}
 use Rattle.std.proofs.Math.Bool.{and-true}
+use Rattle.std.proofs.lemmas.List.Elements.{filter_agree}
 use Rattle.std.proofs.lemmas.List.Folds.{list_any-append}
 use Rattle.std.proofs.lemmas.List.Sorted.{IsPermutation-refl, IsPermutation-trans, IsPermutation-append_right, IsPermutation-filter_both, length_permutation}
 use Rattle.std.proofs.lemmas.List.Sums.{length-filter, count_by-le-length}
@@ -10,15 +11,16 @@ use Rattle.std.proofs.lemmas.Grind.{common_steps}
 use Rattle.langtag.specs.declared.lang_tag.LangTag.{LangTag}
 use Rattle.langtag_match.specs.Filter.{finds, is_found, newly_found, found_after, filtered, AreFoundOnce}
 use Rattle.langtag_match.specs.declared.language_range.LanguageRange.{LanguageRange}
-use Rattle.langtag_match.proofs.Readings.{filter-same}
+use Rattle.langtag_match.proofs.Found.{found_from-start}
 
 filter-none : (tags : List LangTag) → filter (λ tag. false) tags ≡ []
 filter-none [] = refl
 filter-none (tag ∷ tags) = filter-none tags
 
-filter-filter : (p q : LangTag → Bool) (tags : List LangTag) → filter p (filter q tags) ≡ filter (λ tag. q tag && p tag) tags
-filter-filter p q [] = refl
-filter-filter p q (tag ∷ tags) = grind (arith, common_steps, filter-filter p q tags)
+-- a test of those that pass another is a test of all
+filter-filter : (p q r : LangTag → Bool) → ((tag : LangTag) → (q tag && p tag) ≡ r tag) → (tags : List LangTag) → filter p (filter q tags) ≡ filter r tags
+filter-filter p q r both [] = refl
+filter-filter p q r both (tag ∷ tags) = grind (arith, common_steps, both tag, filter-filter p q r both tags)
 
 -- f says that a range matches a tag, l that a later one does, and b that one before does
 first_found : (f l b : Bool) → (((f || l) && not b) && (f && not b)) ≡ (f && not b)
@@ -40,22 +42,18 @@ module _ (matches : List ℕ → List ℕ → Bool) where
       let all : LangTag → Bool = is_new before (range ∷ ranges) in
       let later : LangTag → Bool = is_new (before ++ range ∷ []) ranges in
       let cut = IsPermutation-filter_both here (λ tag. not (here tag)) (λ tag. refl) (filter all tags) in
-      let first : filter here (filter all tags) ≡ newly_found matches before range tags =
-      filter-filter here all tags
-      ∙ filter-same (λ tag. all tag && here tag) here (λ tag. first_found (finds matches range tag) (is_found matches ranges tag) (is_found matches before tag)) tags in
-      let rest : filter (λ tag. not (here tag)) (filter all tags) ≡ filter later tags =
-      filter-filter (λ tag. not (here tag)) all tags
-      ∙ filter-same (λ tag. all tag && not (here tag)) later (λ tag. later_found (finds matches range tag) (is_found matches ranges tag) (is_found matches before tag) ∙ ap (λ b. is_found matches ranges tag && not b) (sym (list_any-append (λ earlier. finds matches earlier tag) before (range ∷ [])))) tags in
+      let first = filter-filter here all here (λ tag. first_found (finds matches range tag) (is_found matches ranges tag) (is_found matches before tag)) tags in
+      let rest = filter-filter (λ tag. not (here tag)) all later (λ tag. later_found (finds matches range tag) (is_found matches ranges tag) (is_found matches before tag) ∙ ap (λ b. is_found matches ranges tag && not b) (sym (list_any-append (λ earlier. finds matches earlier tag) before (range ∷ [])))) tags in
       IsPermutation-trans _ _ _ cut
-      (subst (λ found. IsPermutation (found ++ filter (λ tag. not (here tag)) (filter all tags)) (found_after matches before (range ∷ ranges) tags)) (sym first)
-      (subst (λ others. IsPermutation (newly_found matches before range tags ++ others) (found_after matches before (range ∷ ranges) tags)) (sym rest)
-      (IsPermutation-append_right (newly_found matches before range tags) _ _ (found_after-permutation (before ++ range ∷ []) ranges tags))))
+      (rw (first, rest) (IsPermutation-append_right (newly_found matches before range tags) _ _ (found_after-permutation (before ++ range ∷ []) ranges tags)))
 
   pub found_once : (ranges : List LanguageRange) (tags : List LangTag) → AreFoundOnce matches ranges tags (filtered matches ranges tags)
-  found_once ranges tags = grind (arith, common_steps, filter-same (is_new [] ranges) (is_found matches ranges), and-true, found_after-permutation)
+  found_once ranges tags = grind (arith, common_steps, filter_agree (is_new [] ranges) (is_found matches ranges), and-true, found_after-permutation)
 
   -- so no more are found than there are
   pub few_found : (ranges : List LanguageRange) (tags : List LangTag) → length (filtered matches ranges tags) ≤ length tags
   few_found ranges tags =
       let found = filter (is_found matches ranges) tags in
       omega (arith, length_permutation found (filtered matches ranges tags) (found_once ranges tags), length-filter (is_found matches ranges) tags, count_by-le-length (is_found matches ranges) tags)
+
+pub ruleset found_laws = (found_from-start, found_once, few_found)

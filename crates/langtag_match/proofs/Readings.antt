@@ -6,11 +6,12 @@ use Rattle.std.specs.Ordering.{is_lt, nat_cmp}
 use Rattle.std.specs.declared.cmp.Ordering.{Ordering}
 use Rattle.std.proofs.lemmas.Bool.Decides.{nat_tests}
 use Rattle.std.proofs.lemmas.List.{nil_from_length}
+use Rattle.std.proofs.lemmas.List.Elements.{filter_agree}
 use Rattle.std.proofs.lemmas.List.Sorted.{length_permutation}
 use Rattle.std.proofs.lemmas.Grind.{common_steps}
 use Rattle.langtag_match.specs.AcceptLanguage.{FallsTo, HasOneReading, IsByWeight, acceptable, elements, reading, weight_in}
 use Rattle.langtag_range.specs.Element.{Element}
-use Rattle.langtag_match.specs.Stable.{IsOrderedBy, with_key}
+use Rattle.langtag_match.specs.Stable.{IsOrderedBy}
 use Rattle.langtag_match.proofs.Stable.{stable_once}
 use Rattle.langtag_match.specs.declared.weighted_range.WeightedRange.{WeightedRange}
 
@@ -51,10 +52,6 @@ filter-reading : (test : ℕ → Bool) (ws : List WeightedRange) → filter (λ 
 filter-reading test [] = refl
 filter-reading test (w ∷ ws) = grind (arith, common_steps, filter-reading test ws)
 
-pub filter-same : {X : Type 0} (p q : X → Bool) → ((x : X) → p x ≡ q x) → (xs : List X) → filter p xs ≡ filter q xs
-filter-same p q same [] = refl
-filter-same p q same (x ∷ xs) = rw (same x, filter-same p q same xs) refl
-
 tie : (a b : ℕ) → (not (is_lt (nat_cmp b a)) && not (is_lt (nat_cmp a b))) ≡ eqb b a
 tie a b = grind (arith, nat_tests)
 
@@ -64,7 +61,7 @@ stable_by_weight (w ∷ ws) sorted same stable n =
     let one : WeightedRange = record w { weight = n } in
     let test : WeightedRange → Bool = ties (λ u v. is_lt (by_weight u v)) one in
     let is : (v : WeightedRange) → test v ≡ eqb v.weight n = λ v. tie n v.weight in
-    sym (filter-same test (λ v. eqb v.weight n) is sorted) ∙ stable one ∙ filter-same test (λ v. eqb v.weight n) is (w ∷ ws)
+    sym (filter_agree test (λ v. eqb v.weight n) is sorted) ∙ stable one ∙ filter_agree test (λ v. eqb v.weight n) is (w ∷ ws)
 
 pub IsByWeight-sorted :
     (read kept sorted : List WeightedRange) → kept ≡ filter (λ w. nat_lt 0 w.weight) read → IsPermutation kept sorted →
@@ -72,9 +69,5 @@ pub IsByWeight-sorted :
 IsByWeight-sorted read kept sorted some same falling stable = record {
   in_order = IsFalling-from_sorted sorted falling;
   stable = λ n.
-      filter-reading (λ m. eqb m n) sorted
-      ∙ ap (map reading) (stable_by_weight kept sorted same stable n)
-      ∙ sym (filter-reading (λ m. eqb m n) kept)
-      ∙ ap (λ ws. with_key weight_in n (map reading ws)) some
-      ∙ ap (with_key weight_in n) (sym (filter-reading (nat_lt 0) read));
+      grind (arith, common_steps, filter-reading (λ m. eqb m n) sorted, stable_by_weight kept sorted same stable n, filter-reading (λ m. eqb m n) kept, filter-reading (nat_lt 0) read);
 }

@@ -41,6 +41,7 @@ impl<'a> AcceptLanguage<'a> {
     /// Returns `BadElement` if an element is neither empty nor a basic language range with an optional weight. The
     /// error contains the whole header, and the index and offset of the first such element. Returns `Memory` if
     /// allocation fails.
+    #[tactic(auto, using(crate::proofs::Readings::one_reading))]
     pub fn new(
         alloc: Global,
         header: &'a str,

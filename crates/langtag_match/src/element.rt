@@ -63,7 +63,7 @@ pub fn element_at(item: &[u8]) -> Result<Element<'_>, ElementPart>
 }
 
 /// Returns the weight after the first `;`, or 1000 if there is no `;`.
-#[tactic(auto, using(langtag_scan::proofs::Places::any_at_first, langtag_scan::proofs::Places::none_at_length))]
+#[tactic(auto, using(langtag_scan::proofs::Places::any_at_first, langtag_scan::proofs::Places::none_at_length, std::proofs::lemmas::List::take_rest))]
 fn weight_after(item: &[u8], semicolon: usize) -> Option<u32>
     requires within { semicolon ≤ length item.now }
     requires first { semicolon ≡ position_or_len is_semicolon item.now }

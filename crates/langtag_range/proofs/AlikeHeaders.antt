@@ -1,6 +1,6 @@
 -- Headers that are equal but for the case of letters have elements that are equal but for case.
-use Rattle.std.proofs.Common.{◌≡◌, ℕ, Bool, true, cond, List, [], ◌∷◌, map, Option, None, Some, option_map, refl, sym, ap, ◌∙◌, arith}
-use Rattle.std.specs.List.{list_any, slice_split, before_first, after_first}
+use Rattle.std.proofs.Common.{◌≡◌, ℕ, true, cond, List, [], ◌∷◌, map, Option, None, Some, option_map, refl, sym, ap, ◌∙◌, arith}
+use Rattle.std.specs.List.{before_first, after_first}
 use Rattle.std.proofs.Math.ListN.{get_or-map}
 use Rattle.std.proofs.lemmas.Bool.{and_parts}
 use Rattle.std.proofs.lemmas.List.{length-map, take-map}
@@ -15,24 +15,12 @@ use Rattle.langtag_range.specs.Weight.{is_q}
 use Rattle.langtag_range.specs.Locale.{ends_locale, front_of, is_hash, place_before, locale_place, without_mark}
 use Rattle.langtag_range.specs.Wanted.{hyphened, wanted_text, is_point, number_weight, value_weight, is_equals, is_q_name, is_q_parameter, wanted_weight, parameters, wanted, digits_behind, wanted_items, wanted_elements, folded, ElementsIgnoreCase}
 use Rattle.langtag_range.proofs.AlikeTexts.{mark-fold, underscore-fold, hyphened-fold, trimmed-fold, is_basic_range-fold}
-use Rattle.langtag_range.proofs.ChangedTexts.{list_any-changed, before_first-changed, after_first-changed, slice_split-changed}
+use Rattle.langtag_range.proofs.FoldedTexts.{list_any-fold, before_first-fold, after_first-fold, slice_split-fold}
 
 -- ---- where an item is cut
 
-is_semicolon-fold : (b : ℕ) → is_semicolon (fold_byte b) ≡ is_semicolon b
-is_semicolon-fold = mark-fold 59 (omega arith)
-
-is_equals-fold : (b : ℕ) → is_equals (fold_byte b) ≡ is_equals b
-is_equals-fold = mark-fold 61 (omega arith)
-
-is_point-fold : (b : ℕ) → is_point (fold_byte b) ≡ is_point b
-is_point-fold = mark-fold 46 (omega arith)
-
 ends_locale-fold : (b : ℕ) → ends_locale (fold_byte b) ≡ ends_locale b
 ends_locale-fold b = rw (mark-fold 46 (omega arith) b, mark-fold 64 (omega arith) b) refl
-
-is_hash-fold : (b : ℕ) → is_hash (fold_byte b) ≡ is_hash b
-is_hash-fold = mark-fold 35 (omega arith)
 
 without_mark-fold : (text : List ℕ) → without_mark (fold_text text) ≡ fold_text (without_mark text)
 unfolding fold_byte
@@ -40,33 +28,19 @@ without_mark-fold text = grind (arith, common_steps, length-map, get_or-map, und
 
 place_before-fold : (front : List ℕ) → place_before (fold_text front) ≡ fold_text (place_before front)
 place_before-fold front =
-    rw (
-      list_any-changed fold_byte is_hash is_hash is_hash-fold front,
-      before_first-changed fold_byte is_hash is_hash is_hash-fold front,
-      without_mark-fold (before_first is_hash front),
-      without_mark-fold (without_mark (before_first is_hash front)),
-    ) (by_test (list_any is_hash front))
-  where
-    by_test :
-        (marked : Bool) →
-        cond marked (fold_text (without_mark (without_mark (before_first is_hash front)))) (fold_text front) ≡ fold_text (cond marked (without_mark (without_mark (before_first is_hash front))) front)
-    by_test marked = grind (arith, common_steps)
+    grind (arith, common_steps, list_any-fold is_hash (mark-fold 35 (omega arith)) front, before_first-fold is_hash (mark-fold 35 (omega arith)) front, without_mark-fold)
 
 locale_place-fold : (name : List ℕ) → locale_place (fold_text name) ≡ fold_text (locale_place name)
-locale_place-fold name = ap place_before (before_first-changed fold_byte ends_locale ends_locale ends_locale-fold name) ∙ place_before-fold (front_of name)
+locale_place-fold name = rw (before_first-fold ends_locale ends_locale-fold name) (place_before-fold (front_of name))
 
 -- what is to be the range of an item
 wanted_range-fold : (item : List ℕ) → hyphened (wanted_text (fold_text item)) ≡ fold_text (hyphened (wanted_text item))
 wanted_range-fold item =
-    ap (λ t. hyphened (locale_place (trimmed t))) (before_first-changed fold_byte is_semicolon is_semicolon is_semicolon-fold item)
-    ∙ ap (λ t. hyphened (locale_place t)) (trimmed-fold (before_first is_semicolon item))
-    ∙ ap hyphened (locale_place-fold (range_of item))
-    ∙ hyphened-fold (wanted_text item)
+    rw (before_first-fold is_semicolon (mark-fold 59 (omega arith)) item, trimmed-fold (before_first is_semicolon item), locale_place-fold (range_of item)) (hyphened-fold (wanted_text item))
 
 parameters-fold : (item : List ℕ) → parameters (fold_text item) ≡ map fold_text (parameters item)
 parameters-fold item =
-    ap (slice_split is_semicolon) (after_first-changed fold_byte is_semicolon is_semicolon is_semicolon-fold item)
-    ∙ slice_split-changed fold_byte is_semicolon is_semicolon is_semicolon-fold (after_first is_semicolon item)
+    rw (after_first-fold is_semicolon (mark-fold 59 (omega arith)) item) (slice_split-fold is_semicolon (mark-fold 59 (omega arith)) (after_first is_semicolon item))
 
 -- ---- the weight that a value says: a number has no letters
 
@@ -84,18 +58,9 @@ are_digits-fold = all-fold is_digit is_digit-fold
 number_weight-fold : (whole fraction : List ℕ) → number_weight (fold_text whole) (fold_text fraction) ≡ number_weight whole fraction
 number_weight-fold whole fraction = grind (arith, common_steps, digits_stay whole, digits_stay fraction, are_digits-fold whole, are_digits-fold fraction)
 
--- the fraction of a value: what stands after its point, or behind a comma
-fraction_of-fold :
-    (value behind : List ℕ) →
-    cond (list_any is_point (fold_text value)) (after_first is_point (fold_text value)) (fold_text behind) ≡ fold_text (cond (list_any is_point value) (after_first is_point value) behind)
-fraction_of-fold value behind = grind (arith, common_steps, list_any-changed, is_point-fold, after_first-changed)
-
 value_weight-fold : (value behind : List ℕ) → value_weight (fold_text value) (fold_text behind) ≡ value_weight value behind
 value_weight-fold value behind =
-    ap (λ w. number_weight w (cond (list_any is_point (fold_text value)) (after_first is_point (fold_text value)) (fold_text behind)))
-    (before_first-changed fold_byte is_point is_point is_point-fold value)
-    ∙ ap (number_weight (fold_text (before_first is_point value))) (fraction_of-fold value behind)
-    ∙ number_weight-fold (before_first is_point value) (cond (list_any is_point value) (after_first is_point value) behind)
+    grind (arith, common_steps, list_any-fold is_point (mark-fold 46 (omega arith)) value, before_first-fold is_point (mark-fold 46 (omega arith)) value, after_first-fold is_point (mark-fold 46 (omega arith)) value, number_weight-fold)
 
 -- ---- parameters
 
@@ -108,24 +73,18 @@ is_q_name-fold name = grind (arith, common_steps, is_q-fold)
 
 is_q_parameter-fold : (parameter : List ℕ) → is_q_parameter (fold_text parameter) ≡ is_q_parameter parameter
 is_q_parameter-fold parameter =
-    rw (
-      list_any-changed fold_byte is_equals is_equals is_equals-fold parameter,
-      before_first-changed fold_byte is_equals is_equals is_equals-fold parameter,
-      trimmed-fold (before_first is_equals parameter),
-      is_q_name-fold (trimmed (before_first is_equals parameter)),
-    ) refl
-
-said_weight-fold :
-    (parameter behind : List ℕ) → value_weight (trimmed (after_first is_equals (fold_text parameter))) (fold_text behind) ≡ value_weight (trimmed (after_first is_equals parameter)) behind
-said_weight-fold parameter behind =
-    ap (λ t. value_weight (trimmed t) (fold_text behind)) (after_first-changed fold_byte is_equals is_equals is_equals-fold parameter)
-    ∙ ap (λ t. value_weight t (fold_text behind)) (trimmed-fold (after_first is_equals parameter))
-    ∙ value_weight-fold (trimmed (after_first is_equals parameter)) behind
+    grind (arith, common_steps, list_any-fold is_equals (mark-fold 61 (omega arith)) parameter, before_first-fold is_equals (mark-fold 61 (omega arith)) parameter, trimmed-fold, is_q_name-fold)
 
 wanted_weight-fold : (parameters : List (List ℕ)) (behind : List ℕ) → wanted_weight (map fold_text parameters) (fold_text behind) ≡ wanted_weight parameters behind
 wanted_weight-fold [] behind = refl
 wanted_weight-fold (parameter ∷ parameters) behind =
-    rw (is_q_parameter-fold parameter, said_weight-fold parameter behind, wanted_weight-fold parameters behind) refl
+    rw (
+      is_q_parameter-fold parameter,
+      after_first-fold is_equals (mark-fold 61 (omega arith)) parameter,
+      trimmed-fold (after_first is_equals parameter),
+      value_weight-fold (trimmed (after_first is_equals parameter)) behind,
+      wanted_weight-fold parameters behind,
+    ) refl
 
 -- ---- elements
 
@@ -146,7 +105,7 @@ wanted_items-fold (item ∷ items) = grind (arith, common_steps, wanted-fold ite
 
 -- those of a header in small letters are those of the header, in small letters
 wanted_elements-fold : (header : List ℕ) → wanted_elements (fold_text header) ≡ map folded (wanted_elements header)
-wanted_elements-fold header = ap wanted_items (slice_split-changed fold_byte is_comma is_comma (mark-fold 44 (omega arith)) header) ∙ wanted_items-fold (items header)
+wanted_elements-fold header = ap wanted_items (slice_split-fold is_comma (mark-fold 44 (omega arith)) header) ∙ wanted_items-fold (items header)
 
 pub alike_headers : (header : List ℕ) → ElementsIgnoreCase header (wanted_elements header)
 alike_headers header other alike = sym (wanted_elements-fold other) ∙ ap wanted_elements (sym alike) ∙ wanted_elements-fold header

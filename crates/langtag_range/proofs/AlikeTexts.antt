@@ -10,7 +10,7 @@ use Rattle.langtag_scan.specs.Subtags.{subtags}
 use Rattle.langtag_range.specs.Element.{is_space, from_first, trimmed}
 use Rattle.langtag_range.specs.Range.{is_star, is_first_subtag, is_basic_range}
 use Rattle.langtag_range.specs.Wanted.{hyphened_byte, hyphened}
-use Rattle.langtag_range.proofs.ChangedTexts.{reverse-changed}
+use Rattle.langtag_range.proofs.FoldedTexts.{reverse-fold}
 use Rattle.langtag_scan.specs.Stage.{Classes}
 
 -- ---- bytes
@@ -42,7 +42,7 @@ from_first-fold [] = refl
 from_first-fold (b ∷ text) = grind (arith, common_steps, is_space-fold b, from_first-fold text)
 
 pub trimmed-fold : (text : List ℕ) → trimmed (fold_text text) ≡ fold_text (trimmed text)
-trimmed-fold text = grind (arith, common_steps, from_first-fold, reverse-changed)
+trimmed-fold text = grind (arith, common_steps, from_first-fold, reverse-fold)
 
 -- ---- ranges
 
@@ -62,8 +62,7 @@ are_private-fold [] = refl
 are_private-fold (subtag ∷ subtags) = rw (is_private_subtag-fold subtag, are_private-fold subtags) refl
 
 pub subtags-fold : (text : List ℕ) → subtags (fold_text text) ≡ map fold_text (subtags text)
-subtags-fold [] = refl
-subtags-fold (b ∷ text) = segments-fold (b ∷ text)
+subtags-fold text = grind (arith, common_steps, segments-fold text)
 
 pub is_basic_range-fold : (text : List ℕ) → is_basic_range (fold_text text) ≡ is_basic_range text
 is_basic_range-fold text = grind (arith, common_steps, is_star-fold text, subtags-fold text, is_first_subtag-fold, are_private-fold)

@@ -1,6 +1,6 @@
 -- What one subtag of a tag says of the subtags of a range that stand among it and those after it: the steps of
 -- RFC 4647 section 3.3.2.
-use Rattle.std.proofs.Common.{◌≡◌, ◌↔◌, ℕ, Bool, true, false, not, subst, IsTrue, List, [], ◌∷◌, ◌++◌, refl, sym, ap, ◌∙◌, append_assoc, arith}
+use Rattle.std.proofs.Common.{◌≡◌, ◌↔◌, ℕ, Bool, true, false, not, subst, IsTrue, List, [], ◌∷◌, ◌++◌, refl, ap, append_assoc, arith}
 use Rattle.std.proofs.lemmas.Bool.{and_parts, both_ways, not-true}
 use Rattle.std.proofs.lemmas.List.{length-map}
 use Rattle.std.proofs.lemmas.Grind.{common_steps}
@@ -21,20 +21,15 @@ have_no_single-append (s ∷ a) b ha hb = grind (arith, common_steps, and_parts 
 -- subtags that are not singletons may stand before
 StandAmong-after : (extra : List (List ℕ)) → IsTrue (have_no_single extra) → (more rest : List (List ℕ)) → StandAmong more rest → StandAmong more (extra ++ rest)
 StandAmong-after extra none [] rest h = tt
-StandAmong-after extra none (w ∷ more) rest (left_out, found, later, cut, free, alike, h) =
-    (extra ++ left_out, found, later, ap (λ ss. extra ++ ss) cut ∙ sym (append_assoc extra left_out (found ∷ later)), have_no_single-append extra left_out none free, alike, h)
+StandAmong-after extra none (w ∷ more) rest (left_out, found, later, cut, free, alike, h) = grind (arith, common_steps, append_assoc, have_no_single-append extra left_out none free)
 
 -- a subtag that is the wanted one may be taken for it: what another choice leaves out after it has no singleton either
 among_found-from : (w t : List ℕ) (more ts : List (List ℕ)) → are_alike w t ≡ true → StandAmong (w ∷ more) (t ∷ ts) → StandAmong more ts
 among_found-from w t more ts alike ([], found, rest, cut, free, same, h) = grind (arith, common_steps)
 among_found-from w t more ts alike (s ∷ left_out, found, rest, cut, free, same, h) =
-    let here : t ≡ s = cc in
-    let at : ts ≡ left_out ++ found ∷ rest = cc in
-    let k = and_parts (not (is_single s)) (have_no_single left_out) free in
-    let single : is_single found ≡ is_single s = alike_single w found same ∙ sym (alike_single w t alike) ∙ ap is_single here in
-    let one : IsTrue (have_no_single (found ∷ [])) = rw (single, k.0) refl in
-    let later = StandAmong-after (left_out ++ found ∷ []) (have_no_single-append left_out (found ∷ []) k.1 one) more rest h in
-    rw (at, ← append_assoc left_out (found ∷ []) rest) later
+    let one : is_single found ≡ is_single s = grind (arith, common_steps, alike_single w found same, alike_single w t alike) in
+    let later = StandAmong-after (left_out ++ found ∷ []) in
+    grind (arith, common_steps, and_parts (not (is_single s)) (have_no_single left_out) free, have_no_single-append left_out (found ∷ []), later, append_assoc left_out (found ∷ []) rest)
 
 pub among_found : (w t : List ℕ) (more ts : List (List ℕ)) → are_alike w t ≡ true → StandAmong more ts ↔ StandAmong (w ∷ more) (t ∷ ts)
 among_found w t more ts alike = (λ h. ([], t, ts, refl, refl, alike, h), among_found-from w t more ts alike)
@@ -46,10 +41,8 @@ among_left-from w t more ts other (s ∷ left_out, found, rest, cut, free, same,
 
 -- any other subtag is left out
 pub among_left : (w t : List ℕ) (more ts : List (List ℕ)) → are_alike w t ≡ false → is_single t ≡ false → StandAmong (w ∷ more) ts ↔ StandAmong (w ∷ more) (t ∷ ts)
-among_left w t more ts other many = (
-  λ h. (t ∷ h.0, h.1, h.2, ap (λ ss. t ∷ ss) h.3, rw (many, h.4) refl, h.5, h.6),
-  λ h. (among_left-from w t more ts other h).0,
-)
+among_left w t more ts other many =
+    (λ h. (t ∷ h.0, h.1, h.2, ap (λ ss. t ∷ ss) h.3, rw (many, h.4) refl, h.5, h.6), λ h. (among_left-from w t more ts other h).0)
 
 -- and a singleton may not be
 pub among_blocked : (w t : List ℕ) (more ts : List (List ℕ)) → are_alike w t ≡ false → is_single t ≡ true → StandAmong (w ∷ more) (t ∷ ts) → ⊥
@@ -69,7 +62,7 @@ module _ (w t : List ℕ) (left ts all more : List (List ℕ)) (cut : left ≡ t
   walk_left other many = grind (arith, common_steps, among_left w t more ts other many)
 
   pub walk_blocked : are_alike w t ≡ false → is_single t ≡ true → StandAmong (w ∷ more) all → ⊥
-  walk_blocked other single h = among_blocked w t more ts other single (subst (StandAmong (w ∷ more)) cut (same.1 h))
+  walk_blocked other single h = grind (arith, common_steps, among_blocked w t more ts other single, same.1 h)
 
 pub walk_ended : (w : List ℕ) (left all more : List (List ℕ)) → left ≡ [] → StandAmong (w ∷ more) left ↔ StandAmong (w ∷ more) all → StandAmong (w ∷ more) all → ⊥
 walk_ended w left all more none same h = among_none w more (subst (StandAmong (w ∷ more)) none (same.1 h))
@@ -80,9 +73,7 @@ walk_ended w left all more none same h = among_none w more (subst (StandAmong (w
 pub walk_missed :
     (w : List ℕ) (left ws left_tag : List (List ℕ)) (Whole : Type 0) → left ≡ w ∷ ws → is_star w ≡ false →
     ((more : List (List ℕ)) → StandAmong (w ∷ more) left_tag → ⊥) → StandAmong (without_stars left) left_tag ↔ Whole → Whole → ⊥
-walk_missed w left ws left_tag Whole cut plain missed same whole =
-    let kept : without_stars left ≡ w ∷ without_stars ws = ap without_stars cut ∙ rw plain refl in
-    missed (without_stars ws) (subst (λ ss. StandAmong ss left_tag) kept (same.1 whole))
+walk_missed w left ws left_tag Whole cut plain missed same whole = grind (arith, common_steps, missed (without_stars ws), same.1 whole)
 
 -- ---- the same as a test
 
@@ -90,15 +81,7 @@ stand_among-decides : (wanted subtags : List (List ℕ)) → IsTrue (stand_among
 stand_among-decides [] subtags = (λ yes. tt, λ stands. refl)
 stand_among-decides (w ∷ more) [] = (λ no. absurd cc, λ stands. absurd (among_none w more stands))
 stand_among-decides (w ∷ more) (t ∷ ts) =
-    by_subtag (are_alike w t) (is_single t) refl refl (stand_among-decides more ts) (stand_among-decides (w ∷ more) ts)
-  where
-    by_subtag :
-        (alike single : Bool) → are_alike w t ≡ alike → is_single t ≡ single →
-        (IsTrue (stand_among more ts) ↔ StandAmong more ts) → (IsTrue (stand_among (w ∷ more) ts) ↔ StandAmong (w ∷ more) ts) →
-        IsTrue (stand_among (w ∷ more) (t ∷ ts)) ↔ StandAmong (w ∷ more) (t ∷ ts)
-    by_subtag true single is one here later = grind (arith, common_steps, among_found w t more ts is)
-    by_subtag false true is one here later = rw (is, one) (λ no. absurd cc, λ stands. absurd (among_blocked w t more ts is one stands))
-    by_subtag false false is one here later = grind (arith, common_steps, among_left w t more ts is one)
+    grind (arith, common_steps, among_found w t more ts, among_left w t more ts, among_blocked w t more ts, stand_among-decides more ts, stand_among-decides (w ∷ more) ts)
 
 match_subtags-decides : (range tag : List (List ℕ)) → IsTrue (match_subtags range tag) ↔ MatchSubtags range tag
 match_subtags-decides range tag = grind (arith, common_steps, stand_among-decides, and_parts)

@@ -1,45 +1,47 @@
--- A language range is ASCII, so bytes that are not UTF-8 are not one.
-use Rattle.std.proofs.Common.{◌≡◌, ℕ, ◌<◌, true, List, [], ◌∷◌, ◌||◌, sym, subst, arith}
-use Rattle.std.specs.List.{AllByRecursion}
+-- The bytes of a language range are letters, digits, "*" and "-". So it is ASCII, and bytes that are not UTF-8 are not a range.
+use Rattle.std.proofs.Common.{◌≡◌, ℕ, ◌<◌, Bool, true, eqb, ◌||◌, List, [], ◌∷◌, refl, arith}
+use Rattle.std.specs.List.{list_all}
 use Rattle.std.specs.Str.{IsAscii, IsUtf8}
 use Rattle.std.proofs.lemmas.Bool.{and_parts, or_cases}
 use Rattle.std.proofs.lemmas.Bool.Decides.{nat_tests}
 use Rattle.std.proofs.lemmas.Slice.Eq.{bytes_eq-Decides}
 use Rattle.std.proofs.lemmas.Str.{IsUtf8-from_ascii}
-use Rattle.std.proofs.lemmas.Str.Ascii.{IsAscii-nil, IsAscii-cons}
 use Rattle.std.proofs.lemmas.Grind.{common_steps}
-use Rattle.langtag_scan.specs.Class.{is_letter, is_private_subtag}
-use Rattle.langtag_scan.specs.Subtags.{join, subtags}
-use Rattle.langtag_scan.proofs.Ascii.{IsAscii-each, alphanumeric_below, IsAscii-join}
-use Rattle.langtag_scan.proofs.SubtagLists.{join-subtags}
-use Rattle.langtag_range.specs.Range.{is_star, is_first_subtag, is_range_subtag, are_range_subtags, are_extended_range, is_language_range, is_basic_range}
-use Rattle.langtag_range.proofs.BasicRanges.{is_language_range-from_basic}
+use Rattle.langtag_scan.specs.Class.{is_letter, is_digit, is_alphanumeric, is_private_subtag}
+use Rattle.langtag_scan.specs.Subtags.{segments}
+use Rattle.langtag_scan.proofs.Ascii.{IsAscii-each}
+use Rattle.langtag_range.specs.Range.{is_range_subtag, are_extended_range, is_language_range, is_basic_range}
+use Rattle.langtag_range.proofs.BasicRanges.{list_all-weaker, is_language_range-from_basic}
+use Rattle.langtag_range.proofs.WantedTexts.{extended_parts}
 
--- ---- a star, a first subtag, any subtag, and the whole range
+abbrev pub is_range_byte : ℕ → Bool
+is_range_byte b = is_alphanumeric b || (eqb b 42 || eqb b 45)
 
-letter_below : (b : ℕ) → is_letter b ≡ true → b < 128
-unfolding is_letter
-letter_below b h = grind (arith, nat_tests)
+range_byte : (b : ℕ) → is_alphanumeric b ≡ true → is_range_byte b ≡ true
+range_byte b is = rw is refl
 
-IsAscii-star : (s : List ℕ) → is_star s ≡ true → IsAscii s
-IsAscii-star s star = subst IsAscii (sym ((bytes_eq-Decides s (42 ∷ [])).0 star)) (IsAscii-cons 42 [] (omega arith) IsAscii-nil)
-
-IsAscii-first : (s : List ℕ) → (is_star s || is_first_subtag s) ≡ true → IsAscii s
-IsAscii-first s is = grind (arith, common_steps, or_cases, IsAscii-star, IsAscii-each, letter_below, and_parts)
-
-IsAscii-subtag : (s : List ℕ) → is_range_subtag s ≡ true → IsAscii s
+subtag_bytes : (s : List ℕ) → is_range_subtag s ≡ true → list_all is_range_byte s ≡ true
 unfolding is_private_subtag
-IsAscii-subtag s is = grind (arith, common_steps, or_cases, IsAscii-star, IsAscii-each, alphanumeric_below, and_parts)
+subtag_bytes s is = grind (arith, common_steps, or_cases, bytes_eq-Decides s (42 ∷ []), and_parts, list_all-weaker, range_byte)
 
-IsAscii-subtags : (ss : List (List ℕ)) → are_range_subtags ss ≡ true → AllByRecursion IsAscii ss
-IsAscii-subtags [] each = tt
-IsAscii-subtags (s ∷ ss) each = let k = and_parts (is_range_subtag s) (are_range_subtags ss) each in (IsAscii-subtag s k.0, IsAscii-subtags ss k.1)
+segment_bytes : (text : List ℕ) → list_all (list_all is_range_byte) (segments text) ≡ true → list_all is_range_byte text ≡ true
+segment_bytes [] all = refl
+segment_bytes (b ∷ text) all = grind (arith, common_steps, and_parts, segment_bytes text)
 
-IsAscii-range : (ss : List (List ℕ)) → are_extended_range ss ≡ true → IsAscii (join ss)
-IsAscii-range ss is = grind (arith, common_steps, and_parts, IsAscii-join, IsAscii-first, IsAscii-subtags)
+each_bytes : (ss : List (List ℕ)) → are_extended_range ss ≡ true → list_all (list_all is_range_byte) ss ≡ true
+each_bytes [] is = refl
+each_bytes (first ∷ others) is = grind (arith, common_steps, extended_parts first others, and_parts, list_all-weaker is_range_subtag (list_all is_range_byte) subtag_bytes (first ∷ others))
+
+pub range_bytes : (text : List ℕ) → is_language_range text ≡ true → list_all is_range_byte text ≡ true
+range_bytes [] is = refl
+range_bytes (b ∷ text) is = segment_bytes (b ∷ text) (each_bytes (segments (b ∷ text)) is)
+
+below_128 : (b : ℕ) → is_range_byte b ≡ true → b < 128
+unfolding is_letter is_digit
+below_128 b is = grind (arith, nat_tests)
 
 pub IsAscii-language_range : (text : List ℕ) → is_language_range text ≡ true → IsAscii text
-IsAscii-language_range text is = subst IsAscii (join-subtags text) (IsAscii-range (subtags text) is)
+IsAscii-language_range text is = IsAscii-each is_range_byte below_128 text (range_bytes text is)
 
 -- so it is UTF-8
 pub IsUtf8-range : (text : List ℕ) → is_language_range text ≡ true → IsUtf8 text

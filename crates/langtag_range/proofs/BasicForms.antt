@@ -51,10 +51,7 @@ starless_byte b is = (grind (arith, nat_tests), grind (arith, nat_tests))
 starless : (s t : List ℕ) → is_private_subtag s ≡ true → (is_star s ≡ false) × (begins_with_wildcard (45 ∷ s ++ t) ≡ false)
 unfolding is_private_subtag
 starless [] t is = absurd cc
-starless (b ∷ s) t is =
-    let k = and_parts (has_length 1 8 (b ∷ s)) (are_alphanumeric (b ∷ s)) is in
-    let first = starless_byte b (and_parts (is_alphanumeric b) (are_alphanumeric s) k.1).0 in
-    (rw first.1 refl, rw first.1 refl)
+starless (b ∷ s) t is = grind (arith, common_steps, and_parts (has_length 1 8 (b ∷ s)) (are_alphanumeric (b ∷ s)) is, and_parts (is_alphanumeric b) (are_alphanumeric s), starless_byte b)
 
 subtag_free : (s : List ℕ) → is_private_subtag s ≡ true → AllByRecursion (λ b. eqb b 45 ≡ false) s
 subtag_free s is = no_hyphen_each s (of_private_subtag s is).alphanumeric
@@ -62,17 +59,7 @@ subtag_free s is = no_hyphen_each s (of_private_subtag s is).alphanumeric
 basic_form-hyphenated : (ss : List (List ℕ)) → are_range_subtags ss ≡ true → basic_form (hyphenated ss) ≡ hyphenated (filter is_plain ss)
 basic_form-hyphenated [] each = refl
 basic_form-hyphenated (s ∷ ss) each =
-    let k = and_parts (is_range_subtag s) (are_range_subtags ss) each in
-    elim (or_cases (is_star s) (is_private_subtag s) k.0) [
-      | inl star ↦ by_star s ((bytes_eq-Decides s (42 ∷ [])).0 star) (basic_form-hyphenated ss k.1)
-      | inr other ↦ by_other (basic_form-hyphenated ss k.1) other
-    ]
-  where
-    by_star : (u : List ℕ) → u ≡ 42 ∷ [] → basic_form (hyphenated ss) ≡ hyphenated (filter is_plain ss) → basic_form (hyphenated (u ∷ ss)) ≡ hyphenated (filter is_plain (u ∷ ss))
-    by_star u is rest = rw is rest
-
-    by_other : basic_form (hyphenated ss) ≡ hyphenated (filter is_plain ss) → is_private_subtag s ≡ true → basic_form (hyphenated (s ∷ ss)) ≡ hyphenated (filter is_plain (s ∷ ss))
-    by_other rest other = grind (arith, common_steps, starless, basic_form-byte, basic_form-free, subtag_free)
+    grind (arith, common_steps, and_parts (is_range_subtag s) (are_range_subtags ss) each, or_cases (is_star s) (is_private_subtag s), bytes_eq-Decides s (42 ∷ []), basic_form-hyphenated ss, starless s, basic_form-byte, basic_form-free s, subtag_free s)
 
 -- a subtag of a range is not empty, and has no hyphen
 range_free : (s : List ℕ) → is_range_subtag s ≡ true → AllByRecursion (λ b. eqb b 45 ≡ false) s × (0 < length s)
@@ -125,8 +112,7 @@ basic_of text is = by_subtags (subtags text) refl is
 
 plain_subtags : (ss : List (List ℕ)) → are_basic_subtags ss ≡ true → filter is_plain ss ≡ ss
 plain_subtags [] each = refl
-plain_subtags (s ∷ ss) each =
-    let k = and_parts (is_private_subtag s) (are_basic_subtags ss) each in rw ((starless s [] k.0).0, plain_subtags ss k.1) refl
+plain_subtags (s ∷ ss) each = grind (arith, common_steps, and_parts (is_private_subtag s) (are_basic_subtags ss) each, starless s [], plain_subtags ss)
 
 pub basic_form-basic : (text : List ℕ) → is_basic_range text ≡ true → basic_form text ≡ text
 basic_form-basic text is = elim (or_cases (is_star text) (are_basic_range (subtags text)) is) [

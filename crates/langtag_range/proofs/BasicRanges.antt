@@ -7,9 +7,9 @@ use Rattle.std.proofs.lemmas.Grind.{common_steps}
 use Rattle.langtag_scan.specs.Subtags.{subtags}
 use Rattle.langtag_range.specs.Range.{is_star, is_language_range, are_basic_range, is_basic_range}
 
-list_all-weaker : {X : Type 0} (p q : X → Bool) → ((x : X) → p x ≡ true → q x ≡ true) → (xs : List X) → list_all p xs ≡ true → list_all q xs ≡ true
+pub list_all-weaker : {X : Type 0} (p q : X → Bool) → ((x : X) → p x ≡ true → q x ≡ true) → (xs : List X) → list_all p xs ≡ true → list_all q xs ≡ true
 list_all-weaker p q weaker [] each = refl
-list_all-weaker p q weaker (x ∷ xs) each = let k = and_parts (p x) (list_all p xs) each in rw (weaker x k.0, list_all-weaker p q weaker xs k.1) refl
+list_all-weaker p q weaker (x ∷ xs) each = grind (arith, common_steps, and_parts (p x) (list_all p xs) each, weaker x, list_all-weaker p q weaker xs)
 
 pub is_language_range-from_basic : (text : List ℕ) → is_basic_range text ≡ true → is_language_range text ≡ true
 is_language_range-from_basic text is =

@@ -1,6 +1,7 @@
 -- What stands before each hyphen of a text, by what stands before the last of them.
-use Rattle.std.proofs.Common.{◌≡◌, ℕ, suc, Bool, true, ◌+◌, ◌-◌, ◌<◌, ◌≤◌, false, cond, List, [], ◌∷◌, ◌++◌, map, take, drop, length, length-drop, get_or, refl, ap, ◌∙◌, subst, arith}
+use Rattle.std.proofs.Common.{◌≡◌, ℕ, true, ◌+◌, ◌-◌, ◌<◌, ◌≤◌, false, cond, List, [], ◌∷◌, ◌++◌, map, take, drop, length, length-drop, get_or, refl, ap, ◌∙◌, subst, arith}
 use Rattle.std.proofs.lemmas.Bool.{and_parts}
+use Rattle.std.proofs.lemmas.List.Elements.{All-tail}
 use Rattle.std.proofs.lemmas.List.Folds.{list_all-append}
 use Rattle.std.proofs.lemmas.List.{length-map, length-append, get_or-drop, at_drop_more, take-append-drop}
 use Rattle.std.proofs.lemmas.List.Sums.{length-filter, count_by-le-length}
@@ -15,12 +16,7 @@ use Rattle.langtag_range.specs.Fallback.{before_hyphens, fallbacks}
 before_hyphens-none : (text : List ℕ) → IsHyphenFree text → before_hyphens text ≡ []
 before_hyphens-none [] free = refl
 before_hyphens-none (b ∷ text) free =
-    let here : is_hyphen b ≡ false = free 0 0 (omega arith) in
-    let others = before_hyphens-none text (λ k d below. subst (λ i. is_hyphen (get_or (b ∷ text) i d) ≡ false) (suc_is k) (free (k + 1) d (omega arith))) in
-    rw (others, here) refl
-  where
-    suc_is : (k : ℕ) → k + 1 ≡ suc k
-    suc_is k = omega arith
+    let here : is_hyphen b ≡ false = free 0 0 (omega arith) in rw (before_hyphens-none text (All-tail (λ b. is_hyphen b ≡ false) b text free), here) refl
 
 -- one that ends in a hyphen and a text without one
 before_hyphens-last : (front last : List ℕ) → IsHyphenFree last → before_hyphens (front ++ 45 ∷ last) ≡ front ∷ before_hyphens front
@@ -59,13 +55,7 @@ module _ (text bytes : List ℕ) (start : ℕ) (same : bytes ≡ text) (within :
 length-before_hyphens : (text : List ℕ) → length (before_hyphens text) ≤ length text
 length-before_hyphens [] = omega arith
 length-before_hyphens (b ∷ text) =
-    let more = length-before_hyphens text in
-    let both = length-append (map (λ before. b ∷ before) (before_hyphens text)) (cond (is_hyphen b) ([] ∷ []) []) in
-    let one = at_most_one (is_hyphen b) [] in
-    omega (arith, both, length-map (before_hyphens text) (λ before. b ∷ before))
-  where
-    at_most_one : (hyphen : Bool) (before : List ℕ) → length (cond hyphen (before ∷ []) []) ≤ 1
-    at_most_one hyphen before = grind (arith, common_steps)
+    grind (arith, common_steps, length-before_hyphens text, length-append (map (λ before. b ∷ before) (before_hyphens text)) (cond (is_hyphen b) ([] ∷ []) []), length-map (before_hyphens text) (λ before. b ∷ before))
 
 pub few_fallbacks : (text : List ℕ) → length (fallbacks text) ≤ length text + 1
 few_fallbacks text = grind (arith, common_steps, length-filter, count_by-le-length, length-before_hyphens text)

@@ -4,7 +4,7 @@ pub mod Among
 pub mod AsciiRanges
 pub mod BasicForms
 pub mod BasicRanges
-pub mod ChangedTexts
+pub mod FoldedTexts
 pub mod Hyphens
 pub mod PlainRanges
 pub mod Prefixes

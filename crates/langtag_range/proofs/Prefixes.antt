@@ -1,5 +1,5 @@
 -- A tag that begins with a range.
-use Rattle.std.proofs.Common.{◌≡◌, ◌↔◌, ℕ, ◌+◌, ◌<◌, ◌≤◌, ◌&&◌, true, IsTrue, List, length, length-drop, take, drop, get_or, sym, ap, ◌∙◌, arith, rules}
+use Rattle.std.proofs.Common.{◌≡◌, ◌↔◌, ℕ, ◌<◌, ◌≤◌, ◌&&◌, true, IsTrue, List, length, length-drop, take, drop, get_or, sym, ap, ◌∙◌, arith, rules}
 use Rattle.std.proofs.lemmas.Bool.{and_parts, or_cases, or_right, cases_lt, eqb-true, eq-eqb}
 use Rattle.std.proofs.lemmas.List.{take_at, length-map, length-append, at_drop_more, take-append-drop, get_or-append_right, get_or-drop, take_all}
 use Rattle.std.proofs.lemmas.Grind.{common_steps}
@@ -34,7 +34,7 @@ ends_subtag-from_hyphen : (rest : List ℕ) → (0 < length rest → get_or rest
 ends_subtag-from_hyphen rest hyphen = grind (arith, common_steps, eq-eqb)
 
 first-drop : (n : ℕ) (text : List ℕ) → get_or (drop n text) 0 0 ≡ get_or text n 0
-first-drop n text = let none : n + 0 ≡ n = omega arith in get_or-drop n text 0 0 ∙ ap (λ m. get_or text m 0) none
+first-drop n text = grind (arith, common_steps, get_or-drop n text 0 0)
 
 begins_from_test : (range tag : List ℕ) → are_alike range (take (length range) tag) ≡ true → ends_subtag (drop (length range) tag) ≡ true → BeginsWithRange range tag
 begins_from_test range tag alike ends = search (rules, cases_lt, ends_subtag-hyphen, length-drop, begins_before, first-drop, take_all)

@@ -30,4 +30,4 @@ module _ (text : List ℕ) (len : ℕ) (some : 0 < len) (within : len ≤ length
   last_space space = ap from_first last_first ∙ rw space refl
 
   pub last_stops : is_space (get_or text (len - 1) 0) ≡ false → reverse (from_first (reverse (take len text))) ≡ take len text
-  last_stops other = ap (λ t. reverse (from_first t)) last_first ∙ rw other (ap reverse (sym last_first) ∙ reverse-reverse (take len text))
+  last_stops other = grind (arith, common_steps, last_first, reverse-reverse (take len text))

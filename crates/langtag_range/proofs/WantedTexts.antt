@@ -57,7 +57,7 @@ and_absorb a b c both = grind (arith, common_steps)
 basic_parts : (first : List ℕ) (others : List (List ℕ)) → are_basic_range (first ∷ others) ≡ (is_first_subtag first && are_basic_subtags (first ∷ others))
 basic_parts first others = and_absorb (is_first_subtag first) (is_private_subtag first) (are_basic_subtags others) (first_private first)
 
-extended_parts :
+pub extended_parts :
     (first : List ℕ) (others : List (List ℕ)) →
     are_extended_range (first ∷ others) ≡ ((is_star first || is_first_subtag first) && are_range_subtags (first ∷ others))
 extended_parts first others = and_absorb (is_star first || is_first_subtag first) (is_range_subtag first) (are_range_subtags others) (first_in_range first)

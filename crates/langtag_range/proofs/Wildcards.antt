@@ -24,3 +24,5 @@ pub are_alike-next :
     are_alike (take (length tag - 1) (drop 1 tag)) (basic_form (take (length range - 1) (drop 1 range))) ≡ are_alike tag (basic_form range)
 unfolding fold_byte
 are_alike-next tag range some any none alike = grind (arith, common_steps, take_all, basic_form-byte)
+
+pub ruleset bytes_alike = (are_alike-differ, are_alike-next)

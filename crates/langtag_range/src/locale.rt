@@ -14,6 +14,7 @@ use langtag_scan::{split_at_byte, split_at_either};
 /// locale_place(b"zh_TW_#Hant"); // b"zh_TW"
 /// locale_place(b"de@euro"); // b"de"
 /// ```
+#[tactic(auto, using(crate::proofs::WantedTexts::no_hash, crate::proofs::WantedTexts::some_hash))]
 pub fn locale_place(name: &[u8]) -> &[u8]
     ensures { result.now ≡ locale_place name.now }
 {

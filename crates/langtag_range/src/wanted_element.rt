@@ -75,7 +75,7 @@ fn wanted_weight(parameters: &[u8], behind: &[u8]) -> u32
 }
 
 /// Returns the value of a parameter named `q`.
-#[tactic(auto, using(crate::proofs::WantedTexts::no_equals, crate::proofs::WantedTexts::some_equals))]
+#[tactic(auto, using(crate::proofs::WantedTexts::no_equals, crate::proofs::WantedTexts::some_equals, std::proofs::lemmas::List::take_rest))]
 fn q_value(parameter: &[u8]) -> Option<&[u8]>
     ensures { MatchOption result (spec.is_q_parameter parameter.now ≡ false)
         (λ value. (value.now ≡ trimmed (after_first spec.is_equals parameter.now)) × IsTrue (spec.is_q_parameter parameter.now)) }

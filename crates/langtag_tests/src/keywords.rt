@@ -1,7 +1,8 @@
 //! Setting and removing keywords of an owned tag, and the canonical forms of its extensions and of the whole tag.
 use crate::support::{are_answered, cut};
 use langtag::LangTag;
-use langtag_unicode::{SetKeywordError, extensions_form, locale_form, remove_keyword, set_keyword};
+use langtag_locale::locale_form;
+use langtag_unicode::{SetKeywordError, extensions_form, remove_keyword, set_keyword};
 use std::alloc::{AllocError, Global};
 
 /// Returns the tag after a key is set, or removed if the value is `none`. The question is `TAG|KEY|VALUE`. If an

@@ -13,8 +13,8 @@ use Rattle.langtag_scan.specs.Subtags.{join, subtags}
 use Rattle.langtag_unicode.specs.Alias.{Alias, TypeAlias, alias_for, type_alias_for}
 use Rattle.langtag_unicode.specs.Aliases.{subdivision_aliases, transform_type_aliases, unicode_type_aliases}
 use Rattle.langtag_unicode.specs.Form.{has_subdivision, subdivision, transform_value, unicode_type, unicode_value, without_true}
-use Rattle.langtag_unicode.proofs.IdentifierCase.{alias_for-alike, type_alias_for-alike}
-use Rattle.langtag_unicode.proofs.LocaleTables.{both, found_has, found_is}
+use Rattle.langtag_unicode.proofs.AliasCase.{alias_for-alike, type_alias_for-alike}
+use Rattle.langtag_unicode.proofs.Found.{both, found_has, found_is}
 
 -- ---- case
 

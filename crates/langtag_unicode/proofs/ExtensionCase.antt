@@ -1,20 +1,16 @@
 -- The case of letters changes nothing in the forms of extensions but case.
-use Rattle.std.proofs.Common.{◌≡◌, ℕ, Bool, true, false, not, ◌&&◌, ◌||◌, ◌==◌, List, [], ◌∷◌, ◌++◌, map, Option, None, Some, option_map, unwrap_or, refl, sym, ap, ◌∙◌, arith}
-use Rattle.std.proofs.lemmas.List.{map-append}
-use Rattle.std.specs.List.{AllByRecursion, flat_map, list_all, list_any}
+use Rattle.std.proofs.Common.{◌≡◌, ℕ, Bool, true, false, not, ◌&&◌, ◌||◌, ◌==◌, List, [], ◌∷◌, map, Option, None, Some, option_map, unwrap_or, refl, sym, ap, ◌∙◌, arith}
+use Rattle.std.specs.List.{AllByRecursion, list_any}
 use Rattle.std.specs.Option.{option_map_or}
-use Rattle.std.specs.Str.{bytes_eq}
 use Rattle.std.proofs.lemmas.Bool.Decides.{nat_tests}
-use Rattle.langtag_extension.specs.Spelling.{find_extension}
 use Rattle.langtag.proofs.Alike.{AlikeFields}
-use Rattle.langtag.specs.Fields.{Fields, subtag_of}
 use Rattle.langtag.proofs.FormLaws.{alike_forms}
 use Rattle.langtag.specs.Form.{IsAlikeForm}
 use Rattle.langtag_scan.proofs.CaseLaw.{classes-fold, fold_byte-twice, fold_text-twice, join-fold, length-fold, map-twice}
 use Rattle.langtag_scan.specs.AlikeRecords.{AlikeRecords, fold_extension}
-use Rattle.langtag_scan.specs.Case.{Alike, are_alike, fold_byte, fold_text}
+use Rattle.langtag_scan.specs.Case.{Alike, are_alike, fold_text}
 use Rattle.langtag_scan.specs.Class.{is_region, is_script, is_variant}
-use Rattle.langtag_scan.specs.Record.{Extension, Record, one_flat}
+use Rattle.langtag_scan.specs.Record.{Extension, Record}
 use Rattle.langtag_scan.specs.Stage.{Classes}
 use Rattle.langtag_scan.specs.Subtags.{join, subtags}
 use Rattle.langtag_unicode.specs.Aliases.{transform_type_aliases}
@@ -22,27 +18,18 @@ use Rattle.langtag_unicode.specs.Alias.{type_alias_for}
 use Rattle.langtag_unicode.specs.Form as form
 use Rattle.langtag_unicode.specs.Form.{IsExtensionsForm, after_one, are_different_variants, are_fields, extension_form, extensions_record, forms_after, language_form, is_language_or_none, is_of, is_transform, may_follow, one_of, subdivision, transform_form, transform_value, unicode_form, unicode_type, unicode_value, without_true}
 use Rattle.langtag_unicode.specs.Keywords.{before_key, is_key, value_of}
-use Rattle.langtag_unicode.specs.Locale.{is_locale_extension, is_unicode_subtag}
-use Rattle.langtag_registry.specs.Canonical.{singletons}
-use Rattle.langtag_unicode.specs.LocaleForm.{extension_at, extensions_in_order, first_subtag, identifier_fields, identifier_flat, identifier_variants, locale_extension_form, locale_transform_form, transform_language_form}
+use Rattle.langtag_unicode.specs.Identifier.{first_subtag, identifier_fields, identifier_variants}
 use Rattle.langtag_unicode.specs.Transform.{is_field_key}
 use Rattle.langtag_unicode.proofs.AlphabetTwice.{in_alphabet-alike}
-use Rattle.langtag_unicode.proofs.CanonicalKeywords.{key-fold, unicode_key-fold}
+use Rattle.langtag_unicode.proofs.CanonicalKeywords.{key-fold}
 use Rattle.langtag_unicode.proofs.CanonicalValues.{replaced, subtags-fold}
 use Rattle.langtag_unicode.proofs.ExtensionForms.{form_by, form_tested}
 use Rattle.langtag_unicode.proofs.FormTwice.{language-parts, lower_fields, same_fields, unicode_language-fold}
-use Rattle.langtag_unicode.proofs.IdentifierCase.{AreAlike, alias_for-alike, type_alias_for-alike, identifier_form-alike, new_variants-alike}
+use Rattle.langtag_unicode.proofs.AliasCase.{alias_for-alike, type_alias_for-alike}
 use Rattle.langtag_unicode.proofs.KeySplits.{all_keys}
 use Rattle.langtag_unicode.proofs.KeywordBlocks.{block}
 use Rattle.langtag_unicode.proofs.KeywordsInForm.{flat-same, form-blocks, values_in_form}
-use Rattle.langtag_unicode.proofs.LocaleExtensions.{locale_form_by, locale_form_tested}
-use Rattle.langtag_unicode.proofs.LocaleTransforms.{field_key-fold}
-
-pub alike-left : (s t : List ℕ) → are_alike (fold_text s) t ≡ are_alike s t
-alike-left s t = ap (λ x. bytes_eq x (fold_text t)) (fold_text-twice s)
-
-pub alike-right : (s t : List ℕ) → are_alike s (fold_text t) ≡ are_alike s t
-alike-right s t = ap (bytes_eq (fold_text s)) (fold_text-twice t)
+use Rattle.langtag_unicode.proofs.TransformParts.{field_key-fold}
 
 pub lower-twice : (ss : List (List ℕ)) → map fold_text (map fold_text ss) ≡ map fold_text ss
 lower-twice = map-twice fold_text fold_text-twice
@@ -50,7 +37,7 @@ lower-twice = map-twice fold_text fold_text-twice
 -- ---- keywords
 
 module _ (opens : List ℕ → Bool) (opens-fold : (s : List ℕ) → opens (fold_text s) ≡ opens s) where
-  before-fold : (ss : List (List ℕ)) → before_key opens (map fold_text ss) ≡ map fold_text (before_key opens ss)
+  pub before-fold : (ss : List (List ℕ)) → before_key opens (map fold_text ss) ≡ map fold_text (before_key opens ss)
   before-fold [] = refl
   before-fold (s ∷ ss) = grind (arith, nat_tests, before-fold ss)
 
@@ -68,7 +55,7 @@ module _ (opens : List ℕ → Bool) (opens-fold : (s : List ℕ) → opens (fol
         by_value None = refl
         by_value (Some w) = grind (arith, nat_tests, join-fold w, subtags-fold (canonical key (fold_text (join w))), subtags-fold (canonical key (join w)))
 
-    keywords-fold : (ss : List (List ℕ)) → form.keywords_form opens canonical (map fold_text ss) ≡ form.keywords_form opens canonical ss
+    pub keywords-fold : (ss : List (List ℕ)) → form.keywords_form opens canonical (map fold_text ss) ≡ form.keywords_form opens canonical ss
     keywords-fold ss =
         form-blocks opens canonical (map fold_text ss)
         ∙ flat-same (block (values_in_form opens canonical (map fold_text ss))) (block (values_in_form opens canonical ss)) all_keys (each all_keys)
@@ -95,13 +82,13 @@ without-alike a b alike = grind (arith, nat_tests)
 unicode_value-fold : (key text : List ℕ) → Alike (unicode_value key (fold_text text)) (unicode_value key text)
 unicode_value-fold key text = without-alike (replaced key (fold_text text)) (replaced key text) (replaced-fold key text)
 
-transform_value-fold : (key text : List ℕ) → Alike (transform_value key (fold_text text)) (transform_value key text)
+pub transform_value-fold : (key text : List ℕ) → Alike (transform_value key (fold_text text)) (transform_value key text)
 unfolding transform_value
 transform_value-fold key text = ap (λ o. fold_text (unwrap_or o (fold_text text))) (type_alias_for-alike transform_type_aliases key key (fold_text text) text refl (fold_text-twice text)) ∙ or_fold (type_alias_for transform_type_aliases key text) text
 
 -- ---- the extension `u`
 
-unicode-fold : (ss : List (List ℕ)) → unicode_form (map fold_text ss) ≡ unicode_form ss
+pub unicode-fold : (ss : List (List ℕ)) → unicode_form (map fold_text ss) ≡ unicode_form ss
 unicode-fold ss = rw (before-fold is_key key-fold ss, keywords-fold is_key key-fold unicode_value unicode_value-fold ss, in_alphabet-alike (map fold_text (before_key is_key ss)) (before_key is_key ss) (lower-twice (before_key is_key ss))) refl
 
 -- ---- the language of `t`
@@ -122,34 +109,11 @@ region-fold s = ap (λ (c : Classes). c.region) (classes-fold s)
 variant-fold : (s : List ℕ) → is_variant (fold_text s) ≡ is_variant s
 variant-fold s = ap (λ (c : Classes). c.variant) (classes-fold s)
 
-variants-fold : (ss : List (List ℕ)) → identifier_variants (map fold_text ss) ≡ map fold_text (identifier_variants ss)
+pub variants-fold : (ss : List (List ℕ)) → identifier_variants (map fold_text ss) ≡ map fold_text (identifier_variants ss)
 variants-fold ss = ap (after_one is_region) (after-fold is_script script-fold ss) ∙ after-fold is_region region-fold (after_one is_script ss)
 
-fields-fold : (s : List ℕ) (ss : List (List ℕ)) → AlikeFields (identifier_fields (fold_text s) (map fold_text ss)) (identifier_fields s ss)
+pub fields-fold : (s : List ℕ) (ss : List (List ℕ)) → AlikeFields (identifier_fields (fold_text s) (map fold_text ss)) (identifier_fields s ss)
 fields-fold s ss = grind (arith, nat_tests, fold_text-twice, one-fold, script-fold, after-fold, region-fold)
-
-subtag-fold : (s : List ℕ) → map fold_text (one_flat (subtag_of s)) ≡ one_flat (subtag_of (fold_text s))
-subtag-fold s = grind (arith, nat_tests)
-
-lower-flat :
-    (f : Fields) (vs : List (List ℕ)) →
-    map fold_text (identifier_flat f vs)
-    ≡ fold_text f.language ∷ (one_flat (subtag_of (fold_text f.script)) ++ (one_flat (subtag_of (fold_text f.region)) ++ map fold_text vs))
-lower-flat f vs = simp (map-append, subtag-fold)
-
-flat-alike : (f g : Fields) (vs ws : List (List ℕ)) → AlikeFields f g → vs ≡ ws → AreAlike (identifier_flat f vs) (identifier_flat g ws)
-flat-alike f g vs ws h same = rw (lower-flat f vs, lower-flat g ws, h.language, h.script, h.region, same) refl
-
-language-fold : (ss : List (List ℕ)) → AreAlike (transform_language_form (map fold_text ss)) (transform_language_form ss)
-language-fold [] = refl
-language-fold (s ∷ ss) =
-    grind (arith, nat_tests, variants-fold ss, lower-twice (identifier_variants ss), flat-alike, identifier_form-alike, fields-fold s ss, new_variants-alike)
-
--- ---- the extension `t`
-
-transform-fold : (ss : List (List ℕ)) → AreAlike (locale_transform_form (map fold_text ss)) (locale_transform_form ss)
-transform-fold ss =
-    rw (map-append fold_text (transform_language_form (before_key is_field_key (map fold_text ss))) (form.keywords_form is_field_key transform_value (map fold_text ss)), map-append fold_text (transform_language_form (before_key is_field_key ss)) (form.keywords_form is_field_key transform_value ss), before-fold is_field_key field_key-fold ss, language-fold (before_key is_field_key ss), keywords-fold is_field_key field_key-fold transform_value transform_value-fold ss) refl
 
 -- ---- whether `t` is allowed
 
@@ -172,7 +136,7 @@ are_fields-fold : (inside after : Bool) (ss : List (List ℕ)) → are_fields in
 are_fields-fold inside after [] = refl
 are_fields-fold inside after (s ∷ ss) = rw (follow-fold inside after s, field_key-fold s, are_fields-fold (inside || is_field_key s) (is_field_key s) ss) refl
 
-is_transform-fold : (ss : List (List ℕ)) → is_transform (map fold_text ss) ≡ is_transform ss
+pub is_transform-fold : (ss : List (List ℕ)) → is_transform (map fold_text ss) ≡ is_transform ss
 is_transform-fold ss = rw (before-fold is_field_key field_key-fold ss, language_or_none-fold (before_key is_field_key ss), are_fields-fold false false ss) refl
 
 -- ---- the form of the extension `t`, with its case and the order of its variants changed alone
@@ -186,54 +150,11 @@ transform_form-fold ss =
 
 -- ---- extensions
 
-is_of-fold : (n : ℕ) (e : Extension) → is_of n (fold_extension e) ≡ is_of n e
+pub is_of-fold : (n : ℕ) (e : Extension) → is_of n (fold_extension e) ≡ is_of n e
 is_of-fold n e = ap (λ b. b == n) (fold_byte-twice e.singleton)
-
-unicode_subtags-fold : (ss : List (List ℕ)) → list_all is_unicode_subtag (map fold_text ss) ≡ list_all is_unicode_subtag ss
-unicode_subtags-fold [] = refl
-unicode_subtags-fold (s ∷ ss) = rw (key-fold s, unicode_key-fold s, unicode_subtags-fold ss) refl
-
-allowed-fold : (e : Extension) → is_locale_extension (fold_extension e) ≡ is_locale_extension e
-allowed-fold e = rw (is_of-fold 117 e, is_of-fold 116 e, unicode_subtags-fold e.subtags, is_transform-fold e.subtags) refl
-
-pub all_allowed-fold : (es : List Extension) → list_all is_locale_extension (map fold_extension es) ≡ list_all is_locale_extension es
-all_allowed-fold [] = refl
-all_allowed-fold (e ∷ es) = rw (allowed-fold e, all_allowed-fold es) refl
 
 pub extension-twice : (e : Extension) → fold_extension (fold_extension e) ≡ fold_extension e
 extension-twice e = rw (fold_byte-twice e.singleton, lower-twice e.subtags) refl
-
-extension-alike : (e : Extension) → fold_extension (locale_extension_form (fold_extension e)) ≡ fold_extension (locale_extension_form e)
-extension-alike e =
-    ap fold_extension (locale_form_tested (is_of 117 e) (is_of 116 e) (fold_extension e) (is_of-fold 117 e) (is_of-fold 116 e))
-    ∙ by_tests (is_of 117 e) (is_of 116 e)
-  where
-    by_tests : (a b : Bool) → fold_extension (locale_form_by a b (fold_extension e)) ≡ fold_extension (locale_form_by a b e)
-    by_tests true b = ap (λ ss. fold_extension (record { singleton = 117; subtags = ss })) (unicode-fold e.subtags)
-    by_tests false true = ap (λ ss. record { singleton = fold_byte 116; subtags = ss }) (transform-fold e.subtags)
-    by_tests false false = extension-twice e
-
-find-fold : (n : ℕ) (es : List Extension) → find_extension n (map fold_extension es) ≡ option_map fold_extension (find_extension n es)
-find-fold n [] = refl
-find-fold n (e ∷ es) = grind (arith, nat_tests, fold_byte-twice e.singleton, find-fold n es)
-
-at-fold : (es : List Extension) (n : ℕ) → map fold_extension (extension_at (map fold_extension es) n) ≡ map fold_extension (extension_at es n)
-at-fold es n = ap (λ o. map fold_extension (option_map_or (λ e. locale_extension_form e ∷ []) o [])) (find-fold n es) ∙ by_found (find_extension n es)
-  where
-    by_found :
-        (o : Option Extension) →
-        map fold_extension (option_map_or (λ e. locale_extension_form e ∷ []) (option_map fold_extension o) []) ≡ map fold_extension (option_map_or (λ e. locale_extension_form e ∷ []) o [])
-    by_found None = refl
-    by_found (Some e) = ap (λ x. x ∷ []) (extension-alike e)
-
-all-fold : (es : List Extension) (ns : List ℕ) → map fold_extension (flat_map (extension_at (map fold_extension es)) ns) ≡ map fold_extension (flat_map (extension_at es) ns)
-all-fold es [] = refl
-all-fold es (n ∷ ns) =
-    rw (map-append fold_extension (extension_at (map fold_extension es) n) (flat_map (extension_at (map fold_extension es)) ns), map-append fold_extension (extension_at es n) (flat_map (extension_at es) ns), at-fold es n, all-fold es ns) refl
-
--- the forms of extensions in lowercase are those of the extensions, but for case
-pub extensions-alike : (es : List Extension) → map fold_extension (extensions_in_order (map fold_extension es)) ≡ map fold_extension (extensions_in_order es)
-extensions-alike es = all-fold es singletons
 
 -- ---- the forms of the first `u` and the first `t`
 

@@ -8,7 +8,7 @@ use Rattle.langtag_unicode.specs.Form.{IsExtensionsForm, extension_form, extensi
 use Rattle.langtag_unicode.proofs.ExtensionForms.{form_by, form_tested}
 use Rattle.langtag_unicode.proofs.FormRecords.{form_well_formed}
 use Rattle.langtag_unicode.proofs.FormTwice.{transform-twice, transform_form-is, unicode-twice}
-use Rattle.langtag_unicode.proofs.LocaleTables.{both}
+use Rattle.langtag_unicode.proofs.Found.{both}
 
 -- an extension and its form begin with alike singletons
 form-of : (n : ℕ) (u t : Bool) (e : Extension) → is_of n (extension_form u t e) ≡ is_of n e

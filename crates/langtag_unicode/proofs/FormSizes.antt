@@ -24,7 +24,7 @@ use Rattle.langtag_unicode.specs.Keys.{length_with_hyphens}
 use Rattle.langtag_unicode.specs.Keywords.{before_key, is_key, value_of}
 use Rattle.langtag_unicode.specs.Transform.{is_field_key}
 use Rattle.langtag_unicode.proofs.ExtensionForms.{form_by, form_tested}
-use Rattle.langtag_unicode.proofs.LocaleTables.{both, found_has, found_is}
+use Rattle.langtag_unicode.proofs.Found.{both, found_has, found_is}
 use Rattle.langtag_unicode.proofs.SubtagTexts.{before-from, from_key, length-with_hyphens}
 use Rattle.langtag_scan.proofs.PartOffsets.{length-spell}
 

@@ -9,8 +9,5 @@ pub mod FormLaws
 pub mod Alphabet
 pub mod Marks
 pub mod Edit
-pub mod Locale
-pub mod LocaleAliases
-pub mod LocaleForm
-pub mod Allowed
 pub mod EditText
+pub mod Identifier

@@ -78,10 +78,7 @@ fn transform_value<'a>(key: &[u8], value: &'a str) -> &'a str
 }
 
 /// Returns the replacement of a text, if there is one.
-pub(crate) fn alias_for(
-    rows: &'static [(&'static str, &'static str)],
-    text: &[u8],
-) -> Option<&'static str>
+pub fn alias_for(rows: &'static [(&'static str, &'static str)], text: &[u8]) -> Option<&'static str>
     ensures { option_map (λ t. t.now) result ≡ alias_for (map (λ row. record { old = row.0.now; new = row.1.now }) rows.now) text.now }
 {
     let mut rows = rows;
@@ -95,7 +92,7 @@ pub(crate) fn alias_for(
 }
 
 /// Returns the replacement of a type of a key, if there is one.
-pub(crate) fn type_alias_for(
+pub fn type_alias_for(
     rows: &'static [(&'static str, &'static str, &'static str)],
     key: &[u8],
     text: &[u8],

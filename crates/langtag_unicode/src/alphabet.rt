@@ -43,7 +43,7 @@ fn first_after<'a>(rest: Option<&'a str>, last: Option<&str>) -> Option<&'a str>
 }
 
 /// Returns whether a subtag comes after `last`, or there is no `last`.
-pub(crate) fn is_after(subtag: &str, last: Option<&str>) -> bool
+pub fn is_after(subtag: &str, last: Option<&str>) -> bool
     ensures { result ≡ is_after (fold_text subtag.now) (option_map (λ t. fold_text t.now) last.entry) }
 {
     match last {
@@ -53,7 +53,7 @@ pub(crate) fn is_after(subtag: &str, last: Option<&str>) -> bool
 }
 
 /// Returns whether a subtag comes before `best`, or there is no `best`.
-pub(crate) fn is_before_best(subtag: &str, best: Option<&str>) -> bool
+pub fn is_before_best(subtag: &str, best: Option<&str>) -> bool
     ensures { result ≡ is_before_best (fold_text subtag.now) (option_map (λ t. fold_text t.now) best.entry) }
 {
     match best {
@@ -90,7 +90,7 @@ pub(crate) fn push_each_lowercase(out: &mut Output<'_>, text: &str)
 }
 
 /// Appends a subtag in lowercase, after a hyphen if there is text before it.
-pub(crate) fn push_lowercase(out: &mut Output<'_>, subtag: &str)
+pub fn push_lowercase(out: &mut Output<'_>, subtag: &str)
     ensures same_buffer { out.new.buffer.ghost_name ≡ out.old.buffer.ghost_name }
     ensures pushed { Pushes (fold_text subtag.now ∷ []) out.old out.new }
 {

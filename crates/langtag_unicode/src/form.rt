@@ -67,7 +67,7 @@ pub fn extensions_form(alloc: Global, tag: LangTag<'_>) -> Result<LangTagBuf, Al
 }
 
 /// Converts bytes that are known to be a tag into that tag.
-pub(crate) fn tag_of(bytes: Vec<u8>) -> LangTagBuf
+pub fn tag_of(bytes: Vec<u8>) -> LangTagBuf
     requires { IsTag bytes.items }
     ensures { lang_tag_buf_text result ≡ bytes.items }
 {
@@ -215,7 +215,7 @@ fn is_after(singleton: u8, extension: Extension<'_>, is_after: bool) -> bool
 }
 
 /// Returns the subtags after the singleton, joined by hyphens.
-pub(crate) fn subtags_of<'a>(extension: Extension<'a>) -> &'a str
+pub fn subtags_of<'a>(extension: Extension<'a>) -> &'a str
     ensures subtags { (e : model.Extension) → SpellsExtension e (extension_text extension.entry) → subtags result.now ≡ e.subtags }
     ensures each { AllByRecursion IsSubtag (subtags result.now) }
 {
@@ -223,7 +223,7 @@ pub(crate) fn subtags_of<'a>(extension: Extension<'a>) -> &'a str
 }
 
 /// Appends the canonical form of the extension `u` with these subtags.
-pub(crate) fn push_unicode(out: &mut Output<'_>, text: &str)
+pub fn push_unicode(out: &mut Output<'_>, text: &str)
     requires { AllByRecursion IsSubtag (subtags text.now) }
     ensures same_buffer { out.new.buffer.ghost_name ≡ out.old.buffer.ghost_name }
     ensures pushed { Pushes ((117 ∷ []) ∷ spec.unicode_form (subtags text.now)) out.old out.new }
@@ -234,13 +234,14 @@ pub(crate) fn push_unicode(out: &mut Output<'_>, text: &str)
 }
 
 /// Returns whether an extension begins with a singleton, ignoring case.
-pub(crate) fn is_of(singleton: u8, extension: Extension<'_>) -> bool
+pub fn is_of(singleton: u8, extension: Extension<'_>) -> bool
     ensures { (e : model.Extension) → SpellsExtension e (extension_text extension.entry) → result ≡ spec.is_of singleton e }
 {
     into_smallcase(extension.singleton().unwrap()) == singleton
 }
 
-pub(crate) fn push_private_use(out: &mut Output<'_>, private_use: Option<PrivateUse<'_>>)
+/// Appends the private use of a tag, if there is any.
+pub fn push_private_use(out: &mut Output<'_>, private_use: Option<PrivateUse<'_>>)
     ensures same_buffer { out.new.buffer.ghost_name ≡ out.old.buffer.ghost_name }
     ensures pushed { (part : Option model.PrivateUse) → option_map private_use_text private_use.entry
         ≡ option_map (λ p. join (model.private_use_flat p)) part → Pushes (model.private_part_flat part) out.old out.new }

@@ -7,7 +7,7 @@ use langtag::{Subtags, is_extension_subtag};
 
 /// Returns whether a text consists of a letter or a digit, and then a letter.
 #[tactic(auto, unfolding(langtag_scan::specs::Class::is_letter, langtag_scan::specs::Class::is_digit))]
-pub(crate) fn is_unicode_key(text: &[u8]) -> bool
+pub fn is_unicode_key(text: &[u8]) -> bool
     ensures { result ≡ spec.is_unicode_key text.now }
 {
     match text {

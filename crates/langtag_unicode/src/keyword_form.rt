@@ -23,7 +23,7 @@ const KEY_COUNT: usize = 1296;
 /// Appends the keywords of a text, each once, in the order of their keys.
 ///
 /// The text is read twice, and then once for each key in it. There are at most 1,296 keys.
-pub(crate) fn push_keywords(out: &mut Output<'_>, text: &str, keys: Keys)
+pub fn push_keywords(out: &mut Output<'_>, text: &str, keys: Keys)
     ensures same_buffer { out.new.buffer.ghost_name ≡ out.old.buffer.ghost_name }
     ensures pushed { Pushes (spec.keywords_form (opens_keyword keys) (canonical_value_of keys) (subtags text.now)) out.old out.new }
 {

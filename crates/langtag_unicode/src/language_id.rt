@@ -48,14 +48,15 @@ fn push_optional(out: &mut Output<'_>, subtag: Option<&str>)
     }
 }
 
-pub(crate) fn is_unicode_language(subtag: &str) -> bool
+/// Returns whether a subtag is a language that UTS #35 allows: a primary subtag that does not have four letters.
+pub fn is_unicode_language(subtag: &str) -> bool
     ensures { result ≡ spec.is_unicode_language subtag.now }
 {
     is_primary(subtag.as_bytes()) && subtag.len() != 4
 }
 
 /// Returns the script at the start, if there is one, and the rest.
-pub(crate) fn take_script<'a>(rest: Option<&'a str>) -> (Option<&'a str>, Option<&'a str>)
+pub fn take_script<'a>(rest: Option<&'a str>) -> (Option<&'a str>, Option<&'a str>)
     ensures script { one_flat (option_map (λ t. t.now) result.0) ≡ spec.one_of is_script (segments_left rest.entry) }
     ensures others { segments_left result.1 ≡ spec.after_one is_script (segments_left rest.entry) }
 {
@@ -69,7 +70,7 @@ pub(crate) fn take_script<'a>(rest: Option<&'a str>) -> (Option<&'a str>, Option
 }
 
 /// Returns the region at the start, if there is one, and the rest.
-pub(crate) fn take_region<'a>(rest: Option<&'a str>) -> (Option<&'a str>, Option<&'a str>)
+pub fn take_region<'a>(rest: Option<&'a str>) -> (Option<&'a str>, Option<&'a str>)
     ensures region { one_flat (option_map (λ t. t.now) result.0) ≡ spec.one_of is_region (segments_left rest.entry) }
     ensures others { segments_left result.1 ≡ spec.after_one is_region (segments_left rest.entry) }
 {
@@ -98,7 +99,8 @@ fn are_variants(rest: Option<&str>) -> bool
     true
 }
 
-pub(crate) fn is_among(rest: Option<&str>, variant: &[u8]) -> bool
+/// Returns whether a variant is among the subtags of a text, ignoring case.
+pub fn is_among(rest: Option<&str>, variant: &[u8]) -> bool
     ensures { result ≡ list_any (are_alike variant.now) (segments_left rest.entry) }
 {
     let mut rest = rest;

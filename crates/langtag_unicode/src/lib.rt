@@ -1,5 +1,5 @@
 //! Unicode's extensions of language tags: the attributes and keywords of `u` (RFC 6067), and the language and fields of
-//! `t` (RFC 6497). UTS #35, part 1, defines both, and Unicode locale identifiers with their canonical form.
+//! `t` (RFC 6497). UTS #35, part 1, defines both.
 //!
 //! ```
 //! use langtag::LangTag;
@@ -14,7 +14,6 @@ mod alias;
 mod alias_tables;
 mod alphabet;
 mod attributes_iter;
-mod canonical_locale;
 mod form;
 mod keys;
 mod keyword_check;
@@ -24,12 +23,6 @@ mod keyword_form;
 mod keyword_setters;
 mod keywords_iter;
 mod language_id;
-mod locale;
-mod locale_extensions;
-mod locale_fields;
-mod locale_for;
-mod locale_tables;
-mod locale_variants;
 mod owned_keywords;
 mod set_keyword_error;
 mod subtags;
@@ -38,14 +31,22 @@ mod transformation;
 mod unicode_extension;
 
 pub use attributes_iter::AttributesIter;
-pub use canonical_locale::{locale_form, write_locale_form};
 pub use form::{extensions_form, write_extensions_form};
 pub use keys::Keys;
 pub use keyword_error::KeywordError;
 pub use keyword_setters::{write_with_keyword, write_without_keyword};
 pub use keywords_iter::KeywordsIter;
-pub use locale::is_locale;
 pub use owned_keywords::{remove_keyword, set_keyword};
 pub use set_keyword_error::SetKeywordError;
 pub use transformation::{Transformation, transform};
 pub use unicode_extension::{KeyValue, attributes, keyword, keywords};
+
+// For langtag_locale.
+pub use alias::{alias_for, type_alias_for};
+pub use alphabet::{is_after, is_before_best, push_lowercase};
+pub use form::{is_of, push_private_use, push_unicode, subtags_of, tag_of};
+pub use keyword_check::is_unicode_key;
+pub use keyword_form::push_keywords;
+pub use language_id::{is_among, is_unicode_language, take_region, take_script};
+pub use subtags::{nonempty, preceding, split_first};
+pub use transform_form::is_transform;

@@ -37,7 +37,7 @@ pub(crate) fn unicode_text<'a>(tag: LangTag<'a>) -> &'a str
 }
 
 /// Returns a text, or `None` if it is empty and so has no subtags.
-pub(crate) fn nonempty(text: &str) -> Option<&str>
+pub fn nonempty(text: &str) -> Option<&str>
     ensures same_text { option_map (λ t. t.now) result ≡ some_text text.now }
     ensures segments { segments_left result ≡ subtags text.now }
 {
@@ -48,7 +48,7 @@ pub(crate) fn nonempty(text: &str) -> Option<&str>
 }
 
 /// Returns the first subtag of a text and, if there are more subtags, the rest of the text after the hyphen.
-pub(crate) fn split_first(text: &str) -> (&str, Option<&str>)
+pub fn split_first(text: &str) -> (&str, Option<&str>)
     ensures { segments text.now ≡ result.0.now ∷ segments_left result.1 }
 {
     let end = segment_end(text.as_bytes(), 0);
@@ -70,7 +70,7 @@ pub(crate) fn before_key<'a>(rest: Option<&'a str>, keys: Keys) -> &'a str
 }
 
 /// Returns the subtags before the first key of a text, if there are any.
-pub(crate) fn preceding(text: &str, keys: Keys) -> Option<&str>
+pub fn preceding(text: &str, keys: Keys) -> Option<&str>
     requires { AllByRecursion IsSubtag (subtags text.now) }
     ensures { segments_left result ≡ spec.before_key (opens_keyword keys) (subtags text.now) }
 {

@@ -16,7 +16,7 @@ use langtag::Subtags;
 use langtag_output::Output;
 
 /// Returns whether the subtags after the singleton are what UTS #35 allows: a language, fields, or both.
-pub(crate) fn is_transform(text: &str) -> bool
+pub fn is_transform(text: &str) -> bool
     requires { AllByRecursion IsSubtag (subtags text.now) }
     ensures { result ≡ spec.is_transform (subtags text.now) }
 {

@@ -31,6 +31,8 @@ mod extension;
 mod language;
 #[path = "../../src/likely/mod.rs"]
 mod likely;
+#[path = "../../src/locale/mod.rs"]
+mod locale;
 #[path = "../../src/matching/mod.rs"]
 mod matching;
 #[path = "../../src/output/mod.rs"]

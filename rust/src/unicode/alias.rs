@@ -64,7 +64,7 @@ fn transform_value<'a>(key: &[u8], value: &'a str) -> &'a str {
 }
 
 /// Returns the replacement of a text, if there is one.
-pub(crate) fn alias_for(
+pub fn alias_for(
     rows: &'static [(&'static str, &'static str)],
     text: &[u8],
 ) -> Option<&'static str> {
@@ -79,7 +79,7 @@ pub(crate) fn alias_for(
 }
 
 /// Returns the replacement of a type of a key, if there is one.
-pub(crate) fn type_alias_for(
+pub fn type_alias_for(
     rows: &'static [(&'static str, &'static str, &'static str)],
     key: &[u8],
     text: &[u8],

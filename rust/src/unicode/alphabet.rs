@@ -34,7 +34,7 @@ fn first_after<'a>(rest: Option<&'a str>, last: Option<&str>) -> Option<&'a str>
 
 /// Returns whether a subtag comes after `last`, or there is no `last`.
 #[inline]
-pub(crate) fn is_after(subtag: &str, last: Option<&str>) -> bool {
+pub fn is_after(subtag: &str, last: Option<&str>) -> bool {
     match last {
         Some(last) => is_before(last.as_bytes(), subtag.as_bytes()),
         None => true,
@@ -43,7 +43,7 @@ pub(crate) fn is_after(subtag: &str, last: Option<&str>) -> bool {
 
 /// Returns whether a subtag comes before `best`, or there is no `best`.
 #[inline]
-pub(crate) fn is_before_best(subtag: &str, best: Option<&str>) -> bool {
+pub fn is_before_best(subtag: &str, best: Option<&str>) -> bool {
     match best {
         Some(best) => is_before(subtag.as_bytes(), best.as_bytes()),
         None => true,
@@ -75,7 +75,7 @@ pub(crate) fn push_each_lowercase(out: &mut Output<'_>, text: &str) {
 
 /// Appends a subtag in lowercase, after a hyphen if there is text before it.
 #[inline]
-pub(crate) fn push_lowercase(out: &mut Output<'_>, subtag: &str) {
+pub fn push_lowercase(out: &mut Output<'_>, subtag: &str) {
     out.push_subtag(b"");
     for byte in subtag.as_bytes() {
         out.push(&[into_smallcase(*byte)]);

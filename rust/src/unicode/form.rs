@@ -54,7 +54,7 @@ pub fn extensions_form(tag: LangTag<'_>) -> Result<LangTagBuf, AllocError> {
 
 /// Converts bytes that are known to be a tag into that tag.
 #[cfg(feature = "alloc")]
-pub(crate) fn tag_of(bytes: Vec<u8>) -> LangTagBuf {
+pub fn tag_of(bytes: Vec<u8>) -> LangTagBuf {
     let Ok(text) = String::from_utf8(bytes) else {
         unreachable!()
     };
@@ -177,13 +177,13 @@ fn is_after(singleton: u8, extension: Extension<'_>, is_after: bool) -> bool {
 
 /// Returns the subtags after the singleton, joined by hyphens.
 #[inline]
-pub(crate) fn subtags_of<'a>(extension: Extension<'a>) -> &'a str {
+pub fn subtags_of<'a>(extension: Extension<'a>) -> &'a str {
     &extension.as_str()[2..]
 }
 
 /// Appends the canonical form of the extension `u` with these subtags.
 #[inline]
-pub(crate) fn push_unicode(out: &mut Output<'_>, text: &str) {
+pub fn push_unicode(out: &mut Output<'_>, text: &str) {
     out.push_subtag(b"u");
     push_in_alphabet(out, preceding(text, Keys::Unicode));
     push_keywords(out, text, Keys::Unicode);
@@ -191,12 +191,13 @@ pub(crate) fn push_unicode(out: &mut Output<'_>, text: &str) {
 
 /// Returns whether an extension begins with a singleton, ignoring case.
 #[inline]
-pub(crate) fn is_of(singleton: u8, extension: Extension<'_>) -> bool {
+pub fn is_of(singleton: u8, extension: Extension<'_>) -> bool {
     into_smallcase(extension.singleton().unwrap()) == singleton
 }
 
+/// Appends the private use of a tag, if there is any.
 #[inline]
-pub(crate) fn push_private_use(out: &mut Output<'_>, private_use: Option<PrivateUse<'_>>) {
+pub fn push_private_use(out: &mut Output<'_>, private_use: Option<PrivateUse<'_>>) {
     if let Some(private_use) = private_use {
         out.push_subtag(private_use.as_bytes());
     }

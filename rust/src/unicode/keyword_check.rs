@@ -6,7 +6,7 @@ use crate::tag::{is_extension_subtag, Subtags};
 
 /// Returns whether a text consists of a letter or a digit, and then a letter.
 #[inline]
-pub(crate) fn is_unicode_key(text: &[u8]) -> bool {
+pub fn is_unicode_key(text: &[u8]) -> bool {
     match text {
         [first, second] => first.is_ascii_alphanumeric() && second.is_ascii_alphabetic(),
         _ => false,

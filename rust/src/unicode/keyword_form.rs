@@ -18,7 +18,7 @@ const KEY_COUNT: usize = 1296;
 /// Appends the keywords of a text, each once, in the order of their keys.
 ///
 /// The text is read twice, and then once for each key in it. There are at most 1,296 keys.
-pub(crate) fn push_keywords(out: &mut Output<'_>, text: &str, keys: Keys) {
+pub fn push_keywords(out: &mut Output<'_>, text: &str, keys: Keys) {
     let mut marks = [false; KEY_COUNT];
     mark_keys(&mut marks, text, keys);
     let firsts = marked_firsts(text, keys);

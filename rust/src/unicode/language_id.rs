@@ -34,13 +34,14 @@ fn push_optional(out: &mut Output<'_>, subtag: Option<&str>) {
     }
 }
 
+/// Returns whether a subtag is a language that UTS #35 allows: a primary subtag that does not have four letters.
 #[inline]
-pub(crate) fn is_unicode_language(subtag: &str) -> bool {
+pub fn is_unicode_language(subtag: &str) -> bool {
     is_primary(subtag.as_bytes()) && subtag.len() != 4
 }
 
 /// Returns the script at the start, if there is one, and the rest.
-pub(crate) fn take_script<'a>(rest: Option<&'a str>) -> (Option<&'a str>, Option<&'a str>) {
+pub fn take_script<'a>(rest: Option<&'a str>) -> (Option<&'a str>, Option<&'a str>) {
     if let Some(text) = rest {
         let (first, others) = split_first(text);
         if is_script(first.as_bytes()) {
@@ -51,7 +52,7 @@ pub(crate) fn take_script<'a>(rest: Option<&'a str>) -> (Option<&'a str>, Option
 }
 
 /// Returns the region at the start, if there is one, and the rest.
-pub(crate) fn take_region<'a>(rest: Option<&'a str>) -> (Option<&'a str>, Option<&'a str>) {
+pub fn take_region<'a>(rest: Option<&'a str>) -> (Option<&'a str>, Option<&'a str>) {
     if let Some(text) = rest {
         let (first, others) = split_first(text);
         if is_region(first.as_bytes()) {
@@ -75,7 +76,8 @@ fn are_variants(rest: Option<&str>) -> bool {
     true
 }
 
-pub(crate) fn is_among(rest: Option<&str>, variant: &[u8]) -> bool {
+/// Returns whether a variant is among the subtags of a text, ignoring case.
+pub fn is_among(rest: Option<&str>, variant: &[u8]) -> bool {
     let mut rest = rest;
     while let Some(text) = rest {
         let (other, others) = split_first(text);

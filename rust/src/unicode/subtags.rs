@@ -26,7 +26,7 @@ pub(crate) fn unicode_text<'a>(tag: LangTag<'a>) -> &'a str {
 
 /// Returns a text, or `None` if it is empty and so has no subtags.
 #[inline]
-pub(crate) fn nonempty(text: &str) -> Option<&str> {
+pub fn nonempty(text: &str) -> Option<&str> {
     if text.is_empty() {
         return None;
     }
@@ -34,7 +34,7 @@ pub(crate) fn nonempty(text: &str) -> Option<&str> {
 }
 
 /// Returns the first subtag of a text and, if there are more subtags, the rest of the text after the hyphen.
-pub(crate) fn split_first(text: &str) -> (&str, Option<&str>) {
+pub fn split_first(text: &str) -> (&str, Option<&str>) {
     let end = segment_end(text.as_bytes(), 0);
     if end == text.len() {
         return (text, None);
@@ -53,7 +53,7 @@ pub(crate) fn before_key<'a>(rest: Option<&'a str>, keys: Keys) -> &'a str {
 
 /// Returns the subtags before the first key of a text, if there are any.
 #[inline]
-pub(crate) fn preceding(text: &str, keys: Keys) -> Option<&str> {
+pub fn preceding(text: &str, keys: Keys) -> Option<&str> {
     nonempty(before_key(nonempty(text), keys))
 }
 

@@ -11,7 +11,7 @@ use crate::unicode::subtags::preceding;
 
 /// Returns whether the subtags after the singleton are what UTS #35 allows: a language, fields, or both.
 #[inline]
-pub(crate) fn is_transform(text: &str) -> bool {
+pub fn is_transform(text: &str) -> bool {
     is_language_or_none(text) && are_fields(text)
 }
 

@@ -1,0 +1,231 @@
+-- Identifiers that are equal but for case have forms that are.
+use Rattle.std.proofs.Common.{◌≡◌, ℕ, Bool, true, false, cond, List, [], ◌∷◌, ◌++◌, ◌&&◌, ◌||◌, map, fold, Option, Some, None, find, option_map, unwrap_or, refl, sym, ap, subst, ◌∙◌}
+use Rattle.std.proofs.lemmas.List.{map-append}
+use Rattle.std.specs.List.{list_any}
+use Rattle.std.specs.Option.{is_some, option_map_or}
+use Rattle.std.specs.Prelude.{codes}
+use Rattle.std.specs.Str.{bytes_eq}
+use Rattle.langtag_likely.proofs.AlikeFields.{added-alike, alone_alike, by_options, by_same, known-alike, likely_for-alike, or_other-alike}
+use Rattle.langtag.proofs.Alike.{AlikeFields, are_alike-left, are_alike-right}
+use Rattle.langtag_likely.specs.Aliases.{language_aliases, region_replacements}
+use Rattle.langtag_likely.specs.Likely.{language_alone, or_else, or_other}
+use Rattle.langtag.specs.Fields.{Fields, subtag_of}
+use Rattle.langtag_likely.specs.Matching.{language_replaced, region_alone, with_language_from}
+use Rattle.langtag_scan.specs.Case.{Alike, are_alike, fold_text}
+use Rattle.langtag_scan.specs.Record.{one_flat}
+use Rattle.langtag_scan.specs.Subtags.{segments}
+use Rattle.langtag_unicode.specs.Alias.{Alias, TypeAlias, alias_for, type_alias_for}
+use Rattle.langtag_locale.specs.LocaleAliases as list
+use Rattle.langtag_locale.specs.LocaleForm as form
+use Rattle.langtag_locale.specs.LocaleForm.{has_variant, heir, identifier_form, is_pair_of, language_after, new_variants, sign_for, variant_form}
+use Rattle.langtag_unicode.proofs.AlphabetTwice.{in_alphabet-alike}
+use Rattle.langtag_locale.proofs.VariantForms.{forms}
+use Rattle.langtag_unicode.proofs.AliasCase.{alias_for-alike, type_alias_for-alike}
+
+-- lists of texts that are alike, one by one
+abbrev pub AreAlike : List (List ℕ) → List (List ℕ) → Type 0
+AreAlike ss ts = map fold_text ss ≡ map fold_text ts
+
+-- ---- look-ups
+
+pub has_variant-alike : (variants : List (List ℕ)) (a b : List ℕ) → Alike a b → has_variant variants a ≡ has_variant variants b
+has_variant-alike variants a b alike = ap (λ t. list_any (λ v. bytes_eq t (fold_text v)) variants) alike
+
+has-fold : (variants : List (List ℕ)) (x : List ℕ) → has_variant variants x ≡ list_any (bytes_eq (fold_text x)) (map fold_text variants)
+has-fold [] x = refl
+has-fold (v ∷ variants) x = ap (λ b. are_alike x v || b) (has-fold variants x)
+
+has-same : (v w : List (List ℕ)) → AreAlike v w → has_variant v ≡ has_variant w
+has-same v w alike = λ i x. (has-fold v x ∙ ap (list_any (bytes_eq (fold_text x))) alike ∙ sym (has-fold w x)) i
+
+-- ---- the steps
+
+replaced-alike : (f g : Fields) → AlikeFields f g → AlikeFields (language_replaced f) (language_replaced g)
+unfolding language_replaced
+replaced-alike f g h =
+    by_same (λ o p. AlikeFields (option_map_or (with_language_from f) o f) (option_map_or (with_language_from g) p g)) by_row _ _
+    (likely_for-alike language_aliases (language_alone f) (language_alone g) (alone_alike f g h.language))
+  where
+    by_row : (o : Option Fields) → AlikeFields (option_map_or (with_language_from f) o f) (option_map_or (with_language_from g) o g)
+    by_row None = h
+    by_row (Some to) = record {
+      language = refl;
+      script = or_other-alike f.script g.script to.script h.script;
+      region = or_other-alike f.region g.region to.region h.region;
+    }
+
+after-alike : (variants : List (List ℕ)) (l m : List ℕ) (a : TypeAlias) → Alike l m → Alike (language_after variants l a) (language_after variants m a)
+after-alike variants l m a alike =
+    by_same (λ s t. Alike (cond (s && has_variant variants a.old) a.new l) (cond (t && has_variant variants a.old) a.new m)) (λ b. by_test (b && has_variant variants a.old)) _ _ (are_alike-right a.key l m alike)
+  where
+    by_test : (b : Bool) → Alike (cond b a.new l) (cond b a.new m)
+    by_test true = refl
+    by_test false = alike
+
+fold-alike : (variants : List (List ℕ)) (aliases : List TypeAlias) (l m : List ℕ) → Alike l m → Alike (fold (language_after variants) l aliases) (fold (language_after variants) m aliases)
+fold-alike variants [] l m alike = alike
+fold-alike variants (a ∷ aliases) l m alike = fold-alike variants aliases (language_after variants l a) (language_after variants m a) (after-alike variants l m a alike)
+
+variant_language-alike : (variants : List (List ℕ)) (f g : Fields) → AlikeFields f g → AlikeFields (form.variant_language variants f) (form.variant_language variants g)
+unfolding form.variant_language
+variant_language-alike variants f g h = record { language = fold-alike variants list.variant_languages f.language g.language h.language; script = h.script; region = h.region }
+
+sign_for-alike : (f g : Fields) → AlikeFields f g → sign_for f ≡ sign_for g
+sign_for-alike f g h =
+    ap (λ b. cond b (alias_for list.sign_languages f.region) None) (are_alike-left f.language g.language (codes "sgn") h.language)
+    ∙ ap (λ o. cond (are_alike g.language (codes "sgn")) o None) (alias_for-alike list.sign_languages f.region g.region h.region)
+
+sign-alike : (f g : Fields) → AlikeFields f g → AlikeFields (form.sign_language f) (form.sign_language g)
+unfolding form.sign_language
+sign-alike f g h = by_same (λ o p. AlikeFields (option_map_or (form.without_sgn f) o f) (option_map_or (form.without_sgn g) p g)) by_sign _ _ (sign_for-alike f g h)
+  where
+    by_sign : (o : Option (List ℕ)) → AlikeFields (option_map_or (form.without_sgn f) o f) (option_map_or (form.without_sgn g) o g)
+    by_sign None = h
+    by_sign (Some new) = record { language = refl; script = h.script; region = refl }
+
+variant_region-alike : (variants : List (List ℕ)) (f g : Fields) → AlikeFields f g → AlikeFields (form.variant_region variants f) (form.variant_region variants g)
+unfolding form.variant_region
+variant_region-alike variants f g h = record {
+  language = h.language;
+  script = h.script;
+  region = or_other-alike f.region g.region (form.variants_region variants list.variant_regions) h.region;
+}
+
+likely_region-alike : (f g : Fields) → AlikeFields f g → Alike (form.likely_region f) (form.likely_region g)
+unfolding form.likely_region
+likely_region-alike f g h =
+    by_options (λ o p. Alike (option_map_or (λ most. most.region) o []) (option_map_or (λ most. most.region) p [])) refl (λ a b same. same.region) _ _
+    (added-alike (form.language_and_script f) (form.language_and_script g)
+    (record { language = known-alike (codes "und") f.language g.language h.language; script = h.script; region = refl }))
+
+heir-alike : (a b : List ℕ) (regions : List (List ℕ)) → Alike a b → Alike (heir a regions) (heir b regions)
+heir-alike a b [] alike = refl
+heir-alike a b (first ∷ others) alike = by_same (λ s t. Alike (cond s a first) (cond t b first)) by_test _ _ (has_variant-alike (first ∷ others) a b alike)
+  where
+    by_test : (t : Bool) → Alike (cond t a first) (cond t b first)
+    by_test true = alike
+    by_test false = refl
+
+-- the heir among the regions that were found
+abbrev pub heirs : Fields → Option (List ℕ) → Option (List ℕ)
+heirs f o = option_map (λ regions. heir (form.likely_region f) (segments regions)) o
+
+-- the region of the row that was found, or else the heir, or else the region
+abbrev pub region_by : Fields → Option Fields → Option (List ℕ) → List ℕ
+region_by f o p = unwrap_or (or_else (option_map (λ to. to.region) o) (heirs f p)) f.region
+
+new_region-alike : (f g : Fields) → AlikeFields f g → Alike (form.new_region f) (form.new_region g)
+unfolding form.new_region
+new_region-alike f g h =
+    by_same (λ o p. Alike (region_by f o (alias_for list.region_heirs f.region)) (region_by g p (alias_for list.region_heirs g.region))) by_row _ _
+    (likely_for-alike region_replacements (region_alone f) (region_alone g) (record { language = refl; script = refl; region = h.region }))
+  where
+    by_heirs : (o : Option (List ℕ)) → Alike (region_by f None o) (region_by g None o)
+    by_heirs None = h.region
+    by_heirs (Some regions) = heir-alike (form.likely_region f) (form.likely_region g) (segments regions) (likely_region-alike f g h)
+
+    by_row : (o : Option Fields) → Alike (region_by f o (alias_for list.region_heirs f.region)) (region_by g o (alias_for list.region_heirs g.region))
+    by_row None = by_same (λ o p. Alike (region_by f None o) (region_by g None p)) by_heirs _ _ (alias_for-alike list.region_heirs f.region g.region h.region)
+    by_row (Some to) = refl
+
+region-alike : (f g : Fields) → AlikeFields f g → AlikeFields (form.with_new_region f) (form.with_new_region g)
+unfolding form.with_new_region
+region-alike f g h = record { language = h.language; script = h.script; region = new_region-alike f g h }
+
+or_same : (a b : List ℕ) → Alike a b → (o p : Option (List ℕ)) → o ≡ p → Alike (unwrap_or o a) (unwrap_or p b)
+or_same a b alike = by_same (λ o p. Alike (unwrap_or o a) (unwrap_or p b)) by_found
+  where
+    by_found : (o : Option (List ℕ)) → Alike (unwrap_or o a) (unwrap_or o b)
+    by_found None = alike
+    by_found (Some new) = refl
+
+script-alike : (f g : Fields) → AlikeFields f g → AlikeFields (form.with_new_script f) (form.with_new_script g)
+unfolding form.with_new_script
+script-alike f g h = record {
+  language = h.language;
+  script = or_same f.script g.script h.script _ _ (alias_for-alike list.script_aliases f.script g.script h.script);
+  region = h.region;
+}
+
+-- ---- the form
+
+-- the case of the variants does not matter
+language-same : (v w : List (List ℕ)) (f : Fields) → AreAlike v w → form.variant_language v f ≡ form.variant_language w f
+unfolding form.variant_language
+language-same v w f alike =
+    ap (λ has. form.other_language f (fold (λ l (a : TypeAlias). cond (are_alike a.key l && has a.old) a.new l) f.language list.variant_languages)) (has-same v w alike)
+
+region-same : (v w : List (List ℕ)) (f : Fields) → AreAlike v w → form.variant_region v f ≡ form.variant_region w f
+unfolding form.variant_region
+region-same v w f alike =
+    ap (λ has. form.other_region f (or_other f.region (option_map_or (λ (a : Alias). a.new) (find (λ (a : Alias). has a.old) list.variant_regions) []))) (has-same v w alike)
+
+identifier-same : (v w : List (List ℕ)) (f : Fields) → AreAlike v w → identifier_form v f ≡ identifier_form w f
+unfolding identifier_form
+identifier-same v w f alike =
+    ap (λ x. form.with_new_script (form.sign_language (form.with_new_region (form.variant_region v (form.sign_language x))))) (language-same v w (language_replaced f) alike)
+    ∙ ap (λ x. form.with_new_script (form.sign_language (form.with_new_region x))) (region-same v w (form.sign_language (form.variant_language w (language_replaced f))) alike)
+
+-- identifiers that are equal but for case have forms that are
+pub identifier_form-alike : (v w : List (List ℕ)) (f g : Fields) → AreAlike v w → AlikeFields f g → AlikeFields (identifier_form v f) (identifier_form w g)
+unfolding identifier_form
+identifier_form-alike v w f g alike h =
+    subst (λ x. AlikeFields x (identifier_form w g)) (sym (identifier-same v w f alike))
+    (script-alike _ _ (sign-alike _ _ (region-alike _ _ (variant_region-alike w _ _ (sign-alike _ _ (variant_language-alike w _ _ (replaced-alike f g h)))))))
+
+-- ---- variants
+
+-- whether a variant is left out
+abbrev pub is_gone : List ℕ → List ℕ → Bool
+is_gone language v = is_some (type_alias_for list.variant_languages language v) || has_variant list.dropped_variants v
+
+-- the variant that replaces a variant, by a pair if one was found
+abbrev pub replaced_by : Option TypeAlias → List ℕ → Option (List ℕ)
+replaced_by pair v = or_else (option_map (λ (a : TypeAlias). a.new) pair) (alias_for list.variant_aliases v)
+
+abbrev pub replacement : List (List ℕ) → List ℕ → Option (List ℕ)
+replacement variants v = replaced_by (find (is_pair_of variants v) list.variant_pairs) v
+
+module _ (language other : List ℕ) (variants others : List (List ℕ)) (languages : Alike language other) (alike : AreAlike variants others) where
+  variant_form-alike : (v w : List ℕ) → Alike v w → Alike (variant_form language variants v) (variant_form other others w)
+  unfolding variant_form
+  variant_form-alike v w same =
+      by_same (λ s t. Alike (cond s [] (unwrap_or (replacement variants v) v)) (cond t [] (unwrap_or (replacement others w) w))) (λ b. by_test b) _ _ gone
+    where
+      gone : is_gone language v ≡ is_gone other w
+      gone =
+          ap (λ o. is_some o || has_variant list.dropped_variants v) (type_alias_for-alike list.variant_languages language other v w languages same)
+          ∙ ap (λ b. is_some (type_alias_for list.variant_languages other w) || b) (has_variant-alike list.dropped_variants v w same)
+
+      same_new : replacement variants v ≡ replacement others w
+      same_new =
+          ap (λ has. replaced_by (find (λ (a : TypeAlias). are_alike a.key v && has a.old) list.variant_pairs) v) (has-same variants others alike)
+          ∙ ap (λ t. replaced_by (find (λ (a : TypeAlias). bytes_eq (fold_text a.key) t && has_variant others a.old) list.variant_pairs) v) same
+          ∙ ap (or_else (option_map (λ (a : TypeAlias). a.new) (find (is_pair_of others w) list.variant_pairs))) (alias_for-alike list.variant_aliases v w same)
+
+      by_test : (b : Bool) → Alike (cond b [] (unwrap_or (replacement variants v) v)) (cond b [] (unwrap_or (replacement others w) w))
+      by_test true = refl
+      by_test false = or_same v w same _ _ same_new
+
+  one-alike : (a b : List ℕ) → Alike a b → AreAlike (one_flat (subtag_of a)) (one_flat (subtag_of b))
+  one-alike [] [] same = refl
+  one-alike [] (y ∷ b) same = absurd cc
+  one-alike (x ∷ a) [] same = absurd cc
+  one-alike (x ∷ a) (y ∷ b) same = ap (λ t. t ∷ []) same
+
+  forms-alike : (vs ws : List (List ℕ)) → AreAlike vs ws → AreAlike (forms language variants vs) (forms other others ws)
+  forms-alike [] [] same = refl
+  forms-alike [] (w ∷ ws) same = absurd cc
+  forms-alike (v ∷ vs) [] same = absurd cc
+  forms-alike (v ∷ vs) (w ∷ ws) same =
+      let first : fold_text v ≡ fold_text w = cc in
+      let rest : map fold_text vs ≡ map fold_text ws = cc in
+      map-append fold_text (one_flat (subtag_of (variant_form language variants v))) (forms language variants vs)
+      ∙ ap (λ t. t ++ map fold_text (forms language variants vs)) (one-alike (variant_form language variants v) (variant_form other others w) (variant_form-alike v w first))
+      ∙ ap (λ t. map fold_text (one_flat (subtag_of (variant_form other others w))) ++ t) (forms-alike vs ws rest)
+      ∙ sym (map-append fold_text (one_flat (subtag_of (variant_form other others w))) (forms other others ws))
+
+-- identifiers that are equal but for case have the same variants in their forms
+pub new_variants-alike : (v w : List (List ℕ)) (f g : Fields) → AreAlike v w → AlikeFields f g → new_variants v f ≡ new_variants w g
+new_variants-alike v w f g alike h =
+    in_alphabet-alike _ _ (forms-alike (language_replaced f).language (language_replaced g).language v w (replaced-alike f g h).language alike v w alike)

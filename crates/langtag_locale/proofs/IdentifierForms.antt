@@ -1,0 +1,273 @@
+-- The form of a language identifier has a language, and maybe a script and a region.
+use Rattle.std.proofs.Common.{◌≡◌, ℕ, Bool, true, false, cond, List, [], ◌∷◌, ◌++◌, ◌&&◌, ◌==◌, not, length, map, fold, Option, Some, None, option_map, unwrap_or, refl, sym, ap, ◌∙◌, append_assoc, arith}
+use Rattle.std.proofs.lemmas.Grind.{common_steps}
+use Rattle.std.proofs.lemmas.List.{length-map}
+use Rattle.std.specs.List.{flat_map, list_all}
+use Rattle.std.specs.Option.{is_none, option_map_or}
+use Rattle.std.specs.Prelude.{IfSome, IsTrue, codes, find}
+use Rattle.langtag.specs.Repeat.{are_alike_bytes, repeat}
+use Rattle.langtag_case.proofs.RecommendedLaws.{recommended_alike}
+use Rattle.langtag_case.specs.RecommendedCase.{recommended_text}
+use Rattle.langtag.proofs.FieldClasses.{from_region, from_script}
+use Rattle.langtag_likely.specs.Aliases.{language_aliases, region_replacements}
+use Rattle.langtag.specs.FieldClasses.{is_region_field, is_script_field}
+use Rattle.langtag_likely.specs.Likely as likely
+use Rattle.langtag_likely.specs.Likely.{Likely, are_alike_fields, filled, language_alone, likely_for, looked_up, or_else, or_other}
+use Rattle.langtag.specs.Fields.{Fields, subtag_of}
+use Rattle.langtag_likely.specs.LikelySubtags.{language_rows, likely_subtags, other_rows}
+use Rattle.langtag_likely.specs.Matching.{language_replaced, region_alone, with_language_from}
+use Rattle.langtag_output.specs.Output.{with_subtag}
+use Rattle.langtag_output.proofs.Pushed.{with_joined}
+use Rattle.langtag_scan.proofs.NormalTexts.{spelled_once}
+use Rattle.langtag_scan.proofs.SubtagFacts.{of_primary}
+use Rattle.langtag_scan.specs.Case.{are_alike, fold_byte}
+use Rattle.langtag_scan.specs.Class as class
+use Rattle.langtag_scan.specs.Class.{is_region, is_script}
+use Rattle.langtag_scan.specs.Record.{IsWellFormed, Record, Spells, extension_flat, one_flat, private_part_flat, spell}
+use Rattle.langtag_scan.specs.Subtags.{segments}
+use Rattle.langtag_scan.specs.Tag.{IsNormal}
+use Rattle.langtag_unicode.specs.Alias.{Alias, TypeAlias, alias_for}
+use Rattle.langtag_unicode.specs.Form.{is_unicode_language}
+use Rattle.langtag_locale.specs.Locale.{is_locale_extension, is_locale_record}
+use Rattle.langtag_locale.specs.LocaleAliases as list
+use Rattle.langtag_locale.specs.LocaleForm as form
+use Rattle.langtag_locale.specs.LocaleForm.{IsLocaleForm, extensions_in_order, has_variant, identifier_form, language_after, locale_record, locale_text, new_variants, record_fields, sign_for}
+use Rattle.langtag_unicode.specs.Identifier.{identifier_flat}
+use Rattle.langtag_locale.proofs.LocaleTables.{found_good, heir_good, region_heirs_good, scripts_good, variant_regions_good}
+use Rattle.langtag_unicode.proofs.Found.{both, found_has}
+use Rattle.langtag_unicode.proofs.IdentifierParts.{AreSubtags, language_primary}
+
+abbrev are_subtags : Fields → Bool
+are_subtags f = is_unicode_language f.language && (is_script_field f.script && is_region_field f.region)
+
+-- ---- by computation
+
+languages_good : list_all (λ row. are_subtags row.to) language_aliases ≡ true
+unfolding language_aliases class.is_primary class.is_script class.is_region class.is_letter class.is_digit fold_byte
+languages_good = refl
+
+variant_languages_good : list_all {X = TypeAlias} (λ alias. is_unicode_language alias.new) list.variant_languages ≡ true
+unfolding list.variant_languages class.is_primary class.is_letter fold_byte
+variant_languages_good = refl
+
+sign_languages_good : list_all {X = Alias} (λ alias. is_unicode_language alias.new) list.sign_languages ≡ true
+unfolding list.sign_languages class.is_primary class.is_letter fold_byte
+sign_languages_good = refl
+
+regions_good : list_all (λ row. is_region_field row.to.region) region_replacements ≡ true
+unfolding region_replacements class.is_region class.is_letter class.is_digit fold_byte
+regions_good = refl
+
+likely_regions_good : list_all (λ row. is_region_field row.to.region) likely_subtags ≡ true
+unfolding likely_subtags language_rows other_rows class.is_region class.is_letter class.is_digit fold_byte
+likely_regions_good = refl
+
+-- ---- what is found has what all have
+
+-- the row that is found
+pub row_found :
+    (good : Likely → Bool) (rows : List Likely) (key to : Fields) → list_all good rows ≡ true → likely_for rows key ≡ Some to →
+    (row : Likely) × (good row ≡ true) × (are_alike_fields row.from key ≡ true) × (row.to ≡ to)
+row_found good [] key to all found = absurd cc
+row_found good (row ∷ rows) key to all found = grind (arith, common_steps, both (good row) (list_all good rows) all, row_found good rows key to)
+
+pub row_good : (good : Fields → Bool) (rows : List Likely) (key to : Fields) → list_all (λ row. good row.to) rows ≡ true → likely_for rows key ≡ Some to → good to ≡ true
+row_good good rows key to all found = let (row, is, alike, same) = row_found (λ row. good row.to) rows key to all found in ap good (sym same) ∙ is
+
+-- the first of two values, if both have a region or none
+first_good :
+    (a b : Option Fields) → ((to : Fields) → a ≡ Some to → is_region_field to.region ≡ true) → ((to : Fields) → b ≡ Some to → is_region_field to.region ≡ true) →
+    (to : Fields) → or_else a b ≡ Some to → is_region_field to.region ≡ true
+first_good None b one two = two
+first_good (Some f) b one two = one
+
+either_good : (good : List ℕ → Bool) (text other : List ℕ) → good text ≡ true → good other ≡ true → good (or_other text other) ≡ true
+either_good good [] other one two = two
+either_good good (b ∷ text) other one two = one
+
+-- ---- the steps
+
+replaced_subtags : (f : Fields) → AreSubtags f → AreSubtags (language_replaced f)
+unfolding language_replaced
+replaced_subtags f are = by_found (likely_for language_aliases (language_alone f)) refl
+  where
+    by_found : (o : Option Fields) → likely_for language_aliases (language_alone f) ≡ o → AreSubtags (option_map_or (with_language_from f) o f)
+    by_found None none = are
+    by_found (Some to) found =
+        let good = row_good are_subtags language_aliases (language_alone f) to languages_good found in
+        let parts = both (is_unicode_language to.language) (is_script_field to.script && is_region_field to.region) good in
+        let others = both (is_script_field to.script) (is_region_field to.region) parts.1 in
+        record {
+          language = parts.0;
+          script = either_good is_script_field f.script to.script are.script others.0;
+          region = either_good is_region_field f.region to.region are.region others.1;
+        }
+
+-- what holds of a language and of all new languages holds of the language after the aliases that fit
+pub fold_good :
+    (good : List ℕ → Bool) (variants : List (List ℕ)) (aliases : List TypeAlias) (language : List ℕ) → list_all {X = TypeAlias} (λ alias. good alias.new) aliases ≡ true → good language ≡ true →
+    good (fold (language_after variants) language aliases) ≡ true
+fold_good good variants [] language all is = is
+fold_good good variants (a ∷ aliases) language all is =
+    let parts = both (good a.new) (list_all {X = TypeAlias} (λ alias. good alias.new) aliases) all in
+    fold_good good variants aliases (language_after variants language a) parts.1 (by_test (are_alike a.key language && has_variant variants a.old) parts.0)
+  where
+    by_test : (b : Bool) → good a.new ≡ true → good (cond b a.new language) ≡ true
+    by_test true new = new
+    by_test false new = is
+
+variant_subtags : (variants : List (List ℕ)) (f : Fields) → AreSubtags f → AreSubtags (form.variant_language variants f)
+unfolding form.variant_language
+variant_subtags variants f are = record {
+  language = fold_good is_unicode_language variants list.variant_languages f.language variant_languages_good are.language;
+  script = are.script;
+  region = are.region;
+}
+
+-- what holds of all sign languages holds of the one that is found
+pub sign_found :
+    (good : List ℕ → Bool) (f : Fields) (new : List ℕ) → list_all {X = Alias} (λ alias. good alias.new) list.sign_languages ≡ true → sign_for f ≡ Some new → good new ≡ true
+sign_found good f new all = by_test (are_alike f.language (codes "sgn"))
+  where
+    by_test : (b : Bool) → cond b (alias_for list.sign_languages f.region) None ≡ Some new → good new ≡ true
+    by_test true is = found_good good (λ alias. are_alike alias.old f.region) list.sign_languages new all is
+    by_test false is = absurd cc
+
+-- what holds with each sign language, and without one, holds after that step
+pub sign_cases :
+    (P : Fields → Type 0) (f : Fields) → (sign_for f ≡ None → P f) → ((new : List ℕ) → sign_for f ≡ Some new → P (form.without_sgn f new)) → P (form.sign_language f)
+unfolding form.sign_language
+sign_cases P f none some = by_sign (sign_for f) refl
+  where
+    by_sign : (o : Option (List ℕ)) → sign_for f ≡ o → P (option_map_or (form.without_sgn f) o f)
+    by_sign None is = none is
+    by_sign (Some new) is = some new is
+
+sign_subtags : (f : Fields) → AreSubtags f → AreSubtags (form.sign_language f)
+sign_subtags f are =
+    sign_cases AreSubtags f (λ none. are)
+    (λ new found. record { language = sign_found is_unicode_language f new sign_languages_good found; script = are.script; region = refl })
+
+other_region-subtags : (f : Fields) (region : List ℕ) → AreSubtags f → is_region_field region ≡ true → AreSubtags (form.other_region f region)
+other_region-subtags f region are good = record { language = are.language; script = are.script; region = good }
+
+brought_good : (variants : List (List ℕ)) → is_region_field (form.variants_region variants list.variant_regions) ≡ true
+brought_good variants = by_found (find (λ (alias : Alias). has_variant variants alias.old) list.variant_regions) refl
+  where
+    by_found : (o : Option Alias) → find (λ (alias : Alias). has_variant variants alias.old) list.variant_regions ≡ o → is_region_field (option_map_or (λ alias. alias.new) o []) ≡ true
+    by_found None none = refl
+    by_found (Some a) found = found_has (λ (alias : Alias). is_region_field alias.new) (λ (alias : Alias). has_variant variants alias.old) list.variant_regions a variant_regions_good found
+
+variant_region-subtags : (variants : List (List ℕ)) (f : Fields) → AreSubtags f → AreSubtags (form.variant_region variants f)
+unfolding form.variant_region
+variant_region-subtags variants f are =
+    other_region-subtags f _ are (either_good is_region_field f.region (form.variants_region variants list.variant_regions) are.region (brought_good variants))
+
+looked_up_good : (f to : Fields) → looked_up likely_subtags f ≡ Some to → is_region_field to.region ≡ true
+looked_up_good f =
+    first_good _ _ (found f) (first_good _ _ (found (likely.without_region f)) (first_good _ _ (found (likely.without_script f)) (found (language_alone f))))
+  where
+    found : (key to : Fields) → likely_for likely_subtags key ≡ Some to → is_region_field to.region ≡ true
+    found key to is = row_good (λ to. is_region_field to.region) likely_subtags key to likely_regions_good is
+
+likely_region_good : (f : Fields) → is_region_field (form.likely_region f) ≡ true
+unfolding form.likely_region
+likely_region_good f = by_row (looked_up likely_subtags (form.language_and_script f)) refl
+  where
+    by_row :
+        (o : Option Fields) → looked_up likely_subtags (form.language_and_script f) ≡ o →
+        is_region_field (option_map_or (λ most. most.region) (option_map (filled (form.language_and_script f)) o) []) ≡ true
+    by_row None none = refl
+    by_row (Some to) found = looked_up_good (form.language_and_script f) to found
+
+new_region_good : (f : Fields) → AreSubtags f → is_region_field (form.new_region f) ≡ true
+unfolding form.new_region
+new_region_good f are = by_row (likely_for region_replacements (region_alone f)) refl
+  where
+    by_heirs :
+        (o : Option (List ℕ)) → alias_for list.region_heirs f.region ≡ o →
+        is_region_field (unwrap_or (option_map (λ regions. form.heir (form.likely_region f) (segments regions)) o) f.region) ≡ true
+    by_heirs None none = are.region
+    by_heirs (Some regions) found =
+        heir_good is_region_field (form.likely_region f) (segments regions) (likely_region_good f) refl
+        (found_good (λ text. list_all is_region_field (segments text)) (λ alias. are_alike alias.old f.region) list.region_heirs regions region_heirs_good found)
+
+    by_row :
+        (o : Option Fields) → likely_for region_replacements (region_alone f) ≡ o →
+        is_region_field
+        (unwrap_or (or_else (option_map (λ to. to.region) o) (option_map (λ regions. form.heir (form.likely_region f) (segments regions)) (alias_for list.region_heirs f.region)))
+        f.region)
+        ≡ true
+    by_row None none = by_heirs (alias_for list.region_heirs f.region) refl
+    by_row (Some to) found = row_good (λ to. is_region_field to.region) region_replacements (region_alone f) to regions_good found
+
+region_subtags : (f : Fields) → AreSubtags f → AreSubtags (form.with_new_region f)
+unfolding form.with_new_region
+region_subtags f are = other_region-subtags f _ are (new_region_good f are)
+
+script_subtags : (f : Fields) → AreSubtags f → AreSubtags (form.with_new_script f)
+unfolding form.with_new_script
+script_subtags f are = record { language = are.language; script = by_found (alias_for list.script_aliases f.script) refl; region = are.region }
+  where
+    by_found : (o : Option (List ℕ)) → alias_for list.script_aliases f.script ≡ o → is_script_field (unwrap_or o f.script) ≡ true
+    by_found None none = are.script
+    by_found (Some new) found = found_good is_script_field (λ alias. are_alike alias.old f.script) list.script_aliases new scripts_good found
+
+pub form_subtags : (variants : List (List ℕ)) (f : Fields) → AreSubtags f → AreSubtags (identifier_form variants f)
+unfolding identifier_form
+form_subtags variants f are =
+    script_subtags _ (sign_subtags _ (region_subtags _ (variant_region-subtags variants _ (sign_subtags _ (variant_subtags variants _ (replaced_subtags f are))))))
+
+-- ---- the record
+
+flat-parts : (p : List ℕ) (a b c d e : List (List ℕ)) → (p ∷ (a ++ (b ++ c))) ++ (d ++ e) ≡ p ∷ (a ++ (b ++ (c ++ (d ++ e))))
+flat-parts p a b c d e = simp append_assoc
+
+optional_good : (test good : List ℕ → Bool) → good [] ≡ true → ((s : List ℕ) → test s ≡ true → good s ≡ true) → (o : Option (List ℕ)) → IfSome o (λ s. IsTrue (test s)) → good (unwrap_or o []) ≡ true
+optional_good test good none some None is = none
+optional_good test good none some (Some s) is = some s is
+
+pub locale_language : (r : Record) → is_locale_record r ≡ true → is_unicode_language r.primary ≡ true
+locale_language r locale =
+    let language = is_unicode_language r.primary in
+    let alone = length r.extended == 0 in
+    let variants = is_none (repeat are_alike r.variants) in
+    let singletons = is_none (repeat are_alike_bytes (map (λ e. e.singleton) r.extensions)) in
+    (both language alone (both (language && alone) variants (both (language && alone && variants) singletons (both (language && alone && variants && singletons) (list_all is_locale_extension r.extensions) locale).0).0).0).0
+
+pub record_subtags : (r : Record) → IsWellFormed r → is_locale_record r ≡ true → AreSubtags (record_fields r)
+record_subtags r fits locale = record {
+  language = locale_language r locale;
+  script = optional_good is_script is_script_field refl from_script r.script fits.script;
+  region = optional_good is_region is_region_field refl from_region r.region fits.region;
+}
+
+-- the form, put subtag by subtag
+pub locale_joined :
+    (r : Record) → IsWellFormed r → is_locale_record r ≡ true →
+    fold with_subtag []
+    (identifier_flat (identifier_form r.variants (record_fields r)) (new_variants r.variants (record_fields r))
+    ++ (flat_map extension_flat (extensions_in_order r.extensions) ++ private_part_flat r.private_use))
+    ≡ spell (locale_record r)
+unfolding locale_record with_subtag
+locale_joined r fits locale =
+    let f : Fields = identifier_form r.variants (record_fields r) in
+    ap (fold with_subtag [])
+    (flat-parts f.language (one_flat (subtag_of f.script)) (one_flat (subtag_of f.region)) (new_variants r.variants (record_fields r)) (flat_map extension_flat (extensions_in_order r.extensions)) (private_part_flat r.private_use))
+    ∙ sym (with_joined [] f.language _ (of_primary f.language (language_primary f (form_subtags r.variants (record_fields r) (record_subtags r fits locale)))).some)
+
+-- ---- the text
+
+pub same_length : (r : Record) → length (locale_text r) ≡ length (spell (locale_record r))
+unfolding locale_text
+same_length r = sym (length-map (recommended_text (spell (locale_record r))) fold_byte) ∙ ap length (recommended_alike (spell (locale_record r))) ∙ length-map (spell (locale_record r)) fold_byte
+
+-- the form of a tag whose record is known
+pub form_is : (old new : List ℕ) (r : Record) → Spells r old → is_locale_record r ≡ true → new ≡ locale_text r → IsLocaleForm old (Some new)
+unfolding IsNormal
+form_is old new r spells locale is = record {
+  part = λ q also.
+      ap (λ t. Some t) is ∙ sym (ap (λ b. cond b (Some (locale_text r)) None) locale)
+      ∙ ap (λ p. cond (is_locale_record p) (Some (locale_text p)) None) (spelled_once r q spells.0 also.0 (spells.1 ∙ sym also.1));
+  absent = λ other. absurd (other (r, spells));
+}

@@ -1,0 +1,99 @@
+-- What the tables of language identifiers make of a field or a variant has no alias of its own: by computation.
+use Rattle.std.proofs.Common.{◌≡◌, ℕ, Bool, true, not, ◌&&◌, List, [], refl}
+use Rattle.std.specs.List.{list_all}
+use Rattle.std.specs.Option.{is_none, is_some}
+use Rattle.std.specs.Prelude.{◌||◌, codes}
+use Rattle.langtag_likely.specs.Aliases.{language_aliases, region_replacements}
+use Rattle.langtag_likely.specs.Likely.{likely_for}
+use Rattle.langtag_scan.specs.Case.{are_alike, fold_byte}
+use Rattle.langtag_scan.specs.Subtags.{segments}
+use Rattle.langtag_unicode.specs.Alias.{Alias, TypeAlias, alias_for, type_alias_for}
+use Rattle.langtag_locale.specs.LocaleAliases as list
+use Rattle.langtag_locale.specs.LocaleForm.{has_variant}
+
+-- ---- languages
+
+-- a language that no alias replaces
+abbrev pub is_last_language : List ℕ → Bool
+is_last_language l = is_none (likely_for language_aliases (record { language = l; script = []; region = [] }))
+
+pub replaced_last : list_all (λ row. is_last_language row.to.language) language_aliases ≡ true
+unfolding language_aliases fold_byte
+replaced_last = refl
+
+pub variant_languages_last : list_all {X = TypeAlias} (λ alias. is_last_language alias.new) list.variant_languages ≡ true
+unfolding language_aliases list.variant_languages fold_byte
+variant_languages_last = refl
+
+-- a language that no alias replaces, and that is not `sgn`
+abbrev pub is_last_sign : List ℕ → Bool
+is_last_sign l = is_last_language l && not (are_alike l (codes "sgn"))
+
+pub sign_languages_last : list_all {X = Alias} (λ alias. is_last_sign alias.new) list.sign_languages ≡ true
+unfolding language_aliases list.sign_languages fold_byte
+sign_languages_last = refl
+
+-- the language of an alias with a variant has this alias, and no other language becomes it
+abbrev pub is_old_language : TypeAlias → Bool
+is_old_language a =
+    is_some (type_alias_for list.variant_languages a.key a.old)
+    && (list_all {X = TypeAlias} (λ b. not (are_alike a.key b.new) || are_alike a.key b.key) list.variant_languages
+    && list_all {X = Alias} (λ b. not (are_alike a.key b.new)) list.sign_languages)
+
+pub languages_old : list_all is_old_language list.variant_languages ≡ true
+unfolding list.variant_languages list.sign_languages fold_byte
+languages_old = refl
+
+-- ---- regions and scripts
+
+-- a region that no alias replaces
+abbrev pub is_last_region : List ℕ → Bool
+is_last_region r = is_none (likely_for region_replacements (record { language = []; script = []; region = r })) && is_none (alias_for list.region_heirs r)
+
+pub no_region_last : is_last_region [] ≡ true
+unfolding region_replacements list.region_heirs fold_byte
+no_region_last = refl
+
+pub replacements_last : list_all (λ row. is_last_region row.to.region) region_replacements ≡ true
+unfolding region_replacements list.region_heirs fold_byte
+replacements_last = refl
+
+pub heirs_last : list_all {X = Alias} (λ alias. list_all is_last_region (segments alias.new)) list.region_heirs ≡ true
+unfolding region_replacements list.region_heirs fold_byte
+heirs_last = refl
+
+-- a script that no alias replaces
+abbrev pub is_last_script : List ℕ → Bool
+is_last_script s = is_none (alias_for list.script_aliases s)
+
+pub scripts_last : list_all {X = Alias} (λ alias. is_last_script alias.new) list.script_aliases ≡ true
+unfolding list.script_aliases fold_byte
+scripts_last = refl
+
+-- ---- variants
+
+-- a variant that is neither left out nor replaced with any language
+abbrev pub is_last_variant : List ℕ → Bool
+is_last_variant v = not (has_variant list.dropped_variants v) && is_none (alias_for list.variant_aliases v)
+
+-- a variant, and not the empty text, that stays whatever the language is
+abbrev pub stays_always : List ℕ → Bool
+stays_always v = is_last_variant v && not (are_alike v []) && list_all {X = TypeAlias} (λ a. not (are_alike a.old v)) list.variant_languages
+
+pub pairs_last : list_all {X = TypeAlias} (λ alias. stays_always alias.new) list.variant_pairs ≡ true
+unfolding list.variant_pairs list.variant_aliases list.variant_languages list.dropped_variants fold_byte
+pairs_last = refl
+
+pub variants_last : list_all {X = Alias} (λ alias. stays_always alias.new) list.variant_aliases ≡ true
+unfolding list.variant_aliases list.variant_languages list.dropped_variants fold_byte
+variants_last = refl
+
+-- a variant that brings a region is left out
+pub regions_dropped : list_all {X = Alias} (λ alias. not (is_last_variant alias.old)) list.variant_regions ≡ true
+unfolding list.variant_regions list.variant_aliases list.dropped_variants fold_byte
+regions_dropped = refl
+
+-- the second variant of a pair is replaced alone, too
+pub pairs_replaced : list_all {X = TypeAlias} (λ alias. not (is_last_variant alias.old)) list.variant_pairs ≡ true
+unfolding list.variant_pairs list.variant_aliases list.dropped_variants fold_byte
+pairs_replaced = refl

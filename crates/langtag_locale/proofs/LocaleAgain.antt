@@ -1,0 +1,137 @@
+-- The form of a Unicode locale identifier repeats no variant and no singleton, and its `u` is allowed.
+use Rattle.std.proofs.Common.{◌≡◌, ℕ, Bool, true, false, not, cond, ◌&&◌, ◌||◌, ◌==◌, List, [], ◌∷◌, ◌++◌, length, map, Option, Some, None, option_map, refl, sym, ap, subst, ◌∙◌, eqb-true}
+use Rattle.std.proofs.lemmas.Bool.{false≢true, not-true}
+use Rattle.std.proofs.lemmas.List.Folds.{list_any-append}
+use Rattle.std.specs.Prelude.{IsTrue, slice_get}
+use Rattle.std.specs.List.{AllByRecursion, flat_map, list_all, list_any}
+use Rattle.std.specs.Option.{is_none, option_and_then, option_map_or}
+use Rattle.langtag.specs.Repeat.{are_alike_bytes}
+use Rattle.langtag_extension.specs.Spelling.{find_extension}
+use Rattle.langtag.specs.Fields.{Fields}
+use Rattle.langtag_likely.specs.Matching.{language_replaced}
+use Rattle.langtag_scan.proofs.CaseLaw.{is_digit-fold, is_letter-fold}
+use Rattle.langtag_scan.proofs.SubtagLists.{each-append}
+use Rattle.langtag_scan.specs.Case.{are_alike, fold_byte, fold_text}
+use Rattle.langtag_scan.specs.CaseLaws.{are_alike-decides}
+use Rattle.langtag_scan.specs.Record.{Extension}
+use Rattle.langtag_scan.specs.Subtags.{join, subtags}
+use Rattle.langtag_unicode.specs.Edit.{is_unicode_key}
+use Rattle.langtag_unicode.specs.Form.{in_alphabet, is_of, unicode_form, unicode_value}
+use Rattle.langtag_unicode.specs.Keywords.{before_key, is_key, value_of}
+use Rattle.langtag_locale.specs.Locale.{is_unicode_subtag}
+use Rattle.langtag_registry.specs.Canonical.{singletons}
+use Rattle.langtag_locale.specs.LocaleForm.{extension_at, extensions_in_order, locale_extension_form, new_variants}
+use Rattle.langtag_unicode.proofs.CanonicalKeywords.{form-blocks, key-fold, values, values-are}
+use Rattle.langtag_unicode.proofs.Each.{each-alphabet, each-before}
+use Rattle.langtag_unicode.proofs.FormRecords.{Good}
+use Rattle.langtag_unicode.proofs.FormSizes.{are_apart}
+use Rattle.langtag_unicode.proofs.KeySplits.{all_keys}
+use Rattle.langtag_unicode.proofs.KeywordBlocks.{block, blocks}
+use Rattle.langtag_unicode.proofs.KeywordLaws.{AreNoKeys}
+use Rattle.langtag_locale.proofs.LocaleExtensions.{locale_form_by, locale_form_tested}
+use Rattle.langtag_locale.proofs.LocaleSizes.{singletons_apart}
+use Rattle.langtag_unicode.proofs.Found.{both, found_is}
+use Rattle.langtag_locale.proofs.VariantForms.{forms}
+use Rattle.langtag_unicode.proofs.Apart.{Apart, alphabet-apart}
+
+-- ---- the variants
+
+pub new_variants-apart : (variants : List (List ℕ)) (f : Fields) → Apart are_alike (new_variants variants f)
+new_variants-apart variants f = alphabet-apart (forms (language_replaced f).language variants variants)
+
+-- ---- the singletons
+
+pub form_singleton : (e : Extension) → fold_byte (locale_extension_form e).singleton ≡ fold_byte e.singleton
+unfolding fold_byte
+form_singleton e = ap (λ x. fold_byte x.singleton) (locale_form_tested _ _ e refl refl) ∙ by_tests (is_of 117 e) (is_of 116 e) refl refl
+  where
+    by_tests : (a b : Bool) → is_of 117 e ≡ a → is_of 116 e ≡ b → fold_byte (locale_form_by a b e).singleton ≡ fold_byte e.singleton
+    by_tests true b one two = sym (eqb-true (fold_byte e.singleton) 117 one)
+    by_tests false true one two = sym (eqb-true (fold_byte e.singleton) 116 two)
+    by_tests false false one two = refl
+
+module _ (es : List Extension) where
+  abbrev bytes : List ℕ → List ℕ
+  bytes ns = map (λ e. e.singleton) (flat_map (extension_at es) ns)
+
+  -- what stands at other singletons is not alike
+  others-apart : (s n : ℕ) → fold_byte s ≡ fold_byte n → (ms : List ℕ) → list_all (λ m. not (fold_byte m == fold_byte n)) ms ≡ true → AllByRecursion (λ y. are_alike_bytes y s ≡ false) (bytes ms)
+  others-apart s n same [] all = tt
+  others-apart s n same (m ∷ ms) all =
+      let parts = both (not (fold_byte m == fold_byte n)) (list_all (λ m. not (fold_byte m == fold_byte n)) ms) all in
+      by_found (find_extension m es) refl (not-true _ parts.0) (others-apart s n same ms parts.1)
+    where
+      by_found :
+          (o : Option Extension) → find_extension m es ≡ o → (fold_byte m == fold_byte n) ≡ false → AllByRecursion (λ y. are_alike_bytes y s ≡ false) (bytes ms) →
+          AllByRecursion (λ y. are_alike_bytes y s ≡ false) (map (λ e. e.singleton) (option_map_or (λ e. locale_extension_form e ∷ []) o [] ++ flat_map (extension_at es) ms))
+      by_found None none other later = later
+      by_found (Some e) found other later = (
+        ap (λ b. b == fold_byte s) (form_singleton e ∙ eqb-true _ _ (found_is _ es e found)) ∙ ap (λ b. fold_byte m == b) same ∙ other,
+        later,
+      )
+
+  bytes-apart : (ns : List ℕ) → are_apart ns ≡ true → Apart are_alike_bytes (bytes ns)
+  bytes-apart [] all = tt
+  bytes-apart (n ∷ ns) all =
+      let parts = both (list_all (λ m. not (fold_byte m == fold_byte n)) ns) (are_apart ns) all in
+      by_found (find_extension n es) refl parts.0 (bytes-apart ns parts.1)
+    where
+      by_found :
+          (o : Option Extension) → find_extension n es ≡ o → list_all (λ m. not (fold_byte m == fold_byte n)) ns ≡ true → Apart are_alike_bytes (bytes ns) →
+          Apart are_alike_bytes (map (λ e. e.singleton) (option_map_or (λ e. locale_extension_form e ∷ []) o [] ++ flat_map (extension_at es) ns))
+      by_found None none others later = later
+      by_found (Some e) found others later =
+          (others-apart (locale_extension_form e).singleton n (form_singleton e ∙ eqb-true _ _ (found_is _ es e found)) ns others, later)
+
+  pub singletons-apart : Apart are_alike_bytes (map (λ e. e.singleton) (extensions_in_order es))
+  singletons-apart = bytes-apart singletons singletons_apart
+
+-- ---- the extension `u`
+
+-- each may be in `u`
+abbrev pub MayBeInU : List (List ℕ) → Type 0
+MayBeInU ss = AllByRecursion (λ s. IsTrue (is_unicode_subtag s)) ss
+
+unicode_key-fold : (s : List ℕ) → is_unicode_key (fold_text s) ≡ is_unicode_key s
+unicode_key-fold [] = refl
+unicode_key-fold (a ∷ []) = refl
+unicode_key-fold (a ∷ b ∷ []) = rw (is_letter-fold a, is_digit-fold a, is_letter-fold b) refl
+unicode_key-fold (a ∷ b ∷ c ∷ s) = refl
+
+unicode_subtag-fold : (s : List ℕ) → is_unicode_subtag (fold_text s) ≡ is_unicode_subtag s
+unicode_subtag-fold s = ap (λ b. not b || is_unicode_key (fold_text s)) (key-fold s) ∙ ap (λ b. not (is_key s) || b) (unicode_key-fold s)
+
+-- a key that has a value stands among the subtags
+key-standing : (key : List ℕ) (ss w : List (List ℕ)) → MayBeInU ss → value_of is_key key ss ≡ Some w → is_unicode_subtag key ≡ true
+key-standing key [] w may found = absurd cc
+key-standing key (s ∷ ss) w may found = by_test (is_key s && are_alike s key) refl (key-standing key ss w may.1) found
+  where
+    by_test :
+        (b : Bool) → (is_key s && are_alike s key) ≡ b → (value_of is_key key ss ≡ Some w → is_unicode_subtag key ≡ true) →
+        cond b (Some (before_key is_key ss)) (value_of is_key key ss) ≡ Some w → is_unicode_subtag key ≡ true
+    by_test true this later found =
+        let same = (are_alike-decides s key).0 (both (is_key s) (are_alike s key) this).1 in
+        sym (unicode_subtag-fold key) ∙ ap is_unicode_subtag (sym same) ∙ unicode_subtag-fold s ∙ may.0
+    by_test false this later found = later found
+
+no_keys-may : (ss : List (List ℕ)) → AreNoKeys ss → MayBeInU ss
+no_keys-may [] others = tt
+no_keys-may (s ∷ ss) others = (ap (λ b. not b || is_unicode_key s) others.0, no_keys-may ss others.1)
+
+keywords-may : (ss : List (List ℕ)) → Good ss → MayBeInU ss → (keys : List (List ℕ)) → MayBeInU (blocks (values ss) keys)
+keywords-may ss good may [] = tt
+keywords-may ss good may (key ∷ keys) = each-append _ (block (values ss) key) (blocks (values ss) keys) (by_value (values ss key) refl) (keywords-may ss good may keys)
+  where
+    standing : (o : Option (List (List ℕ))) → value_of is_key key ss ≡ o → (v : List (List ℕ)) → option_map (λ w. map fold_text (subtags (unicode_value key (join w)))) o ≡ Some v → is_unicode_subtag key ≡ true
+    standing None none v is = absurd cc
+    standing (Some w) found v is = key-standing key ss w may found
+
+    by_value : (o : Option (List (List ℕ))) → values ss key ≡ o → MayBeInU (option_map_or (λ v. key ∷ v) o [])
+    by_value None none = tt
+    by_value (Some v) is = (standing (value_of is_key key ss) refl v is, no_keys-may v (values-are ss good key v is).1)
+
+pub unicode_form-may : (ss : List (List ℕ)) → Good ss → MayBeInU ss → MayBeInU (unicode_form ss)
+unicode_form-may ss good may =
+    each-append _ (in_alphabet (before_key is_key ss)) _
+    (each-alphabet (λ s. IsTrue (is_unicode_subtag s)) (λ s is. unicode_subtag-fold s ∙ is) (before_key is_key ss) (each-before (λ s. IsTrue (is_unicode_subtag s)) is_key ss may))
+    (subst MayBeInU (sym (form-blocks ss)) (keywords-may ss good may all_keys))

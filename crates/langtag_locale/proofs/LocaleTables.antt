@@ -1,0 +1,86 @@
+-- The tables of language identifiers have what the lists say, and what replaces a field has its class: by computation.
+use Rattle.std.proofs.Common.{◌≡◌, ℕ, Bool, true, false, cond, List, [], ◌∷◌, ◌&&◌, map, option_map, Option, None, Some, refl, sym, ap, ◌∙◌}
+use Rattle.std.proofs.lemmas.Bool.{false≢true}
+use Rattle.std.specs.Prelude.{find}
+use Rattle.std.specs.List.{list_all, list_any}
+use Rattle.langtag.specs.FieldClasses.{is_language_field, is_region_field, is_script_field}
+use Rattle.langtag_scan.specs.Case.{are_alike, fold_byte}
+use Rattle.langtag_scan.specs.Class.{is_digit, is_letter, is_primary, is_region, is_script}
+use Rattle.langtag_scan.specs.Subtags.{segments}
+use Rattle.langtag_unicode.specs.Alias.{Alias}
+use Rattle.langtag_locale.specs.LocaleAliases as list
+use Rattle.langtag_locale.specs.LocaleForm.{heir}
+use Rattle.langtag_locale.specs.declared.locale_tables.TheConstants as table
+use Rattle.langtag_unicode.proofs.Found.{both, found_has}
+
+pub variant_language_rows : map (λ row. record { key = row.0.now; old = row.1.now; new = row.2.now }) table.VARIANT_LANGUAGES ≡ list.variant_languages
+unfolding list.variant_languages
+variant_language_rows = refl
+
+pub variant_pair_rows : map (λ row. record { key = row.0.now; old = row.1.now; new = row.2.now }) table.VARIANT_PAIRS ≡ list.variant_pairs
+unfolding list.variant_pairs
+variant_pair_rows = refl
+
+pub variant_alias_rows : map (λ row. record { old = row.0.now; new = row.1.now }) table.VARIANT_ALIASES ≡ list.variant_aliases
+unfolding list.variant_aliases
+variant_alias_rows = refl
+
+pub dropped_rows : map (λ row. row.now) table.DROPPED_VARIANTS ≡ list.dropped_variants
+unfolding list.dropped_variants
+dropped_rows = refl
+
+pub sign_language_rows : map (λ row. record { old = row.0.now; new = row.1.now }) table.SIGN_LANGUAGES ≡ list.sign_languages
+unfolding list.sign_languages
+sign_language_rows = refl
+
+pub variant_region_rows : map (λ row. record { old = row.0.now; new = row.1.now }) table.VARIANT_REGIONS ≡ list.variant_regions
+unfolding list.variant_regions
+variant_region_rows = refl
+
+pub region_heir_rows : map (λ row. record { old = row.0.now; new = row.1.now }) table.REGION_HEIRS ≡ list.region_heirs
+unfolding list.region_heirs
+region_heir_rows = refl
+
+pub script_rows : map (λ row. record { old = row.0.now; new = row.1.now }) table.SCRIPT_ALIASES ≡ list.script_aliases
+unfolding list.script_aliases
+script_rows = refl
+
+-- ---- classes
+
+pub variant_languages_good : list_all (λ alias. is_language_field alias.new) list.variant_languages ≡ true
+unfolding list.variant_languages is_primary is_letter fold_byte
+variant_languages_good = refl
+
+pub sign_languages_good : list_all (λ alias. is_language_field alias.new) list.sign_languages ≡ true
+unfolding list.sign_languages is_primary is_letter fold_byte
+sign_languages_good = refl
+
+pub variant_regions_good : list_all (λ alias. is_region_field alias.new) list.variant_regions ≡ true
+unfolding list.variant_regions is_region is_letter is_digit fold_byte
+variant_regions_good = refl
+
+pub region_heirs_good : list_all (λ alias. list_all is_region_field (segments alias.new)) list.region_heirs ≡ true
+unfolding list.region_heirs is_region is_letter is_digit fold_byte
+region_heirs_good = refl
+
+pub scripts_good : list_all (λ alias. is_script_field alias.new) list.script_aliases ≡ true
+unfolding list.script_aliases is_script is_letter fold_byte
+scripts_good = refl
+
+-- the replacement that is found has what all replacements have
+pub found_good :
+    (good : List ℕ → Bool) (test : Alias → Bool) (aliases : List Alias) (new : List ℕ) → list_all (λ alias. good alias.new) aliases ≡ true →
+    option_map (λ alias. alias.new) (find test aliases) ≡ Some new → good new ≡ true
+found_good good test aliases new all is = by_found (find test aliases) refl is
+  where
+    by_found : (o : Option Alias) → find test aliases ≡ o → option_map (λ alias. alias.new) o ≡ Some new → good new ≡ true
+    by_found None found is = absurd cc
+    by_found (Some a) found is = let same : a.new ≡ new = cc in ap good (sym same) ∙ found_has (λ (alias : Alias). good alias.new) test aliases a all found
+
+pub heir_good : (good : List ℕ → Bool) (likely : List ℕ) (regions : List (List ℕ)) → good likely ≡ true → good [] ≡ true → list_all good regions ≡ true → good (heir likely regions) ≡ true
+heir_good good likely [] one none all = none
+heir_good good likely (first ∷ others) one none all = by_test (list_any (are_alike likely) (first ∷ others)) (both (good first) (list_all good others) all).0
+  where
+    by_test : (b : Bool) → good first ≡ true → good (cond b likely first) ≡ true
+    by_test true is = one
+    by_test false is = is

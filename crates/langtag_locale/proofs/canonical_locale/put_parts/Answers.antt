@@ -1,0 +1,32 @@
+use Rattle.std.proofs.Common.{◌++◌, [], sym, ap, subst, ◌∙◌, rules}
+use Rattle.std.specs.List.{flat_map}
+use Rattle.langtag.specs.Text.{normal_lang_tag_text}
+use Rattle.langtag_likely.specs.Texts.{field_texts}
+use Rattle.langtag_output.specs.Output.{HasText}
+use Rattle.langtag_registry.proofs.FaultLaws.{variants_listed}
+use Rattle.langtag_output.proofs.Pushed.{pushes_both, pushes_same}
+use Rattle.langtag_scan.specs.Record.{extension_flat, private_part_flat, spell}
+use Rattle.langtag_locale.specs.LocaleForm.{extensions_in_order, identifier_form, locale_record, new_variants, record_fields}
+use Rattle.langtag_unicode.specs.Identifier.{identifier_flat}
+use Rattle.langtag_locale.proofs.IdentifierForms.{locale_joined}
+use Rattle.langtag_locale.proofs.LocaleSizes.{spelled_locale}
+use Rattle.langtag_locale.proofs.canonical_locale.put_parts.Goals as goal
+
+pub returns : goal.returns
+returns c = λ r spells.
+    let variants = c.nonempty.ensures.segments ∙ variants_listed r c.as_str.result.now spells.0 (c.as_str.ensures.same_text ∙ c.variants.ensures r spells) in
+    let fields = field_texts c.fields_of.result in
+    let name = identifier_flat (identifier_form r.variants (record_fields r)) (new_variants r.variants (record_fields r)) in
+    let extensions = flat_map extension_flat (extensions_in_order r.extensions) in
+    let private_use = private_part_flat r.private_use in
+    let pushed =
+    pushes_both name (extensions ++ private_use) _ _ _
+    (pushes_same _ name _ _
+    (ap (λ vs. identifier_flat (identifier_form vs fields) (new_variants vs fields)) variants ∙ ap (λ f. identifier_flat (identifier_form r.variants f) (new_variants r.variants f)) (c.fields_of.ensures r spells))
+    c.push_identifier.ensures.pushed)
+    (pushes_both extensions private_use _ _ _
+    (c.push_locale_extensions.ensures.pushed r.extensions (record { members = spells.0.extensions; joined = sym (c.extensions.ensures r spells) }))
+    (c.push_private_use.ensures.pushed r.private_use (c.private_use.ensures r spells))) in
+    let has : HasText c.args.buffer.now c.push_private_use.new.out (spell (locale_record r)) =
+    subst (HasText c.args.buffer.now c.push_private_use.new.out) (locale_joined r spells.0 (spelled_locale (normal_lang_tag_text c.args.tag) r c.requires spells)) (pushed c.args.buffer.now [] c.new-out.ensures.empty) in
+    record { counted = c.len.ensures ∙ has.counted; written = λ fits. search (rules, has.written fits) }

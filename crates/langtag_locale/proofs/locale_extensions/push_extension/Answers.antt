@@ -1,0 +1,32 @@
+use Rattle.std.proofs.Common.{◌∷◌, [], true, false, refl, sym, ap, ◌∙◌, arith}
+use Rattle.langtag_output.proofs.Pushed.{pushes_joined, pushes_same}
+use Rattle.langtag_scan.specs.Record.{extension_flat}
+use Rattle.langtag_scan.specs.Subtags.{subtags}
+use Rattle.langtag_unicode.specs.Form.{is_of, is_transform, unicode_form}
+use Rattle.langtag_locale.specs.LocaleForm.{locale_extension_form, locale_transform_form}
+use Rattle.langtag_locale.proofs.LocaleExtensions.{locale_form_tested, transform_allowed}
+use Rattle.langtag_locale.proofs.locale_extensions.push_extension.Goals as goal
+
+pub push_locale_transform-requires-clause-allowed : goal.push_locale_transform-requires-clause-allowed
+push_locale_transform-requires-clause-allowed c =
+    let (e, spells, allowed) = c.requires in
+    ap is_transform (c.subtags_of-then-is_of-2.ensures.subtags e spells)
+    ∙ transform_allowed e (sym (c.is_of.ensures e spells) ∙ c.if-is_of.false) (sym (c.is_of-2.ensures e spells) ∙ c.if-is_of-2.true) allowed
+
+pub returns-then-is_of-clause-pushed : goal.returns-then-is_of-clause-pushed
+returns-then-is_of-clause-pushed c = λ e spells.
+    let is = locale_form_tested true (is_of 116 e) e (sym (c.is_of.ensures e spells) ∙ c.if-is_of.true) refl in
+    pushes_same ((117 ∷ []) ∷ unicode_form (subtags c.subtags_of.result.now)) (extension_flat (locale_extension_form e)) _ _
+    (ap (λ ss. (117 ∷ []) ∷ unicode_form ss) (c.subtags_of.ensures.subtags e spells) ∙ sym (ap extension_flat is)) c.push_unicode.ensures.pushed
+
+pub returns-then-is_of-2-clause-pushed : goal.returns-then-is_of-2-clause-pushed
+returns-then-is_of-2-clause-pushed c = λ e spells.
+    let is = locale_form_tested false true e (sym (c.is_of.ensures e spells) ∙ c.if-is_of.false) (sym (c.is_of-2.ensures e spells) ∙ c.if-is_of-2.true) in
+    pushes_same ((116 ∷ []) ∷ locale_transform_form (subtags c.subtags_of-then-is_of-2.result.now)) (extension_flat (locale_extension_form e)) _ _
+    (ap (λ ss. (116 ∷ []) ∷ locale_transform_form ss) (c.subtags_of-then-is_of-2.ensures.subtags e spells) ∙ sym (ap extension_flat is)) c.push_locale_transform.ensures.pushed
+
+pub returns-clause-pushed : goal.returns-clause-pushed
+returns-clause-pushed c = λ e spells.
+    let is = locale_form_tested false false e (sym (c.is_of.ensures e spells) ∙ c.if-is_of.false) (sym (c.is_of-2.ensures e spells) ∙ c.if-is_of-2.false) in
+    pushes_same (extension_flat e) (extension_flat (locale_extension_form e)) _ _ (sym (ap extension_flat is))
+    (pushes_joined (e.singleton ∷ []) e.subtags _ _ (omega arith) (pushes_same _ _ _ _ (ap (λ t. t ∷ []) (c.as_bytes.ensures ∙ sym spells.joined)) c.push_subtag.ensures.pushed))

@@ -1,0 +1,21 @@
+use Rattle.std.proofs.Common.{◌∷◌, ◌++◌, [], ap, ◌∙◌}
+use Rattle.langtag.specs.Fields.{Fields, subtag_of}
+use Rattle.langtag_likely.specs.Texts.{field_texts}
+use Rattle.langtag_output.proofs.Pushed.{pushes_both, pushes_same}
+use Rattle.langtag_scan.specs.Record.{one_flat}
+use Rattle.langtag_scan.specs.Subtags.{segments_left}
+use Rattle.langtag_locale.specs.LocaleForm.{identifier_form, variants_form}
+use Rattle.langtag_unicode.specs.Identifier.{identifier_flat}
+use Rattle.langtag_locale.proofs.locale_extensions.push_identifier.Goals as goal
+
+pub returns-clause-pushed : goal.returns-clause-pushed
+returns-clause-pushed c =
+    let vs = segments_left c.args.variants in
+    let form : Fields = field_texts c.identifier_form-form.result in
+    let script = one_flat (subtag_of form.script) in
+    let region = one_flat (subtag_of form.region) in
+    let variants = variants_form c.language_replaced.result.language.now vs in
+    pushes_same (identifier_flat form variants) _ _ _
+    (ap (λ f. identifier_flat f variants) c.identifier_form-form.ensures ∙ ap (λ f. identifier_flat (identifier_form vs (field_texts c.args.fields)) (variants_form f.language vs)) c.language_replaced.ensures)
+    (pushes_both (form.language ∷ []) (script ++ (region ++ variants)) _ _ _ c.push_subtag.ensures.pushed
+    (pushes_both script (region ++ variants) _ _ _ c.push_field.ensures.pushed (pushes_both region variants _ _ _ c.push_field-2.ensures.pushed c.push_variants.ensures.pushed)))

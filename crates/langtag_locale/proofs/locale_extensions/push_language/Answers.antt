@@ -1,0 +1,23 @@
+use Rattle.std.proofs.Common.{false, sym, ap, ◌∙◌}
+use Rattle.langtag_output.proofs.Pushed.{pushes_ended, pushes_same}
+use Rattle.langtag_scan.specs.Subtags.{segments_left, subtags}
+use Rattle.langtag_unicode.specs.Form.{are_fields, is_language_or_none}
+use Rattle.langtag_unicode.specs.Keywords.{before_key}
+use Rattle.langtag_locale.specs.LocaleForm.{transform_language_form}
+use Rattle.langtag_unicode.specs.Transform.{is_field_key}
+use Rattle.langtag_unicode.proofs.ExtensionForms.{language-some}
+use Rattle.langtag_unicode.proofs.Found.{both}
+use Rattle.langtag_locale.proofs.locale_extensions.push_language.Goals as goal
+
+pub push_language_id-requires : goal.push_language_id-requires
+push_language_id-requires c =
+    let ss = subtags c.args.text.now in
+    language-some c.in-Some.language.now _ (ap segments_left (sym c.in-Some.is) ∙ c.preceding.ensures)
+    ∙ (both (is_language_or_none (before_key is_field_key ss)) (are_fields false false ss) c.requires.allowed).0
+
+pub returns-in-Some-clause-pushed : goal.returns-in-Some-clause-pushed
+returns-in-Some-clause-pushed c =
+    pushes_same _ _ _ _ (ap transform_language_form (ap segments_left (sym c.in-Some.is) ∙ c.preceding.ensures)) c.push_language_id.ensures.pushed
+
+pub returns-in_default-clause-pushed : goal.returns-in_default-clause-pushed
+returns-in_default-clause-pushed c = pushes_ended _ _ (ap transform_language_form (sym c.preceding.ensures ∙ ap segments_left c.in_default.is))

@@ -1,0 +1,20 @@
+use Rattle.std.proofs.Common.{◌≡◌, List, drop}
+use Rattle.std.specs.List.{flat_map}
+use Rattle.langtag_extension.specs.Spelling.{SpellsExtensions}
+use Rattle.langtag_extension.specs.Text.{extensions_text}
+use Rattle.langtag_output.specs.declared.output.Output.{Output}
+use Rattle.langtag_output.specs.Output.{Pushes}
+use Rattle.langtag_scan.specs.Record as model
+use Rattle.langtag_registry.specs.Canonical.{singletons}
+use Rattle.langtag_locale.specs.LocaleForm.{extension_at}
+use Rattle.langtag_locale.proofs.locale_extensions.push_locale_extensions.Given as goal
+
+-- the extensions from this singleton on are put after those before it
+abbrev pub invariant-loop-singleton : goal.invariant-loop-singleton
+invariant-loop-singleton l = record {
+  same_buffer : l.out.buffer.ghost_name ≡ l.fn.out.buffer.ghost_name;
+  so_far :
+      (es : List model.Extension) → SpellsExtensions es (extensions_text l.fn.extensions) → (new : Output) →
+      Pushes (flat_map (λ singleton. flat_map model.extension_flat (extension_at es singleton)) (drop l.singleton-index singletons)) l.out new →
+      Pushes (flat_map (λ singleton. flat_map model.extension_flat (extension_at es singleton)) singletons) l.fn.out new;
+}

@@ -1,0 +1,14 @@
+use Rattle.std.proofs.Common.{◌∷◌, []}
+use Rattle.langtag_output.proofs.Pushed.{pushes_both}
+use Rattle.langtag_scan.specs.Subtags.{subtags}
+use Rattle.langtag_unicode.specs.Form.{keywords_form, transform_value}
+use Rattle.langtag_unicode.specs.Keywords.{before_key}
+use Rattle.langtag_locale.specs.LocaleForm.{locale_transform_form, transform_language_form}
+use Rattle.langtag_unicode.specs.Transform.{is_field_key}
+use Rattle.langtag_locale.proofs.locale_extensions.push_locale_transform.Goals as goal
+
+pub returns-clause-pushed : goal.returns-clause-pushed
+returns-clause-pushed c =
+    let ss = subtags c.args.text.now in
+    pushes_both ((116 ∷ []) ∷ []) (locale_transform_form ss) _ _ _ c.push_subtag.ensures.pushed
+    (pushes_both (transform_language_form (before_key is_field_key ss)) (keywords_form is_field_key transform_value ss) _ _ _ c.push_language.ensures.pushed c.push_keywords.ensures.pushed)

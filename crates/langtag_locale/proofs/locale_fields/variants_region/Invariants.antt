@@ -1,0 +1,18 @@
+use Rattle.std.proofs.Common.{◌≡◌, true, length, map}
+use Rattle.std.specs.List.{list_all}
+use Rattle.langtag.specs.FieldClasses.{is_region_field}
+use Rattle.langtag_scan.specs.Subtags.{segments_left}
+use Rattle.langtag_unicode.specs.Alias.{Alias}
+use Rattle.langtag_locale.specs.LocaleAliases.{variant_regions}
+use Rattle.langtag_locale.specs.LocaleForm.{variants_region}
+use Rattle.langtag_locale.proofs.locale_fields.variants_region.Given as goal
+
+-- no variant so far stands for a region, and each row brings a region
+abbrev pub invariant-loop-rows : goal.invariant-loop-rows
+invariant-loop-rows l = record {
+  so_far : variants_region (segments_left l.variants) (map (λ row. record { old = row.0.now; new = row.1.now }) l.rows) ≡ variants_region (segments_left l.variants) variant_regions;
+  rows_good : list_all {X = Alias} (λ alias. is_region_field alias.new) (map (λ row. record { old = row.0.now; new = row.1.now }) l.rows) ≡ true;
+}
+
+abbrev pub decreases-loop-rows : goal.decreases-loop-rows
+decreases-loop-rows l = length l.rows

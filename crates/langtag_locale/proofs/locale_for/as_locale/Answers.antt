@@ -1,0 +1,14 @@
+use Rattle.std.proofs.Common.{refl, sym, ◌∙◌}
+use Rattle.langtag_scan.specs.Tag.{IsNormal}
+use Rattle.langtag_locale.proofs.locale_for.as_locale.Goals as goal
+
+pub returns-in_err-normal-clause-none : goal.returns-in_err-normal-clause-none
+unfolding IsNormal
+returns-in_err-normal-clause-none c = λ is locale. let found = c.in_err-normal.ensures.kind.1 (locale.0, locale.1) in absurd cc
+
+pub returns-clause-some : goal.returns-clause-some
+unfolding IsNormal
+returns-clause-some c =
+    let (r, spells) = c.in_ok-normal.ensures.kind.0 refl in
+    let here = spells.1 ∙ sym c.in_ok-normal.ensures.same_text in
+    (c.in_ok-normal.ensures.same_text, (r, spells, sym (c.is_locale_record.ensures r (spells.0, here)) ∙ c.if-not-is_locale_record.false))

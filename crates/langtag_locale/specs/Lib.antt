@@ -1,0 +1,4 @@
+pub mod Locale
+pub mod LocaleAliases
+pub mod LocaleForm
+pub mod Allowed

@@ -1,0 +1,189 @@
+//! The canonical form of a Unicode locale identifier (UTS #35, part 1, Annex C).
+ghost use Rattle.std.specs.Prelude.{◌≡◌, ◌≤◌, ◌<◌, ◌+◌, IfOk, IfSome, IsTrue, None, Some, [], length, unwrap_or};
+ghost use Rattle.std.specs.Option.{option_map};
+ghost use Rattle.langtag.specs.Text.{lang_tag_buf_text, lang_tag_text, normal_lang_tag_text};
+ghost use Rattle.langtag_language.specs.Language.{EachLanguageSpelling};
+ghost use Rattle.langtag_language.specs.Text.{language_text};
+ghost use Rattle.langtag.specs.FieldClasses.{is_language_field, is_region_field, is_script_field};
+ghost use Rattle.langtag_likely.specs.Texts.{field_texts};
+ghost use Rattle.langtag_output.specs.Output.{IsCounted};
+ghost use Rattle.langtag_output.specs.Writes.{Writes};
+ghost use Rattle.langtag_place.specs.Text.{region_text, script_text};
+ghost use Rattle.langtag_scan.specs.Record as model;
+ghost use Rattle.langtag_locale.specs.Locale as identifier;
+ghost use Rattle.langtag_locale.specs.LocaleForm as spec;
+
+use crate::locale_extensions::{push_identifier, push_locale_extensions};
+use crate::locale_for::locale_for;
+use langtag::{LangTag, LangTagBuf, Language, NormalLangTag, Region, Script};
+use langtag_case::make_recommended_case;
+use langtag_likely::TagFields;
+use langtag_output::Output;
+use langtag_unicode::{nonempty, push_private_use, tag_of};
+use std::alloc::{AllocError, Global};
+
+/// Returns the canonical form of a tag as a Unicode locale identifier (UTS #35, part 1, Annex C): `ger-UK` becomes
+/// `de-GB`, `sh` becomes `sr-Latn`, and `hy-SU` becomes `hy-AM`.
+///
+/// [`write_locale_form`] says what changes, and which tags have no form.
+///
+/// The time is quadratic in the number of variants, and of attributes.
+///
+/// # Errors
+///
+/// Returns an error if allocation fails.
+///
+/// ```
+/// use langtag::LangTag;
+/// use langtag_locale::locale_form;
+///
+/// let form = locale_form(alloc, LangTag::new("ger-UK-u-ca-islamicc")?)?;
+/// form.as_ref().map(|form| form.as_str()); // Some("de-GB-u-ca-islamic-civil")
+/// locale_form(alloc, LangTag::new("x-a")?)?.is_none(); // true
+/// ```
+pub fn locale_form(alloc: Global, tag: LangTag<'_>) -> Result<Option<LangTagBuf>, AllocError>
+    ensures form { IfOk result (λ form. spec.IsWholeForm (lang_tag_text tag.entry) (option_map lang_tag_buf_text form)) }
+    ensures settled { IfOk result (λ form. IfSome form (λ form. spec.IsOwnForm (lang_tag_buf_text form))) }
+    ensures any_case { IfOk result (λ form. spec.IsFormInAnyCase (lang_tag_text tag.entry) (option_map lang_tag_buf_text form)) }
+{
+    let Some(locale) = locale_for(tag) else {
+        return Ok(None);
+    };
+    Ok(Some(tag_of(form_bytes(alloc, locale)?)))
+}
+
+/// Returns the bytes of the form of a Unicode locale identifier. It allocates once, exactly their number.
+fn form_bytes(alloc: Global, tag: NormalLangTag<'_>) -> Result<Vec<u8>, AllocError>
+    requires { identifier.IsLocale (normal_lang_tag_text tag) }
+    ensures { IfOk result (λ bytes. model.EachRecord (normal_lang_tag_text tag.entry) (λ r. bytes.items ≡ spec.locale_text r)) }
+{
+    let mut bytes = vec![in alloc; 0; put_parts(tag, &mut [])]?;
+    put_parts(tag, &mut bytes);
+    make_recommended_case(&mut bytes);
+    Ok(bytes)
+}
+
+/// Writes the canonical form of a tag as a Unicode locale identifier (UTS #35, part 1, Annex C) to a buffer, and returns
+/// its length in bytes: `ger-UK` becomes `de-GB`, `sh` becomes `sr-Latn`, and `hy-SU` becomes `hy-AM`.
+///
+/// The language, the script, the region and the variants are replaced by CLDR's aliases, in the tag and in the language
+/// of `t`. Variants are put in alphabetical order, and extensions in the order of their singletons. `u` and the fields of
+/// `t` get the form of [`extensions_form`](langtag_unicode::extensions_form). The script is in titlecase, the region in uppercase,
+/// and everything else in lowercase. Other extensions and private use stay, except for their case: `en-x-true` is its
+/// own form.
+///
+/// Norwegian Sign Language, `sgn-NO`, becomes `nsl`, as in IANA's registry. CLDR has `nsi` there, which is Nigerian.
+///
+/// If the tag is not a Unicode locale identifier, as [`is_locale`](crate::is_locale) finds, it is replaced first. A tag
+/// with a Preferred-Value in IANA's registry becomes that value: `i-klingon` becomes `tlh`. In any other tag, a
+/// registered extended language replaces the language before it: `zh-yue-HK` becomes `yue-HK`. Returns `None` if the
+/// result is not a Unicode locale identifier, either, as in `x-a`, `i-default` and `und-t-m0`.
+///
+/// If the buffer is too short, it stays unchanged, and the length says how long a buffer must be. A buffer of the
+/// tag's length and 32 bytes is always long enough. It does not allocate. The time is quadratic in the number of
+/// variants, and of attributes. It needs as much stack as `is_locale`.
+///
+/// ```
+/// use langtag::LangTag;
+/// use langtag_locale::write_locale_form;
+///
+/// let mut buffer = [0; 16];
+/// write_locale_form(LangTag::new("ger-UK")?, &mut buffer); // Some(5)
+/// buffer.get(..5); // Some(&b"de-GB"[..])
+/// write_locale_form(LangTag::new("zh-yue")?, &mut buffer); // Some(3)
+/// write_locale_form(LangTag::new("x-a")?, &mut buffer); // None
+/// ```
+#[tactic(auto, using(crate::proofs::LocaleSettled::locale_settled))]
+pub fn write_locale_form(tag: LangTag<'_>, buffer: &mut [u8]) -> Option<usize>
+    ensures form { IfSome result (λ len. Writes (λ form. spec.IsWholeForm (lang_tag_text tag.entry) (Some form)) buffer.old buffer.new len) }
+    ensures bounded { IfSome result (λ len. len ≤ length (lang_tag_text tag.entry) + 32) }
+    ensures none { result ≡ None → spec.IsWholeForm (lang_tag_text tag.entry) None }
+    ensures locale { (r : model.Record) → model.IsWellFormed r → IsTrue (identifier.is_locale_record r)
+        → IsTrue (identifier.is_locale_record (spec.locale_record r)) }
+    ensures unchanged { result ≡ None → buffer.new ≡ buffer.old }
+{
+    let locale = locale_for(tag)?;
+    Some(write_parts(locale, buffer))
+}
+
+/// Writes the form of a Unicode locale identifier.
+fn write_parts(tag: NormalLangTag<'_>, buffer: &mut [u8]) -> usize
+    requires { identifier.IsLocale (normal_lang_tag_text tag) }
+    ensures { model.EachRecord (normal_lang_tag_text tag.entry) (λ r. Writes (λ form. form ≡ spec.locale_text r) buffer.old buffer.new result) }
+{
+    if let Some(len) = longer_than(tag, buffer.len()) {
+        return len;
+    }
+    let len = put_parts(tag, buffer);
+    make_recommended_case(&mut buffer[..len]);
+    len
+}
+
+/// Returns the length of the form if it is longer than a buffer of `room` bytes. It is not counted if the buffer is long
+/// enough for the form of every tag of this length.
+fn longer_than(tag: NormalLangTag<'_>, room: usize) -> Option<usize>
+    requires { identifier.IsLocale (normal_lang_tag_text tag) }
+    ensures longer { IfSome result (λ len. model.EachRecord (normal_lang_tag_text tag.entry) (λ r.
+        (len ≡ length (spec.locale_text r)) × (room < length (spec.locale_text r)))) }
+    ensures fits { result ≡ None → model.EachRecord (normal_lang_tag_text tag.entry) (λ r. length (spec.locale_text r) ≤ room) }
+{
+    if room >= tag.as_str().len() + 32 {
+        return None;
+    }
+    let len = put_parts(tag, &mut []);
+    if len <= room {
+        return None;
+    }
+    Some(len)
+}
+
+/// Writes as much of the form, before its case is changed, as fits into a buffer, and returns its full length.
+fn put_parts(tag: NormalLangTag<'_>, buffer: &mut [u8]) -> usize
+    requires { identifier.IsLocale (normal_lang_tag_text tag) }
+    ensures { model.EachRecord (normal_lang_tag_text tag.entry) (λ r. IsCounted (model.spell (spec.locale_record r)) buffer.old buffer.new result) }
+{
+    let mut out = Output::new(buffer);
+    push_identifier(&mut out, fields_of(tag), nonempty(tag.variants().as_str()));
+    push_locale_extensions(&mut out, tag.extensions());
+    push_private_use(&mut out, tag.private_use());
+    out.len()
+}
+
+/// Returns the primary language, the script and the region of a tag.
+fn fields_of<'a>(tag: NormalLangTag<'a>) -> TagFields<'a>
+    ensures { model.EachRecord (normal_lang_tag_text tag.entry) (λ r. field_texts result ≡ spec.record_fields r) }
+{
+    TagFields {
+        language: primary_field(tag.language()),
+        script: script_field(tag.script()),
+        region: region_field(tag.region()),
+    }
+}
+
+#[tactic(auto, using(langtag::proofs::FieldClasses::from_primary))]
+fn primary_field<'a>(language: Language<'a>) -> &'a [u8]
+    ensures field { EachLanguageSpelling (language_text language.entry) (λ primary extended. result.now ≡ primary) }
+    ensures in_class { IsTrue (is_language_field result.now) }
+{
+    language.primary().as_bytes()
+}
+
+fn script_field<'a>(script: Option<Script<'a>>) -> &'a [u8]
+    ensures field { result.now ≡ unwrap_or (option_map script_text script.entry) [] }
+    ensures in_class { IsTrue (is_script_field result.now) }
+{
+    match script {
+        Some(script) => script.as_bytes(),
+        None => b"",
+    }
+}
+
+fn region_field<'a>(region: Option<Region<'a>>) -> &'a [u8]
+    ensures field { result.now ≡ unwrap_or (option_map region_text region.entry) [] }
+    ensures in_class { IsTrue (is_region_field result.now) }
+{
+    match region {
+        Some(region) => region.as_bytes(),
+        None => b"",
+    }
+}

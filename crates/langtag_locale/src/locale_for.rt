@@ -1,0 +1,60 @@
+//! The Unicode locale identifier whose form is the form of a tag (UTS #35, part 1, Annex C).
+ghost use Rattle.std.specs.Prelude.{◌≡◌, ◌≤◌, ◌+◌, IfSome, List, None, Some, ℕ, length};
+ghost use Rattle.langtag.specs.Text.{lang_tag_text, normal_lang_tag_text};
+ghost use Rattle.langtag_scan.specs.Record.{EachRecord, Spells};
+ghost use Rattle.langtag_locale.specs.Locale.{IsLocale};
+ghost use Rattle.langtag_locale.specs.LocaleForm as spec;
+
+use crate::locale::is_locale_record;
+use langtag::{ExtendedLangTag, LangTag, NormalLangTag};
+use langtag_registry::{is_registered_extlang, preferred_tag};
+
+/// Returns the Unicode locale identifier whose form is the form of a tag: the tag itself, its Preferred-Value, or the tag
+/// from its extended language on. Returns `None` if the tag has no form.
+pub(crate) fn locale_for<'a>(tag: LangTag<'a>) -> Option<NormalLangTag<'a>>
+    ensures is_locale { IfSome result (λ locale. IsLocale (normal_lang_tag_text locale)) }
+    ensures form { IfSome result (λ locale. (form : List ℕ) → spec.IsLocaleForm (normal_lang_tag_text locale) (Some form)
+        → spec.IsWholeForm (lang_tag_text tag.entry) (Some form)) }
+    ensures bounded { IfSome result (λ locale. (form : List ℕ) → spec.IsLocaleForm (normal_lang_tag_text locale) (Some form)
+        → length form ≤ length (lang_tag_text tag.entry) + 32) }
+    ensures none { result ≡ None → spec.IsWholeForm (lang_tag_text tag.entry) None }
+{
+    if let Some(locale) = as_locale(tag) {
+        return Some(locale);
+    }
+    if let Some(value) = preferred_tag(tag) {
+        return as_locale(value);
+    }
+    if tag.is_grandfathered() {
+        return None;
+    }
+    as_locale(from_extlang(tag.as_normal()?)?)
+}
+
+/// Returns a tag as a normal tag if it is a Unicode locale identifier.
+fn as_locale<'a>(tag: LangTag<'a>) -> Option<NormalLangTag<'a>>
+    ensures some { IfSome result (λ locale. (normal_lang_tag_text locale ≡ lang_tag_text tag.entry) × IsLocale (lang_tag_text tag.entry)) }
+    ensures none { result ≡ None → IsLocale (lang_tag_text tag.entry) → ⊥ }
+{
+    let normal = tag.as_normal()?;
+    if !is_locale_record(normal) {
+        return None;
+    }
+    Some(normal)
+}
+
+/// Returns a tag from its extended language on: `yue-HK` for `zh-yue-HK`. Returns `None` if the extended language is not
+/// registered, or not the only one.
+fn from_extlang<'a>(tag: NormalLangTag<'a>) -> Option<LangTag<'a>>
+    ensures some { IfSome result (λ rest. EachRecord (normal_lang_tag_text tag.entry) (λ r. Spells (spec.extlang_replaced r) (lang_tag_text rest))) }
+    ensures shorter { IfSome result (λ rest. length (lang_tag_text rest) ≤ length (normal_lang_tag_text tag.entry)) }
+    ensures none { result ≡ None → EachRecord (normal_lang_tag_text tag.entry) (λ r. spec.extlang_replaced r ≡ r) }
+{
+    let language = tag.language();
+    let extlang = ExtendedLangTag::new(language.extension()?.as_str()).ok()?;
+    if !is_registered_extlang(extlang) {
+        return None;
+    }
+    let start = language.primary().as_str().len() + 1;
+    Some(LangTag::from_checked(&tag.as_str()[start..]))
+}

@@ -1,0 +1,136 @@
+//! The variants in the form of a Unicode locale identifier (UTS #35, part 1, Annex C).
+ghost use Rattle.std.specs.Prelude.{◌≡◌, find, map};
+ghost use Rattle.std.specs.List.{list_any};
+ghost use Rattle.std.specs.Option.{option_map};
+ghost use Rattle.langtag_output.specs.Output.{Pushes};
+ghost use Rattle.langtag_scan.specs.Case.{are_alike, fold_text};
+ghost use Rattle.langtag_scan.specs.Subtags.{segments_left};
+ghost use Rattle.langtag_unicode.specs.Alphabet as order;
+ghost use Rattle.langtag_locale.specs.LocaleAliases as list;
+ghost use Rattle.langtag_locale.specs.LocaleForm as spec;
+
+use crate::locale_tables as tables;
+use langtag::case_insensitive_eq;
+use langtag_output::Output;
+use langtag_unicode::{
+    alias_for, is_after, is_among, is_before_best, push_lowercase, split_first, type_alias_for,
+};
+
+/// Appends the variants of a language identifier in their forms, each once, in lowercase and in alphabetical order.
+///
+/// Each variant is found by a walk over all variants, so the time is quadratic in the number of variants.
+pub(crate) fn push_variants(out: &mut Output<'_>, language: &[u8], variants: Option<&str>)
+    ensures same_buffer { out.new.buffer.ghost_name ≡ out.old.buffer.ghost_name }
+    ensures pushed { Pushes (spec.variants_form language.now (segments_left variants.entry)) out.old out.new }
+{
+    let mut last = None;
+    while let Some(next) = first_form_after(language, variants, last) {
+        push_lowercase(out, next);
+        last = Some(next);
+    }
+}
+
+/// Returns the first form of a variant, in alphabetical order, that comes after `last`.
+fn first_form_after<'a>(
+    language: &[u8],
+    variants: Option<&'a str>,
+    last: Option<&str>,
+) -> Option<&'a str>
+    ensures { option_map (λ t. fold_text t.now) result ≡ order.first_after (option_map (λ t. fold_text t.now) last.entry) (spec.variants_form language.now (segments_left variants.entry)) }
+{
+    let mut best = None;
+    let mut rest = variants;
+    while let Some(text) = rest {
+        let (variant, others) = split_first(text);
+        let form = variant_form(language, variants, variant);
+        if is_better(form, last, best) {
+            best = Some(form);
+        }
+        rest = others;
+    }
+    best
+}
+
+/// Returns whether a form is not empty, comes after `last`, and comes before `best`.
+fn is_better(form: &str, last: Option<&str>, best: Option<&str>) -> bool
+    ensures { result ≡ order.is_better form.now (option_map (λ t. fold_text t.now) last.entry) (option_map (λ t. fold_text t.now) best.entry) }
+{
+    !form.is_empty() && is_after(form, last) && is_before_best(form, best)
+}
+
+/// Returns a variant, the variant that replaces it, or the empty text if it is left out.
+#[tactic(auto, unfolding(crate::specs::LocaleForm::variant_form))]
+fn variant_form<'a>(language: &[u8], variants: Option<&str>, variant: &'a str) -> &'a str
+    ensures { result.now ≡ spec.variant_form language.now (segments_left variants.entry) variant.now }
+{
+    if type_alias_for(variant_languages(), language, variant.as_bytes()).is_some()
+        || is_dropped(variant)
+    {
+        return "";
+    }
+    if let Some(new) = replaced_pair(variant, variants) {
+        return new;
+    }
+    match alias_for(variant_aliases(), variant.as_bytes()) {
+        Some(new) => new,
+        None => variant,
+    }
+}
+
+/// Returns the variant that replaces a variant together with another variant.
+fn replaced_pair(variant: &str, variants: Option<&str>) -> Option<&'static str>
+    ensures { option_map (λ t. t.now) result ≡ option_map (λ alias. alias.new) (find (spec.is_pair_of (segments_left variants.entry) variant.now) list.variant_pairs) }
+{
+    let mut rows = variant_pairs();
+    while let [(first, second, new), others @ ..] = rows {
+        if case_insensitive_eq(first.as_bytes(), variant.as_bytes())
+            && is_among(variants, second.as_bytes())
+        {
+            return Some(new);
+        }
+        rows = others;
+    }
+    None
+}
+
+/// Returns whether a variant is left out of the form.
+fn is_dropped(variant: &str) -> bool
+    ensures { result ≡ list_any (are_alike variant.now) list.dropped_variants }
+{
+    let mut rows = dropped_variants();
+    while let [dropped, others @ ..] = rows {
+        if case_insensitive_eq(variant.as_bytes(), dropped.as_bytes()) {
+            return true;
+        }
+        rows = others;
+    }
+    false
+}
+
+#[tactic(auto, using(crate::proofs::LocaleTables::variant_language_rows))]
+pub(crate) fn variant_languages() -> &'static [(&'static str, &'static str, &'static str)]
+    ensures { map (λ row. record { key = row.0.now; old = row.1.now; new = row.2.now }) result.now ≡ list.variant_languages }
+{
+    &tables::VARIANT_LANGUAGES
+}
+
+#[tactic(auto, using(crate::proofs::LocaleTables::variant_pair_rows))]
+fn variant_pairs() -> &'static [(&'static str, &'static str, &'static str)]
+    ensures { map (λ row. record { key = row.0.now; old = row.1.now; new = row.2.now }) result.now ≡ list.variant_pairs }
+{
+    &tables::VARIANT_PAIRS
+}
+
+#[tactic(auto, using(crate::proofs::LocaleTables::variant_alias_rows))]
+fn variant_aliases() -> &'static [(&'static str, &'static str)]
+    ensures { map (λ row. record { old = row.0.now; new = row.1.now }) result.now ≡ list.variant_aliases }
+{
+    &tables::VARIANT_ALIASES
+}
+
+#[tactic(auto, using(crate::proofs::LocaleTables::dropped_rows))]
+fn dropped_variants() -> &'static [&'static str]
+    ensures { map (λ row. row.now) result.now ≡ list.dropped_variants }
+{
+    &tables::DROPPED_VARIANTS
+}
