@@ -16,10 +16,7 @@ use Rattle.langtag_answers.specs.CheckAnswer.{fault_text, IsCheckAnswer, valid, 
 pub Appends-fault : (a b : Option (List ℕ)) (what subtag form : List ℕ) →
     Appends a b (ended (codes "invalid " ++ (what ++ (subtag ++ (codes " canonical=" ++ (form ++ [])))))) →
     Appends a b (ended (codes "invalid " ++ (what ++ subtag) ++ codes " canonical=" ++ form))
-Appends-fault a b what subtag form =
-    let same : codes "invalid " ++ (what ++ (subtag ++ (codes " canonical=" ++ (form ++ [])))) ≡ codes "invalid " ++ (what ++ subtag) ++ codes " canonical=" ++ form
-    = simp (append_assoc, append-nil) in
-    subst (λ text. Appends a b (ended text)) same
+Appends-fault a b what subtag form = simp (append_assoc, append-nil) (λ is. is)
 
 pub answer_valid :
     (line tag form text : List ℕ) → tag ≡ line → IsValid tag → IsCanonicalForm tag form → text ≡ form →

@@ -53,27 +53,21 @@ module _ (text variant : List ℕ) where
   left_first = sym (fits_left-some variant_prefixes)
 
   module _ (has_none : Bool) (i : ℕ) (left : IsLeft has_none i) (inside : i < length variant_prefixes) where
-    step : (alike matches : Bool) → are_alike (get_or variant_prefixes i no_entry).subtag variant ≡ alike →
-        test_extended (get_or variant_prefixes i no_entry).value text ≡ matches →
-        fits_after text variant
-        ≡ cond alike (cond matches true (fits_left false (drop (i + 1) variant_prefixes))) (fits_left has_none (drop (i + 1) variant_prefixes))
-    unfolding IsLeft
-    step alike matches is also = left ∙ at_drop_more (fits_left has_none) variant_prefixes i no_entry inside ∙ rw (is, also) refl
-
     pub left_matched :
         are_alike (get_or variant_prefixes i no_entry).subtag variant ≡ true → test_extended (get_or variant_prefixes i no_entry).value text ≡ true →
         true ≡ fits_after text variant
-    left_matched is also = sym (step true true is also)
+    unfolding IsLeft
+    left_matched is also = grind (arith, common_steps, at_drop_more (fits_left has_none) variant_prefixes i no_entry)
 
     pub left_unmatched :
         are_alike (get_or variant_prefixes i no_entry).subtag variant ≡ true → test_extended (get_or variant_prefixes i no_entry).value text ≡ false →
         IsLeft false (i + 1)
     unfolding IsLeft
-    left_unmatched is also = step true false is also
+    left_unmatched is also = grind (arith, common_steps, at_drop_more (fits_left has_none) variant_prefixes i no_entry)
 
     pub left_other : are_alike (get_or variant_prefixes i no_entry).subtag variant ≡ false → IsLeft has_none (i + 1)
     unfolding IsLeft
-    left_other is = step false (test_extended (get_or variant_prefixes i no_entry).value text) is refl
+    left_other is = grind (arith, common_steps, at_drop_more (fits_left has_none) variant_prefixes i no_entry)
 
   pub left_ended : (has_none : Bool) (i : ℕ) → IsLeft has_none i → length variant_prefixes ≤ i → has_none ≡ fits_after text variant
   unfolding IsLeft

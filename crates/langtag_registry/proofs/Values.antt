@@ -1,5 +1,5 @@
 -- A value beside a key, and an entry's value.
-use Rattle.std.proofs.Common.{◌≡◌, ◌≢◌, ℕ, zero, suc, ◌+◌, ◌*◌, ◌-◌, ◌<◌, true, false, Bool, ◌==◌, ltb, cond, List, [], ◌∷◌, length, get_or, map, take, drop, Option, None, Some, refl, ap, sym, ◌∙◌, arith}
+use Rattle.std.proofs.Common.{◌≡◌, ◌≢◌, ℕ, zero, suc, ◌+◌, ◌*◌, ◌-◌, ◌<◌, true, false, Bool, ◌==◌, ltb, cond, List, [], ◌∷◌, length, get_or, map, take, drop, Option, None, Some, refl, ap, sym, arith}
 use Rattle.std.specs.List.{fold, list_all}
 use Rattle.std.specs.Prelude.{Result, Ok, Err}
 use Rattle.std.proofs.lemmas.Bool.{and_parts, ltb-true, eq-eqb, ne_eqb, false_from_ne_true}
@@ -84,8 +84,7 @@ unfolding end_number folded_number end_of_folded
 end_number-folded text = grind (arith, common_steps, fold-map, drop-map fold_byte (length text - 8) text, length-map text fold_byte)
 
 apart_by_ends : (a b : List ℕ) → end_number a ≢ end_number b → are_alike a b ≡ false
-apart_by_ends a b apart =
-    false_from_ne_true (are_alike a b) (λ yes. apart (end_number-folded a ∙ ap end_of_folded ((are_alike-decides a b).0 yes) ∙ sym (end_number-folded b)))
+apart_by_ends a b apart = grind (arith, common_steps, end_number-folded, are_alike-decides a b, false_from_ne_true)
 
 abbrev ends_of : List Entry → List ℕ
 ends_of list = map end_number (map (λ e. e.subtag) list)

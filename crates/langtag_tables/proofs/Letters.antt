@@ -1,5 +1,5 @@
 -- The numbers of texts of letters tell them apart but for case.
-use Rattle.std.proofs.Common.{◌≡◌, ℕ, zero, suc, ◌+◌, ◌*◌, ◌-◌, ◌<◌, ◌≤◌, true, ◌==◌, List, [], ◌∷◌, length, get_or, map, inl, inr, refl, ap, sym, ◌∙◌, arith}
+use Rattle.std.proofs.Common.{◌≡◌, ℕ, zero, suc, ◌+◌, ◌*◌, ◌-◌, ◌<◌, ◌≤◌, true, ◌==◌, List, [], ◌∷◌, length, get_or, map, refl, ap, sym, ◌∙◌, arith}
 use Rattle.std.specs.List.{fold, AllByRecursion}
 use Rattle.std.proofs.lemmas.Bool.{and_parts, false_from_ne_true}
 use Rattle.std.proofs.lemmas.Bool.Decides.{eqb_tells, nat_tests}
@@ -35,9 +35,7 @@ letter_places (b ∷ text) h = let k = and_parts (is_letter b) (are_letters text
 
 letters_back : (text : List ℕ) → are_letters text ≡ true → map (λ d. d + 96) (map letter text) ≡ fold_text text
 letters_back [] h = refl
-letters_back (b ∷ text) h =
-    let k = and_parts (is_letter b) (are_letters text) h in
-    ap (λ d. d ∷ map (λ d. d + 96) (map letter text)) (letter_back b k.0) ∙ ap (λ bs. fold_byte b ∷ bs) (letters_back text k.1)
+letters_back (b ∷ text) h = grind (arith, nat_tests, and_parts, letter_back, letters_back text)
 
 letter_number-fold : (text : List ℕ) → letter_number text ≡ fold (λ number d. number * 26 + d) 0 (map letter text)
 unfolding letter_number
@@ -58,16 +56,7 @@ letter_number-of_fold text =
 
 pub letter_number-tells : (a b : List ℕ) → are_letters a ≡ true → are_letters b ≡ true → (letter_number b == letter_number a) ≡ are_alike a b
 letter_number-tells a b al bl =
-    elim (eqb_tells (letter_number b) (letter_number a)) [
-      | inl same ↦
-          let places : map letter a ≡ map letter b = digits-same 26 IsPlace base_26 (map letter a) (map letter b) (letter_places a al) (letter_places b bl)
-          (sym (letter_number-fold a) ∙ sym same.1 ∙ letter_number-fold b) in
-          let texts : fold_text a ≡ fold_text b = sym (letters_back a al) ∙ ap (map (λ d. d + 96)) places ∙ letters_back b bl in
-          same.0 ∙ sym ((are_alike-decides a b).1 texts)
-      | inr other ↦
-          other.0
-          ∙ sym (false_from_ne_true (are_alike a b) (λ yes. other.1 (letter_number-of_fold b ∙ ap number_of_fold (sym ((are_alike-decides a b).0 yes)) ∙ sym (letter_number-of_fold a))))
-    ]
+    grind (arith, nat_tests, eqb_tells (letter_number b) (letter_number a), digits-same 26 IsPlace base_26 (map letter a) (map letter b), letter_places, letter_number-fold, letters_back, are_alike-decides a b, false_from_ne_true, letter_number-of_fold)
 
 -- the number of a text of two letters, and of three
 pub number_of_two : (text : List ℕ) → length text ≡ 2 → letter_number text ≡ letter (get_or text 0 0) * 26 + letter (get_or text 1 0)

@@ -1,4 +1,5 @@
 -- Numbers that rise, and what a search among them finds.
+use Rattle.std.proofs.lemmas.Grind.{common_steps}
 use Rattle.std.proofs.Common.{◌≡◌, ◌≢◌, ℕ, zero, suc, ◌<◌, ◌≤◌, true, false, ◌==◌, Bool, leb, ltb, List, [], ◌∷◌, length, get_or, inl, inr, refl, sym, arith}
 use Rattle.std.specs.Prelude.{◌&&◌, MatchResult, Result, Ok, Err, is_ok}
 use Rattle.std.specs.List.{list_any}
@@ -14,37 +15,24 @@ rises_from low (n ∷ numbers) = leb low n && rises_from n numbers
 low_first : (low : ℕ) (numbers : List ℕ) (k : ℕ) → rises_from low numbers ≡ true → k < length numbers → low ≤ get_or numbers k 0
 low_first low [] k rises inside = absurd (omega (arith, inside))
 low_first low (n ∷ numbers) zero rises inside = leb-true low n (and_parts (leb low n) (rises_from n numbers) rises).0
-low_first low (n ∷ numbers) (suc k) rises inside =
-    let parts = and_parts (leb low n) (rises_from n numbers) rises in
-    let first = leb-true low n parts.0 in
-    let later = low_first n numbers k parts.1 (omega (arith, inside)) in
-    omega (arith, first, later)
+low_first low (n ∷ numbers) (suc k) rises inside = grind (arith, common_steps, and_parts, leb-true, low_first n numbers k)
 
 rises_at : (low : ℕ) (numbers : List ℕ) (i j : ℕ) → rises_from low numbers ≡ true → i ≤ j → j < length numbers → get_or numbers i 0 ≤ get_or numbers j 0
 rises_at low [] i j rises order inside = absurd (omega (arith, inside))
 rises_at low (n ∷ numbers) zero zero rises order inside = omega arith
-rises_at low (n ∷ numbers) zero (suc j) rises order inside =
-    low_first n numbers j (and_parts (leb low n) (rises_from n numbers) rises).1 (omega (arith, inside))
+rises_at low (n ∷ numbers) zero (suc j) rises order inside = grind (arith, common_steps, and_parts, low_first n numbers j)
 rises_at low (n ∷ numbers) (suc i) zero rises order inside = absurd (omega (arith, order))
-rises_at low (n ∷ numbers) (suc i) (suc j) rises order inside =
-    rises_at n numbers i j (and_parts (leb low n) (rises_from n numbers) rises).1 (omega (arith, order)) (omega (arith, inside))
+rises_at low (n ∷ numbers) (suc i) (suc j) rises order inside = grind (arith, common_steps, and_parts, rises_at n numbers i j)
 
 climb_rises : (low : ℕ) (numbers : List ℕ) → climbs_from low numbers ≡ true → rises_from low numbers ≡ true
 climb_rises low [] climb = refl
-climb_rises low (n ∷ numbers) climb =
-    let parts = and_parts (ltb low n) (climbs_from n numbers) climb in
-    let above = ltb-true low n parts.0 in
-    rw (le-leb low n (omega (arith, above)), climb_rises n numbers parts.1) refl
+climb_rises low (n ∷ numbers) climb = grind (arith, common_steps, and_parts, ltb-true, le-leb, climb_rises n numbers)
 
 -- a list that climbs is above its lower bound
 pub above_first : (low : ℕ) (numbers : List ℕ) (k : ℕ) → climbs_from low numbers ≡ true → k < length numbers → low < get_or numbers k 0
 above_first low [] k climbs inside = absurd (omega (arith, inside))
 above_first low (n ∷ numbers) zero climbs inside = ltb-true low n (and_parts (ltb low n) (climbs_from n numbers) climbs).0
-above_first low (n ∷ numbers) (suc k) climbs inside =
-    let parts = and_parts (ltb low n) (climbs_from n numbers) climbs in
-    let first = ltb-true low n parts.0 in
-    let later = above_first n numbers k parts.1 (omega (arith, inside)) in
-    omega (arith, first, later)
+above_first low (n ∷ numbers) (suc k) climbs inside = grind (arith, common_steps, and_parts, ltb-true, above_first n numbers k)
 
 -- a list that climbs can be searched
 pub climb_searched : (numbers : List ℕ) → climbs_from 0 numbers ≡ true → (i j : ℕ) → i ≤ j → j < length numbers → get_or numbers i 0 ≤ get_or numbers j 0

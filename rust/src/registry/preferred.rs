@@ -102,8 +102,5 @@ fn value_beside(
         return None;
     };
     let (text, value) = table[index];
-    if case_insensitive_eq(text.as_bytes(), bytes) {
-        return Some(value);
-    }
-    None
+    case_insensitive_eq(text.as_bytes(), bytes).then_some(value)
 }

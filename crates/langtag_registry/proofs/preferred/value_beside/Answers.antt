@@ -1,6 +1,6 @@
-use Rattle.std.proofs.Common.{ℕ, List, Bor, Ok, Err, sym, ap, subst, ◌∙◌, true, false}
+use Rattle.std.proofs.Common.{ℕ, List, Bor, Ok, Err, sym, subst, arith}
+use Rattle.std.proofs.lemmas.Grind.{common_steps}
 use Rattle.std.proofs.lemmas.List.Sorted.{searched}
-use Rattle.langtag_scan.specs.Case.{are_alike}
 use Rattle.langtag_registry.specs.Entry.{Entry}
 use Rattle.langtag_registry.specs.Tables.{AreEndsOf}
 use Rattle.langtag_tables.proofs.Rising.{climb_searched}
@@ -18,22 +18,11 @@ returns-in_default c =
     (end_of c.args.bytes.now c.saturating_sub.result c.folded_number.result c.saturating_sub.ensures c.folded_number.ensures.number)
     (searched keys c.folded_number.result (Err c.in_default.field-0) c.in_default.ensures.position (climb_searched keys c.requires.climb)))
 
-pub returns-then-case_insensitive_eq : goal.returns-then-case_insensitive_eq
-returns-then-case_insensitive_eq c =
-    let keys = c.args.keys.now in
-    let of = subst (AreEndsOf keys) (sym (subtags-view entry_of c.args.table.now)) c.requires in
-    let at = searched keys c.folded_number.result (Ok c.in-Ok.index) c.in-Ok.ensures.position (climb_searched keys c.requires.climb) in
-    sym (end_searched keys _ c.args.bytes.now c.folded_number.result (Ok c.in-Ok.index) of
-    (end_of c.args.bytes.now c.saturating_sub.result c.folded_number.result c.saturating_sub.ensures c.folded_number.ensures.number) at
-    ∙ end_decided entry_of keys c.args.table.now c.args.bytes.now c.in-Ok.index _ true of at.0
-    (ap (λ t. are_alike t c.args.bytes.now) (sym c.as_bytes.ensures.value) ∙ sym c.case_insensitive_eq.ensures.test ∙ c.if-case_insensitive_eq.true))
-
 pub returns : goal.returns
 returns c =
     let keys = c.args.keys.now in
     let of = subst (AreEndsOf keys) (sym (subtags-view entry_of c.args.table.now)) c.requires in
     let at = searched keys c.folded_number.result (Ok c.in-Ok.index) c.in-Ok.ensures.position (climb_searched keys c.requires.climb) in
-    sym (end_searched keys _ c.args.bytes.now c.folded_number.result (Ok c.in-Ok.index) of
-    (end_of c.args.bytes.now c.saturating_sub.result c.folded_number.result c.saturating_sub.ensures c.folded_number.ensures.number) at
-    ∙ end_decided entry_of keys c.args.table.now c.args.bytes.now c.in-Ok.index _ false of at.0
-    (ap (λ t. are_alike t c.args.bytes.now) (sym c.as_bytes.ensures.value) ∙ sym c.case_insensitive_eq.ensures.test ∙ c.if-case_insensitive_eq.false))
+    let end = end_of c.args.bytes.now c.saturating_sub.result c.folded_number.result c.saturating_sub.ensures c.folded_number.ensures.number in
+    let found = end_searched keys _ c.args.bytes.now c.folded_number.result (Ok c.in-Ok.index) of end at in
+    grind (arith, common_steps, found, of, at, end_decided entry_of keys c.args.table.now c.args.bytes.now c.in-Ok.index)

@@ -20,9 +20,7 @@ returns-in-Ok-validate-clause-ok g c =
 
 pub returns-clause-ok : goal.returns-clause-ok
 returns-clause-ok g c =
-    let tag = c.in-Ok.tag in
-    let same : lang_tag_text tag ≡ c.args.line.now = c.in-Ok.ensures.same_text in
-    let is_tag = subst IsTag (sym same) (c.in-Ok.ensures.accepts.0 refl) in
-    let not : ¬ (IsValid (lang_tag_text tag)) = λ valid. let ok = c.in-Err.ensures.valid.1 valid in absurd cc in
-    let is = answer_invalid _ _ _ _ (told c.in-Err.invalid) same is_tag not c.in-Err.ensures.first c.in-Ok-canonical.ensures.canonical c.as_str-in-Err.ensures.same_text in
+    let not : ¬ (IsValid (lang_tag_text c.in-Ok.tag)) = λ valid. let ok = c.in-Err.ensures.valid.1 valid in absurd cc in
+    let is_tag = subst IsTag (sym c.in-Ok.ensures.same_text) (c.in-Ok.ensures.accepts.0 refl) in
+    let is = answer_invalid _ _ _ _ (told c.in-Err.invalid) c.in-Ok.ensures.same_text is_tag not c.in-Err.ensures.first c.in-Ok-canonical.ensures.canonical c.as_str-in-Err.ensures.same_text in
     on_ok_weaker c.put_invalid.result (λ gained. Answers-one _ _ _ _ is gained) c.put_invalid.ensures.ok
