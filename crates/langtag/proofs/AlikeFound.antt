@@ -1,6 +1,5 @@
 -- What was found of a tag holds of each text that is alike.
-use Rattle.std.proofs.Common.{◌∙◌, ℕ, List}
-use Rattle.std.specs.Str.{IsAscii, IsUtf8}
+use Rattle.std.proofs.Common.{◌∙◌, ℕ, List, IsAscii, IsUtf8}
 use Rattle.langtag_scan.specs.Case.{Alike}
 use Rattle.langtag_scan.specs.Ends.{HasEnds}
 use Rattle.langtag_scan.specs.Found.{IsFoundOf}

@@ -1,8 +1,7 @@
 -- A record with another part is well formed, it spells the text in which that part is replaced, and its parts end where
 -- their lengths add up to.
-use Rattle.std.proofs.Common.{◌≡◌, ℕ, ◌≤◌, IsTrue, List, [], ◌∷◌, ◌++◌, length, Option, None, Some, IfSome, unwrap_or, refl, ap, arith, append_assoc, append-nil}
+use Rattle.std.proofs.Common.{◌≡◌, ℕ, ◌≤◌, IsTrue, List, [], ◌∷◌, ◌++◌, length, Option, None, Some, IfSome, unwrap_or, refl, ap, arith, append_assoc, append-nil, option_map}
 use Rattle.std.specs.List.{AllByRecursion, flat_map, replace_range}
-use Rattle.std.specs.Option.{option_map}
 use Rattle.std.proofs.lemmas.Grind.{common_steps}
 use Rattle.langtag_scan.specs.Class.{is_script, is_region, is_variant}
 use Rattle.langtag_scan.specs.Ends.{ends_of, HasEnds}

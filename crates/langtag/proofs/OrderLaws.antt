@@ -1,10 +1,9 @@
 -- The derived comparisons of the grandfathered tags, and the order of tags of which one begins the other.
-use Rattle.std.proofs.Common.{◌≡◌, ◌==◌, ℕ, List, ap, ◌∙◌, arith}
+use Rattle.std.proofs.Common.{◌≡◌, ◌==◌, ℕ, List, ap, ◌∙◌, arith, nat_cmp}
 use Rattle.std.proofs.Math.Facts.{Fits-of_lt}
 use Rattle.std.proofs.lemmas.Grind.{common_steps}
 use denote.Enum.Declared.{tag_of}
 use Rattle.std.specs.Hash.{usize}
-use Rattle.std.specs.Ordering.{nat_cmp}
 use Rattle.std.specs.declared.cmp.Ordering.TheVariants.{Greater}
 use Rattle.std.proofs.lemmas.List.{get_or-map}
 use Rattle.std.proofs.lemmas.Option.{slice_get_within, get_or_from_slice_get}

@@ -1,6 +1,5 @@
 -- What a tag of any kind answers for a part of a normal tag.
 use Rattle.std.proofs.Common.{◌≡◌, ℕ, List}
-use Rattle.langtag_scan.proofs.SpelledTexts.{normal_spelled}
 use Rattle.langtag_scan.specs.Record.{Record, EachRecord}
 use Rattle.langtag_scan.specs.Tag.{IsNormal}
 use Rattle.langtag.specs.Part.{PartOf}

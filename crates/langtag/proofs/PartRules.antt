@@ -1,6 +1,5 @@
 -- What the accessors cut out of a normal text meets the rules of the types of parts.
-use Rattle.std.proofs.Common.{◌≡◌, ℕ, List, [], Option, Some, IsTrue, IfSome, take, unwrap_or, sym, ◌∙◌, subst, arith}
-use Rattle.std.specs.Option.{option_map}
+use Rattle.std.proofs.Common.{◌≡◌, ℕ, List, [], Option, Some, IsTrue, IfSome, take, unwrap_or, sym, ◌∙◌, subst, arith, option_map}
 use Rattle.std.proofs.lemmas.Grind.{common_steps}
 use Rattle.langtag_scan.specs.Class.{is_script, is_region}
 use Rattle.langtag_scan.specs.Ends.{HasEnds}

@@ -1,8 +1,7 @@
 -- The variants of `GrandfatheredLangTag` and `GRANDFATHERED`, beside the table of registered tags.
-use Rattle.std.proofs.Common.{◌≡◌, ℕ, ◌<◌, ◌≤◌, true, cond, ltb, List, [], length, map, get_or, slice_get, Some, None, refl, sym, ap, ◌∙◌, arith, zero-add}
+use Rattle.std.proofs.Common.{◌≡◌, ℕ, ◌<◌, ◌≤◌, true, cond, ltb, List, [], length, map, get_or, slice_get, Some, None, refl, sym, ap, ◌∙◌, arith, zero-add, bytes_eq}
 use Rattle.std.specs.List.{position, position_or_len, range_with_len}
 use Rattle.std.specs.Option.{option_map_or}
-use Rattle.std.specs.Str.{bytes_eq}
 use Rattle.std.proofs.lemmas.Bool.{lt-ltb, cases_lt, both_ways}
 use Rattle.std.proofs.lemmas.List.{get_or-map, length-map}
 use Rattle.std.proofs.lemmas.List.FromFn.{get_or-range_with_len}

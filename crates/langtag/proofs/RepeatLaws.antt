@@ -1,7 +1,6 @@
 -- What is known of the first repeat when the first so many members were looked at.
-use Rattle.std.proofs.Common.{◌≡◌, ℕ, ◌+◌, ◌<◌, Bool, true, false, cond, ◌==◌, List, [], ◌∷◌, ◌++◌, length, get_or, set, take, drop, map, slice_get, slice_index, Option, None, Some, refl, ap, sym, subst, ◌∙◌, arith, append-nil, append_assoc}
+use Rattle.std.proofs.Common.{◌≡◌, ℕ, ◌+◌, ◌<◌, Bool, true, false, cond, ◌==◌, List, [], ◌∷◌, ◌++◌, length, get_or, set, take, drop, map, slice_get, slice_index, Option, None, Some, refl, ap, sym, subst, ◌∙◌, arith, append-nil, append_assoc, option_map}
 use Rattle.std.specs.List.{list_any, AllPairs}
-use Rattle.std.specs.Option.{option_map}
 use Rattle.std.proofs.Math.Bool.{or-false}
 use Rattle.std.proofs.lemmas.Bool.Decides.{eqb_tells}
 use Rattle.std.proofs.lemmas.Bool.{or_right, false_from_ne_true}
@@ -149,6 +148,7 @@ pub AreFlagsOf-set :
 AreFlagsOf-set flags bytes n b fold rest at all is below before c inside =
     grind (arith, common_steps, list_any_more, eqb_tells, get_or-set_at, or_right, get_or-set_other, or-false)
 
+-- what the functions of repeats cite
 pub ruleset repeat_laws = (repeat-first, repeat_index-first)
-
 pub ruleset few_steps = (repeat-later, IsAt-drop)
+pub ruleset flag_bounds = (fold_singleton-below)

@@ -95,11 +95,7 @@ variant_tells a b av bv = folded_number-tells a b (of_variant a av).alphanumeric
 pub among-earlier :
     (texts : List (List ℕ)) (n : ℕ) (text : List ℕ) → list_all is_variant texts ≡ true → IsTrue (is_variant text) →
     list_any (λ other. other == folded_number text) (map folded_number (take n texts)) ≡ list_any (are_alike text) (take n texts)
-among-earlier texts n text all variant =
-    sym
-    (among-numbers folded_number is_variant variant_tells text (take n texts) variant
-    (and_parts (list_all is_variant (take n texts)) (list_all is_variant (drop n texts))
-    (sym (list_all-append is_variant (take n texts) (drop n texts)) ∙ ap (list_all is_variant) (take-append-drop n texts) ∙ all)).0)
+among-earlier texts n text all variant = grind (arith, common_steps, among-numbers folded_number is_variant variant_tells text (take n texts) variant, list_all-append, take-append-drop n texts, and_parts)
 
 -- the number of each text of a block is in it
 pub HoldsFrom-in :

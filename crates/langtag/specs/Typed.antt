@@ -1,6 +1,5 @@
 -- Language tags as typed values, with one type for each kind (RFC 5646 section 2.1).
-use Rattle.std.specs.Prelude.{◌≡◌, ℕ, List, Option, Some, None}
-use Rattle.std.specs.Option.{option_map}
+use Rattle.std.specs.Prelude.{◌≡◌, ℕ, List, Option, Some, None, option_map}
 use Rattle.langtag_scan.specs.Parts.{language_part}
 use Rattle.langtag_scan.specs.Record.{EachRecord}
 use Rattle.langtag_scan.specs.Tag.{IsIrregularAt}

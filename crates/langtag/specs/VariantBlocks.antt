@@ -1,8 +1,7 @@
 -- What a block of variants contains during the search for the first repeated variant. Only contracts of private
 -- functions cite this page.
-use Rattle.std.specs.Prelude.{◌≡◌, ℕ, ◌<◌, ◌≤◌, Bool, false, ◌==◌, List, map, take, drop, length, slice_index, slice_index_or, [], Option, None, Some}
+use Rattle.std.specs.Prelude.{◌≡◌, ℕ, ◌<◌, ◌≤◌, Bool, false, ◌==◌, List, map, take, drop, length, slice_index, slice_index_or, [], Option, None, Some, IsPermutation}
 use Rattle.std.specs.List.{list_any}
-use Rattle.std.specs.List.Sorted.{IsPermutation}
 use Rattle.langtag_scan.specs.Case.{are_alike, folded_number}
 use Rattle.langtag.specs.Repeat.{repeat_index}
 

@@ -1,6 +1,5 @@
 //! Language tags of every kind that own their text.
-ghost use Rattle.std.specs.Prelude.{◌≡◌, ◌↔◌, ℕ, List, [], Some, IsTrue, IsNone, IsOk, IsErrOf, IfOk, IfErr, OnOk, OnErr, is_ok};
-ghost use Rattle.std.specs.Option.{option_map};
+ghost use Rattle.std.specs.Prelude.{◌≡◌, ◌↔◌, ℕ, List, [], Some, IsTrue, IsNone, IsOk, IsErrOf, IfOk, IfErr, OnOk, OnErr, is_ok, option_map};
 ghost use Rattle.std.specs.String.{string_bytes, string_vec};
 ghost use Rattle.std.specs.Vec.{SameBlock};
 ghost use Rattle.langtag_case.specs.RecommendedCase.{recommended_record, recommended_text};

@@ -1,6 +1,5 @@
 //! Normal tags, which are made of parts: rule `langtag` of RFC 5646 section 2.1.
-ghost use Rattle.std.specs.Prelude.{◌≡◌, ◌↔◌, ◌<◌, ◌≤◌, ◌^◌, ℕ, List, [], Some, IsTrue, IfOk, IfErr, is_ok, length, take, map, unwrap_or};
-ghost use Rattle.std.specs.Option.{option_map};
+ghost use Rattle.std.specs.Prelude.{◌≡◌, ◌↔◌, ◌<◌, ◌≤◌, ◌^◌, ℕ, List, [], Some, IsTrue, IfOk, IfErr, is_ok, length, take, map, unwrap_or, option_map};
 ghost use Rattle.langtag_case.specs.RecommendedCase.{recommended_text};
 ghost use Rattle.langtag_case.specs.Text.{in_recommended_case_text};
 ghost use Rattle.langtag_scan.specs.AlikeRecords.{IsSpelledAlike};

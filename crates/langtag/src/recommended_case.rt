@@ -1,6 +1,5 @@
 //! The text of a tag in its recommended case.
-ghost use Rattle.std.specs.Prelude.{◌≡◌};
-ghost use Rattle.std.specs.Str.{IsAscii};
+ghost use Rattle.std.specs.Prelude.{◌≡◌, IsAscii};
 ghost use Rattle.std.specs.String.{string_bytes, string_vec};
 ghost use Rattle.std.specs.Vec.{SameBlock};
 ghost use Rattle.langtag_case.specs.RecommendedCase.{recommended_text};

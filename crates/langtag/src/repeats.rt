@@ -64,6 +64,7 @@ pub fn is_among_first(variants: Variants<'_>, count: usize, variant: Variant<'_>
 
 /// Returns the index of the first of these extensions whose singleton equals the singleton of an earlier extension,
 /// ignoring case.
+#[tactic(auto, using(crate::proofs::RepeatLaws::flag_bounds))]
 pub(crate) fn first_repeated_singleton(extensions: Extensions<'_>) -> Option<usize>
     ensures { (es : List model.Extension) → SpellsExtensions es (extensions_text extensions.entry) →
         result ≡ repeat_index are_alike_bytes (map (λ e. e.singleton) es) }

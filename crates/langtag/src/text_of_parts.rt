@@ -1,6 +1,5 @@
 //! The text of a language, a script and a region.
-ghost use Rattle.std.specs.Prelude.{◌≡◌, ◌++◌, IfOk, OnOk};
-ghost use Rattle.std.specs.String.{string_bytes};
+ghost use Rattle.std.specs.Prelude.{◌≡◌, ◌++◌, IfOk, OnOk, string_bytes};
 ghost use Rattle.langtag.specs.Lengths.{after_hyphen};
 
 use std::alloc::{AllocError, Global};

@@ -1,9 +1,8 @@
 -- The walk from piece to piece.
-use Rattle.std.proofs.Common.{◌≡◌, ◌≢◌, ℕ, ◌+◌, ◌-◌, ◌<◌, ◌≤◌, true, false, ◌⊎◌, inl, inr, List, [], ◌∷◌, ◌++◌, length, map, take, drop, set, get_or, refl, sym, ap, subst, ◌∙◌, arith, append-nil, append_assoc, length-take, length-drop, length-append}
+use Rattle.std.proofs.Common.{◌≡◌, ◌≢◌, ℕ, ◌+◌, ◌-◌, ◌<◌, ◌≤◌, true, false, ◌⊎◌, inl, inr, List, [], ◌∷◌, ◌++◌, length, map, take, drop, set, get_or, refl, sym, ap, subst, ◌∙◌, arith, append-nil, append_assoc, length-take, length-drop, length-append, ne_eqb, eq-eqb}
 use Rattle.std.proofs.lemmas.Grind.{common_steps}
 use Prim.Native.Nat.{zero, suc}
 use Rattle.std.specs.Char.{to_ascii_uppercase}
-use Rattle.std.proofs.lemmas.Bool.{ne_eqb, eq-eqb}
 use Rattle.std.proofs.lemmas.List.{at_drop_more, take_more, take-append-drop, take_all, drop_all, take-map, drop-map, get_or-take}
 use Rattle.std.proofs.Math.Seq.{take-append_seam, drop-append_seam}
 use borrow.Rule.Slice.PartMut.{put_mid}
@@ -210,3 +209,6 @@ module _ (old text : List ℕ) (end len n : ℕ) (at : IsAtEnd old text end) (lo
 -- and at the end of the text it is in its recommended case
 pub last-end : (old text : List ℕ) (end : ℕ) → IsAtEnd old text end → length text ≤ end → text ≡ recommended_text old
 last-end old text end at whole = grind (arith, common_steps, drop_all end text whole, append-nil (take end text), take_all end text whole)
+
+-- a piece more, and the last one
+pub ruleset piece_steps = (piece-small, next-end, last-end)

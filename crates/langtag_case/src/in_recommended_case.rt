@@ -1,6 +1,5 @@
 //! A text that is displayed in its recommended case.
-ghost use Rattle.std.specs.Prelude.{◌≡◌, Some};
-ghost use Rattle.std.specs.Str.{IsAscii};
+ghost use Rattle.std.specs.Prelude.{◌≡◌, Some, IsAscii};
 ghost use Rattle.langtag_case.specs.RecommendedCase.{recommended_text};
 
 use crate::recommended_bytes::RecommendedBytes;

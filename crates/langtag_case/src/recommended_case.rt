@@ -40,6 +40,7 @@ pub fn make_recommended_case(text: &mut [u8])
 }
 
 /// Puts a lowercase text into its recommended case, piece by piece.
+#[tactic(auto, using(crate::proofs::PieceLaws::piece_steps))]
 fn capitalise_pieces(text: &mut [u8])
     requires { fold_text text.old ≡ text.old }
     ensures { text.new ≡ recommended_text text.old }

@@ -8,7 +8,7 @@ use Rattle.langtag_scan.specs.Subtags.{subtags}
 use Rattle.langtag_range.proofs.AlikeTexts.{is_star-fold}
 use Rattle.langtag_range.proofs.BasicForms.{basic_form-basic, basic_of, is_plain, IsBasicOf}
 use Rattle.langtag_range.proofs.BasicRanges.{is_language_range-from_basic}
-use Rattle.langtag_range.proofs.PlainRanges.{hyphened_range}
+use Rattle.langtag_range.proofs.AsciiRanges.{hyphened_range}
 use Rattle.langtag_range.proofs.Prefixes.{length-alike}
 use Rattle.langtag_range.specs.Basic.{ends_subtag}
 use Rattle.langtag_range.specs.Fallback.{ends_in_single}

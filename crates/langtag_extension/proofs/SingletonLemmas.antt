@@ -1,5 +1,5 @@
 -- Singletons are ASCII.
-use Rattle.std.proofs.Common.{◌≡◌, ℕ, ◌<◌, ◌≤◌, false, true, arith, ◌∷◌, [], encode_utf8}
+use Rattle.std.proofs.Common.{◌≡◌, ℕ, ◌<◌, false, true, arith, ◌∷◌, [], encode_utf8}
 use Rattle.std.proofs.lemmas.Bool.{false_from_ne_true}
 use Rattle.std.proofs.lemmas.Str.{encode_ascii}
 use Rattle.std.proofs.lemmas.Grind.{common_steps}

@@ -8,7 +8,7 @@ use Rattle.std.proofs.lemmas.List.Splits.{length-slice_split, join_with_byte-sli
 use Rattle.std.proofs.lemmas.Grind.{common_steps}
 use Rattle.langtag_scan.specs.Subtags.{is_hyphen, segments, segments_left, NoHyphenWithin, IsHyphenFree}
 use Rattle.langtag_scan.proofs.SubtagLists.{slice_split-push, slice_split-append}
-use Rattle.langtag_extension.specs.ExtensionTexts.{goes_on, opens, groups, put_first, group_texts, texts_left}
+use Rattle.langtag_extension.specs.ExtensionTexts.{goes_on, opens, groups, group_texts, texts_left}
 
 -- a first subtag of one byte opens an extension
 pub opens-one : (t : List ℕ) → 0 < length t → is_hyphen (get_or t 0 0) ≡ false → (1 < length t → get_or t 1 0 ≡ 45) → opens (segments t) ≡ true

@@ -1,6 +1,5 @@
 //! An extension (RFC 5646 section 2.2.6).
-ghost use Rattle.std.specs.Prelude.{◌≡◌, ◌↔◌, Some, IsTrue, IfOk, IfErr, is_ok, slice_index};
-ghost use Rattle.std.specs.String.{string_bytes};
+ghost use Rattle.std.specs.Prelude.{◌≡◌, ◌↔◌, Some, IsTrue, IfOk, IfErr, is_ok, slice_index, string_bytes};
 ghost use Rattle.langtag_scan.specs.Case.{are_alike};
 ghost use Rattle.langtag_scan.specs.Record as model;
 ghost use Rattle.langtag_extension.specs.Spelling.{SpellsExtension, IsExtension};

@@ -60,6 +60,7 @@ impl<'a> Iterator for ExtensionTexts<'a> {
 
 /// Returns the text of the first extension, and the text of the other extensions if there are any, without the hyphen
 /// in between.
+#[tactic(auto, using(langtag_scan::proofs::SubtagLists::splits))]
 fn split_extension<'a>(text: &'a str) -> (&'a str, Option<&'a str>)
     ensures joined { MatchOption result.1 (text.now ≡ result.0.now) (λ rest. text.now ≡ result.0.now ++ 45 ∷ rest.now) }
     ensures one { IsTrue (list_all goes_on (drop 1 (segments result.0.now))) }

@@ -1,6 +1,5 @@
 -- The text of each type, as a list of bytes, and the texts that an iterator will still return.
-use Rattle.std.specs.Prelude.{ℕ, List, [], Option, None, Some, String}
-use Rattle.std.specs.String.{string_bytes}
+use Rattle.std.specs.Prelude.{ℕ, List, [], Option, None, Some, String, string_bytes}
 use Rattle.std.specs.declared.alloc.Global.{Global}
 use Rattle.langtag_scan.specs.Subtags.{subtags}
 use Rattle.langtag_language.specs.declared.primary_language.PrimaryLanguage.{PrimaryLanguage}

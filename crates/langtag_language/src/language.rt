@@ -1,6 +1,5 @@
 //! The language of a tag (RFC 5646 sections 2.2.1 and 2.2.2).
-ghost use Rattle.std.specs.Prelude.{◌≡◌, ◌↔◌, ◌∷◌, [], Some, IsTrue, is_ok, drop, slice_get, IsNone, IfSome, IfOk, IfErr};
-ghost use Rattle.std.specs.String.{string_bytes};
+ghost use Rattle.std.specs.Prelude.{◌≡◌, ◌↔◌, ◌∷◌, [], Some, IsTrue, is_ok, drop, slice_get, IsNone, IfSome, IfOk, IfErr, string_bytes};
 ghost use Rattle.langtag_scan.specs.Case.{are_alike};
 ghost use Rattle.langtag_scan.specs.Subtags.{subtags};
 ghost use Rattle.langtag_language.specs.Language.{IsLanguage, EachLanguageSpelling, SpellsLanguageExtension};
@@ -123,6 +122,7 @@ impl<'a> Language<'a> {
     }
 
     /// Returns the primary subtag: `Language::new("zh-yue")?.primary().as_str()` is `"zh"`.
+    #[tactic(auto, using(crate::proofs::Members::members_spelled))]
     pub fn primary(&self) -> PrimaryLanguage<'a>
         ensures list { slice_get (subtags (language_text self.now)) 0 ≡ Some (primary_language_text result) }
         ensures member { EachLanguageSpelling (language_text self.now) (λ primary extended. primary_language_text result ≡ primary) }
@@ -138,6 +138,7 @@ impl<'a> Language<'a> {
     /// let extension = Language::new("zh-min-nan")?.extension();
     /// extension.map(|extension| extension.as_str()); // Some("min-nan")
     /// ```
+    #[tactic(auto, using(crate::proofs::Members::members_spelled, crate::proofs::Members::present_extension))]
     pub fn extension(&self) -> Option<LanguageExtension<'a>>
         ensures absent { EachLanguageSpelling (language_text self.now) (λ primary extended. IsNone result ↔ (extended ≡ [])) }
         ensures members { EachLanguageSpelling (language_text self.now) (λ primary extended.
@@ -167,6 +168,7 @@ impl<'a> Language<'a> {
     }
 
     /// Returns the primary subtag, and the extension if there is one.
+    #[tactic(auto, using(crate::proofs::FirstHyphen::language_alone, crate::proofs::FirstHyphen::language_cut, langtag_scan::proofs::SubtagLists::splits))]
     fn split(&self) -> (PrimaryLanguage<'a>, Option<LanguageExtension<'a>>)
         ensures { subtags (language_text self.now) ≡ primary_language_text result.0 ∷ extension_list result.1 }
     {

@@ -1,5 +1,5 @@
 -- What a loop over the items of a header has read, at one more item.
-use Rattle.std.proofs.Common.{◌≡◌, List, ℕ, ◌<◌, [], ◌∷◌, ◌++◌, true, Some, None, IsTrue, ap, refl, sym, ◌∙◌, arith, length, length-append, take, get_or, map}
+use Rattle.std.proofs.Common.{◌≡◌, List, ℕ, ◌<◌, [], ◌∷◌, ◌++◌, true, Some, None, IsTrue, arith, length, length-append, take, get_or, map}
 use Rattle.std.specs.List.{enumerate_from}
 use Rattle.std.proofs.Math.Bool.{or-true}
 use Rattle.std.proofs.lemmas.List.{take_more, map-append, append-nil}
@@ -17,14 +17,6 @@ pub turn_at :
     (n < length all) × (index ≡ n) × (item ≡ get_or all n item)
 turn_at all n index item h = grind (arith, common_steps, length-enumerate_from 0 all, get_or-enumerate_from 0 all n (index, item))
 
--- ---- what one more item adds
-
-elements-push : (items : List (List ℕ)) (read : List WeightedRange) (item : List ℕ) (weighted : WeightedRange) → map reading read ≡ elements items → element item ≡ Some (reading weighted) → map reading (read ++ weighted ∷ []) ≡ elements (items ++ item ∷ [])
-elements-push items read item weighted so_far is = grind (arith, common_steps, map-append, filter_map-append)
-
-elements-pass : (items : List (List ℕ)) (item : List ℕ) → element item ≡ None → elements items ≡ elements (items ++ item ∷ [])
-elements-pass items item none = sym (filter_map-append element items (item ∷ []) ∙ rw none (append-nil (elements items)))
-
 -- the items so far are good, and these are their elements
 pub record IsRead (items : List (List ℕ)) (read : List WeightedRange) : Type 0 where
   pub good : IsTrue (are_good items)
@@ -37,18 +29,18 @@ module _ {X : Type 0} (all : List (List ℕ)) (yielded : List X) (x : X) (item :
   take_next = grind (arith, common_steps, length-append yielded (x ∷ []), take_more all (length yielded) item below)
 
   more_good : IsTrue (are_good (take (length yielded) all)) → is_good item ≡ true → IsTrue (are_good (take (length (yielded ++ x ∷ [])) all))
-  more_good so_far good = ap are_good take_next ∙ list_all-append is_good (take (length yielded) all) (item ∷ []) ∙ rw (so_far, good) refl
+  more_good so_far good = grind (arith, common_steps, take_next, list_all-append is_good (take (length yielded) all) (item ∷ []))
 
   -- an element
   pub elements-more : (weighted : WeightedRange) → map reading read ≡ elements (take (length yielded) all) → element item ≡ Some (reading weighted) → map reading (read ++ weighted ∷ []) ≡ elements (take (length (yielded ++ x ∷ [])) all)
-  elements-more weighted so_far is = elements-push (take (length yielded) all) read item weighted so_far is ∙ ap elements (sym take_next)
+  elements-more weighted so_far is = grind (arith, common_steps, map-append, filter_map-append, take_next)
 
   pub after_element : (weighted : WeightedRange) → IsRead (take (length yielded) all) read → element item ≡ Some (reading weighted) → IsRead (take (length (yielded ++ x ∷ [])) all) (read ++ weighted ∷ [])
   after_element weighted so_far is = grind (arith, common_steps, more_good so_far.good, or-true (is_ows item), elements-more weighted so_far.elements is)
 
   -- or none
   pub elements-same : map reading read ≡ elements (take (length yielded) all) → element item ≡ None → map reading read ≡ elements (take (length (yielded ++ x ∷ [])) all)
-  elements-same so_far none = so_far ∙ elements-pass (take (length yielded) all) item none ∙ ap elements (sym take_next)
+  elements-same so_far none = grind (arith, common_steps, filter_map-append, append-nil, take_next)
 
   pub after_empty : IsRead (take (length yielded) all) read → element item ≡ None → is_ows item ≡ true → IsRead (take (length (yielded ++ x ∷ [])) all) read
   after_empty so_far none empty = grind (arith, common_steps, more_good so_far.good, elements-same so_far.elements none)

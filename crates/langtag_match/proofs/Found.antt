@@ -1,7 +1,7 @@
 -- Filtering of a list, a tag and a range at a time.
-use Rattle.std.proofs.Common.{◌≡◌, ℕ, ◌+◌, ◌<◌, ◌&&◌, Bool, true, not, List, [], ◌∷◌, ◌++◌, Some, length, take, drop, get_or, arith}
+use Rattle.std.proofs.Common.{◌≡◌, ℕ, ◌+◌, ◌<◌, ◌&&◌, Bool, true, not, List, ◌∷◌, Some, length, drop, get_or, arith}
 use Rattle.std.specs.List.{list_any, slice_get}
-use Rattle.std.proofs.lemmas.List.{at_drop_more, take_more}
+use Rattle.std.proofs.lemmas.List.{at_drop_more}
 use Rattle.std.proofs.lemmas.Option.{get_or_from_slice_get}
 use Rattle.std.proofs.lemmas.Grind.{common_steps}
 use Rattle.langtag.specs.declared.lang_tag.LangTag.{LangTag}
@@ -23,27 +23,3 @@ module _ (matches : List ℕ → List ℕ → Bool) (before : List LanguageRange
 module _ (matches : List ℕ → List ℕ → Bool) (tags : List LangTag) where
   pub found_from-start : (before ranges : List LanguageRange) → found_from matches before ranges tags tags ≡ found_after matches before ranges tags
   found_from-start before ranges = grind (arith, common_steps)
-
-  module _ (ranges : List LanguageRange) (index : ℕ) (range : LanguageRange) (below : index < length ranges) (at : range ≡ get_or ranges index range) where
-    -- at the range of an index
-    found_from-at :
-        (left : List LangTag) →
-        found_from matches (take index ranges) (drop index ranges) left tags
-        ≡ newly_found matches (take index ranges) range left ++ found_after matches (take index ranges ++ range ∷ []) (drop (index + 1) ranges) tags
-    found_from-at left = grind (arith, common_steps, at_drop_more)
-
-    -- which finds a tag
-    pub found_from-next :
-        (left rest : List LangTag) (next : LangTag) →
-        newly_found matches (take index ranges) range left ≡ next ∷ newly_found matches (take index ranges) range rest →
-        found_from matches (take index ranges) (drop index ranges) left tags
-        ≡ next ∷ found_from matches (take index ranges) (drop index ranges) rest tags
-    found_from-next left rest next found = grind (arith, common_steps)
-
-    -- and finds no more
-    pub found_from-on :
-        (left : List LangTag) → newly_found matches (take index ranges) range left ≡ [] →
-        found_from matches (take index ranges) (drop index ranges) left tags
-        ≡ found_from matches (take (index + 1) ranges) (drop (index + 1) ranges) tags tags
-    found_from-on left none =
-        grind (arith, common_steps, take_more ranges index range below, found_from-start (take (index + 1) ranges) (drop (index + 1) ranges))

@@ -1,5 +1,5 @@
 -- The tags that a filter finds are those that some range matches, in another order.
-use Rattle.std.proofs.Common.{◌≡◌, ℕ, ◌≤◌, ◌&&◌, ◌||◌, Bool, false, not, List, [], ◌∷◌, ◌++◌, length, refl, sym, ap, ◌∙◌, subst, arith}
+use Rattle.std.proofs.Common.{◌≡◌, ℕ, ◌≤◌, ◌&&◌, Bool, false, not, List, [], ◌∷◌, ◌++◌, length, refl, arith}
 use Rattle.std.specs.List.{filter}
 use Rattle.std.specs.List.Sorted.{IsPermutation}
 use Rattle.std.proofs.Math.Bool.{and-true}
@@ -22,13 +22,6 @@ filter-filter : (p q r : LangTag → Bool) → ((tag : LangTag) → (q tag && p 
 filter-filter p q r both [] = refl
 filter-filter p q r both (tag ∷ tags) = grind (arith, common_steps, both tag, filter-filter p q r both tags)
 
--- f says that a range matches a tag, l that a later one does, and b that one before does
-first_found : (f l b : Bool) → (((f || l) && not b) && (f && not b)) ≡ (f && not b)
-first_found f l b = grind (arith, common_steps)
-
-later_found : (f l b : Bool) → (((f || l) && not b) && not (f && not b)) ≡ (l && not (b || (f || false)))
-later_found f l b = grind (arith, common_steps)
-
 module _ (matches : List ℕ → List ℕ → Bool) where
   -- some of the ranges matches a tag, and none before them does
   abbrev is_new : List LanguageRange → List LanguageRange → LangTag → Bool
@@ -36,14 +29,14 @@ module _ (matches : List ℕ → List ℕ → Bool) where
 
   found_after-permutation :
       (before ranges : List LanguageRange) (tags : List LangTag) → IsPermutation (filter (is_new before ranges) tags) (found_after matches before ranges tags)
-  found_after-permutation before [] tags = subst (λ none. IsPermutation none []) (sym (filter-none tags)) (IsPermutation-refl [])
+  found_after-permutation before [] tags = rw (filter-none tags) (IsPermutation-refl [])
   found_after-permutation before (range ∷ ranges) tags =
       let here : LangTag → Bool = λ tag. finds matches range tag && not (is_found matches before tag) in
       let all : LangTag → Bool = is_new before (range ∷ ranges) in
       let later : LangTag → Bool = is_new (before ++ range ∷ []) ranges in
       let cut = IsPermutation-filter_both here (λ tag. not (here tag)) (λ tag. refl) (filter all tags) in
-      let first = filter-filter here all here (λ tag. first_found (finds matches range tag) (is_found matches ranges tag) (is_found matches before tag)) tags in
-      let rest = filter-filter (λ tag. not (here tag)) all later (λ tag. later_found (finds matches range tag) (is_found matches ranges tag) (is_found matches before tag) ∙ ap (λ b. is_found matches ranges tag && not b) (sym (list_any-append (λ earlier. finds matches earlier tag) before (range ∷ [])))) tags in
+      let first = filter-filter here all here (λ tag. grind (arith, common_steps)) tags in
+      let rest = filter-filter (λ tag. not (here tag)) all later (λ tag. grind (arith, common_steps, list_any-append (λ earlier. finds matches earlier tag) before (range ∷ []))) tags in
       IsPermutation-trans _ _ _ cut
       (rw (first, rest) (IsPermutation-append_right (newly_found matches before range tags) _ _ (found_after-permutation (before ++ range ∷ []) ranges tags)))
 

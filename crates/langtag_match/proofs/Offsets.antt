@@ -1,6 +1,6 @@
 -- The items of a header and their commas: how long they are, and where each stands.
-use Rattle.std.proofs.Common.{◌≡◌, ℕ, zero, suc, ◌+◌, ◌<◌, Bool, true, false, List, [], ◌∷◌, ◌++◌, Some, length, take, refl, ap, ◌∙◌, cond, arith}
-use Rattle.std.specs.List.{onto_first, slice_get, slice_split, sum_by, count_by}
+use Rattle.std.proofs.Common.{◌≡◌, ℕ, zero, suc, ◌+◌, ◌<◌, Bool, true, false, List, [], ◌∷◌, Some, length, take, refl, cond, arith}
+use Rattle.std.specs.List.{onto_first, slice_get, slice_split, sum_by}
 use Rattle.std.proofs.lemmas.List.{nil_from_length}
 use Rattle.std.proofs.lemmas.List.Splits.{slice_split-cons_yes, slice_split-cons_no, length-slice_split}
 use Rattle.std.proofs.lemmas.List.Sums.{sum_by-cons}
@@ -21,15 +21,12 @@ sum_by-slice_split cuts (b ∷ text) =
 abbrev Stands : List ℕ → List (List ℕ) → Type 0
 Stands text all = (index : ℕ) (item : List ℕ) → slice_get all index ≡ Some item → StandsAt text item index (sum_by width (take index all))
 
-commas-cons : (b : ℕ) (text : List ℕ) → count_by is_comma (b ∷ text) ≡ cond (is_comma b) 1 0 + count_by is_comma text
-commas-cons b text = sum_by-cons (λ b. cond (is_comma b) 1 0) b text
-
 -- one more byte before all items, which is a comma
 stands_after_comma : (b : ℕ) (text : List ℕ) (all : List (List ℕ)) → is_comma b ≡ true → Stands text all → Stands (b ∷ text) ([] ∷ all)
 stands_after_comma b text all comma others zero item is = ([], b ∷ text, cc, refl, refl)
 stands_after_comma b text all comma others (suc index) item is =
     let (before, after, cut, commas, bytes) = others index item is in
-    (b ∷ before, after, cc, grind (arith, common_steps, commas-cons b before), omega (arith, bytes, sum_by-cons width [] (take index all)))
+    (b ∷ before, after, cc, grind (arith, common_steps, sum_by-cons (λ b. cond (is_comma b) 1 0) b before), omega (arith, bytes, sum_by-cons width [] (take index all)))
 
 -- one more byte of the first item
 stands_after_byte :
@@ -38,14 +35,10 @@ stands_after_byte :
 stands_after_byte b text [] some other others index item is = absurd (omega (arith, some))
 stands_after_byte b text (first ∷ all) some other others zero item is =
     let (before, after, cut, commas, bytes) = others zero first refl in
-    let here : b ∷ first ≡ item = cc in
-    let from_start : text ≡ first ++ after = cut ∙ ap (λ t. t ++ (first ++ after)) (nil_from_length before bytes) in
-    ([], after, ap (λ t. b ∷ t) from_start ∙ ap (λ t. t ++ after) here, refl, refl)
+    ([], after, grind (arith, common_steps, nil_from_length before bytes), refl, refl)
 stands_after_byte b text (first ∷ all) some other others (suc index) item is =
     let (before, after, cut, commas, bytes) = others (suc index) item is in
-    let all_bytes : length (b ∷ before) ≡ sum_by width ((b ∷ first) ∷ take index all) =
-    omega (arith, bytes, sum_by-cons width (b ∷ first) (take index all), sum_by-cons width first (take index all)) in
-    (b ∷ before, after, cc, grind (arith, common_steps, commas-cons b before), all_bytes)
+    (b ∷ before, after, cc, grind (arith, common_steps, sum_by-cons (λ b. cond (is_comma b) 1 0) b before), omega (arith, bytes, sum_by-cons width (b ∷ first) (take index all), sum_by-cons width first (take index all)))
 
 pub item_stands : (header : List ℕ) → Stands header (items header)
 item_stands [] zero item is = ([], [], cc, refl, refl)

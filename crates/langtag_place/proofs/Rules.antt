@@ -33,3 +33,6 @@ pub ruleset variants_rules = (SpellsVariants-subtags, IsVariants-from_test, is_v
 
 -- no more of them than `count` can answer
 pub ruleset few_variants = (length-subtags)
+
+-- what the first and the last variant are
+pub ruleset variants_spelled = (subtags-spelled)

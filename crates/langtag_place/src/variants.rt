@@ -1,7 +1,5 @@
 //! The variants of a tag as one text (RFC 5646 section 2.2.5).
-ghost use Rattle.std.specs.Prelude.{◌≡◌, ◌↔◌, ◌-◌, ℕ, List, [], Some, IsTrue, IfOk, IfErr, is_ok, length, slice_get};
-ghost use Rattle.std.specs.Option.{option_map};
-ghost use Rattle.std.specs.String.{string_bytes};
+ghost use Rattle.std.specs.Prelude.{◌≡◌, ◌↔◌, ◌-◌, ℕ, List, [], Some, IsTrue, IfOk, IfErr, is_ok, length, slice_get, option_map, string_bytes};
 ghost use Rattle.langtag_scan.specs.Case.{are_alike};
 ghost use Rattle.langtag_scan.specs.Subtags.{subtags};
 ghost use Rattle.langtag_place.specs.Decided.{is_variants};
@@ -151,6 +149,7 @@ impl<'a> Variants<'a> {
     ///
     /// Variants::new("rozaj-1994")?.first().map(|variant| variant.as_str()); // Some("rozaj")
     /// ```
+    #[tactic(auto, using(crate::proofs::Rules::variants_spelled))]
     pub fn first(&self) -> Option<Variant<'a>>
         ensures member { (variants : List (List ℕ)) → SpellsVariants variants (variants_text self.now)
             → option_map variant_text result ≡ slice_get variants 0 }

@@ -1,6 +1,5 @@
 //! The private use part of a tag (RFC 5646 section 2.2.7).
-ghost use Rattle.std.specs.Prelude.{◌≡◌, ◌↔◌, Some, IsTrue, IfOk, IfErr, is_ok, drop};
-ghost use Rattle.std.specs.String.{string_bytes};
+ghost use Rattle.std.specs.Prelude.{◌≡◌, ◌↔◌, Some, IsTrue, IfOk, IfErr, is_ok, drop, string_bytes};
 ghost use Rattle.langtag_scan.specs.Case.{are_alike};
 ghost use Rattle.langtag_scan.specs.Subtags.{subtags};
 ghost use Rattle.langtag_private.specs.PrivateUse.{IsPrivateUse, EachPrivateUseSpelling};
@@ -128,6 +127,7 @@ impl<'a> PrivateUse<'a> {
     /// subtags.next().map(|subtag| subtag.as_str()); // Some("a")
     /// subtags.next().map(|subtag| subtag.as_str()); // Some("x")
     /// ```
+    #[tactic(auto, using(crate::proofs::Rules::others_spelled))]
     pub fn iter(&self) -> PrivateUseIter<'a>
         ensures list { private_use_subtags_left result ≡ drop 1 (subtags (private_use_text self.now)) }
         ensures members { EachPrivateUseSpelling (private_use_text self.now) (λ members. private_use_subtags_left result ≡ members) }

@@ -11,7 +11,6 @@ use Rattle.langtag_scan.specs.Class.{are_digits, is_digit}
 use Rattle.langtag_scan.proofs.CaseLaw.{all-fold, is_digit-fold}
 use Rattle.langtag_range.specs.Element.{Element, is_comma, is_semicolon, trimmed, range_of, items}
 use Rattle.langtag_range.specs.Range.{is_basic_range}
-use Rattle.langtag_range.specs.Weight.{is_q}
 use Rattle.langtag_range.specs.Locale.{ends_locale, front_of, is_hash, place_before, locale_place, without_mark}
 use Rattle.langtag_range.specs.Wanted.{hyphened, wanted_text, is_point, number_weight, value_weight, is_equals, is_q_name, is_q_parameter, wanted_weight, parameters, wanted, digits_behind, wanted_items, wanted_elements, folded, ElementsIgnoreCase}
 use Rattle.langtag_range.proofs.AlikeTexts.{mark-fold, underscore-fold, hyphened-fold, trimmed-fold, is_basic_range-fold}
@@ -44,19 +43,13 @@ parameters-fold item =
 
 -- ---- the weight that a value says: a number has no letters
 
-digit_stays : (b : ℕ) → is_digit b ≡ true → fold_byte b ≡ b
-unfolding fold_byte is_digit
-digit_stays b digit = grind (arith, nat_tests)
-
 digits_stay : (text : List ℕ) → are_digits text ≡ true → fold_text text ≡ text
+unfolding fold_byte is_digit
 digits_stay [] digits = refl
-digits_stay (b ∷ text) digits = grind (arith, common_steps, and_parts (is_digit b) (are_digits text) digits, digit_stays b, digits_stay text)
-
-are_digits-fold : (text : List ℕ) → are_digits (fold_text text) ≡ are_digits text
-are_digits-fold = all-fold is_digit is_digit-fold
+digits_stay (b ∷ text) digits = grind (arith, common_steps, nat_tests, and_parts (is_digit b) (are_digits text) digits, digits_stay text)
 
 number_weight-fold : (whole fraction : List ℕ) → number_weight (fold_text whole) (fold_text fraction) ≡ number_weight whole fraction
-number_weight-fold whole fraction = grind (arith, common_steps, digits_stay whole, digits_stay fraction, are_digits-fold whole, are_digits-fold fraction)
+number_weight-fold whole fraction = grind (arith, common_steps, digits_stay whole, digits_stay fraction, all-fold is_digit is_digit-fold whole, all-fold is_digit is_digit-fold fraction)
 
 value_weight-fold : (value behind : List ℕ) → value_weight (fold_text value) (fold_text behind) ≡ value_weight value behind
 value_weight-fold value behind =
@@ -64,12 +57,9 @@ value_weight-fold value behind =
 
 -- ---- parameters
 
-is_q-fold : (b : ℕ) → is_q (fold_byte b) ≡ is_q b
-unfolding fold_byte
-is_q-fold b = grind (arith, nat_tests)
-
 is_q_name-fold : (name : List ℕ) → is_q_name (fold_text name) ≡ is_q_name name
-is_q_name-fold name = grind (arith, common_steps, is_q-fold)
+unfolding fold_byte
+is_q_name-fold name = grind (arith, common_steps, nat_tests)
 
 is_q_parameter-fold : (parameter : List ℕ) → is_q_parameter (fold_text parameter) ≡ is_q_parameter parameter
 is_q_parameter-fold parameter =
@@ -101,7 +91,7 @@ wanted-fold item behind = grind (arith, common_steps, wanted_range-fold, paramet
 
 wanted_items-fold : (items : List (List ℕ)) → wanted_items (map fold_text items) ≡ map folded (wanted_items items)
 wanted_items-fold [] = refl
-wanted_items-fold (item ∷ items) = grind (arith, common_steps, wanted-fold item (digits_behind items), wanted_items-fold items, are_digits-fold)
+wanted_items-fold (item ∷ items) = grind (arith, common_steps, wanted-fold item (digits_behind items), wanted_items-fold items, all-fold is_digit is_digit-fold)
 
 -- those of a header in small letters are those of the header, in small letters
 wanted_elements-fold : (header : List ℕ) → wanted_elements (fold_text header) ≡ map folded (wanted_elements header)

@@ -7,9 +7,9 @@ use Rattle.langtag_scan.specs.Case.{fold_byte, fold_text}
 use Rattle.langtag_scan.proofs.CaseLaw.{all-fold, is_letter-fold, length-fold, segments-fold, classes-fold}
 use Rattle.langtag_scan.specs.Class.{is_letter, is_private_subtag}
 use Rattle.langtag_scan.specs.Subtags.{subtags}
-use Rattle.langtag_range.specs.Element.{is_space, from_first, trimmed}
+use Rattle.langtag_range.specs.Element.{from_first, trimmed}
 use Rattle.langtag_range.specs.Range.{is_star, is_first_subtag, is_basic_range}
-use Rattle.langtag_range.specs.Wanted.{hyphened_byte, hyphened}
+use Rattle.langtag_range.specs.Wanted.{hyphened}
 use Rattle.langtag_range.proofs.FoldedTexts.{reverse-fold}
 use Rattle.langtag_scan.specs.Stage.{Classes}
 
@@ -20,26 +20,20 @@ pub mark-fold : (mark : ℕ) → mark < 65 → (b : ℕ) → eqb (fold_byte b) m
 unfolding fold_byte
 mark-fold mark below b = grind (arith, nat_tests)
 
-is_space-fold : (b : ℕ) → is_space (fold_byte b) ≡ is_space b
-is_space-fold b = rw (mark-fold 32 (omega arith) b, mark-fold 9 (omega arith) b) refl
-
 pub underscore-fold : (b : ℕ) → eqb (fold_byte b) 95 ≡ eqb b 95
 unfolding fold_byte
 underscore-fold b = grind (arith, nat_tests)
 
-hyphened_byte-fold : (b : ℕ) → hyphened_byte (fold_byte b) ≡ fold_byte (hyphened_byte b)
-unfolding fold_byte
-hyphened_byte-fold b = grind (arith, common_steps, eqb_tells b 95, underscore-fold b)
-
 -- ---- texts
 
 pub hyphened-fold : (text : List ℕ) → hyphened (fold_text text) ≡ fold_text (hyphened text)
+unfolding fold_byte
 hyphened-fold [] = refl
-hyphened-fold (b ∷ text) = grind (arith, common_steps, hyphened_byte-fold b, hyphened-fold text)
+hyphened-fold (b ∷ text) = grind (arith, common_steps, eqb_tells b 95, underscore-fold b, hyphened-fold text)
 
 from_first-fold : (text : List ℕ) → from_first (fold_text text) ≡ fold_text (from_first text)
 from_first-fold [] = refl
-from_first-fold (b ∷ text) = grind (arith, common_steps, is_space-fold b, from_first-fold text)
+from_first-fold (b ∷ text) = grind (arith, common_steps, mark-fold 32 (omega arith) b, mark-fold 9 (omega arith) b, from_first-fold text)
 
 pub trimmed-fold : (text : List ℕ) → trimmed (fold_text text) ≡ fold_text (trimmed text)
 trimmed-fold text = grind (arith, common_steps, from_first-fold, reverse-fold)
@@ -54,12 +48,9 @@ is_star-fold (b ∷ c ∷ range) = rw (mark-fold 42 (omega arith) b) refl
 is_first_subtag-fold : (subtag : List ℕ) → is_first_subtag (fold_text subtag) ≡ is_first_subtag subtag
 is_first_subtag-fold subtag = rw (length-fold subtag, all-fold is_letter is_letter-fold subtag) refl
 
-is_private_subtag-fold : (subtag : List ℕ) → is_private_subtag (fold_text subtag) ≡ is_private_subtag subtag
-is_private_subtag-fold subtag = ap (λ (c : Classes). c.private_subtag) (classes-fold subtag)
-
 are_private-fold : (subtags : List (List ℕ)) → list_all is_private_subtag (map fold_text subtags) ≡ list_all is_private_subtag subtags
 are_private-fold [] = refl
-are_private-fold (subtag ∷ subtags) = rw (is_private_subtag-fold subtag, are_private-fold subtags) refl
+are_private-fold (subtag ∷ subtags) = rw (ap (λ (c : Classes). c.private_subtag) (classes-fold subtag), are_private-fold subtags) refl
 
 pub subtags-fold : (text : List ℕ) → subtags (fold_text text) ≡ map fold_text (subtags text)
 subtags-fold text = grind (arith, common_steps, segments-fold text)

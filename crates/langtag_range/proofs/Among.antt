@@ -3,10 +3,11 @@
 use Rattle.std.proofs.Common.{◌≡◌, ◌↔◌, ℕ, Bool, true, false, not, subst, IsTrue, List, [], ◌∷◌, ◌++◌, refl, ap, append_assoc, arith}
 use Rattle.std.proofs.lemmas.Bool.{and_parts, both_ways, not-true}
 use Rattle.std.proofs.lemmas.List.{length-map}
+use Rattle.std.proofs.lemmas.List.Folds.{list_all-append}
 use Rattle.std.proofs.lemmas.Grind.{common_steps}
 use Rattle.langtag_scan.specs.Case.{fold_byte, are_alike}
 use Rattle.langtag_scan.specs.Subtags.{subtags}
-use Rattle.langtag_range.specs.Extended.{have_no_single, StandAmong, without_stars, MatchSubtags, MatchesExtended, stand_among, match_subtags, test_extended}
+use Rattle.langtag_range.specs.Extended.{have_no_single, StandAmong, without_stars, MatchesExtended, stand_among, test_extended}
 use Rattle.langtag_scan.specs.Class.{is_single}
 use Rattle.langtag_range.specs.Range.{is_star}
 
@@ -14,14 +15,10 @@ use Rattle.langtag_range.specs.Range.{is_star}
 alike_single : (w t : List ℕ) → are_alike w t ≡ true → is_single t ≡ is_single w
 alike_single w t alike = grind (arith, common_steps, length-map t fold_byte, length-map w fold_byte)
 
-have_no_single-append : (a b : List (List ℕ)) → IsTrue (have_no_single a) → IsTrue (have_no_single b) → IsTrue (have_no_single (a ++ b))
-have_no_single-append [] b ha hb = hb
-have_no_single-append (s ∷ a) b ha hb = grind (arith, common_steps, and_parts (not (is_single s)) (have_no_single a) ha, have_no_single-append a b)
-
 -- subtags that are not singletons may stand before
 StandAmong-after : (extra : List (List ℕ)) → IsTrue (have_no_single extra) → (more rest : List (List ℕ)) → StandAmong more rest → StandAmong more (extra ++ rest)
 StandAmong-after extra none [] rest h = tt
-StandAmong-after extra none (w ∷ more) rest (left_out, found, later, cut, free, alike, h) = grind (arith, common_steps, append_assoc, have_no_single-append extra left_out none free)
+StandAmong-after extra none (w ∷ more) rest (left_out, found, later, cut, free, alike, h) = grind (arith, common_steps, append_assoc, list_all-append (λ s. not (is_single s)) extra left_out)
 
 -- a subtag that is the wanted one may be taken for it: what another choice leaves out after it has no singleton either
 among_found-from : (w t : List ℕ) (more ts : List (List ℕ)) → are_alike w t ≡ true → StandAmong (w ∷ more) (t ∷ ts) → StandAmong more ts
@@ -29,7 +26,7 @@ among_found-from w t more ts alike ([], found, rest, cut, free, same, h) = grind
 among_found-from w t more ts alike (s ∷ left_out, found, rest, cut, free, same, h) =
     let one : is_single found ≡ is_single s = grind (arith, common_steps, alike_single w found same, alike_single w t alike) in
     let later = StandAmong-after (left_out ++ found ∷ []) in
-    grind (arith, common_steps, and_parts (not (is_single s)) (have_no_single left_out) free, have_no_single-append left_out (found ∷ []), later, append_assoc left_out (found ∷ []) rest)
+    grind (arith, common_steps, and_parts (not (is_single s)) (have_no_single left_out) free, list_all-append (λ s. not (is_single s)) left_out (found ∷ []), later, append_assoc left_out (found ∷ []) rest)
 
 pub among_found : (w t : List ℕ) (more ts : List (List ℕ)) → are_alike w t ≡ true → StandAmong more ts ↔ StandAmong (w ∷ more) (t ∷ ts)
 among_found w t more ts alike = (λ h. ([], t, ts, refl, refl, alike, h), among_found-from w t more ts alike)
@@ -83,11 +80,8 @@ stand_among-decides (w ∷ more) [] = (λ no. absurd cc, λ stands. absurd (amon
 stand_among-decides (w ∷ more) (t ∷ ts) =
     grind (arith, common_steps, among_found w t more ts, among_left w t more ts, among_blocked w t more ts, stand_among-decides more ts, stand_among-decides (w ∷ more) ts)
 
-match_subtags-decides : (range tag : List (List ℕ)) → IsTrue (match_subtags range tag) ↔ MatchSubtags range tag
-match_subtags-decides range tag = grind (arith, common_steps, stand_among-decides, and_parts)
-
 pub test_extended-decides : (range tag : List ℕ) → IsTrue (test_extended range tag) ↔ MatchesExtended range tag
-test_extended-decides range tag = match_subtags-decides (subtags range) (subtags tag)
+test_extended-decides range tag = grind (arith, common_steps, stand_among-decides, and_parts)
 
 -- two tests of one statement are equal
 pub same_test : (a b : Bool) (P : Type 0) → IsTrue a ↔ P → IsTrue b ↔ P → a ≡ b

@@ -42,16 +42,11 @@ basic_form-free (b ∷ s) t free = grind (arith, common_steps, basic_form-byte b
 abbrev pub is_plain : List ℕ → Bool
 is_plain subtag = not (is_star subtag)
 
--- neither a hyphen nor a star
-starless_byte : (b : ℕ) → is_alphanumeric b ≡ true → (eqb b 45 ≡ false) × (eqb b 42 ≡ false)
-unfolding is_letter is_digit
-starless_byte b is = (grind (arith, nat_tests), grind (arith, nat_tests))
-
 -- a text of letters and digits is no star, and none begins behind a hyphen before it
 starless : (s t : List ℕ) → is_private_subtag s ≡ true → (is_star s ≡ false) × (begins_with_wildcard (45 ∷ s ++ t) ≡ false)
-unfolding is_private_subtag
+unfolding is_private_subtag is_letter is_digit
 starless [] t is = absurd cc
-starless (b ∷ s) t is = grind (arith, common_steps, and_parts (has_length 1 8 (b ∷ s)) (are_alphanumeric (b ∷ s)) is, and_parts (is_alphanumeric b) (are_alphanumeric s), starless_byte b)
+starless (b ∷ s) t is = grind (arith, common_steps, nat_tests, and_parts (has_length 1 8 (b ∷ s)) (are_alphanumeric (b ∷ s)) is, and_parts (is_alphanumeric b) (are_alphanumeric s))
 
 subtag_free : (s : List ℕ) → is_private_subtag s ≡ true → AllByRecursion (λ b. eqb b 45 ≡ false) s
 subtag_free s is = no_hyphen_each s (of_private_subtag s is).alphanumeric
@@ -71,21 +66,18 @@ each_free (s ∷ ss) each =
     grind (arith, common_steps, and_parts (is_range_subtag s) (are_range_subtags ss) each, All-from_recursion, range_free s, each_free ss)
 
 module _ (first : List ℕ) (others : List (List ℕ)) (is : are_extended_range (first ∷ others) ≡ true) where
-  others_in_range : are_range_subtags others ≡ true
-  others_in_range = (and_parts (is_star first || is_first_subtag first) (are_range_subtags others) is).1
-
-  first_range : is_range_subtag first ≡ true
-  first_range = first_in_range first (and_parts (is_star first || is_first_subtag first) (are_range_subtags others) is).0
+  each_in_range : (is_range_subtag first ≡ true) × (are_range_subtags others ≡ true)
+  each_in_range = grind (arith, common_steps, and_parts (is_star first || is_first_subtag first) (are_range_subtags others) is, first_in_range first)
 
   -- the first subtag stays, and of the others those that are not "*"
   basic_form-join : basic_form (join (first ∷ others)) ≡ join (first ∷ filter is_plain others)
-  basic_form-join = grind (arith, common_steps, join-hyphenated, basic_form-free, range_free, first_range, basic_form-hyphenated, others_in_range)
+  basic_form-join = grind (arith, common_steps, join-hyphenated, basic_form-free, range_free, each_in_range, basic_form-hyphenated)
 
   -- the subtags of a range are found again in their join
   subtags-range : subtags (join (first ∷ others)) ≡ first ∷ others
   subtags-range =
-      subtags-segments (join (first ∷ others)) (omega (arith, length-join first others, (range_free first first_range).1))
-      ∙ segments-join first others (All-from_recursion IsHyphenFree (first ∷ others) (each_free (first ∷ others) (rw (first_range, others_in_range) refl)))
+      subtags-segments (join (first ∷ others)) (omega (arith, length-join first others, (range_free first each_in_range.0).1))
+      ∙ segments-join first others (All-from_recursion IsHyphenFree (first ∷ others) (each_free (first ∷ others) (rw (each_in_range.0, each_in_range.1) refl)))
 
 filter_range : (ss : List (List ℕ)) → are_range_subtags ss ≡ true → are_range_subtags (filter is_plain ss) ≡ true
 filter_range [] each = refl
@@ -106,7 +98,7 @@ basic_of text is = by_subtags (subtags text) refl is
   where
     by_subtags : (ss : List (List ℕ)) → subtags text ≡ ss → are_extended_range ss ≡ true → IsBasicOf text (basic_form text)
     by_subtags ss are range =
-        grind (arith, common_steps, and_parts, filter_range, others_in_range, join-subtags text, basic_form-join, subtags-range, filter_twice)
+        grind (arith, common_steps, and_parts, filter_range, each_in_range, join-subtags text, basic_form-join, subtags-range, filter_twice)
 
 -- ---- a range without "*" is its own basic form
 

@@ -6,7 +6,6 @@ pub mod BasicForms
 pub mod BasicRanges
 pub mod FoldedTexts
 pub mod Hyphens
-pub mod PlainRanges
 pub mod Prefixes
 pub mod Spaces
 pub mod Thousandths

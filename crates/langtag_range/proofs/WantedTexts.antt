@@ -14,17 +14,13 @@ use Rattle.langtag_range.specs.Locale.{is_hash}
 use Rattle.langtag_range.specs.Range.{is_star, is_first_subtag, is_range_subtag, are_basic_range, are_basic_subtags, are_extended_range, are_range_subtags, is_basic_range, is_language_range}
 use Rattle.langtag_scan.proofs.SubtagFacts.{letters_alphanumeric}
 use Rattle.langtag_scan.proofs.Places.{any_at_first, none_at_length}
-use Rattle.langtag_range.specs.Wanted.{hyphened_byte, hyphened, is_separator, is_q_name, is_q_parameter, is_equals, is_point, number_weight, value_weight, wanted_weight, wanted, digits_behind, wanted_items, wanted_elements}
+use Rattle.langtag_range.specs.Wanted.{hyphened, is_separator, is_q_name, is_q_parameter, is_equals, is_point, number_weight, value_weight, wanted_weight, wanted, digits_behind, wanted_items, wanted_elements}
 
 -- ---- the subtags of a text in which a byte is read as a hyphen
 
-other_byte : (b : ℕ) → is_separator b ≡ false → hyphened_byte b ≡ b
-other_byte b other = grind (arith, nat_tests)
-
--- they hold no such byte
 pub segments-read : (text : List ℕ) → segments (hyphened text) ≡ slice_split is_separator text
 segments-read [] = refl
-segments-read (b ∷ text) = grind (arith, common_steps, segments-read text, other_byte b, nat_tests)
+segments-read (b ∷ text) = grind (arith, common_steps, segments-read text, nat_tests)
 
 -- ---- the parts of a list that is cut
 
@@ -50,17 +46,13 @@ pub first_in_range : (text : List ℕ) → (is_star text || is_first_subtag text
 first_in_range text is =
     grind (arith, common_steps, or_cases (is_star text) (is_first_subtag text) is, or_right (is_star text) (is_private_subtag text), first_private text)
 
--- a first part that passes a narrower test passes the wider one
-and_absorb : (a b c : Bool) → (a ≡ true → b ≡ true) → (a && c) ≡ (a && (b && c))
-and_absorb a b c both = grind (arith, common_steps)
-
 basic_parts : (first : List ℕ) (others : List (List ℕ)) → are_basic_range (first ∷ others) ≡ (is_first_subtag first && are_basic_subtags (first ∷ others))
-basic_parts first others = and_absorb (is_first_subtag first) (is_private_subtag first) (are_basic_subtags others) (first_private first)
+basic_parts first others = grind (arith, common_steps, first_private first)
 
 pub extended_parts :
     (first : List ℕ) (others : List (List ℕ)) →
     are_extended_range (first ∷ others) ≡ ((is_star first || is_first_subtag first) && are_range_subtags (first ∷ others))
-extended_parts first others = and_absorb (is_star first || is_first_subtag first) (is_range_subtag first) (are_range_subtags others) (first_in_range first)
+extended_parts first others = grind (arith, common_steps, first_in_range first)
 
 -- what is seen of the first part and of all parts is seen of the subtags of a text
 seen_parts :

@@ -1,8 +1,7 @@
 -- How the order of texts without regard to case goes on from an index, and what it answers where a text has ended.
-use Rattle.std.proofs.Common.{◌≡◌, ℕ, suc, ◌+◌, ◌-◌, ◌<◌, min, true, false, cond, List, [], ◌∷◌, length, get_or, take, drop, refl, ◌∙◌, Fits, w8, arith, add-one, length-drop, Less, Greater, Ordering}
+use Rattle.std.proofs.Common.{◌≡◌, ℕ, suc, ◌+◌, ◌-◌, ◌<◌, min, true, false, cond, List, [], ◌∷◌, length, get_or, take, drop, refl, ◌∙◌, Fits, w8, arith, add-one, length-drop, Less, Greater, Ordering, get_or-drop}
 use Rattle.std.specs.Ordering.{nat_cmp, ordering_then, is_ne}
 use Rattle.std.proofs.Math.Seq.{drop-cons}
-use Rattle.std.proofs.lemmas.List.{get_or-drop}
 use Rattle.std.proofs.lemmas.Grind.{common_steps}
 use Rattle.langtag_scan.specs.Case.{fold_byte, Alike, case_cmp, EndsFirst}
 

@@ -1,6 +1,5 @@
 -- The subtags of a well-formed record are decoded, and give that record.
-use Rattle.std.proofs.Common.{◌≡◌, ℕ, ◌+◌, ◌-◌, ◌≤◌, true, cond, eqb, leb, List, [], ◌∷◌, ◌++◌, length, Option, Some, None, ◌⊎◌, refl, ◌∙◌, arith, append_assoc}
-use Rattle.std.specs.Prelude.{IsTrue, IfSome}
+use Rattle.std.proofs.Common.{◌≡◌, ℕ, ◌+◌, ◌-◌, ◌≤◌, true, cond, eqb, leb, List, [], ◌∷◌, ◌++◌, length, Option, Some, None, ◌⊎◌, refl, ◌∙◌, arith, append_assoc, IsTrue, IfSome}
 use Rattle.std.specs.List.{AllByRecursion, flat_map}
 use Rattle.std.proofs.lemmas.Bool.{and_from, eq-eqb, lt-ltb, le-leb}
 use Rattle.std.proofs.lemmas.Grind.{common_steps}

@@ -1,8 +1,7 @@
 -- The ends that are kept subtag by subtag are those of the record: each part ends where the part before it does, and
 -- as many bytes later as its subtags have, each after a hyphen.
-use Rattle.std.proofs.Common.{◌≡◌, subst, drop, ℕ, zero, suc, ◌+◌, ◌≤◌, true, false, cond, leb, List, [], ◌∷◌, length, Some, refl, sym, ◌∙◌, arith}
+use Rattle.std.proofs.Common.{◌≡◌, subst, drop, ℕ, zero, suc, ◌+◌, ◌≤◌, true, false, cond, leb, List, [], ◌∷◌, length, Some, refl, sym, ◌∙◌, arith, length-append}
 use Rattle.std.proofs.lemmas.Bool.Decides.{nat_tests}
-use Rattle.std.proofs.lemmas.List.{length-append}
 use Rattle.std.proofs.lemmas.Grind.{common_steps}
 use Rattle.langtag_scan.specs.Ends.{ends_of}
 use Rattle.langtag_scan.specs.Machine.{all_at, end_at, index_after}

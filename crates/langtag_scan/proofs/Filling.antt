@@ -1,6 +1,5 @@
 -- A subtag that has begun, filled to five letters, may stand wherever it has begun, and a tag may end after it.
-use Rattle.std.proofs.Common.{◌≡◌, ℕ, zero, suc, ◌-◌, ◌≤◌, true, List, ◌++◌, length, Some, refl, ◌∙◌, arith, ne_eqb, cond, [], None, ap}
-use Rattle.std.specs.Prelude.{replicate}
+use Rattle.std.proofs.Common.{◌≡◌, ℕ, zero, suc, ◌-◌, ◌≤◌, true, List, ◌++◌, length, Some, refl, ◌∙◌, arith, ne_eqb, cond, [], None, ap, replicate}
 use Rattle.std.proofs.lemmas.Bool.{le-leb, lt-leb}
 use Rattle.std.proofs.lemmas.List.{length-append, length-replicate}
 use Rattle.std.proofs.lemmas.List.Folds.{list_all-append}

@@ -1,7 +1,6 @@
 -- The numbers of texts of letters and digits tell them apart but for case.
-use Rattle.std.proofs.Common.{◌≡◌, ℕ, ◌+◌, ◌*◌, ◌<◌, ◌≤◌, true, ◌==◌, List, [], ◌∷◌, Bool, refl, sym, arith, rules}
-use Rattle.std.specs.List.{fold, list_any, list_all, AllByRecursion}
-use Rattle.std.specs.Prelude.{map}
+use Rattle.std.proofs.Common.{◌≡◌, ℕ, ◌+◌, ◌*◌, ◌<◌, ◌≤◌, true, ◌==◌, List, [], ◌∷◌, Bool, refl, arith, rules, map}
+use Rattle.std.specs.List.{list_any, list_all, AllByRecursion}
 use Prim.Native.Nat.{◌^◌}
 use Rattle.std.proofs.Math.Nat.{pow-le-pow_right}
 use Rattle.std.proofs.lemmas.Grind.{pow_more, common_steps}
@@ -27,12 +26,9 @@ fold_digits : (text : List ℕ) → are_alphanumeric text ≡ true → AllByRecu
 fold_digits [] h = tt
 fold_digits (b ∷ text) h = let k = and_parts (is_alphanumeric b) (are_alphanumeric text) h in (fold_digit b k.0, fold_digits text k.1)
 
-folded_number-fold : (text : List ℕ) → folded_number text ≡ fold (λ number d. number * 256 + d) 0 (fold_text text)
-unfolding folded_number
-folded_number-fold text = sym (fold-map (λ number d. number * 256 + d) fold_byte 0 text)
-
 pub folded_number-tells : (a b : List ℕ) → are_alphanumeric a ≡ true → are_alphanumeric b ≡ true → (folded_number b == folded_number a) ≡ are_alike a b
-folded_number-tells a b al bl = search (rules, eqb_tells, digits-same, base_256, fold_digits, folded_number-fold, false_from_ne_true)
+unfolding folded_number
+folded_number-tells a b al bl = search (rules, eqb_tells, digits-same, base_256, fold_digits, fold-map, false_from_ne_true)
 
 -- ---- a text is one of a list where its number is one of the list's numbers
 

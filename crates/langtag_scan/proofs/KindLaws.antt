@@ -1,13 +1,12 @@
 -- The kind of a subtag and its length tell its classes.
-use Rattle.std.proofs.Common.{◌≡◌, ℕ, suc, ◌≤◌, Bool, true, false, eqb, ne_eqb, not, ◌&&◌, List, [], ◌∷◌, length, refl, sym, ap, ◌∙◌, arith}
+use Rattle.std.proofs.Common.{◌≡◌, ℕ, suc, ◌≤◌, Bool, true, false, eqb, ne_eqb, not, ◌&&◌, List, [], ◌∷◌, length, refl, sym, ap, ◌∙◌, arith, fold}
 use Rattle.std.proofs.Math.Bool.{and-true, and_assoc}
-use Rattle.std.specs.Prelude.{fold}
 use Rattle.std.proofs.lemmas.Bool.{le-leb, and_parts, false_from_ne_true, both_ways}
 use Rattle.std.proofs.lemmas.Bool.Decides.{nat_tests}
 use Rattle.std.proofs.lemmas.Grind.{common_steps}
 use Rattle.langtag_scan.specs.Class.{is_letter, is_digit, is_alphanumeric, are_letters, are_digits, are_alphanumeric, is_primary, is_extended, is_script, is_region, is_variant, is_extension_subtag, is_private_subtag, is_mark, is_singleton}
 use Rattle.langtag_scan.specs.Kind.{Kind, Empty, kind_after, kind_of, has_letters, has_digits, begins_with_digit, is_kind_of_mark, classes_by}
-use Rattle.langtag_scan.specs.Stage.{is_one, classes_of}
+use Rattle.langtag_scan.specs.Stage.{classes_of}
 use Rattle.langtag_scan.proofs.Disjoint.{letter_no_digit}
 use Rattle.langtag_scan.proofs.SubtagFacts.{mark_letters}
 
@@ -58,13 +57,9 @@ not_one n v = rw (ne_eqb (suc (suc n)) 1 (λ e. omega arith)) refl
 one_mark : (b : ℕ) → is_mark b ≡ is_kind_of_mark (kind_after Empty b)
 one_mark b = grind (arith, common_steps, both_ways, mark_letters (b ∷ []))
 
-singleton-kind : (s : List ℕ) → are_alphanumeric s ≡ true → is_one is_singleton s ≡ (eqb (length s) 1 && not (is_kind_of_mark (kind_of s)))
-unfolding is_singleton
-singleton-kind s h = grind (arith, common_steps, and_parts, one_mark, not_one (length s))
-
 pub classes_of-kind : (s : List ℕ) → length s ≤ 8 → are_alphanumeric s ≡ true → classes_of s ≡ classes_by (kind_of s) (length s)
-unfolding is_primary is_extended is_script is_region is_variant is_extension_subtag is_private_subtag
-classes_of-kind s short h = grind (arith, common_steps, letters-kind, digits-kind, and_parts, digit-letter, begins-kind, some_after, singleton-kind, le-leb, and-true, one_mark, not_one)
+unfolding is_primary is_extended is_script is_region is_variant is_extension_subtag is_private_subtag is_singleton
+classes_of-kind s short h = grind (arith, common_steps, letters-kind, digits-kind, and_parts, digit-letter, begins-kind, some_after, le-leb, and-true, one_mark, not_one)
 
 -- letters alone
 pub letters-kind_of : (s : List ℕ) → are_letters s ≡ has_letters (kind_of s)

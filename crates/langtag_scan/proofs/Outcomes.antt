@@ -1,14 +1,12 @@
 -- What the stages find of a text is what it is: a normal tag with the ends of its parts, a private use tag, or neither.
-use Rattle.std.proofs.Common.{◌≡◌, ℕ, Bool, true, false, cond, List, [], ◌∷◌, Some, None, refl, sym, ap, subst, arith, ◌∙◌}
-use Rattle.std.specs.Prelude.{Option, MatchOption}
+use Rattle.std.proofs.Common.{◌≡◌, ℕ, Bool, false, cond, List, [], ◌∷◌, Some, None, refl, ap, arith, sym, subst, ◌∙◌, Option, MatchOption}
 use Rattle.std.specs.Option.{option_map_or}
 use Rattle.std.proofs.lemmas.Bool.{both_ways}
 use Rattle.std.proofs.lemmas.Grind.{common_steps}
-use Rattle.langtag_scan.specs.Class.{is_primary, is_mark}
 use Rattle.langtag_scan.specs.Ends.{HasEnds}
 use Rattle.langtag_scan.specs.Found.{IsFoundOf}
 use Rattle.langtag_scan.specs.Machine.{all_at, end_at, index_after, outcome, outcome_of, IsRefused}
-use Rattle.langtag_scan.specs.Stage.{Stage, Start, InPrivate, AfterMark, AfterFirstMark, InPrivateTag, is_one, next_stage}
+use Rattle.langtag_scan.specs.Stage.{Stage, Start, InPrivate, AfterMark, AfterFirstMark, InPrivateTag, next_stage}
 use Rattle.langtag_scan.specs.Subtags.{segments}
 use Rattle.langtag_scan.specs.Tag.{IsNormal}
 use Rattle.langtag_scan.specs.declared.ends.Ends.{Ends}
@@ -56,15 +54,7 @@ marked_outcome (s ∷ ss) e = private_outcome (s ∷ ss) e
 
 -- ---- the whole text: its first subtag says which rule it follows
 
-other_outcome :
-    (s : List ℕ) (ss : List (List ℕ)) (e : Ends) → is_primary s ≡ false → outcome Start e (s ∷ ss) ≡ found_if (runs_private (s ∷ ss)) PrivateUse
-unfolding outcome
-other_outcome s ss e other = grind (arith, common_steps, marked_outcome)
-
 -- ---- what the rules say of the text
-
-primary_unmarked : (s : List ℕ) → is_primary s ≡ true → is_one is_mark s ≡ false
-primary_unmarked s h = grind (arith, common_steps, one_no_primary)
 
 -- what is found by the one rule or the other
 abbrev found_of : List ℕ → Bool → Bool → Option Finding
@@ -76,7 +66,7 @@ Decides t found = MatchOption found (IsRefused t) (λ f. IsFoundOf t f)
 
 by_rules : (t s : List ℕ) (ss : List (List ℕ)) → segments t ≡ s ∷ ss → outcome_of t ≡ found_of t (runs Start (segments t)) (runs_private (segments t))
 unfolding runs outcome ends_after is_outside
-by_rules t s ss at = grind (arith, common_steps, normal_outcome, primary_unmarked, other_outcome)
+by_rules t s ss at = grind (arith, common_steps, normal_outcome, one_no_primary, marked_outcome)
 
 decides :
     (t : List ℕ) (normal private : Bool) → runs Start (segments t) ≡ normal → runs_private (segments t) ≡ private →

@@ -1,6 +1,5 @@
 -- What a position says is so: which tags may follow the bytes that led to it, and where their parts have ended.
-use Rattle.std.proofs.Common.{◌≡◌, ℕ, ◌+◌, ◌<◌, ◌≤◌, Bool, true, false, cond, eqb, eqb-true, ne_eqb, List, [], ◌∷◌, ◌++◌, length, get_or, set, Option, Some, None, refl, arith, append_assoc, append-nil, sym, ap, subst, ◌∙◌}
-use Rattle.std.specs.Prelude.{MatchOption, replicate}
+use Rattle.std.proofs.Common.{◌≡◌, ℕ, ◌+◌, ◌<◌, ◌≤◌, Bool, true, false, cond, eqb, eqb-true, ne_eqb, List, [], ◌∷◌, ◌++◌, length, get_or, set, Option, Some, None, refl, arith, append_assoc, append-nil, sym, ap, subst, ◌∙◌, MatchOption, replicate}
 use Rattle.std.specs.Option.{option_map, option_map_or}
 use Rattle.std.proofs.Math.Bool.{and-true}
 use Rattle.std.proofs.lemmas.Bool.{cases_lt, and_parts, and_left, lt-ltb, ltb-true, both_ways}

@@ -1,7 +1,6 @@
 -- Each grandfathered text is a tag: the irregular ones by a rule of their own, and the regular ones as normal tags.
-use Rattle.std.proofs.Common.{◌≡◌, ℕ, Bool, true, ltb, ◌&&◌, ◌||◌, List, [], get_or, slice_get, None, Some, inl, inr, refl, sym, ap, ◌∙◌}
+use Rattle.std.proofs.Common.{◌≡◌, ℕ, Bool, true, ltb, ◌&&◌, ◌||◌, List, [], get_or, slice_get, None, Some, inl, inr, refl, sym, ap, ◌∙◌, bytes_eq}
 use Rattle.std.specs.Cmp.Lexicographic.{bytes_decides}
-use Rattle.std.specs.Str.{bytes_eq}
 use Rattle.std.proofs.lemmas.Bool.{ltb-true, and_parts, or_cases, agree_below_at}
 use Rattle.std.proofs.lemmas.Option.{slice_get_within, get_or_from_slice_get}
 use Rattle.langtag_scan.specs.Case.{fold_byte, fold_text}

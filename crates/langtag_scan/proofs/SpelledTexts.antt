@@ -1,11 +1,10 @@
 -- A normal text: its one record, the offsets where its parts end, and what a fact of which only the truth is known
 -- says of them.
-use Rattle.std.proofs.Common.{◌≡◌, ℕ, List, length, refl, sym, ◌∙◌, arith}
+use Rattle.std.proofs.Common.{◌≡◌, ℕ, List, length, refl, sym, ◌∙◌, arith, IsAscii}
 use Rattle.std.proofs.Math.Logic.{∥∥₁_elim, ∥∥₁_prop}
 use Rattle.std.proofs.Props.{props}
 use Rattle.std.proofs.lemmas.Grind.{common_steps}
 use mathlib.Core.Bool.{Bool-set}
-use Rattle.std.specs.Str.{IsAscii}
 use Rattle.langtag_scan.specs.Ends.{ends_of, HasEnds}
 use Rattle.langtag_scan.specs.Parts.{AreInOrder}
 use Rattle.langtag_scan.specs.Record.{EachRecord, flat}

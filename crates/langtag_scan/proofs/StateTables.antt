@@ -1,6 +1,5 @@
 -- What the tables say of the state of a position is what the grammar says of the position: by computation.
-use Rattle.std.proofs.Common.{◌≡◌, ℕ, ◌+◌, ◌-◌, ◌<◌, ◌≤◌, Bool, true, false, cond, eqb, eqb-true, eq-eqb, ne_eqb, ltb, leb, not, ◌&&◌, ◌||◌, List, [], ◌∷◌, ◌++◌, length, take, get_or, Option, Some, None, refl, ap, ◌∙◌, arith, zero, suc, drop, inl, inr, sym, subst}
-use Rattle.std.specs.Prelude.{codes, fold, MatchOption}
+use Rattle.std.proofs.Common.{◌≡◌, ℕ, ◌+◌, ◌-◌, ◌<◌, ◌≤◌, Bool, true, false, cond, eqb, eqb-true, eq-eqb, ne_eqb, ltb, leb, not, ◌&&◌, ◌||◌, List, [], ◌∷◌, ◌++◌, length, take, get_or, Option, Some, None, refl, ap, ◌∙◌, arith, zero, suc, drop, inl, inr, sym, subst, codes, fold, MatchOption}
 use Rattle.std.specs.List.{list_all}
 use Rattle.std.specs.Option.{option_map_or, option_map}
 use Rattle.std.specs.Cmp.{booleans_Decides}

@@ -10,6 +10,7 @@ use Rattle.std.proofs.lemmas.Grind.{common_steps}
 use Rattle.langtag_scan.specs.Subtags.{is_hyphen, IsHyphenFree, join, segments, subtags, segments_left}
 use Rattle.langtag_scan.proofs.Joins.{length-join}
 use Rattle.langtag_scan.proofs.SubtagFacts.{IsSubtag, no_hyphen}
+use Rattle.std.proofs.lemmas.Str.{IsCharBoundary-after_ascii}
 
 -- ---- the first and the last segment
 
@@ -112,3 +113,6 @@ pub length-after_first : (text : List ℕ) → length (drop 1 (subtags text)) �
 length-after_first text = omega (arith, length-drop 1 (subtags text), length-subtags text)
 
 -- ---- cuts
+
+-- where a text is cut after a hyphen
+pub ruleset splits = (IsCharBoundary-after_ascii)

@@ -2,11 +2,8 @@
 -- equivalence, and the order is total. Two texts are equal in the order exactly if they are alike, and alike texts feed
 -- a hasher the same bytes. Each law is stated once for texts, and then for a type K, where `f` maps a value of K to its
 -- text.
-use Rattle.std.specs.Prelude.{◌≡◌, ℕ, IsTrue, List, [], ◌∷◌, ◌++◌, map, refl, ◌==◌, ◌&&◌}
-use Rattle.std.proofs.Common.{ap, sym, ◌∙◌}
+use Rattle.std.proofs.Common.{ap, sym, ◌∙◌, ◌≡◌, ℕ, IsTrue, List, [], ◌∷◌, ◌++◌, map, refl, ◌==◌, ◌&&◌, Decides, bytes_eq}
 use Rattle.std.proofs.Math.Bool.{and-false}
-use Rattle.std.specs.Bool.{Decides}
-use Rattle.std.specs.Str.{bytes_eq}
 use Rattle.std.specs.Ordering.{nat_cmp, on, eq_by_cmp, as_partial_cmp}
 use Rattle.std.specs.Cmp.{IsEquivalence, IsPartialEquivalence, IsTotalOrder, IsPartialOrder, Agrees, partial_equiv_from_equiv, on_equiv, on_total, unsigned_ties, partial_order_from_agreeing_total}
 use Rattle.std.specs.Cmp.Lexicographic.{nat_list_cmp_total, nat_list_eq_equiv, lists_ties, bytes_decides}

@@ -1,6 +1,5 @@
 -- Where the parts of a normal tag end.
-use Rattle.std.specs.Prelude.{◌≡◌, ℕ, List, ◌∷◌, ◌++◌, length}
-use Rattle.std.specs.List.{flat_map}
+use Rattle.std.specs.Prelude.{◌≡◌, ℕ, List, ◌∷◌, ◌++◌, length, flat_map}
 use Rattle.langtag_scan.specs.Subtags.{join}
 use Rattle.langtag_scan.specs.Record.{Record, Spells, extension_flat, one_flat, spell}
 use Rattle.langtag_scan.specs.declared.ends.Ends.{Ends}

@@ -1,8 +1,6 @@
 -- The grandfathered tags (RFC 5646 section 2.2.8), in the order in which section 2.1 lists them: first the irregular
 -- tags, which fit no other rule of the grammar, and then the regular tags.
-use Rattle.std.specs.Prelude.{ℕ, List, [], ◌∷◌, map, codes, Option, Some, None}
-use Rattle.std.specs.List.{filter}
-use Rattle.std.specs.Option.{is_none}
+use Rattle.std.specs.Prelude.{ℕ, List, [], ◌∷◌, map, codes, Option, Some, None, filter, is_none}
 
 -- a grandfathered tag: its registered spelling, and its primary language subtag if it is regular
 pub record Grandfathered : Type 0 where

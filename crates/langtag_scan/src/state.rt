@@ -51,6 +51,7 @@ pub(crate) enum Ending {
 
 impl State {
     /// Returns the state before the first byte.
+    #[tactic(auto, using(crate::proofs::StateTables::stands_nothing))]
     pub(crate) fn start() -> Self
         ensures { Stands [] result.number }
     {

@@ -99,6 +99,7 @@ impl<'a> DoubleEndedIterator for Subtags<'a> {
 
 /// Returns the text before the first hyphen and the text after it. If there is no hyphen, returns the whole text and
 /// `None`.
+#[tactic(auto, using(crate::proofs::SubtagLists::splits))]
 fn split_first<'a>(text: &'a str) -> (&'a str, Option<&'a str>)
     ensures hyphen_free { IsHyphenFree result.0.now }
     ensures joined { MatchOption result.1 (text.now ≡ result.0.now)
@@ -113,6 +114,7 @@ fn split_first<'a>(text: &'a str) -> (&'a str, Option<&'a str>)
 
 /// Returns the text before the last hyphen and the text after it. If there is no hyphen, returns `None` and the whole
 /// text.
+#[tactic(auto, using(crate::proofs::SubtagLists::splits))]
 fn split_last<'a>(text: &'a str) -> (Option<&'a str>, &'a str)
     ensures hyphen_free { IsHyphenFree result.1.now }
     ensures joined { MatchOption result.0 (text.now ≡ result.1.now)

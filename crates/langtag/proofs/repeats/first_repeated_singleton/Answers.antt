@@ -17,12 +17,6 @@ loop-index-init c = record {
   left = λ es spells. sym (c.iter-extension-items.ensures.list es spells);
 }
 
-pub bounds-seen-byte : goal.bounds-seen-byte
-bounds-seen-byte c = fold_singleton-below c.unwrap.result c.into_smallcase-byte.result c.unwrap.ensures.in_class c.into_smallcase-byte.ensures
-
-pub bounds-seen-byte-in-loop-index : goal.bounds-seen-byte-in-loop-index
-bounds-seen-byte-in-loop-index c = fold_singleton-below c.unwrap.result c.into_smallcase-byte.result c.unwrap.ensures.in_class c.into_smallcase-byte.ensures
-
 pub returns-then-seen-byte : goal.returns-then-seen-byte
 returns-then-seen-byte c es spells =
     let index = c.loop-index.index in

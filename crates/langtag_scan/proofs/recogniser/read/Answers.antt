@@ -1,10 +1,9 @@
-use Rattle.std.proofs.Common.{arith, ◌≡◌, ◌+◌, ◌<◌, [], ◌∷◌, ◌++◌, length, take, get_or, set, sym, ap, subst, ◌∙◌}
+use Rattle.std.proofs.Common.{arith, ◌≡◌, ◌+◌, ◌<◌, [], ◌∷◌, ◌++◌, length, take, get_or, set, sym, ap, subst, ◌∙◌, replicate}
 use Rattle.std.proofs.lemmas.Grind.{common_steps}
 use Rattle.langtag_scan.specs.declared.finding.Finding.TheVariants as finding
 use Rattle.langtag_scan.proofs.PositionLaws.{tracks_nothing, Tracks}
-use Rattle.langtag_scan.proofs.RecogniserLaws.{viable_nothing, alive_viable, next_prefix, tracks_first, tracks_next, dead_next, text_ended, whole_stop}
+use Rattle.langtag_scan.proofs.RecogniserLaws.{viable_nothing, alive_viable, next_prefix, tracks_first, tracks_next, dead_next, text_ended}
 use Rattle.langtag_scan.proofs.StateTables.{stands_nothing, stands_ending}
-use Rattle.std.specs.Prelude.{replicate}
 use Rattle.langtag_scan.specs.Machine.{ends_at}
 use Rattle.langtag_scan.specs.Found.{IsFoundOf}
 use Rattle.langtag_scan.specs.Position.{position_of, is_dead}
@@ -57,9 +56,6 @@ returns-then-len-eq0-clause-found g c =
     let t = g.S.ByteSource.bytes c.args.source.now in
     text_ended t (replicate 6 0) 0 NoTag (omega (arith, c.len-len.ensures, c.if-len-eq0.true)) tracks_nothing (stands_ending [] 0 (omega arith) stands_nothing)
 
-pub returns-then-len-eq0-clause-reads : goal.returns-then-len-eq0-clause-reads
-returns-then-len-eq0-clause-reads g c = grind (arith, common_steps, whole_stop (g.S.ByteSource.bytes c.args.source.now) 0, viable_nothing)
-
 pub returns-in_err-state-clause-found : goal.returns-in_err-state-clause-found
 returns-in_err-state-clause-found g c =
     let t = g.S.ByteSource.bytes c.args.source.now in
@@ -74,25 +70,10 @@ returns-in_err-state-clause-reads g c =
     (1, stop, omega arith, omega arith)
 
 pub returns-in_err-state-2-clause-found : goal.returns-in_err-state-2-clause-found
-returns-in_err-state-2-clause-found g c =
-    let t = g.S.ByteSource.bytes c.args.source.now in
-    let i = c.loop-index.index in
-    let byte = c.byte-in-loop-index in
-    let known = c.loop-index.invariant in
-    let is_next = byte.ensures.value ∙ ap (λ l. get_or l i 0) known.bytes in
-    let dead = c.in_err-state-2.ensures (take i t) known.stands in
-    rw c.from_residual-in_err-state-2.ensures (dead_next t c.loop-index.marks.places i byte.result (omega (arith, c.len-len.ensures)) is_next known.viable known.tracks dead).0
+returns-in_err-state-2-clause-found g c = grind (arith, common_steps, dead_next (g.S.ByteSource.bytes c.args.source.now) c.loop-index.marks.places c.loop-index.index)
 
 pub returns-in_err-state-2-clause-reads : goal.returns-in_err-state-2-clause-reads
-returns-in_err-state-2-clause-reads g c =
-    let t = g.S.ByteSource.bytes c.args.source.now in
-    let i = c.loop-index.index in
-    let byte = c.byte-in-loop-index in
-    let known = c.loop-index.invariant in
-    let is_next = byte.ensures.value ∙ ap (λ l. get_or l i 0) known.bytes in
-    let dead = c.in_err-state-2.ensures (take i t) known.stands in
-    let stop = (dead_next t c.loop-index.marks.places i byte.result (omega (arith, c.len-len.ensures)) is_next known.viable known.tracks dead).1 in
-    (i + 1, stop, omega arith, omega arith)
+returns-in_err-state-2-clause-reads g c = grind (arith, common_steps, dead_next (g.S.ByteSource.bytes c.args.source.now) c.loop-index.marks.places c.loop-index.index)
 
 pub returns-in-NoTag-clause-found : goal.returns-in-NoTag-clause-found
 returns-in-NoTag-clause-found g c =
@@ -123,15 +104,3 @@ returns-in-Normal-clause-found g c =
     let ended = text_ended t c.loop-index.marks.places c.loop-index.index (Normal c.in-Normal.last) at known.tracks (sym c.in-Normal.is ∙ c.ending.ensures.ending (take c.loop-index.index t) known.stands) in
     let ends = c.ends.ensures ∙ ap (λ places. ends_at places c.len-len.result) c.set-in-Normal.ensures ∙ ap (λ n. ends_at (set c.loop-index.marks.places c.in-Normal.last n) n) c.len-len.ensures in
     subst (λ e. IsFoundOf t (finding.Normal e)) (sym ends) ended
-
-pub returns-in-NoTag-clause-reads : goal.returns-in-NoTag-clause-reads
-returns-in-NoTag-clause-reads g c = grind (arith, common_steps, whole_stop (g.S.ByteSource.bytes c.args.source.now) c.loop-index.index)
-
-pub returns-in-Normal-clause-reads : goal.returns-in-Normal-clause-reads
-returns-in-Normal-clause-reads g c = grind (arith, common_steps, whole_stop (g.S.ByteSource.bytes c.args.source.now) c.loop-index.index)
-
-pub returns-in-PrivateUse-clause-reads : goal.returns-in-PrivateUse-clause-reads
-returns-in-PrivateUse-clause-reads g c = grind (arith, common_steps, whole_stop (g.S.ByteSource.bytes c.args.source.now) c.loop-index.index)
-
-pub returns-in-Irregular-clause-reads : goal.returns-in-Irregular-clause-reads
-returns-in-Irregular-clause-reads g c = grind (arith, common_steps, whole_stop (g.S.ByteSource.bytes c.args.source.now) c.loop-index.index)

@@ -1,5 +1,4 @@
-use Rattle.std.proofs.Common.{None, Some, map, slice_get, sym, ap, ◌∙◌}
-use Rattle.std.specs.Option.{option_and_then, option_map}
+use Rattle.std.proofs.Common.{None, Some, map, slice_get, sym, ap, ◌∙◌, option_and_then, option_map}
 use Rattle.std.proofs.lemmas.Iterator.Consumers.{YieldsList-from_first, nth_from_yields_List}
 use Rattle.langtag_extension.specs.Spelling.{extension_spelling}
 use Rattle.langtag_extension.specs.Text.{extension_text, extensions_left, singleton_byte}

@@ -1,5 +1,4 @@
-use Rattle.std.proofs.Common.{ap, ◌∙◌, slice_get}
-use Rattle.std.specs.Option.{option_and_then}
+use Rattle.std.proofs.Common.{ap, ◌∙◌, slice_get, option_and_then}
 use Rattle.std.proofs.lemmas.Iterator.Consumers.{YieldsList-from_first, nth_from_yields_List}
 use Rattle.langtag_scan.specs.Class.{is_variant}
 use Rattle.langtag_scan.specs.Subtags.{subtags}

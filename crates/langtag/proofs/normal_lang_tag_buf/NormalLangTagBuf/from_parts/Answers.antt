@@ -1,5 +1,4 @@
-use Rattle.std.proofs.Common.{◌≡◌, [], unwrap_or, arith, rules}
-use Rattle.std.specs.Option.{option_map}
+use Rattle.std.proofs.Common.{◌≡◌, [], unwrap_or, arith, rules, option_map}
 use Rattle.std.proofs.lemmas.Grind.{common_steps}
 use Rattle.langtag_place.specs.Text.{script_text, region_text}
 use Rattle.langtag.proofs.EditLaws.{is_region-member, is_script-member, made_of_parts, short_region, short_script}

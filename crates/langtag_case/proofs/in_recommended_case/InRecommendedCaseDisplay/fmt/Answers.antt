@@ -1,7 +1,6 @@
-use Rattle.std.proofs.Common.{◌++◌, ◌∷◌, append_assoc, rules, subst, sym, ap, ◌∙◌, encode_utf8, arith}
+use Rattle.std.proofs.Common.{◌++◌, ◌∷◌, append_assoc, rules, subst, sym, ap, ◌∙◌, encode_utf8, arith, IsAscii}
 use Rattle.std.proofs.Output.{has_written_append}
 use Rattle.std.proofs.lemmas.Str.{encode_ascii, IsAscii-drop}
-use Rattle.std.specs.Str.{IsAscii}
 use Rattle.std.proofs.lemmas.Grind.{common_steps}
 use Rattle.langtag_case.proofs.RecommendedLaws.{recommended-ascii}
 use Rattle.langtag_case.proofs.in_recommended_case.InRecommendedCaseDisplay.fmt.Goals as goal

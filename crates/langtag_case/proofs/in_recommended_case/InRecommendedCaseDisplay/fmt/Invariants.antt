@@ -1,6 +1,5 @@
-use Rattle.std.proofs.Common.{◌≡◌, ℕ, List, ◌++◌}
+use Rattle.std.proofs.Common.{◌≡◌, ℕ, List, ◌++◌, IsAscii}
 use Rattle.std.specs.Fmt.{HasWritten, IsPlainFormatter}
-use Rattle.std.specs.Str.{IsAscii}
 use Rattle.langtag_case.specs.Text.{in_recommended_case_text}
 use Rattle.langtag_case.proofs.in_recommended_case.InRecommendedCaseDisplay.fmt.Given as goal
 
