@@ -1,14 +1,44 @@
--- Of the choice: it is the only one, and what was found on the way is it.
-use Rattle.std.proofs.Common.{◌≡◌, ℕ, true, List, get_or, Option, Some, None, option_map, ap, refl, sym, subst, ◌∙◌}
+-- The choice is the only one, answers look-up, is the tag that is equal, and does not change with the case of letters.
+use Rattle.std.proofs.Common.{◌≡◌, ℕ, true, List, get_or, Option, Some, None, option_map, ap, refl, sym, subst, ◌∙◌, ◌-◌, ◌==◌, ◌≤◌, false, ◌&&◌, nat_lt, arith, Ordering, Less, Equal, Greater, inl, inr, ◌<◌, cond, not, [], ◌∷◌, ◌++◌, length, map, filter, All, lt-ltb, eq-eqb, IsTrue, length-take, take, Bool, drop, slice_get}
+use Rattle.std.proofs.Math.Bool.{or-true}
+use Rattle.std.proofs.Math.ListN.{get_or-map}
+use Rattle.std.proofs.Math.Seq.{take-append_seam, drop-append_seam, take-length, drop-length}
+use Rattle.std.proofs.lemmas.Bool.Decides.{eqb_tells, nat_tests}
+use Rattle.std.proofs.lemmas.Bool.{and_parts, ltb-false}
+use Rattle.std.proofs.lemmas.Cmp.{nat_list_cmp_total}
+use Rattle.std.proofs.lemmas.Grind.{common_steps}
+use Rattle.std.proofs.lemmas.List.Elements.{All-append, All-cons, All-filter, All-map, All-nil, filter_passes}
+use Rattle.std.proofs.lemmas.List.{length-map, take-map, drop-map}
+use Rattle.std.proofs.lemmas.Option.{slice_get-map}
+use Rattle.std.specs.Cmp.Lexicographic.{bytes_decides, slice_cmp, texts_ties}
+use Rattle.std.specs.Ordering.{is_eq, is_gt, nat_cmp, ordering_reverse}
+use Rattle.langtag_scan.specs.Case.{Alike, fold_byte, fold_text, are_alike}
+use Rattle.langtag_scan.specs.CaseLaws.{are_alike-decides}
+use Rattle.langtag_scan.proofs.CaseLaw.{hyphen-fold, fold_text-twice, length-fold}
 use Rattle.langtag_range.specs.Element.{Element}
-use Rattle.langtag_range.specs.Listed.{basic_text}
-use Rattle.langtag_choice.specs.Distance.{distance_of_texts}
-use Rattle.langtag_choice.specs.Best.{IsAtMost, IsChoice, IsMatchOf, Pair, rank, rank_of_pair, serves}
-use Rattle.langtag_choice.specs.declared.best_match.BestMatch.{BestMatch}
-use Rattle.langtag_choice.specs.ChoiceLaws.{IsOnlyChoice}
-use Rattle.langtag_choice.specs.Found.{IsBestFound, IsBestOf, IsFor, IsUnrefusedAt, rank_of}
-use Rattle.langtag_choice.specs.declared.candidate.Candidate.{Candidate}
-use Rattle.langtag_choice.proofs.Ranks.{both_at_most}
+use Rattle.langtag_range.specs.Basic.{ends_subtag, test_basic}
+use Rattle.langtag_range.specs.Fallback.{before_hyphens, ends_in_single, fallbacks}
+use Rattle.langtag_range.specs.Range.{is_star}
+use Rattle.langtag_range.specs.Wanted.{folded, wanted_elements}
+use Rattle.langtag_range.proofs.AlikeHeaders.{alike_headers}
+use Rattle.langtag_range.proofs.AlikeTexts.{is_star-fold}
+use Rattle.langtag_range.proofs.Prefixes.{length-alike}
+use Rattle.langtag_choice.specs.Best.{IsAtMost, IsChoice, Pair, rank, rank_of_pair, serves, reach, is_wish, is_excluded, is_refused, longest, matches}
+use Rattle.langtag_choice.specs.ChoiceLaws.{IsOnlyChoice, AnswersLookUp, IsHeaviest, IsFirstAlike, AnswersEqual, IgnoresCase, IgnoresHeaderCase}
+use Rattle.langtag_choice.specs.Nearness.{kept, is_fallback}
+use Rattle.langtag_choice.proofs.AlikeDistances.{distance-none, unlikely-alike, distance-alike, both-alike}
+
+-- ---- it is the only one
+
+-- two that are at most each other are one
+pub both_at_most : (a b : List ℕ) → IsAtMost a b → IsAtMost b a → a ≡ b
+both_at_most a b one other =
+    (bytes_decides a b).0 (texts_ties a b ∙ by_order (slice_cmp nat_cmp a b) one (sym (ap is_gt (nat_list_cmp_total.antisymm b a)) ∙ other))
+  where
+    by_order : (o : Ordering) → is_gt o ≡ false → is_gt (ordering_reverse o) ≡ false → is_eq o ≡ true
+    by_order Less one other = absurd cc
+    by_order Equal one other = refl
+    by_order Greater one other = absurd cc
 
 module _ (elements : List Element) (tags : List (Option (List ℕ))) where
   -- pairs that are at most each other have one index
@@ -28,45 +58,179 @@ module _ (elements : List Element) (tags : List (Option (List ℕ))) where
   pub only_choice : (answer : Option ℕ) → IsChoice elements tags answer → IsOnlyChoice elements tags answer
   only_choice answer is = λ other also. same_choice answer other is also
 
-  -- a candidate that is open and at most all pairs is the choice
-  pub least_chosen : (c : Candidate) → IsFor elements tags c → IsUnrefusedAt elements tags c.index → ((pair : Pair elements tags) → IsAtMost (rank_of c) (rank_of_pair elements tags pair)) → IsBestOf elements tags c
-  least_chosen c for chosen least =
-      let same = for.there chosen.0 chosen.1 in
-      record {
-        pair = record {
-          place = c.rank.place;
-          element = for.at.element;
-          wanted = for.at.wanted;
-          index = c.index;
-          tag = chosen.0;
-          there = chosen.1;
-          served = subst (λ tag. serves for.at.element tag ≡ true) same for.at.served;
-          unrefused = chosen.2;
-        };
-        place = refl;
-        range = for.at.range;
-        index = refl;
-        tag = sym same;
-        least = λ other.
-            subst (λ ranks. IsAtMost ranks (rank_of_pair elements tags other)) (for.at.same_rank ∙ ap (rank c.rank.place for.at.element c.index) same) (least other);
-      }
+-- ---- what a range falls back to
 
-  -- what was found has the index of the choice
-  pub found_chosen : (found : Option Candidate) → IsBestFound elements tags found → IsChoice elements tags (option_map (λ c. c.index) found)
-  found_chosen None none = none
-  found_chosen (Some c) best = record { pair = best.pair; here = best.index; least = best.least }
+-- what stands before a hyphen of a range
+abbrev IsBefore : List ℕ → List ℕ → Type 0
+IsBefore range text = (rest : List ℕ) × (range ≡ text ++ 45 ∷ rest)
 
-  -- what is said of what was found is a match
-  pub match_found :
-      (o : Option Candidate) (c : Candidate) (m : BestMatch) → o ≡ Some c → IsBestFound elements tags o → m.index ≡ c.index → m.range.now ≡ c.range.now → m.place ≡ c.rank.place →
-      m.distance ≡ distance_of_texts (basic_text c.range.now) c.tag.now → IsMatchOf elements tags m
-  match_found o c m is found index range place distance =
-      let best : IsBestOf elements tags c = subst (IsBestFound elements tags) is found in
-      record {
-        pair = best.pair;
-        index = index ∙ sym best.index;
-        place = place ∙ sym best.place;
-        range = ap basic_text range ∙ sym best.range;
-        distance = distance ∙ ap (λ r. distance_of_texts r c.tag.now) (sym best.range) ∙ ap (distance_of_texts best.pair.element.range) (sym best.tag);
-        least = best.least;
-      }
+hyphen_here : (b : ℕ) (text : List ℕ) → All (IsBefore (b ∷ text)) (cond (b == 45) ([] ∷ []) [])
+hyphen_here b text = elim (eqb_tells b 45) [
+  | inl same ↦ rw (same.0) (All-cons (IsBefore (b ∷ text)) [] [] (text, ap (λ first. first ∷ text) (same.1)) (All-nil (IsBefore (b ∷ text))))
+  | inr other ↦ rw (other.0) (All-nil (IsBefore (b ∷ text)))
+]
+
+all_before : (range : List ℕ) → All (IsBefore range) (before_hyphens range)
+all_before [] = All-nil (IsBefore [])
+all_before (b ∷ text) =
+    All-append (IsBefore (b ∷ text)) (map (λ t. b ∷ t) (before_hyphens text)) (cond (b == 45) ([] ∷ []) [])
+    (All-map (IsBefore (b ∷ text)) (λ t. b ∷ t) (before_hyphens text) (λ k d inside. let before = all_before text k d inside in (before.0, ap (λ t. b ∷ t) (before.1))))
+    (hyphen_here b text)
+
+pub ends_in_single-fold : (text : List ℕ) → ends_in_single (fold_text text) ≡ ends_in_single text
+unfolding fold_byte
+ends_in_single-fold text = rw (length-map text fold_byte, get_or-map fold_byte text (length text - 2) 0, hyphen-fold (get_or text (length text - 2) 0)) refl
+
+-- a tag that is the whole range
+pub whole_fallback : (range tag : List ℕ) → Alike range tag → is_fallback range tag ≡ true
+whole_fallback range tag alike =
+    let long : length tag ≡ length range = sym (length-alike range tag alike) in
+    let same = (are_alike-decides range tag).1 alike in
+    rw (long, take-length range, drop-length range, same, (eq-eqb (length range) (length range) refl)) refl
+
+shorter_fallback : (range text tag : List ℕ) → IsBefore range text → not (ends_in_single text) ≡ true → Alike text tag → is_fallback range tag ≡ true
+shorter_fallback range text tag before multiple alike =
+    grind (arith, length-alike text tag alike, are_alike-decides text tag, ends_in_single-fold text, ends_in_single-fold tag, take-append_seam text (45 ∷ before.0), drop-append_seam text (45 ∷ before.0))
+
+abbrev Falls : List ℕ → List ℕ → Type 0
+Falls range text = (tag : List ℕ) → Alike text tag → is_fallback range tag ≡ true
+
+all_fall : (range : List ℕ) → All (Falls range) (fallbacks range)
+all_fall range =
+    All-cons (Falls range) range (filter (λ text. not (ends_in_single text)) (before_hyphens range)) (λ tag alike. whole_fallback range tag alike)
+    (λ k d inside tag alike.
+    shorter_fallback range _ tag (All-filter (λ text. not (ends_in_single text)) (IsBefore range) (before_hyphens range) (all_before range) k d inside)
+    (filter_passes (λ text. not (ends_in_single text)) (before_hyphens range) k d inside) alike)
+
+-- ---- that tag may serve the range
+
+pub look_up_answered : (elements : List Element) (tags : List (Option (List ℕ))) (answer : Option ℕ) → IsChoice elements tags answer → AnswersLookUp elements tags answer
+unfolding serves kept
+look_up_answered elements tags answer some place element index tag range_there wish star there free long found =
+    grind (arith, common_steps, nat_tests, all_fall)
+
+-- ---- what is kept whole is the range
+
+kept_alike : (range tag : List ℕ) → Alike range tag → kept range tag ≡ length range
+unfolding kept
+kept_alike range tag alike = grind (arith, nat_tests, whole_fallback range tag alike, length-alike range tag alike)
+
+alike_kept : (range tag : List ℕ) → 0 < length range → length range - kept range tag ≡ 0 → Alike range tag
+unfolding kept
+alike_kept range tag some whole =
+    grind (arith, nat_tests, and_parts, are_alike-decides (take (length tag) range) tag, length-alike (take (length tag) range) tag, length-take (length tag) range, take-length range)
+
+module _ (elements : List Element) (all : List (Option (List ℕ))) (place : ℕ) (element : Element) (index : ℕ) (heaviest : IsHeaviest elements place element) (wish : IsTrue (is_wish element)) (most : element.weight ≤ 1000) (star : is_star element.range ≡ false) (long : 0 < length element.range) (first : IsFirstAlike elements all element.range index) where
+  lost_none : length element.range - kept element.range first.tag ≡ 0
+  lost_none = let whole = kept_alike element.range first.tag first.alike in omega (arith, whole)
+
+  reach_none : reach element.range first.tag ≡ 0
+  unfolding reach
+  reach_none = let near = distance-none element.range first.tag first.alike in rw near refl
+
+  -- it may serve the range
+  own_pair : Pair elements all
+  unfolding serves
+  own_pair = grind (arith, nat_tests, reach_none)
+
+  leads : (other : Pair elements all) → IsAtMost (rank place element index first.tag) (rank_of_pair elements all other)
+  unfolding rank
+  leads other =
+      grind (arith, nat_tests, reach_none, heaviest.first other.place, heaviest.most other.place, heaviest.there, lost_none, alike_kept, unlikely-alike, ltb-false, eqb_tells)
+
+  is_answer : (answer : Option ℕ) → IsChoice elements all answer → answer ≡ Some index
+  unfolding own_pair
+  is_answer None none = absurd (none own_pair)
+  is_answer (Some i) some = ap Some (sym some.here ∙ same_index elements all some.pair own_pair (some.least own_pair) (leads some.pair))
+
+pub equal_answered : (elements : List Element) (tags : List (Option (List ℕ))) (answer : Option ℕ) → IsChoice elements tags answer → AnswersEqual elements tags answer
+equal_answered elements tags answer is place element index heaviest wish most star long first = is_answer elements tags place element index heaviest wish most star long first answer is
+
+-- ---- a range and a tag
+
+same-fold : (a b : List ℕ) → are_alike (fold_text a) (fold_text b) ≡ are_alike a b
+same-fold a b = both-alike (fold_text a) a (fold_text b) b (fold_text-twice a) (fold_text-twice b)
+
+ends_subtag-fold : (text : List ℕ) → ends_subtag (fold_text text) ≡ ends_subtag text
+ends_subtag-fold text = grind (arith, hyphen-fold)
+
+kept-fold : (range tag : List ℕ) → kept (fold_text range) (fold_text tag) ≡ kept range tag
+unfolding kept
+kept-fold range tag = grind (arith, common_steps, ends_in_single-fold, length-fold, take-map, drop-map, same-fold, ends_subtag-fold)
+
+reach-fold : (range tag : List ℕ) → reach (fold_text range) (fold_text tag) ≡ reach range tag
+unfolding reach
+reach-fold range tag = ap (λ n. cond (nat_lt n 50) n 50) (distance-alike (fold_text range) range (fold_text tag) tag (fold_text-twice range) (fold_text-twice tag))
+
+serves-fold : (element : Element) (tag : List ℕ) → serves (folded element) (fold_text tag) ≡ serves element tag
+unfolding serves
+serves-fold element tag = rw (is_star-fold element.range, reach-fold element.range tag, kept-fold element.range tag) refl
+
+rank-fold : (place : ℕ) (element : Element) (index : ℕ) (tag : List ℕ) → rank place (folded element) index (fold_text tag) ≡ rank place element index tag
+unfolding rank
+rank-fold place element index tag =
+    rw (reach-fold element.range tag, length-fold element.range, kept-fold element.range tag, unlikely-alike (fold_text tag) tag (fold_text-twice tag)) refl
+
+-- ---- what is refused
+
+matches-fold : (element : Element) (tag : List ℕ) → matches (folded element) (fold_text tag) ≡ matches element tag
+matches-fold element tag = grind (arith, common_steps, is_star-fold, length-fold, take-map, drop-map, same-fold, ends_subtag-fold)
+
+longest-fold : (of_kind : Element → Bool) → ((element : Element) → of_kind (folded element) ≡ of_kind element) → (elements : List Element) (tag : List ℕ) →
+    longest of_kind (map folded elements) (fold_text tag) ≡ longest of_kind elements tag
+longest-fold of_kind same [] tag = refl
+longest-fold of_kind same (element ∷ elements) tag =
+    grind (arith, nat_tests, matches-fold element tag, length-fold element.range, longest-fold of_kind same elements tag)
+
+is_refused-fold : (elements : List Element) (tag : List ℕ) → is_refused (map folded elements) (fold_text tag) ≡ is_refused elements tag
+unfolding is_refused
+is_refused-fold elements tag = grind (arith, nat_tests, longest-fold is_wish, longest-fold is_excluded)
+
+-- ---- what is chosen
+
+mapped : {A B : Type 0} (f : A → B) (o : Option A) (z : B) → option_map f o ≡ Some z → (y : A) × (o ≡ Some y) × (z ≡ f y)
+mapped f o z is = grind arith
+
+-- where one list has an element, another that is equal but for case has one that is
+at-folded :
+    {A : Type 0} (fold : A → A) (xs ys : List A) (k : ℕ) (x : A) → map fold xs ≡ map fold ys → slice_get xs k ≡ Some x → (y : A) × (slice_get ys k ≡ Some y) × (fold x ≡ fold y)
+at-folded {A} fold xs ys k x same there =
+    let equal : option_map fold (slice_get ys k) ≡ Some (fold x) = sym (slice_get-map fold ys k) ∙ ap (λ list. slice_get list k) (sym same) ∙ slice_get-map fold xs k ∙ ap (option_map fold) there in
+    mapped fold (slice_get ys k) (fold x) equal
+
+module _ (elements es : List Element) (tags ts : List (Option (List ℕ))) (same_elements : map folded elements ≡ map folded es) (same_tags : map (option_map fold_text) tags ≡ map (option_map fold_text) ts) where
+  -- a pair among others that are equal but for case, of the same rank
+  abbrev IsPairAlike : Pair elements tags → Type 0
+  IsPairAlike pair = (other : Pair es ts) × (other.index ≡ pair.index) × (rank_of_pair es ts other ≡ rank_of_pair elements tags pair)
+
+  pair-alike : (pair : Pair elements tags) → IsPairAlike pair
+  pair-alike pair = by_tag (at-folded (option_map fold_text) tags ts pair.index (Some pair.tag) same_tags pair.there)
+    where
+      by_found : (element : Element) (tag : List ℕ) → slice_get es pair.place ≡ Some element → folded pair.element ≡ folded element → slice_get ts pair.index ≡ Some (Some tag) → fold_text pair.tag ≡ fold_text tag → IsPairAlike pair
+      by_found element tag wanted same there alike =
+          let served : serves element tag ≡ true = cc (serves-fold element tag, serves-fold pair.element pair.tag, pair.served) in
+          let free : is_refused es tag ≡ false = cc (is_refused-fold es tag, is_refused-fold elements pair.tag, pair.unrefused) in
+          let ranks : rank pair.place element pair.index tag ≡ rank pair.place pair.element pair.index pair.tag = cc (rank-fold pair.place element pair.index tag, rank-fold pair.place pair.element pair.index pair.tag) in
+          (record { place = pair.place; element = element; wanted = wanted; index = pair.index; tag = tag; there = there; served = served; unrefused = free }, refl, ranks)
+
+      by_tag : (o : Option (List ℕ)) × (slice_get ts pair.index ≡ Some o) × (Some (fold_text pair.tag) ≡ option_map fold_text o) → IsPairAlike pair
+      by_tag (None, there, same) = absurd cc
+      by_tag (Some tag, there, same) =
+          let alike : fold_text pair.tag ≡ fold_text tag = cc in
+          let at = at-folded folded elements es pair.place pair.element same_elements pair.wanted in
+          by_found at.0 tag at.1 at.2 there alike
+
+pub case_ignored : (elements : List Element) (tags : List (Option (List ℕ))) (answer : Option ℕ) → IsChoice elements tags answer → IgnoresCase elements tags answer
+case_ignored elements tags None none es ts same_elements same_tags = λ pair. none (pair-alike es elements ts tags (sym same_elements) (sym same_tags) pair).0
+case_ignored elements tags (Some i) some es ts same_elements same_tags =
+    let own = pair-alike elements es tags ts same_elements same_tags some.pair in
+    record {
+      pair = own.0;
+      here = own.1 ∙ some.here;
+      least = λ other.
+          let before = pair-alike es elements ts tags (sym same_elements) (sym same_tags) other in
+          subst (λ r. IsAtMost r (rank_of_pair es ts other)) (sym own.2) (subst (IsAtMost (rank_of_pair elements tags some.pair)) before.2 (some.least before.0));
+    }
+
+pub header_case_ignored : (header : List ℕ) (tags : List (Option (List ℕ))) (answer : Option ℕ) → IsChoice (wanted_elements header) tags answer → IgnoresHeaderCase header tags answer
+header_case_ignored header tags answer is other ts alike = case_ignored (wanted_elements header) tags answer is (wanted_elements other) ts (sym (alike_headers header other alike))

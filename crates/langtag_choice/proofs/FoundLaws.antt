@@ -1,15 +1,96 @@
--- What loops over ranges and over tags have found.
-use Rattle.std.proofs.Common.{◌≡◌, ◌⊎◌, inl, inr, ℕ, ◌+◌, ◌-◌, ◌<◌, true, false, List, [], ◌∷◌, suc, length, get_or, Option, Some, None, below_more, sym, subst, ap, ◌∙◌, arith, slice_get}
-use Rattle.std.specs.Option.{ForSome, MatchOption}
-use Rattle.std.proofs.lemmas.Bool.{cases_lt}
+-- What loops over ranges and over tags have found, and that it is the choice.
+use Rattle.std.proofs.Common.{◌≡◌, ℕ, true, List, get_or, Option, Some, None, option_map, ap, refl, sym, subst, ◌∙◌, ◌-◌, ◌==◌, ◌≤◌, false, ◌&&◌, ◌||◌, nat_lt, arith, Bool, [], ◌∷◌, ◌⊎◌, inl, inr, ◌+◌, ◌<◌, suc, length, below_more, slice_get}
+use Rattle.std.proofs.lemmas.Bool.Decides.{eqb_tells, nat_tests}
+use Rattle.std.proofs.lemmas.Bool.{and_parts, eqb-true, ltb-false, ltb-true, or_cases, cases_lt}
+use Rattle.std.proofs.lemmas.Grind.{common_steps}
 use Rattle.std.proofs.lemmas.Option.{get_or_from_slice_get, slice_get-get_or, slice_get_within}
-use Rattle.std.proofs.lemmas.Bool.Decides.{nat_tests}
+use Rattle.std.specs.List.{list_any}
+use Rattle.std.specs.Option.{ForSome, MatchOption}
 use Rattle.langtag_range.specs.Element.{Element}
-use Rattle.langtag_choice.specs.Best.{is_refused, rank, serves}
-use Rattle.langtag_choice.specs.Found.{AreOpen, Covers, CoversOpen, CoversRanges, CoversTags, IsBestFound, IsOldOrAt, IsOf, IsUnrefusedAt, IsReal, IsNotAfter, Keeps, Takes, wish_element}
+use Rattle.langtag_range.specs.Listed.{basic_text}
+use Rattle.langtag_choice.specs.Best.{IsAtMost, IsChoice, IsMatchOf, Pair, rank, rank_of_pair, serves, reach, service, is_excluded, is_refused, longest}
+use Rattle.langtag_choice.specs.Distance.{distance_of_texts}
+use Rattle.langtag_choice.specs.Found.{IsBestFound, IsBestOf, IsFor, IsUnrefusedAt, rank_of, service_number, AreOpen, Covers, CoversOpen, CoversRanges, CoversTags, IsOldOrAt, IsOf, IsReal, IsNotAfter, Keeps, Takes, wish_element}
+use Rattle.langtag_choice.specs.Nearness.{kept}
+use Rattle.langtag_choice.specs.declared.best_match.BestMatch.{BestMatch}
 use Rattle.langtag_choice.specs.declared.candidate.Candidate.{Candidate}
 use Rattle.langtag_choice.specs.declared.wish.Wish.{Wish}
-use Rattle.langtag_choice.proofs.ChoiceLaws.{least_chosen}
+
+-- ---- how ranks compare
+
+pub reach_most : (range tag : List ℕ) → reach range tag ≤ 50
+unfolding reach
+reach_most range tag = grind (arith, nat_tests)
+
+-- what was found for a heavier range, or for an earlier one of that weight, and serves it no worse
+pub settled :
+    (c : Candidate) (place : ℕ) (element : Element) (index : ℕ) (tag : List ℕ) → service_number c.rank.service ≤ service (reach element.range tag) →
+    (nat_lt c.rank.lack (1000 - element.weight) || ((c.rank.lack == (1000 - element.weight)) && nat_lt c.rank.place place)) ≡ true → IsAtMost (rank_of c) (rank place element index tag)
+unfolding rank
+settled c place element index tag serves before = grind (arith, common_steps, or_cases, ltb-true, and_parts, eqb-true, nat_tests, ltb-false, eqb_tells)
+
+-- a tag that is far, and that look-up does not find, does not serve
+pub cannot_serve : (element : Element) (tag : List ℕ) → 50 ≤ distance_of_texts element.range tag → kept element.range tag ≡ 0 → serves element tag ≡ false
+unfolding serves reach
+cannot_serve element tag far none = grind (arith, nat_tests)
+
+-- ---- it is the choice
+
+module _ (elements : List Element) (tags : List (Option (List ℕ))) where
+  -- a candidate that is open and at most all pairs is the choice
+  pub least_chosen : (c : Candidate) → IsFor elements tags c → IsUnrefusedAt elements tags c.index → ((pair : Pair elements tags) → IsAtMost (rank_of c) (rank_of_pair elements tags pair)) → IsBestOf elements tags c
+  least_chosen c for chosen least =
+      let same = for.there chosen.0 chosen.1 in
+      record {
+        pair = record {
+          place = c.rank.place;
+          element = for.at.element;
+          wanted = for.at.wanted;
+          index = c.index;
+          tag = chosen.0;
+          there = chosen.1;
+          served = subst (λ tag. serves for.at.element tag ≡ true) same for.at.served;
+          unrefused = chosen.2;
+        };
+        place = refl;
+        range = for.at.range;
+        index = refl;
+        tag = sym same;
+        least = λ other.
+            subst (λ ranks. IsAtMost ranks (rank_of_pair elements tags other)) (for.at.same_rank ∙ ap (rank c.rank.place for.at.element c.index) same) (least other);
+      }
+
+  -- what was found has the index of the choice
+  pub found_chosen : (found : Option Candidate) → IsBestFound elements tags found → IsChoice elements tags (option_map (λ c. c.index) found)
+  found_chosen None none = none
+  found_chosen (Some c) best = record { pair = best.pair; here = best.index; least = best.least }
+
+  -- what is said of what was found is a match
+  pub match_found :
+      (o : Option Candidate) (c : Candidate) (m : BestMatch) → o ≡ Some c → IsBestFound elements tags o → m.index ≡ c.index → m.range.now ≡ c.range.now → m.place ≡ c.rank.place →
+      m.distance ≡ distance_of_texts (basic_text c.range.now) c.tag.now → IsMatchOf elements tags m
+  match_found o c m is found index range place distance =
+      let best : IsBestOf elements tags c = subst (IsBestFound elements tags) is found in
+      record {
+        pair = best.pair;
+        index = index ∙ sym best.index;
+        place = place ∙ sym best.place;
+        range = ap basic_text range ∙ sym best.range;
+        distance = distance ∙ ap (λ r. distance_of_texts r c.tag.now) (sym best.range) ∙ ap (distance_of_texts best.pair.element.range) (sym best.tag);
+        least = best.least;
+      }
+
+-- ---- where no range has the weight 0, no tag is refused
+
+longest_none : (of_kind : Element → Bool) (elements : List Element) (tag : List ℕ) → list_any of_kind elements ≡ false → longest of_kind elements tag ≡ 0
+longest_none of_kind [] tag none = refl
+longest_none of_kind (element ∷ elements) tag none = grind (arith, nat_tests, longest_none of_kind elements tag)
+
+pub none_refused : (elements : List Element) (tag : List ℕ) → list_any is_excluded elements ≡ false → is_refused elements tag ≡ false
+unfolding is_refused
+none_refused elements tag none = let zero = longest_none is_excluded elements tag none in rw zero (grind (arith, nat_tests))
+
+-- ---- what was found
 
 -- the text of a tag is the tag, where there is one
 pub text_at : (tags : List (Option (List ℕ))) (index : ℕ) (text : List ℕ) → ForSome (get_or tags index None) (λ found. text ≡ found) → (tag : List ℕ) → slice_get tags index ≡ Some (Some tag) → text ≡ tag
@@ -63,8 +144,7 @@ from_of elements wish tag index old new wanted changed = grind (arith, nat_tests
 -- from one step to the next
 pub from_later :
     (elements : List Element) (tag : List ℕ) (index : ℕ) (first old new : Option Candidate) → IsOldOrAt elements tag index first old → IsOldOrAt elements tag index old new → IsOldOrAt elements tag index first new
-from_later elements tag index first old new before (inl same) = subst (IsOldOrAt elements tag index first) (sym same) before
-from_later elements tag index first old new before (inr at) = inr at
+from_later elements tag index first old new before h7 = grind arith
 
 -- ---- of the tag at an index
 

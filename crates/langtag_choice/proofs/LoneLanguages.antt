@@ -1,36 +1,64 @@
--- A text that begins otherwise than a lone language, and not as `und` does, is far from it, and is not what it falls back to.
-use Rattle.std.proofs.Common.{◌≡◌, ℕ, ◌<◌, ◌≤◌, Bool, true, false, cond, ltb, not, ◌==◌, List, [], ◌∷◌, get_or, length, length-take, map, take, drop, Option, Some, None, option_map, refl, sym, ap, ◌∙◌, arith, rules, ◌&&◌, codes}
-use Rattle.std.specs.List.{after_first, before_first, list_all, position_or_len}
-use Rattle.std.proofs.lemmas.Bool.{and_from, and_parts, both_ways, eq-eqb, false_from_ne_true, ltb-true, or_parts, eqb-false, not-true}
-use Rattle.std.proofs.lemmas.List.Sums.{take_while-cons}
-use Rattle.std.proofs.lemmas.Bool.Decides.{nat_tests}
+-- Languages to which no other is near: a text that begins otherwise, and not as `und` does, is far, and is not what look-up falls back to.
+use Rattle.std.proofs.Common.{◌≡◌, ℕ, Bool, true, false, ◌||◌, not, ◌==◌, List, [], ◌∷◌, length, inl, inr, refl, sym, ap, ◌∙◌, arith, ◌&&◌, ◌<◌, ◌≤◌, cond, ltb, get_or, length-take, map, take, drop, Option, Some, None, option_map, rules, codes}
+use Rattle.std.proofs.lemmas.Bool.Decides.{eqb_tells, nat_tests}
+use Rattle.std.proofs.lemmas.Bool.{and_parts, both_ways, eq-eqb, false_from_ne_true, not_from_true, or_cases, and_from, ltb-true, or_parts, eqb-false, not-true}
 use Rattle.std.proofs.lemmas.Grind.{common_steps}
-use Rattle.langtag_scan.specs.Case.{Alike, are_alike, fold_text}
+use Rattle.std.proofs.lemmas.List.Sums.{take_while-cons}
+use Rattle.std.specs.List.{list_all, list_any, after_first, before_first, position_or_len}
+use Rattle.langtag_scan.specs.Case.{are_alike, Alike, fold_text}
 use Rattle.langtag_scan.specs.CaseLaws.{are_alike-decides}
-use Rattle.langtag_scan.specs.Class.{is_extended, is_letter, is_primary}
-use Rattle.langtag_tables.proofs.Letters.{primary_length}
+use Rattle.langtag_scan.specs.Class.{are_letters, is_extended, is_letter, is_primary}
+use Rattle.langtag_scan.proofs.Disjoint.{extended_three}
+use Rattle.langtag_tables.specs.Numbers.{letter_number}
+use Rattle.langtag_tables.proofs.Letters.{letter_number-tells, primary_length}
 use Rattle.langtag_range.specs.Listed.{basic_text}
 use Rattle.langtag_range.specs.Wanted.{hyphened, is_separator}
-use Rattle.langtag_choice.specs.Lone.{HasNoExtended, IsShort, first_two, is_lone, lone_head, replacing}
-use Rattle.langtag_choice.specs.Distance.{distance_of_texts, is_among, language_distance}
+use Rattle.langtag_range.proofs.Prefixes.{length-alike}
+use Rattle.langtag_likely.specs.Aliases.{language_aliases}
 use Rattle.langtag_likely.specs.Likely.{Likely, are_alike_fields, known, language_alone, likely_for}
 use Rattle.langtag.specs.Fields.{Fields}
 use Rattle.langtag_likely.specs.Matching.{language_replaced, matching_fields, matching_form}
-use Rattle.langtag_choice.specs.MatchingData.{language_rules}
-use Rattle.langtag_likely.specs.Aliases.{language_aliases}
-use Rattle.langtag_choice.specs.Nearness.{kept}
-use Rattle.langtag_choice.specs.Rules.{Rule, distance_by}
 use Rattle.langtag_likely.specs.TextFields.{last_language, counted_parts, text_fields}
+use Rattle.langtag_likely.proofs.AddedTwice.{either_way}
+use Rattle.langtag_likely.proofs.AliasTables.{aliases_listed}
 use Rattle.langtag_likely.proofs.AlikeFields.{by_options}
-use Rattle.langtag_choice.proofs.AlikeRanges.{matching_form-alike}
-use Rattle.langtag_likely.proofs.AliasTables.{aliases_lead}
+use Rattle.langtag_likely.proofs.CommonTexts.{some_length}
 use Rattle.langtag_likely.proofs.CompletedForms.{completed_language}
 use Rattle.langtag.proofs.Alike.{alike_length}
 use Rattle.langtag_likely.proofs.TextParts.{all_fields, next_part, no_fields}
-use Rattle.langtag_likely.proofs.CommonTexts.{some_length}
-use Rattle.langtag_range.proofs.Prefixes.{length-alike}
-use Rattle.langtag_scan.proofs.Disjoint.{extended_three}
-use Rattle.langtag_likely.proofs.AddedTwice.{either_way}
+use Rattle.langtag_choice.specs.Distance.{is_among, distance_of_texts, language_distance}
+use Rattle.langtag_choice.specs.Lone.{HasNoExtended, IsShort, first_two, is_lone, lone_head, replacing}
+use Rattle.langtag_choice.specs.MatchingData.{language_rules}
+use Rattle.langtag_choice.specs.Nearness.{kept}
+use Rattle.langtag_choice.specs.Rules.{Rule, distance_by}
+use Rattle.langtag_choice.specs.declared.matching_tables.TheConstants.{RELATED_KEYS}
+use Rattle.langtag_choice.proofs.AlikeDistances.{matching_form-alike}
+
+-- ---- a language whose number is not listed is lone
+
+abbrev pub has_number : List ℕ → Bool
+has_number language = list_any (λ n. n == letter_number language) RELATED_KEYS
+
+-- a language that has its number among these, if it has two letters
+abbrev pub is_listed : List ℕ → Bool
+is_listed language = are_letters language && (not (length language == 2) || has_number language)
+
+same_number : (a b : List ℕ) → are_letters a ≡ true → are_letters b ≡ true → are_alike a b ≡ true → letter_number b ≡ letter_number a
+same_number a b al bl alike = grind (arith, nat_tests, eqb_tells (letter_number b) (letter_number a), both_ways, letter_number-tells a b al bl)
+
+module _ (language : List ℕ) (two : length language ≡ 2) (letters : are_letters language ≡ true) (absent : has_number language ≡ false) where
+  apart : (word : List ℕ) → is_listed word ≡ true → are_alike word language ≡ false
+  apart word listed = false_from_ne_true (are_alike word language) (λ alike.
+      let parts = and_parts (are_letters word) (not (length word == 2) || has_number word) listed in
+      let number = same_number word language parts.0 letters alike in
+      elim (or_cases (not (length word == 2)) (has_number word) parts.1) [
+        | inl longer ↦ both_ways _ (not_from_true (length word == 2) (eq-eqb (length word) 2 (alike_length word language alike ∙ two))) longer
+        | inr found ↦ both_ways _ (ap (λ key. list_any (λ n. n == key) RELATED_KEYS) (sym number) ∙ absent) found
+      ])
+
+  pub not_among : (words : List (List ℕ)) → list_all is_listed words ≡ true → is_among words language ≡ false
+  not_among [] all = refl
+  not_among (word ∷ words) all = grind (arith, nat_tests, and_parts (is_listed word) (list_all is_listed words) all, apart word, not_among words)
 
 -- ---- heads
 
@@ -43,17 +71,10 @@ head-take n text long = grind (arith, common_steps)
 pub apart_letters : (a b : ℕ × ℕ) → not ((a.0 == b.0) && (a.1 == b.1)) ≡ true → Some a ≡ Some b → ⊥
 apart_letters a b apart same = grind (arith, nat_tests, both_ways, not-true, and_from (a.0 == b.0) (a.1 == b.1), eq-eqb a.0 b.0, eq-eqb a.1 b.1)
 
-head_first : (text : List ℕ) → is_primary (before_first is_separator text) ≡ true → first_two (before_first is_separator text) ≡ first_two text
-head_first text primary = head-take (position_or_len is_separator text) text (primary_length (before_first is_separator text) primary)
-
 -- ---- what a text begins with
 
 unmarked : (x : ℕ) (text : List ℕ) → is_separator x ≡ false → before_first is_separator (x ∷ text) ≡ x ∷ before_first is_separator text
 unmarked x text is = take_while-cons (λ b. not (is_separator b)) x text ∙ ap (λ b. cond (not b) (x ∷ before_first is_separator text) []) is
-
-first_letter : (x : ℕ) (text : List ℕ) → is_letter x ≡ false → is_extended (before_first is_separator (x ∷ text)) ≡ false
-unfolding is_extended
-first_letter x text other = grind (arith, common_steps, unmarked, false_from_ne_true, and_parts, both_ways)
 
 pub few_extended : (text : List ℕ) → length text ≤ 2 → is_extended (before_first is_separator text) ≡ false
 few_extended text few =
@@ -88,8 +109,8 @@ short_of_more (a ∷ b ∷ []) least mark alone = absurd (omega (arith, least))
 short_of_more (a ∷ b ∷ m ∷ rest) least mark alone = marked_short a b m rest mark alone
 
 pub extended_letter : (text : List ℕ) → 1 ≤ length text → is_letter (get_or text 0 0) ≡ false → is_extended (before_first is_separator text) ≡ false
-extended_letter [] some other = absurd (omega (arith, some))
-extended_letter (x ∷ text) some other = first_letter x text other
+unfolding is_extended
+extended_letter text some other = grind (arith, common_steps, unmarked, false_from_ne_true, and_parts, both_ways)
 
 pub extended_mark : (text : List ℕ) → 4 ≤ length text → is_separator (get_or text 3 0) ≡ false → is_extended (before_first is_separator text) ≡ false
 extended_mark text long other = grind (arith, common_steps, longer)
@@ -114,7 +135,7 @@ module _ (one : List ℕ) (letters : ℕ × ℕ) (begins : first_two one ≡ Som
         no_extended (after_first is_separator text) (short primary).1 (known (codes "und") (before_first is_separator text)) ∙ known_two (before_first is_separator text) (short primary).0
 
     first_other : is_primary (before_first is_separator text) ≡ true → Alike one (before_first is_separator text) → ⊥
-    first_other primary = λ alike. other (sym (head_first text primary) ∙ sym (head-alike one (before_first is_separator text) alike) ∙ begins)
+    first_other primary = λ alike. other (sym (head-take (position_or_len is_separator text) text (primary_length (before_first is_separator text) primary)) ∙ sym (head-alike one (before_first is_separator text) alike) ∙ begins)
 
     text_other : (f : Fields) → text_fields (hyphened text) ≡ Some f → (Alike one f.language → ⊥) × (length f.language ≡ 2)
     text_other f is = either_way (is_primary (before_first is_separator text))
@@ -126,32 +147,23 @@ module _ (one : List ℕ) (letters : ℕ × ℕ) (begins : first_two one ≡ Som
 
   -- ---- its replacement
 
+  -- a row is the one that is found, or the row is among the others
+  alias_step :
+      (row : Likely) (rows : List Likely) (key to : Fields) → (likely_for rows key ≡ Some to → is_among (replacing rows) one ≡ false → IsOther one to.language) →
+      ltb 0 (length row.to.language) ≡ true → length key.language ≡ 2 → likely_for (row ∷ rows) key ≡ Some to → is_among (replacing (row ∷ rows)) one ≡ false → IsOther one to.language
+  alias_step row rows key to later leads two is apart = grind (arith, nat_tests, and_parts, or_parts, alike_length, are_alike-decides)
+
   alias_other : (rows : List Likely) → list_all (λ row. ltb 0 (length row.to.language)) rows ≡ true →
       (key to : Fields) → length key.language ≡ 2 → likely_for rows key ≡ Some to → is_among (replacing rows) one ≡ false → IsOther one to.language
   alias_other [] lead key to two is apart = absurd cc
   alias_other (row ∷ rows) lead key to two is apart =
       let leads = and_parts (ltb 0 (length row.to.language)) (list_all (λ row. ltb 0 (length row.to.language)) rows) lead in
-      by_tests (are_alike_fields row.from key) (length row.from.language == 2) refl refl leads.0 apart (alias_other rows leads.1 key to two)
-    where
-      by_tests :
-          (b t : Bool) → are_alike_fields row.from key ≡ b → (length row.from.language == 2) ≡ t → ltb 0 (length row.to.language) ≡ true →
-          is_among (cond t (row.to.language ∷ replacing rows) (replacing rows)) one ≡ false →
-          (likely_for rows key ≡ Some to → is_among (replacing rows) one ≡ false → IsOther one to.language) → IsOther one to.language
-      by_tests false true here from leads apart later = later (cc) (or_parts (are_alike row.to.language one) (is_among (replacing rows) one) apart).1
-      by_tests false false here from leads apart later = later (cc) apart
-      by_tests true false here from leads apart later =
-          absurd (eqb-false (length row.from.language) 2 from (alike_length row.from.language key.language (and_parts (are_alike row.from.language key.language) _ here).0 ∙ two))
-      by_tests true true here from leads apart later =
-          let to_is : row.to ≡ to = cc in
-          rw (← to_is) (record {
-            other = λ alike. both_ways _ (or_parts (are_alike row.to.language one) (is_among (replacing rows) one) apart).0 ((are_alike-decides row.to.language one).1 (sym alike));
-            some = ltb-true 0 (length row.to.language) leads;
-          })
+      alias_step row rows key to (alias_other rows leads.1 key to two) leads.0 two is apart
 
   replaced_other :
       (f : Fields) → is_among (replacing language_aliases) one ≡ false → (Alike one f.language → ⊥) → length f.language ≡ 2 → IsOther one (language_replaced f).language
   unfolding language_replaced
-  replaced_other f apart there two = grind (arith, nat_tests, alias_other language_aliases aliases_lead (language_alone f))
+  replaced_other f apart there two = grind (arith, nat_tests, alias_other language_aliases aliases_listed.lead (language_alone f))
 
   form_other :
       (text : List ℕ) → IsShort text → (first_two text ≡ Some letters → ⊥) → is_among (replacing language_aliases) one ≡ false →
@@ -169,17 +181,13 @@ module _ (one : List ℕ) (letters : ℕ × ℕ) (begins : first_two one ≡ Som
           λ alike. replaced.other (alike ∙ ap fold_text (sym (ap (λ form. form.language) same) ∙ language))
 
       by_und : (b : Bool) → cond b None (option_map matching_fields (text_fields (hyphened text))) ≡ Some form → Alike one form.language → ⊥
-      by_und true is = absurd cc
-      by_und false is = by_fields (text_fields (hyphened text)) refl is
+      by_und b is = grind (arith, by_fields, text_fields)
 
 -- ---- how far it is
 
 no_rule : (desired supported : Fields) (otherwise : ℕ) (rules : List Rule) → is_among (map (λ rule. rule.desired.language) rules) desired.language ≡ false → distance_by rules otherwise desired supported ≡ otherwise
 no_rule desired supported otherwise [] apart = refl
-no_rule desired supported otherwise (rule ∷ rules) apart =
-    let parts = or_parts (are_alike rule.desired.language desired.language) (is_among (map (λ rule. rule.desired.language) rules) desired.language) apart in
-    ap (λ b. cond ((b && (are_alike rule.desired.script desired.script && are_alike rule.desired.region desired.region)) && are_alike_fields rule.supported supported) rule.distance (distance_by rules otherwise desired supported)) parts.0
-    ∙ no_rule desired supported otherwise rules parts.1
+no_rule desired supported otherwise (rule ∷ rules) apart = grind (arith, nat_tests, or_parts, no_rule desired supported otherwise rules)
 
 language_far :
     (desired supported : Fields) → is_among (map (λ rule. rule.desired.language) language_rules) desired.language ≡ false → (Alike desired.language supported.language → ⊥) →

@@ -1,73 +1,138 @@
--- The tables of language matching have the rows of the lists: by computation.
-use Rattle.std.proofs.Common.{◌≡◌, true, ltb, length, map, refl}
+-- The tables of language matching have the rows of the lists, by computation, and a rule is found by its number.
+use Rattle.std.proofs.Common.{◌≡◌, ℕ, ◌<◌, true, false, ◌==◌, Bool, ltb, List, [], ◌∷◌, length, get_or, map, refl, arith, rules, ◌&&◌, is_some, ◌+◌, ◌*◌, ap, ◌∙◌, cond, Option, sym, ◌⊎◌}
+use Rattle.std.proofs.lemmas.Bool.Decides.{nat_tests, eqb_tells}
+use Rattle.std.proofs.lemmas.Bool.{and_parts, ltb-true, false_from_ne_true, eq-eqb, ne_eqb}
+use Rattle.std.proofs.lemmas.Grind.{common_steps}
 use Rattle.std.specs.List.{list_all}
-use Rattle.langtag_scan.specs.Case.{fold_byte, folded_number}
-use Rattle.langtag_scan.specs.Class.{is_letter, is_digit}
+use Rattle.std.specs.Option.{option_map_or}
+use Rattle.langtag_scan.specs.Case.{folded_number, fold_byte, are_alike}
+use Rattle.langtag_scan.specs.Class.{are_alphanumeric, are_letters, is_letter, is_digit}
+use Rattle.langtag_scan.proofs.FoldedNumbers.{folded_number-tells}
 use Rattle.langtag_tables.specs.Numbers.{letter_number}
-use Rattle.langtag_choice.specs.declared.matching_tables.TheConstants as table
-use Rattle.langtag_choice.specs.Distance.{maghreb, en_us, americas, cnsar}
 use Rattle.langtag_likely.specs.Aliases.{language_aliases}
-use Rattle.langtag_choice.specs.MatchingData as list
-use Rattle.langtag_likely.specs.Numbers.{key_number}
+use Rattle.langtag_likely.specs.Likely.{are_alike_fields, Likely, language_alone, without_region}
+use Rattle.langtag.specs.Fields.{Fields}
+use Rattle.langtag_likely.specs.Numbers.{first_index, key_number}
+use Rattle.langtag_likely.proofs.KeyNumbers.{test_at, are_plain, is_numbered, key_number-tells}
+use Rattle.langtag_likely.proofs.RowLaws.{is_language, language-tells}
+use Rattle.langtag.proofs.Alike.{alike_length}
+use Rattle.langtag_choice.specs.Distance.{is_among, maghreb, en_us, americas, cnsar, language_distance, script_distance}
 use Rattle.langtag_choice.specs.Lone.{replacing}
+use Rattle.langtag_choice.specs.MatchingData as list
+use Rattle.langtag_choice.specs.MatchingData.{language_rules, script_rules}
 use Rattle.langtag_choice.specs.Pairs.{language_pair, script_pair}
-use Rattle.langtag_choice.proofs.RelatedLanguages.{is_listed}
-use Rattle.langtag_choice.proofs.RulesFound.{is_short, distance_of}
-use Rattle.langtag_choice.proofs.PairNumbers.{is_language_rule, is_script_rule}
+use Rattle.langtag_choice.specs.Rules.{Rule, fits, distance_by}
+use Rattle.langtag_choice.specs.Sets.{set_of}
+use Rattle.langtag_choice.specs.declared.matching_tables.TheConstants as table
+use Rattle.langtag_choice.specs.declared.region_distance.SetName.{SetName}
+use Rattle.langtag_choice.proofs.LoneLanguages.{is_listed}
+
+abbrev pub distance_of : Rule → ℕ
+distance_of rule = rule.distance
+
+-- where a number tells pairs apart, the first rule with it is the rule for the two
+module _ (number : Rule → ℕ) (is_good : Rule → Bool) (key : ℕ) (desired supported : Fields)
+    (tells : (rule : Rule) → is_good rule ≡ true → (key == number rule) ≡ fits desired supported rule) where
+  pub distance_by_number :
+      (otherwise : ℕ) (rules : List Rule) → list_all is_good rules ≡ true →
+      option_map_or (λ i. get_or (map distance_of rules) i 0) (first_index (map number rules) key) otherwise ≡ distance_by rules otherwise desired supported
+  distance_by_number otherwise [] all = refl
+  distance_by_number otherwise (rule ∷ rules) all = grind (arith, nat_tests, and_parts, distance_by_number otherwise rules, tells rule)
+
+-- ---- no rule has a language of more than three letters
+
+abbrev pub is_short : Rule → Bool
+is_short rule = ltb (length rule.desired.language) 4 && ltb (length rule.supported.language) 4
+
+pub long_desired : (otherwise : ℕ) (rules : List Rule) (desired supported : Fields) → 3 < length desired.language → list_all is_short rules ≡ true → distance_by rules otherwise desired supported ≡ otherwise
+long_desired otherwise [] desired supported long all = refl
+long_desired otherwise (rule ∷ rules) desired supported long all =
+    grind (arith, nat_tests, and_parts, alike_length rule.desired.language desired.language, long_desired otherwise rules desired supported long)
+
+pub long_supported : (otherwise : ℕ) (rules : List Rule) (desired supported : Fields) → 3 < length supported.language → list_all is_short rules ≡ true → distance_by rules otherwise desired supported ≡ otherwise
+long_supported otherwise [] desired supported long all = refl
+long_supported otherwise (rule ∷ rules) desired supported long all =
+    grind (arith, nat_tests, and_parts, alike_length rule.supported.language supported.language, long_supported otherwise rules desired supported long)
+
+-- ---- a text among others
+
+pub among_by_number :
+    (words : List (List ℕ)) (text : List ℕ) → list_all are_alphanumeric words ≡ true → are_alphanumeric text ≡ true →
+    is_some (first_index (map folded_number words) (folded_number text)) ≡ is_among words text
+among_by_number [] text all plain = refl
+among_by_number (word ∷ words) text all plain = grind (arith, common_steps, among_by_number words text, and_parts, folded_number-tells)
+
+-- ---- two numbers as one
+
+module _ (base : ℕ) where
+  pub two-tell-abstract : (a b c d : ℕ) → (a * base + b ≡ c * base + d → a ≡ c) → (a * base + b == c * base + d) ≡ ((a == c) && (b == d))
+  two-tell-abstract a b c d first = grind (arith, nat_tests, eqb_tells a c, eqb_tells b d, eq-eqb, ne_eqb)
+
+languages-tell : (a b c d : ℕ) → b < 32768 → d < 32768 → (a * 32768 + b == c * 32768 + d) ≡ ((a == c) && (b == d))
+languages-tell a b c d small little = two-tell-abstract 32768 a b c d (λ same. omega (arith, same, small, little))
+
+scripts-tell : (a b c d : ℕ) → b < 4294967296 → d < 4294967296 → (a * 4294967296 + b == c * 4294967296 + d) ≡ ((a == c) && (b == d))
+scripts-tell a b c d small little = two-tell-abstract 4294967296 a b c d (λ same. omega (arith, same, small, little))
 
 -- ---- rules
 
-pub language_rule_numbers : table.LANGUAGE_RULE_KEYS ≡ map (λ rule. language_pair rule.desired rule.supported) list.language_rules
-unfolding list.language_rules letter_number fold_byte
-language_rule_numbers = refl
+-- a row with this left side
+abbrev row_of : Fields → Likely
+row_of f = record { from = f; to = f }
 
-pub language_rule_distances : table.LANGUAGE_RULE_DISTANCES ≡ map distance_of list.language_rules
-unfolding list.language_rules fold_byte
-language_rule_distances = refl
+abbrev pub is_language_rule : Rule → Bool
+is_language_rule rule = is_language (row_of rule.desired) && (is_language (row_of rule.supported) && ltb (letter_number rule.supported.language) 32768)
 
-pub language_rules_good : list_all is_language_rule list.language_rules ≡ true
+pub language_pair-tells :
+    (desired supported : Fields) → are_letters desired.language ≡ true → are_letters supported.language ≡ true → letter_number supported.language < 32768 →
+    (rule : Rule) → is_language_rule rule ≡ true →
+    (language_pair desired supported == language_pair rule.desired rule.supported) ≡ fits (language_alone desired) (language_alone supported) rule
+language_pair-tells desired supported dl sl small rule good =
+    let k = and_parts (is_language (row_of rule.desired)) (is_language (row_of rule.supported) && ltb (letter_number rule.supported.language) 32768) good in
+    let l = and_parts (is_language (row_of rule.supported)) (ltb (letter_number rule.supported.language) 32768) k.1 in
+    languages-tell (letter_number desired.language) (letter_number supported.language) (letter_number rule.desired.language) (letter_number rule.supported.language)
+    small (ltb-true (letter_number rule.supported.language) 32768 l.1)
+    ∙ ap (λ b. b && (letter_number supported.language == letter_number rule.supported.language)) (language-tells desired.language dl (row_of rule.desired) k.0)
+    ∙ ap (λ b. are_alike_fields rule.desired (language_alone desired) && b) (language-tells supported.language sl (row_of rule.supported) l.0)
+
+abbrev pub is_script_rule : Rule → Bool
+is_script_rule rule = is_numbered (row_of rule.desired) && (is_numbered (row_of rule.supported) && ltb (key_number rule.supported) 4294967296)
+
+pub script_pair-tells :
+    (desired supported : Fields) → are_plain desired ≡ true → are_plain supported ≡ true → key_number supported < 4294967296 →
+    (rule : Rule) → is_script_rule rule ≡ true → (script_pair desired supported == script_pair rule.desired rule.supported) ≡ fits desired supported rule
+script_pair-tells desired supported dp sp small rule good =
+    let k = and_parts (is_numbered (row_of rule.desired)) (is_numbered (row_of rule.supported) && ltb (key_number rule.supported) 4294967296) good in
+    let l = and_parts (is_numbered (row_of rule.supported)) (ltb (key_number rule.supported) 4294967296) k.1 in
+    scripts-tell (key_number desired) (key_number supported) (key_number rule.desired) (key_number rule.supported) small (ltb-true (key_number rule.supported) 4294967296 l.1)
+    ∙ ap (λ b. b && (key_number supported == key_number rule.supported)) (key_number-tells desired (row_of rule.desired) dp k.0)
+    ∙ ap (λ b. are_alike_fields rule.desired desired && b) (key_number-tells supported (row_of rule.supported) sp l.0)
+
+-- ---- rules
+
+-- rules, and the table of their numbers and distances
+pub record AreRules (rules : List Rule) (number : Rule → ℕ) (is_good : Rule → Bool) (keys distances : List ℕ) (above : ℕ) : Type 0 where
+  pub numbers : keys ≡ map number rules
+  pub key_count : length keys ≡ length rules
+  pub distances_are : distances ≡ map distance_of rules
+  pub distance_count : length rules ≡ length distances
+  pub between : list_all (λ n. ltb 0 n && ltb n above) distances ≡ true
+  pub good : list_all is_good rules ≡ true
+  pub short : list_all is_short rules ≡ true
+
+abbrev pub language_rule_number : Rule → ℕ
+language_rule_number rule = language_pair rule.desired rule.supported
+
+pub language_rules_listed : AreRules list.language_rules language_rule_number is_language_rule table.LANGUAGE_RULE_KEYS table.LANGUAGE_RULE_DISTANCES 81
 unfolding list.language_rules letter_number is_letter fold_byte
-language_rules_good = refl
+language_rules_listed = record { numbers = refl; key_count = refl; distances_are = refl; distance_count = refl; between = refl; good = refl; short = refl }
 
-pub language_rules_short : list_all is_short list.language_rules ≡ true
-unfolding list.language_rules fold_byte
-language_rules_short = refl
+abbrev pub script_rule_number : Rule → ℕ
+script_rule_number rule = script_pair rule.desired rule.supported
 
-pub language_rule_count : length list.language_rules ≡ length table.LANGUAGE_RULE_DISTANCES
-unfolding list.language_rules fold_byte
-language_rule_count = refl
-
-pub language_rules_some : list_all (λ n. ltb 0 n) table.LANGUAGE_RULE_DISTANCES ≡ true
-language_rules_some = refl
-
-pub language_rules_most : list_all (λ n. ltb n 81) table.LANGUAGE_RULE_DISTANCES ≡ true
-language_rules_most = refl
-
-pub script_rule_numbers : table.SCRIPT_RULE_KEYS ≡ map (λ rule. script_pair rule.desired rule.supported) list.script_rules
-unfolding list.script_rules key_number letter_number folded_number fold_byte
-script_rule_numbers = refl
-
-pub script_rule_distances : table.SCRIPT_RULE_DISTANCES ≡ map distance_of list.script_rules
-unfolding list.script_rules fold_byte
-script_rule_distances = refl
-
-pub script_rules_good : list_all is_script_rule list.script_rules ≡ true
+pub script_rules_listed : AreRules list.script_rules script_rule_number is_script_rule table.SCRIPT_RULE_KEYS table.SCRIPT_RULE_DISTANCES 51
 unfolding list.script_rules key_number letter_number folded_number is_letter is_digit fold_byte
-script_rules_good = refl
-
-pub script_rules_short : list_all is_short list.script_rules ≡ true
-unfolding list.script_rules fold_byte
-script_rules_short = refl
-
-pub script_rule_count : length list.script_rules ≡ length table.SCRIPT_RULE_DISTANCES
-unfolding list.script_rules fold_byte
-script_rule_count = refl
-
-pub script_rules_some : list_all (λ n. ltb 0 n) table.SCRIPT_RULE_DISTANCES ≡ true
-script_rules_some = refl
-
-pub script_rules_most : list_all (λ n. ltb n 51) table.SCRIPT_RULE_DISTANCES ≡ true
-script_rules_most = refl
+script_rules_listed = record { numbers = refl; key_count = refl; distances_are = refl; distance_count = refl; between = refl; good = refl; short = refl }
 
 -- ---- related languages
 
@@ -81,34 +146,82 @@ replacing_listed = refl
 
 -- ---- sets of regions
 
-pub maghreb_inside_numbers : table.MAGHREB_INSIDE ≡ map folded_number maghreb.inside
-unfolding maghreb list.maghreb_inside folded_number fold_byte
-maghreb_inside_numbers = refl
+-- the tables of the sets, as numbers
+pub record AreSets : Type 0 where
+  pub maghreb_inside : table.MAGHREB_INSIDE ≡ map folded_number maghreb.inside
+  pub maghreb_partly : table.MAGHREB_PARTLY ≡ map folded_number maghreb.partly
+  pub en_us_inside : table.EN_US_INSIDE ≡ map folded_number en_us.inside
+  pub en_us_partly : table.EN_US_PARTLY ≡ map folded_number en_us.partly
+  pub americas_inside : table.AMERICAS_INSIDE ≡ map folded_number americas.inside
+  pub americas_partly : table.AMERICAS_PARTLY ≡ map folded_number americas.partly
+  pub cnsar_inside : table.CNSAR_INSIDE ≡ map folded_number cnsar.inside
+  pub cnsar_partly : table.CNSAR_PARTLY ≡ map folded_number cnsar.partly
 
-pub maghreb_partly_numbers : table.MAGHREB_PARTLY ≡ map folded_number maghreb.partly
-unfolding maghreb list.maghreb_partly folded_number fold_byte
-maghreb_partly_numbers = refl
+pub sets_listed : AreSets
+unfolding maghreb list.maghreb_inside list.maghreb_partly en_us list.en_us_inside list.en_us_partly americas list.americas_inside list.americas_partly cnsar list.cnsar_inside list.cnsar_partly folded_number fold_byte
+sets_listed = record { maghreb_inside = refl; maghreb_partly = refl; en_us_inside = refl; en_us_partly = refl; americas_inside = refl; americas_partly = refl; cnsar_inside = refl; cnsar_partly = refl }
 
-pub en_us_inside_numbers : table.EN_US_INSIDE ≡ map folded_number en_us.inside
-unfolding en_us list.en_us_inside folded_number fold_byte
-en_us_inside_numbers = refl
+-- ---- regions of sets are of letters and digits
 
-pub en_us_partly_numbers : table.EN_US_PARTLY ≡ map folded_number en_us.partly
-unfolding en_us list.en_us_partly folded_number fold_byte
-en_us_partly_numbers = refl
+pub inside_plain : (set : SetName) → list_all are_alphanumeric (set_of set).inside ≡ true
+unfolding maghreb list.maghreb_inside en_us list.en_us_inside americas list.americas_inside cnsar list.cnsar_inside is_letter is_digit fold_byte
+inside_plain set = grind (arith, nat_tests)
 
-pub americas_inside_numbers : table.AMERICAS_INSIDE ≡ map folded_number americas.inside
-unfolding americas list.americas_inside folded_number fold_byte
-americas_inside_numbers = refl
+pub partly_plain : (set : SetName) → list_all are_alphanumeric (set_of set).partly ≡ true
+unfolding maghreb list.maghreb_partly en_us list.en_us_partly americas list.americas_partly cnsar list.cnsar_partly is_letter is_digit fold_byte
+partly_plain set = grind (arith, nat_tests)
 
-pub americas_partly_numbers : table.AMERICAS_PARTLY ≡ map folded_number americas.partly
-unfolding americas list.americas_partly folded_number fold_byte
-americas_partly_numbers = refl
+-- ---- the distance of two languages, and of two scripts
 
-pub cnsar_inside_numbers : table.CNSAR_INSIDE ≡ map folded_number cnsar.inside
-unfolding cnsar list.cnsar_inside folded_number fold_byte
-cnsar_inside_numbers = refl
+module _ (d s : Fields) where
+  -- ---- languages
 
-pub cnsar_partly_numbers : table.CNSAR_PARTLY ≡ map folded_number cnsar.partly
-unfolding cnsar list.cnsar_partly folded_number fold_byte
-cnsar_partly_numbers = refl
+  language_other : (n : ℕ) → are_alike d.language s.language ≡ false → n ≡ distance_by language_rules 80 (language_alone d) (language_alone s) → n ≡ language_distance d s
+  unfolding language_distance
+  language_other n other is = is ∙ sym (ap (λ b. cond b 0 (distance_by language_rules 80 (language_alone d) (language_alone s))) other)
+
+  pub language_long_desired : are_alike d.language s.language ≡ false → 3 < length d.language → 80 ≡ language_distance d s
+  language_long_desired other long = language_other 80 other (sym (long_desired 80 language_rules (language_alone d) (language_alone s) long language_rules_listed.short))
+
+  pub language_long_supported : are_alike d.language s.language ≡ false → 3 < length s.language → 80 ≡ language_distance d s
+  language_long_supported other long = language_other 80 other (sym (long_supported 80 language_rules (language_alone d) (language_alone s) long language_rules_listed.short))
+
+  pub language_found :
+      (o : Option ℕ) (n : ℕ) (keys : List ℕ) (number : ℕ) → are_alike d.language s.language ≡ false → are_letters d.language ≡ true → are_letters s.language ≡ true →
+      letter_number s.language < 32768 → keys ≡ map language_rule_number language_rules → number ≡ language_pair d s → o ≡ first_index keys number →
+      n ≡ option_map_or (λ i. get_or (map distance_of language_rules) i 0) o 80 → n ≡ language_distance d s
+  language_found o n keys number other dl sl small keys_are number_is is value =
+      language_other n other
+      (cc (distance_by_number language_rule_number is_language_rule (language_pair d s) (language_alone d) (language_alone s) (language_pair-tells d s dl sl small) 80 language_rules language_rules_listed.good))
+
+  -- ---- scripts
+
+  script_other : (n : ℕ) → are_alike d.script s.script ≡ false → n ≡ distance_by script_rules 50 (without_region d) (without_region s) → n ≡ script_distance d s
+  unfolding script_distance
+  script_other n other is = is ∙ sym (ap (λ b. cond b 0 (distance_by script_rules 50 (without_region d) (without_region s))) other)
+
+  pub script_long_desired : are_alike d.script s.script ≡ false → 3 < length d.language → 50 ≡ script_distance d s
+  script_long_desired other long = script_other 50 other (sym (long_desired 50 script_rules (without_region d) (without_region s) long script_rules_listed.short))
+
+  pub script_long_supported : are_alike d.script s.script ≡ false → 3 < length s.language → 50 ≡ script_distance d s
+  script_long_supported other long = script_other 50 other (sym (long_supported 50 script_rules (without_region d) (without_region s) long script_rules_listed.short))
+
+  pub script_found :
+      (o : Option ℕ) (n : ℕ) (keys : List ℕ) (number : ℕ) → are_alike d.script s.script ≡ false → are_plain (without_region d) ≡ true → are_plain (without_region s) ≡ true →
+      key_number (without_region s) < 4294967296 → keys ≡ map script_rule_number script_rules → number ≡ script_pair (without_region d) (without_region s) → o ≡ first_index keys number →
+      n ≡ option_map_or (λ i. get_or (map distance_of script_rules) i 0) o 50 → n ≡ script_distance d s
+  script_found o n keys number other dp sp small keys_are number_is is value =
+      script_other n other
+      (cc (distance_by_number script_rule_number is_script_rule (script_pair (without_region d) (without_region s)) (without_region d) (without_region s)
+      (script_pair-tells (without_region d) (without_region s) dp sp small) 50 script_rules script_rules_listed.good))
+
+-- ---- the distance of a rule
+
+between_at : (distances : List ℕ) (above i : ℕ) → list_all (λ n. ltb 0 n && ltb n above) distances ≡ true → i < length distances → (0 < get_or distances i 0) × (get_or distances i 0 < above)
+between_at distances above i all inside = grind (arith, nat_tests, and_parts, test_at (λ n. ltb 0 n && ltb n above) distances i all)
+
+pub language_between : (i : ℕ) → i < length language_rules → (0 < get_or table.LANGUAGE_RULE_DISTANCES i 0) × (get_or table.LANGUAGE_RULE_DISTANCES i 0 < 81)
+language_between i inside = between_at table.LANGUAGE_RULE_DISTANCES 81 i language_rules_listed.between (rw (sym language_rules_listed.distance_count) inside)
+
+pub script_between : (i : ℕ) → i < length script_rules → (0 < get_or table.SCRIPT_RULE_DISTANCES i 0) × (get_or table.SCRIPT_RULE_DISTANCES i 0 < 51)
+script_between i inside = between_at table.SCRIPT_RULE_DISTANCES 51 i script_rules_listed.between (rw (sym script_rules_listed.distance_count) inside)

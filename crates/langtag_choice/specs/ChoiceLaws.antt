@@ -1,7 +1,5 @@
 -- Laws of the choice.
-use Rattle.std.specs.Prelude.{◌≡◌, ℕ, ◌<◌, ◌≤◌, false, IsTrue, List, map, Option, Some, length, is_some}
-use Rattle.std.specs.List.{Contains, slice_get}
-use Rattle.std.specs.Option.{option_map}
+use Rattle.std.specs.Prelude.{◌≡◌, ℕ, ◌<◌, ◌≤◌, false, IsTrue, List, map, Option, Some, length, is_some, Contains, slice_get, option_map}
 use Rattle.langtag_scan.specs.Case.{Alike, fold_text}
 use Rattle.langtag_range.specs.Element.{Element}
 use Rattle.langtag_range.specs.Fallback.{fallbacks}

@@ -1,7 +1,5 @@
 -- The candidate that is found while the choice is made. Only contracts of private functions cite this page.
-use Rattle.std.specs.Prelude.{◌≡◌, ◌⊎◌, ℕ, ◌<◌, ◌-◌, true, false, List, [], ◌∷◌, Option, Some, None, MatchOption, IfSome, length}
-use Rattle.std.specs.List.{slice_get}
-use Rattle.std.specs.Option.{option_map}
+use Rattle.std.specs.Prelude.{◌≡◌, ◌⊎◌, ℕ, ◌<◌, ◌-◌, true, false, List, [], ◌∷◌, Option, Some, None, MatchOption, IfSome, length, slice_get, option_map}
 use Rattle.langtag_range.specs.Element.{Element}
 use Rattle.langtag_range.specs.Listed.{basic_text}
 use Rattle.langtag_choice.specs.Best.{IsAtMost, Pair, is_refused, may_serve, rank, rank_of_pair, reach, serves}

@@ -1,7 +1,6 @@
 //! Choosing the best tag for a reader.
-ghost use Rattle.std.specs.Prelude.{◌≡◌, ◌<◌, IsTrue, length};
+ghost use Rattle.std.specs.Prelude.{◌≡◌, ◌<◌, IsTrue, length, option_map};
 ghost use Rattle.std.specs.List.{list_any};
-ghost use Rattle.std.specs.Option.{option_map};
 ghost use Rattle.langtag_range.specs.Listed.{basic_text};
 ghost use Rattle.langtag_match.specs.Text.{accept_language_ranges};
 ghost use Rattle.langtag_range.specs.Wanted.{wanted_elements};
@@ -32,6 +31,7 @@ use langtag_match::{AcceptLanguage, LanguageRange};
 /// let tags = [LangTag::new("en")?, LangTag::new("zh-Hans")?, LangTag::new("zh-Hant")?];
 /// best_for_header(b"zh-TW,zh;q=0.9,en;q=0.8", &tags); // Some(2)
 /// ```
+#[tactic(auto, using(crate::proofs::ChoiceLaws::header_case_ignored))]
 pub fn best_for_header(header: &[u8], tags: &[LangTag<'_>]) -> Option<usize>
     ensures choice { spec.IsChoice (wanted_elements header.now) (tag_texts tags.now) result }
     ensures header_case { laws.IgnoresHeaderCase header.now (tag_texts tags.now) result }
@@ -176,6 +176,7 @@ fn match_of<'a>(found: Candidate<'a, '_>) -> BestMatch<'a>
 /// best_among(&ranges[..], &One(LangTag::new("nb")?)); // Some(0)
 /// best_among(&ranges[..], &One(LangTag::new("ja")?)); // None
 /// ```
+#[tactic(auto, using(crate::proofs::ChoiceLaws::only_choice, crate::proofs::ChoiceLaws::look_up_answered, crate::proofs::ChoiceLaws::case_ignored))]
 pub fn best_among<'a, R: RangeList<'a>, T: TagList>(ranges: R, tags: &T) -> Option<usize>
     ensures choice { spec.IsChoice (R.elements ranges) (T.texts tags.now) result }
     ensures one { laws.IsOnlyChoice (R.elements ranges) (T.texts tags.now) result }
@@ -187,7 +188,7 @@ pub fn best_among<'a, R: RangeList<'a>, T: TagList>(ranges: R, tags: &T) -> Opti
 }
 
 /// Returns the index of the chosen tag.
-#[tactic(auto, using(crate::proofs::ChoiceLaws::found_chosen))]
+#[tactic(auto, using(crate::proofs::FoundLaws::found_chosen))]
 fn best_index<'a, R: RangeList<'a>, T: TagList>(ranges: R, tags: &T) -> Option<usize>
     ensures { spec.IsChoice (R.elements ranges) (T.texts tags.now) result }
 {
@@ -195,6 +196,7 @@ fn best_index<'a, R: RangeList<'a>, T: TagList>(ranges: R, tags: &T) -> Option<u
 }
 
 /// Returns the chosen candidate. If the first candidate is refused or not a tag, the tags are tried one by one.
+#[tactic(auto, using(crate::proofs::FoundLaws::first_best, crate::proofs::FoundLaws::first_open))]
 fn best<'a, 't, R: RangeList<'a>, T: TagList>(ranges: R, tags: &'t T) -> Option<Candidate<'a, 't>>
     ensures { IsBestFound (R.elements ranges) (T.texts tags.now) result }
 {
@@ -209,7 +211,7 @@ fn best<'a, 't, R: RangeList<'a>, T: TagList>(ranges: R, tags: &'t T) -> Option<
 }
 
 /// Returns whether the entry at an index is a tag that is not refused. No tag is refused if no range has the weight 0.
-#[tactic(auto, using(crate::proofs::NoneRefused::none_refused))]
+#[tactic(auto, using(crate::proofs::FoundLaws::none_refused, crate::proofs::FoundLaws::open_at))]
 fn is_chosen<'a, R: RangeList<'a>, T: TagList>(
     ranges: R,
     tags: &T,

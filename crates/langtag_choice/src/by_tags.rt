@@ -1,6 +1,5 @@
 //! Making the choice tag by tag. Each entry is checked once: whether it is a tag, and whether it is refused.
-ghost use Rattle.std.specs.Prelude.{◌≡◌, ◌<◌, ◌↔◌, ℕ, List, IsTrue, Some, false, length};
-ghost use Rattle.std.specs.List.{slice_get};
+ghost use Rattle.std.specs.Prelude.{◌≡◌, ◌<◌, ◌↔◌, ℕ, List, IsTrue, Some, false, length, slice_get};
 ghost use Rattle.langtag_range.specs.Element.{Element};
 ghost use Rattle.langtag_range.specs.Listed.{listed_element};
 ghost use Rattle.langtag_range.specs.Range.{is_language_range};

@@ -1,6 +1,5 @@
 //! A tag that may serve a range.
-ghost use Rattle.std.specs.Prelude.{◌≡◌, IsTrue};
-ghost use Rattle.std.specs.Option.{option_map};
+ghost use Rattle.std.specs.Prelude.{◌≡◌, IsTrue, option_map};
 ghost use Rattle.langtag_likely.specs.Matching.{matching_form};
 ghost use Rattle.langtag_likely.specs.Texts.{field_texts};
 ghost use Rattle.langtag_range.specs.Range.{is_language_range};
@@ -136,8 +135,5 @@ impl Candidate<'_, '_> {
 pub(crate) fn index_of(found: Option<Candidate<'_, '_>>) -> Option<usize>
     ensures { result ≡ option_map (λ c. c.index) found.entry }
 {
-    match found {
-        Some(found) => Some(found.index),
-        None => None,
-    }
+    Some(found?.index)
 }

@@ -10,6 +10,7 @@ use crate::wish::Wish;
 
 /// Returns the distance below which a tag may be better than the candidate, for a range with this `weight` and `place`.
 /// It is 0 if no tag can be better, and 51 if even a tag that only look-up finds may be better.
+#[tactic(auto, using(crate::proofs::FoundLaws::reach_most))]
 pub(crate) fn limit(found: &Option<Candidate<'_, '_>>, weight: u32, place: usize) -> u8
     ensures { (element : Element) (index : ℕ) (tag : List ℕ) → element.weight ≡ weight → result ≤ spec.reach element.range tag → IsNotAfter found.now (spec.rank place element index tag) }
 {
@@ -30,6 +31,7 @@ fn lack(weight: u32) -> u32
 
 /// Replaces the candidate by the text at an index, if the text may serve a range and is better. It does not check
 /// that the text is a tag.
+#[tactic(auto, using(crate::proofs::FoundLaws::cannot_serve))]
 pub(crate) fn improve<'a, 't>(
     found: &mut Option<Candidate<'a, 't>>,
     wish: &Wish<'a>,

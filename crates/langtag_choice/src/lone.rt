@@ -58,6 +58,7 @@ fn begins_counted(text: &[u8]) -> bool
 }
 
 /// Returns whether a text may begin with an extended language. A region of three digits is not an extended language.
+#[tactic(auto, using(crate::proofs::LoneLanguages::few_extended, crate::proofs::LoneLanguages::extended_letter, crate::proofs::LoneLanguages::extended_mark))]
 fn may_be_extended(text: &[u8]) -> bool
     ensures { result ≡ false → is_extended (before_first is_separator text.now) ≡ false }
 {

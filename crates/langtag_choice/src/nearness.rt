@@ -1,6 +1,5 @@
 //! How near a tag is to a range.
-ghost use Rattle.std.specs.Prelude.{◌≡◌, ◌≤◌, ◌==◌, ◌&&◌, ◌||◌, not, IsTrue, MatchOption, Some, length};
-ghost use Rattle.std.specs.Option.{option_map};
+ghost use Rattle.std.specs.Prelude.{◌≡◌, ◌≤◌, ◌==◌, ◌&&◌, ◌||◌, not, IsTrue, MatchOption, Some, length, option_map};
 ghost use Rattle.langtag_range.specs.Basic.{ends_subtag};
 ghost use Rattle.langtag_range.specs.Fallback.{ends_in_single};
 ghost use Rattle.langtag_range.specs.Listed.{basic_text};
@@ -83,7 +82,7 @@ fn nearer_fields<'t>(
 }
 
 /// Returns the fields; if they have no language, likely subtags are added first.
-#[tactic(auto, using(crate::proofs::NearForms::same_language))]
+#[tactic(auto, unfolding(crate::specs::Distance::language_distance), using(langtag_likely::proofs::CompletedForms::completed_language))]
 fn with_language<'t>(fields: TagFields<'t>) -> TagFields<'t>
     ensures { (desired : Fields) → language_distance desired (field_texts result) ≡ language_distance desired (completed (field_texts fields.entry)) }
 {
@@ -122,6 +121,7 @@ pub(crate) fn kept(range: &[u8], tag: &[u8]) -> usize
 
 /// Returns whether a tag equals a range, or equals the text before one of the range's hyphens and does not end in a
 /// subtag of a single character.
+#[tactic(auto, using(crate::proofs::ReadRanges::tag_begins))]
 fn is_fallback(range: &[u8], tag: &[u8]) -> bool
     ensures { result ≡ spec.is_fallback (basic_text range.now) tag.now }
 {

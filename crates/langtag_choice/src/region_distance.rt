@@ -107,7 +107,7 @@ pub(crate) enum SetName {
 }
 
 impl SetName {
-    #[tactic(auto, using(crate::proofs::MatchingTables::maghreb_inside_numbers, crate::proofs::MatchingTables::en_us_inside_numbers, crate::proofs::MatchingTables::americas_inside_numbers, crate::proofs::MatchingTables::cnsar_inside_numbers, crate::proofs::MatchingTables::maghreb_partly_numbers, crate::proofs::MatchingTables::en_us_partly_numbers, crate::proofs::MatchingTables::americas_partly_numbers, crate::proofs::MatchingTables::cnsar_partly_numbers))]
+    #[tactic(auto, using(crate::proofs::MatchingTables::sets_listed))]
     fn regions(self) -> RegionSet
         ensures inside { result.inside.now ≡ map folded_number (set_of self).inside }
         ensures inside_climbs { IsTrue (climbs_from 0 result.inside.now) }
@@ -134,14 +134,14 @@ impl SetName {
         }
     }
 
-    #[tactic(auto, using(langtag_likely::proofs::FieldClasses::region_length, langtag_likely::proofs::FieldClasses::region_alphanumeric, crate::proofs::RulesFound::among_by_number, crate::proofs::SetLaws::inside_plain))]
+    #[tactic(auto, using(langtag_likely::proofs::FieldClasses::region_length, langtag_likely::proofs::FieldClasses::region_alphanumeric, crate::proofs::MatchingTables::among_by_number, crate::proofs::MatchingTables::inside_plain))]
     fn is_inside(self, fields: TagFields<'_>) -> bool
         ensures { result ≡ spec.is_among (set_of self).inside fields.entry.region.now }
     {
         index_of(self.regions().inside, fields.region).is_some()
     }
 
-    #[tactic(auto, using(langtag_likely::proofs::FieldClasses::region_length, langtag_likely::proofs::FieldClasses::region_alphanumeric, crate::proofs::RulesFound::among_by_number, crate::proofs::SetLaws::partly_plain))]
+    #[tactic(auto, using(langtag_likely::proofs::FieldClasses::region_length, langtag_likely::proofs::FieldClasses::region_alphanumeric, crate::proofs::MatchingTables::among_by_number, crate::proofs::MatchingTables::partly_plain))]
     fn is_partly_inside(self, fields: TagFields<'_>) -> bool
         ensures { result ≡ spec.is_among (set_of self).partly fields.entry.region.now }
     {

@@ -72,7 +72,7 @@ fn script_pair(desired: TagFields<'_>, supported: TagFields<'_>) -> u64
     u64::from(key_number(desired.without_region())) * 4294967296 + u64::from(supported)
 }
 
-#[tactic(auto, using(crate::proofs::MatchingTables::language_rule_numbers))]
+#[tactic(auto, using(crate::proofs::MatchingTables::language_rules_listed))]
 fn language_rule_keys() -> &'static [u32]
     ensures numbers { result.now ≡ map (λ rule. language_pair rule.desired rule.supported) language_rules }
     ensures climbs { IsTrue (climbs_from 0 result.now) }
@@ -81,7 +81,7 @@ fn language_rule_keys() -> &'static [u32]
     &tables::LANGUAGE_RULE_KEYS
 }
 
-#[tactic(auto, using(crate::proofs::MatchingTables::script_rule_numbers))]
+#[tactic(auto, using(crate::proofs::MatchingTables::script_rules_listed))]
 fn script_rule_keys() -> &'static [u64]
     ensures numbers { result.now ≡ map (λ rule. script_pair rule.desired rule.supported) script_rules }
     ensures climbs { IsTrue (climbs_from 0 result.now) }
@@ -91,7 +91,7 @@ fn script_rule_keys() -> &'static [u64]
 }
 
 /// Returns the distance of the rule at an index. The distance is never 0.
-#[tactic(auto, using(crate::proofs::MatchingTables::language_rule_count, crate::proofs::MatchingTables::language_rule_distances))]
+#[tactic(auto, using(crate::proofs::MatchingTables::language_rules_listed))]
 fn language_rule_distance(index: usize) -> u8
     requires { index < length language_rules }
     ensures distance { result ≡ slice_index_or (map (λ rule. rule.distance) language_rules) index 0 }
@@ -102,7 +102,7 @@ fn language_rule_distance(index: usize) -> u8
 }
 
 /// Returns the distance of the rule at an index. The distance is never 0.
-#[tactic(auto, using(crate::proofs::MatchingTables::script_rule_count, crate::proofs::MatchingTables::script_rule_distances))]
+#[tactic(auto, using(crate::proofs::MatchingTables::script_rules_listed))]
 fn script_rule_distance(index: usize) -> u8
     requires { index < length script_rules }
     ensures distance { result ≡ slice_index_or (map (λ rule. rule.distance) script_rules) index 0 }

@@ -45,6 +45,7 @@ pub const FORMLESS_DISTANCE: u8 = 255;
 /// distance(LangTag::new("de-AT")?, LangTag::new("de")?); // 4
 /// distance(LangTag::new("de")?, LangTag::new("en")?); // 84
 /// ```
+#[tactic(auto, using(crate::proofs::AlikeDistances::ignores_case))]
 pub fn distance(desired: LangTag<'_>, supported: LangTag<'_>) -> u8
     ensures distance { result ≡ spec.distance_of_texts (lang_tag_text desired.entry) (lang_tag_text supported.entry) }
     ensures equal { spec.ZeroIfEqual (lang_tag_text desired.entry) (lang_tag_text supported.entry) result }

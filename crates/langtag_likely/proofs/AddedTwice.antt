@@ -1,60 +1,124 @@
--- Likely subtags that are added again change nothing.
-use Rattle.std.proofs.Common.{◌≡◌, ℕ, true, false, Bool, cond, not, List, [], ◌∷◌, Option, None, Some, option_map, is_some, inl, inr, ◌⊎◌, refl, sym, ap, ◌∙◌, arith, rules}
-use Rattle.std.specs.Prelude.{◌&&◌, ◌||◌, codes}
+-- Likely subtags that are added again change nothing, since the rows have what it takes: by computation, row by row.
+use Rattle.std.proofs.Common.{◌≡◌, ◌==◌, ◌%◌, true, false, Bool, cond, leb, not, List, [], ◌∷◌, ℕ, Option, None, Some, is_some, refl, sym, ap, ◌∙◌, arith, ◌&&◌, ◌||◌, codes, option_map, inl, inr, ◌⊎◌, rules}
+use Rattle.std.proofs.lemmas.Bool.{and_parts, leb-true, eqb-true}
 use Rattle.std.specs.List.{list_all}
 use Rattle.std.specs.Option.{option_map_or}
-use Rattle.std.proofs.lemmas.Bool.{and_parts}
-use Rattle.langtag_scan.specs.Case.{Alike, are_alike, fold_text}
-use Rattle.langtag_likely.specs.Likely.{Likely, are_alike_fields, likely_for, looked_up, or_else, or_other, filled, known, known_fields, add_likely, language_alone}
+use Rattle.langtag_scan.specs.Case.{fold_byte, are_alike, Alike, fold_text}
+use Rattle.langtag_scan.specs.Class.{is_letter, are_letters}
+use Rattle.langtag_tables.specs.Numbers.{letter_number}
+use Rattle.langtag_likely.specs.Likely.{Likely, likely_for, looked_up, or_else, are_alike_fields, or_other, filled, known, known_fields, add_likely, language_alone}
 use Rattle.langtag.specs.Fields.{Fields}
-use Rattle.langtag_likely.specs.LikelySubtags.{other_rows, likely_subtags}
+use Rattle.langtag_likely.specs.LikelySubtags.{language_rows, other_rows, likely_subtags}
+use Rattle.langtag_likely.specs.Rows.{of_language}
 use Rattle.langtag_likely.proofs.AlikeFields.{alike_fields, likely_for-alike, looked_up-alike, alone_alike}
 use Rattle.langtag.proofs.Alike.{AlikeFields, alike_is}
-use Rattle.langtag_likely.proofs.SettledRows.{is_there, is_language_row, is_kept, is_whole, stays_unknown, is_other_row, is_settled, rows_settled, row_by_bit, looked_up_other}
+use Rattle.langtag_likely.proofs.LanguageBits.{from_bit, row_at}
+use Rattle.langtag_likely.proofs.RowLaws.{all_other, either, language_found}
+
+-- ---- what the rows have in common
+
+-- a text that is there
+abbrev pub is_there : List ℕ → Bool
+is_there [] = false
+is_there (b ∷ text) = true
+
+-- the left side is a language and no more
+abbrev pub is_language_row : Likely → Bool
+is_language_row row = is_there row.from.language && (not (is_there row.from.script) && not (is_there row.from.region))
+
+-- a text is empty, or alike the other
+abbrev pub is_kept : List ℕ → List ℕ → Bool
+is_kept from to = not (is_there from) || are_alike from to
+
+-- a text is there, and does not say that it is unknown
+abbrev pub is_known : List ℕ → List ℕ → Bool
+is_known unknown text = is_there text && not (are_alike unknown text)
+
+-- the right side has a script and a region, keeps the language, and its language is not `und`
+abbrev pub is_whole : Likely → Bool
+is_whole row =
+    is_known (codes "Zzzz") row.to.script
+    && (is_known (codes "ZZ") row.to.region && (not (are_alike (codes "und") row.to.language)
+    && is_kept row.from.language row.to.language))
+
+-- a right side without a language keeps the left side, which has a script or a region, and leads to no language
+abbrev pub stays_unknown : Likely → Bool
+stays_unknown row =
+    (not (is_there row.from.language) && (is_there row.from.script || is_there row.from.region))
+    && ((is_kept row.from.script row.to.script && is_kept row.from.region row.to.region)
+    && option_map_or (λ v. not (is_there v.language)) (looked_up other_rows row.to) false)
+
+-- the bit of a language is set in the table of those that have a row
+unfoldable pub has_bit : List ℕ → Bool
+has_bit language =
+    are_letters language
+    && (leb 27 (letter_number language) && (leb (letter_number language) 18278 && (from_bit (letter_number language) % 2 == 1)))
+
+-- of another row: its language has a row of its own
+abbrev pub is_other_row : Likely → Bool
+is_other_row row = cond (is_there row.to.language) (has_bit row.to.language) (stays_unknown row)
+
+abbrev pub is_settled : Likely → Bool
+is_settled row = is_whole row && (is_language_row row || is_other_row row)
+
+pub rows_settled : list_all is_settled likely_subtags ≡ true
+unfolding likely_subtags language_rows other_rows has_bit letter_number is_letter fold_byte
+rows_settled = refl
+
+-- ---- a language whose bit is set has a row
+
+some_first : (a b : Option Fields) → is_some a ≡ true → is_some (or_else a b) ≡ true
+some_first a b h = grind arith
+
+pub row_by_bit : (language : List ℕ) → has_bit language ≡ true → is_some (likely_for likely_subtags (of_language language)) ≡ true
+unfolding has_bit
+row_by_bit language h =
+    let a = and_parts (are_letters language) (leb 27 (letter_number language) && (leb (letter_number language) 18278 && (from_bit (letter_number language) % 2 == 1))) h in
+    let b = and_parts (leb 27 (letter_number language)) (leb (letter_number language) 18278 && (from_bit (letter_number language) % 2 == 1)) a.1 in
+    let c = and_parts (leb (letter_number language) 18278) (from_bit (letter_number language) % 2 == 1) b.1 in
+    let found =
+    row_at (letter_number language) (leb-true 27 (letter_number language) b.0) (leb-true (letter_number language) 18278 c.0) (eqb-true (from_bit (letter_number language) % 2) 1 c.1) in
+    ap is_some (either (of_language language))
+    ∙ some_first (likely_for language_rows (of_language language)) (likely_for other_rows (of_language language))
+    (ap is_some (sym (language_found language (letter_number language) _ a.0 refl (sym found))))
+
+-- ---- a look-up without a language
+
+pub looked_up_other : (f : Fields) → f.language ≡ [] → looked_up other_rows f ≡ looked_up likely_subtags f
+looked_up_other f none = grind (arith, all_other)
 
 -- ---- texts that are there
 
 clash : {P : Type 0} (b : Bool) → b ≡ true → b ≡ false → P
-clash true t f = absurd cc
-clash false t f = absurd cc
+clash b t f = grind arith
 
 -- what holds either way
 pub either_way : {P : Type 0} (b : Bool) → (b ≡ true → P) → (b ≡ false → P) → P
-either_way true one other = one refl
-either_way false one other = other refl
+either_way b one other = grind arith
 
 by_or : {P : Type 0} (a b : Bool) → (a ≡ true → P) → (b ≡ true → P) → (a || b) ≡ true → P
-by_or true b f g h = f refl
-by_or false b f g h = g h
+by_or a b f g h = grind arith
 
 pub absent : (a : List ℕ) → is_there a ≡ false → a ≡ []
-absent [] h = refl
-absent (x ∷ a) h = absurd cc
+absent a h = grind arith
 
 there_alike : (a b : List ℕ) → Alike a b → is_there a ≡ is_there b
 there_alike a b h = grind arith
 
 pub or_other_there : (a b : List ℕ) → is_there a ≡ true → or_other a b ≡ a
-or_other_there [] b h = absurd cc
-or_other_there (x ∷ a) b h = refl
+or_other_there a b h = grind arith
 
 pub or_other_absent : (a b : List ℕ) → is_there a ≡ false → or_other a b ≡ b
-or_other_absent [] b h = refl
-or_other_absent (x ∷ a) b h = absurd cc
+or_other_absent a b h = grind arith
 
 there_other : (a b : List ℕ) → is_there b ≡ true → is_there (or_other a b) ≡ true
-there_other [] b h = h
-there_other (x ∷ a) b h = refl
+there_other a b h = grind arith
 
 other_test : (unknown a b : List ℕ) → are_alike unknown a ≡ false → are_alike unknown b ≡ false → are_alike unknown (or_other a b) ≡ false
-other_test unknown [] b ha hb = hb
-other_test unknown (x ∷ a) b ha hb = ha
+other_test unknown a b ha hb = grind arith
 
 pub known_stays : (unknown a : List ℕ) → are_alike unknown a ≡ false → known unknown a ≡ a
 known_stays unknown a h = ap (λ t. cond t [] a) h
-
-pub known_goes : (unknown a : List ℕ) → are_alike unknown a ≡ true → known unknown a ≡ []
-known_goes unknown a h = ap (λ t. cond t [] a) h
 
 -- ---- the row that was found
 
@@ -83,25 +147,10 @@ record Found (f to : Fields) : Type 0 where
   is_key : IsKey f key
   found : likely_for likely_subtags key ≡ Some to
 
-first_found :
-    {P : Type 0} (a b c d : Option Fields) (to : Fields) → or_else a (or_else b (or_else c d)) ≡ Some to →
-    (a ≡ Some to → P) → (b ≡ Some to → P) → (c ≡ Some to → P) → (d ≡ Some to → P) → P
-first_found a b c d to is p q r s = grind arith
-
 found_of : (f to : Fields) → looked_up likely_subtags f ≡ Some to → Found f to
 found_of f to is = grind arith
 
-last_found : (a b c d : Option Fields) → is_some d ≡ true → (v : Fields) × (or_else a (or_else b (or_else c d)) ≡ Some v)
-last_found (Some v) b c d h = (v, refl)
-last_found None (Some v) c d h = (v, refl)
-last_found None None (Some v) d h = (v, refl)
-last_found None None None (Some v) h = (v, refl)
-last_found None None None None h = absurd cc
-
 -- ---- fields that are all there stay, where something is looked up
-
-filled_whole : (m v : Fields) → is_there m.language ≡ true → is_there m.script ≡ true → is_there m.region ≡ true → filled m v ≡ m
-filled_whole m v l s r = rw (or_other_there m.language v.language l, or_other_there m.script v.script s, or_other_there m.region v.region r) refl
 
 whole_again :
     (m : Fields) → is_there m.language ≡ true → is_there m.script ≡ true → is_there m.region ≡ true → is_some (likely_for likely_subtags (language_alone m)) ≡ true →
@@ -152,20 +201,16 @@ field_alike :
 field_alike field to from key is same kept there = grind (arith, alike_is from to)
 
 not_first : (a b : List ℕ) → is_there (or_other a b) ≡ false → is_there a ≡ false
-not_first [] b h = refl
-not_first (x ∷ a) b h = h
+not_first a b h = grind arith
 
 and_false : (a b : Bool) → (a && b) ≡ false → a ≡ true → b ≡ false
-and_false true b h it = h
-and_false false b h it = absurd cc
+and_false a b h it = grind arith
 
 and_false-turned : (a b : Bool) → (a && b) ≡ false → b ≡ true → a ≡ false
-and_false-turned true b h it = clash b it h
-and_false-turned false b h it = refl
+and_false-turned a b h it = grind arith
 
 absent_key : (field from key : List ℕ) → (key ≡ field) ⊎ (key ≡ []) → Alike from key → is_there field ≡ false → is_there from ≡ false
-absent_key field from key (inl is) same none = there_alike from key same ∙ ap is_there is ∙ none
-absent_key field from key (inr is) same none = there_alike from key same ∙ ap is_there is
+absent_key field from key h3 same none = grind (arith, there_alike)
 
 -- ---- fields, the row that was found for them, and what it makes of them
 
@@ -207,12 +252,6 @@ module _ (f : Fields) (row : Likely) (key : Fields) (is_key : IsKey f key) (from
       unwritten : is_there f.language ≡ false → is_some (likely_for likely_subtags (language_alone most)) ≡ true
       unwritten it = search (rules, alone_other)
 
-  script_there : is_there most.script ≡ true
-  script_there = there_other f.script row.to.script whole.script
-
-  region_there : is_there most.region ≡ true
-  region_there = there_other f.region row.to.region whole.region
-
   script_not : are_alike (codes "Zzzz") most.script ≡ false
   script_not = other_test (codes "Zzzz") f.script row.to.script script_known whole.script_known
 
@@ -229,9 +268,6 @@ module _ (f : Fields) (row : Likely) (key : Fields) (is_key : IsKey f key) (from
 
       unknown : StaysUnknown row
       unknown = search (rules, unknown_of)
-
-      no_language : most.language ≡ []
-      no_language = or_other_absent f.language row.to.language f_none ∙ absent row.to.language to_none
 
       written : (is_there f.script && is_there f.region) ≡ true → add_likely likely_subtags most ≡ Some most
       written both = grind arith
@@ -263,7 +299,7 @@ module _ (f : Fields) (row : Likely) (key : Fields) (is_key : IsKey f key) (from
   added_again =
       let same : known_fields most ≡ most = rw (known_stays (codes "Zzzz") most.script script_not, known_stays (codes "ZZ") most.region region_not) refl in
       ap (add_likely likely_subtags) same
-      ∙ either_way (is_there most.language) (λ there. whole_again most there script_there region_there (alone_found there)) unknown_again
+      ∙ either_way (is_there most.language) (λ there. whole_again most there (there_other f.script row.to.script whole.script) (there_other f.region row.to.region whole.region) (alone_found there)) unknown_again
 
 -- ---- whatever is added to fields that are known
 

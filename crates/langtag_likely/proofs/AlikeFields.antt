@@ -7,9 +7,6 @@ use Rattle.langtag.specs.Fields.{Fields}
 use Rattle.langtag_likely.specs.LikelySubtags.{likely_subtags}
 use Rattle.langtag.proofs.Alike.{AlikeFields, alike_is, are_alike-left, are_alike-right}
 
-pub alike_refl : (a : Fields) → AlikeFields a a
-alike_refl a = record { language = refl; script = refl; region = refl }
-
 pub alike_fields : (a b : Fields) → are_alike_fields a b ≡ true → AlikeFields a b
 alike_fields a b is = grind (arith, alike_is)
 
@@ -36,9 +33,6 @@ looked_up-alike a b h = grind (arith, likely_for-alike)
 
 pub or_other-alike : (a b v : List ℕ) → Alike a b → Alike (or_other a v) (or_other b v)
 or_other-alike a b v h = grind arith
-
-filled-alike : (a b v : Fields) → AlikeFields a b → AlikeFields (filled a v) (filled b v)
-filled-alike a b v h = grind arith
 
 -- none and none, or some that are alike
 abbrev pub AlikeOptions : Option Fields → Option Fields → Type 0

@@ -14,13 +14,6 @@ region_language : (f : Fields) → (region_replaced f).language ≡ f.language
 unfolding region_replaced
 region_language f = grind arith
 
-or_other_first : (text other : List ℕ) → 0 < length text → or_other text other ≡ text
-or_other_first [] other some = absurd (omega (arith, some))
-or_other_first (b ∷ text) other some = refl
-
-unknown_language : (f : Fields) → (most_unknown f).language ≡ f.language
-unknown_language f = grind arith
-
 likely_language : (f : Fields) → 0 < length f.language → (most_likely f).language ≡ f.language
 unfolding most_likely
 likely_language f some = grind arith

@@ -13,12 +13,10 @@ use Rattle.langtag.proofs.FieldClasses.{from_primary}
 
 -- a language that is there is a primary subtag
 pub language_primary : (text : List ℕ) → is_language_field text ≡ true → 0 < length text → is_primary text ≡ true
-language_primary [] good some = absurd (omega (arith, some))
-language_primary (b ∷ text) good some = good
+language_primary text good some = grind arith
 
 pub language_letters : (text : List ℕ) → is_language_field text ≡ true → are_letters text ≡ true
-language_letters [] good = refl
-language_letters (b ∷ text) good = primary_letters (b ∷ text) good
+language_letters text good = grind (arith, primary_letters)
 
 pub language_alphanumeric : (text : List ℕ) → is_language_field text ≡ true → are_alphanumeric text ≡ true
 language_alphanumeric [] good = refl
@@ -32,8 +30,7 @@ script_alphanumeric [] good = refl
 script_alphanumeric (b ∷ text) good = (of_script (b ∷ text) good).alphanumeric
 
 pub script_length : (text : List ℕ) → is_script_field text ≡ true → length text ≤ 4
-script_length [] good = omega arith
-script_length (b ∷ text) good = let four = (script_four (b ∷ text) good).0 in omega (arith, four)
+script_length text good = grind (arith, script_four)
 
 pub region_alphanumeric : (text : List ℕ) → is_region_field text ≡ true → are_alphanumeric text ≡ true
 region_alphanumeric [] good = refl
@@ -47,8 +44,7 @@ pub fields_plain :
 fields_plain f l s r = rw (language_letters f.language l, script_alphanumeric f.script s, region_alphanumeric f.region r) refl
 
 pub language_length : (text : List ℕ) → is_language_field text ≡ true → length text ≤ 8
-language_length [] good = omega arith
-language_length (b ∷ text) good = (of_primary (b ∷ text) good).short
+language_length text good = grind (arith, of_primary)
 
 pub number_of_none : (text : List ℕ) → length text ≡ 0 → letter_number text ≡ 0
 unfolding letter_number

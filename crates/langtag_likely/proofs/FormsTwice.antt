@@ -1,28 +1,139 @@
 -- The maximal and the minimal record of a record are their own, and each undoes the other.
-use Rattle.std.proofs.Common.{◌≡◌, ℕ, ◌≤◌, true, false, List, [], ◌∷◌, length, map, Option, None, Some, option_map, unwrap_or, inl, inr, ◌⊎◌, IsTrue, refl, sym, ap, ◌∙◌, arith}
-use Rattle.std.specs.Prelude.{codes}
+use Rattle.std.proofs.Common.{◌≡◌, ℕ, true, false, List, [], ◌∷◌, Option, None, Some, option_map, refl, sym, ap, ◌∙◌, arith, codes, ◌≤◌, length, map, inl, inr, ◌⊎◌, IsTrue}
 use Rattle.std.specs.List.{AllByRecursion}
 use Rattle.std.specs.Option.{option_map_or}
 use Rattle.langtag_scan.specs.AlikeRecords.{AlikeRecords, fold_record}
-use Rattle.langtag_scan.specs.Case.{Alike, are_alike, fold_text}
+use Rattle.langtag_scan.specs.Case.{Alike, fold_text, are_alike}
 use Rattle.langtag_scan.specs.Class.{is_extended}
 use Rattle.langtag_scan.specs.Record.{Record, IsWellFormed}
 use Rattle.langtag_tables.proofs.Letters.{primary_length, extended_primary}
-use Rattle.langtag_likely.specs.Likely.{or_other, known, known_fields, add_likely, least}
-use Rattle.langtag.specs.Fields.{Fields, subtag_of}
+use Rattle.langtag_likely.specs.Likely.{looked_up, or_other, filled, known, known_fields, add_likely, least, suffices, language_alone, without_script, without_region}
+use Rattle.langtag.specs.Fields.{Fields}
 use Rattle.langtag_likely.specs.LikelySubtags.{likely_subtags}
 use Rattle.langtag_likely.specs.Maximal.{fields_of, language_field, put_fields, put_language, maximal_record, minimal_record}
-use Rattle.langtag_likely.proofs.AddedTwice.{AreKnown, added, either_way, or_other_there, known_stays, known_goes}
-use Rattle.langtag_likely.proofs.AlikeFields.{AlikeOptions, known-alike, added-alike, removed-alike, by_options}
+use Rattle.langtag_likely.proofs.AddedTwice.{either_way, AreKnown, added, or_other_there, is_there}
+use Rattle.langtag_likely.proofs.AlikeFields.{alike_fields, known-alike, known_fields-alike, suffices-alike, AlikeOptions, added-alike, removed-alike, by_options}
 use Rattle.langtag.proofs.Alike.{AlikeFields}
-use Rattle.langtag_likely.proofs.LeastTwice.{has_form}
-use Rattle.langtag_likely.proofs.SettledRows.{is_there}
+
+-- ---- one field
+
+known_none : (unknown : List ℕ) → known unknown [] ≡ []
+known_none unknown = grind arith
+
+known_twice : (unknown a : List ℕ) → known unknown (known unknown a) ≡ known unknown a
+known_twice unknown a = grind arith
+
+alike_none : (a : List ℕ) → Alike a [] → a ≡ []
+alike_none [] h = refl
+alike_none (x ∷ a) h = absurd cc
+
+-- a field that was filled has what was written
+known_back : (unknown most few form v : List ℕ) → few ≡ known unknown most → Alike most form → form ≡ or_other few v → known unknown form ≡ few
+known_back unknown most few form v is same made = grind (arith, alike_none, known-alike, known_twice)
+
+language_back : (most form v : List ℕ) → Alike most form → form ≡ or_other most v → form ≡ most
+language_back most form v same made = grind (arith, alike_none)
+
+-- ---- fields that suffice
+
+record Suffices (m few : Fields) : Type 0 where
+  form : Fields
+  v : Fields
+  is : add_likely likely_subtags few ≡ Some form
+  made : filled few v ≡ form
+  same : AlikeFields m form
+
+some_value : {A P : Type 0} (o : Option A) → (o ≡ None → P) → ((v : A) → o ≡ Some v → P) → P
+some_value o none some = grind arith
+
+sufficed : (m few : Fields) → suffices likely_subtags m few ≡ true → Suffices m few
+sufficed m few h =
+    some_value (looked_up likely_subtags few) (λ looked. absurd (let lost : false ≡ true = sym (rw looked refl) ∙ h in cc))
+    (λ v looked. record { form = filled few v; v = v; is = ap (option_map (filled few)) looked; made = refl; same = alike_fields m (filled few v) (sym (rw looked refl) ∙ h) })
+
+-- ---- the fewest fields
+
+pub record HasForm (m n : Fields) : Type 0 where
+  pub form : Fields
+  pub language : n.language ≡ m.language
+  pub form_language : form.language ≡ m.language
+  pub is_form : add_likely likely_subtags (known_fields n) ≡ Some form
+  pub same : AlikeFields m form
+  pub fewest : least likely_subtags form ≡ n
+
+module _ (m : Fields) (again : add_likely likely_subtags (known_fields m) ≡ Some m) where
+  abbrev a : Fields
+  a = language_alone (known_fields m)
+
+  abbrev b : Fields
+  b = without_script (known_fields m)
+
+  abbrev c : Fields
+  c = without_region (known_fields m)
+
+  module _ (form : Fields) (same : AlikeFields m form) where
+    abbrev k : Fields
+    k = known_fields form
+
+    alone_same : suffices likely_subtags form (language_alone k) ≡ suffices likely_subtags m a
+    alone_same = sym (suffices-alike m form a (language_alone k) same (record { language = same.language; script = refl; region = refl }))
+
+    with_region_same : suffices likely_subtags form (without_script k) ≡ suffices likely_subtags m b
+    with_region_same =
+        sym (suffices-alike m form b (without_script k) same (record { language = same.language; script = refl; region = (known_fields-alike m form same).region }))
+
+    with_script_same : suffices likely_subtags form (without_region k) ≡ suffices likely_subtags m c
+    with_script_same =
+        sym (suffices-alike m form c (without_region k) same (record { language = same.language; script = (known_fields-alike m form same).script; region = refl }))
+
+  by_language : suffices likely_subtags m a ≡ true → HasForm m a
+  by_language one = grind (arith, sufficed m a one, language_back m.language)
+
+  by_region : suffices likely_subtags m a ≡ false → suffices likely_subtags m b ≡ true → HasForm m b
+  by_region one two =
+      let h = sufficed m b two in
+      let l : h.form.language ≡ m.language = language_back m.language h.form.language h.v.language h.same.language (ap (λ f. f.language) (sym h.made)) in
+      let g : known (codes "ZZ") h.form.region ≡ b.region = known_back (codes "ZZ") m.region b.region h.form.region h.v.region refl h.same.region (ap (λ f. f.region) (sym h.made)) in
+      let settled : known_fields b ≡ b = rw (known_none (codes "Zzzz"), known_twice (codes "ZZ") m.region) refl in
+      let here : without_script (known_fields h.form) ≡ b = ap (λ l. record { language = l; script = []; region = known (codes "ZZ") h.form.region }) l ∙ ap (λ g. record { language = m.language; script = []; region = g }) g in
+      record {
+        form = h.form;
+        language = refl;
+        form_language = l;
+        is_form = ap (add_likely likely_subtags) settled ∙ h.is;
+        same = h.same;
+        fewest = rw (alone_same h.form h.same ∙ one, with_region_same h.form h.same ∙ two) here;
+      }
+
+  by_script : suffices likely_subtags m a ≡ false → suffices likely_subtags m b ≡ false → suffices likely_subtags m c ≡ true → HasForm m c
+  by_script one two three =
+      let h = sufficed m c three in
+      let l : h.form.language ≡ m.language = language_back m.language h.form.language h.v.language h.same.language (ap (λ f. f.language) (sym h.made)) in
+      let g : known (codes "Zzzz") h.form.script ≡ c.script = known_back (codes "Zzzz") m.script c.script h.form.script h.v.script refl h.same.script (ap (λ f. f.script) (sym h.made)) in
+      let settled : known_fields c ≡ c = rw (known_twice (codes "Zzzz") m.script, known_none (codes "ZZ")) refl in
+      let here : without_region (known_fields h.form) ≡ c = ap (λ l. record { language = l; script = known (codes "Zzzz") h.form.script; region = [] }) l ∙ ap (λ s. record { language = m.language; script = s; region = [] }) g in
+      record {
+        form = h.form;
+        language = refl;
+        form_language = l;
+        is_form = ap (add_likely likely_subtags) settled ∙ h.is;
+        same = h.same;
+        fewest = rw (alone_same h.form h.same ∙ one, with_region_same h.form h.same ∙ two, with_script_same h.form h.same ∙ three) here;
+      }
+
+  by_all : suffices likely_subtags m a ≡ false → suffices likely_subtags m b ≡ false → suffices likely_subtags m c ≡ false → HasForm m m
+  by_all one two three = grind arith
+
+  pub has_form : HasForm m (least likely_subtags m)
+  has_form =
+      either_way (suffices likely_subtags m a) (λ one. rw one (by_language one)) (λ one.
+      either_way (suffices likely_subtags m b) (λ two. rw (one, two) (by_region one two)) (λ two.
+      either_way (suffices likely_subtags m c) (λ three. rw (one, two, three) (by_script one two three)) (λ three. rw (one, two, three) (by_all one two three))))
 
 -- ---- the language of a tag whose fields are put
 
 there_by_length : (a : List ℕ) → 2 ≤ length a → is_there a ≡ true
-there_by_length [] h = absurd (omega (arith, h))
-there_by_length (x ∷ a) h = refl
+there_by_length a h = grind arith
 
 last_there : (p e : List ℕ) (es : List (List ℕ)) → AllByRecursion (λ s. IsTrue (is_extended s)) (e ∷ es) → is_there (language_field p (e ∷ es)) ≡ true
 last_there p e [] all = there_by_length e (primary_length e (extended_primary e all.0))
@@ -33,15 +144,8 @@ language_put :
     language_field (put_language p es (or_other (language_field p es) l)) es ≡ or_other (language_field p es) l
 language_put p es l there all not_und = grind (arith, or_other_there, last_there)
 
-put_language-twice : (p : List ℕ) (es : List (List ℕ)) (l : List ℕ) → put_language (put_language p es l) es l ≡ put_language p es l
-put_language-twice p es l = grind arith
-
 put_twice : (r : Record) (a b : Fields) → a.language ≡ b.language → put_fields (put_fields r a) b ≡ put_fields r b
 put_twice r a b same = grind arith
-
-subtag_back : (a : List ℕ) → unwrap_or (subtag_of a) [] ≡ a
-subtag_back [] = refl
-subtag_back (x ∷ a) = refl
 
 fields_put :
     (r : Record) (n : Fields) (l : List ℕ) → IsWellFormed r → n.language ≡ or_other (fields_of r).language l → are_alike (codes "und") l ≡ false →
@@ -49,10 +153,6 @@ fields_put :
 fields_put r n l fits same not_und = grind (arith, language_put, primary_length)
 
 -- ---- a record, and what likely subtags are added to it
-
-known_not : (unknown a : List ℕ) → are_alike unknown [] ≡ false → are_alike unknown (known unknown a) ≡ false
-known_not unknown a none =
-    either_way (are_alike unknown a) (λ is. ap (are_alike unknown) (known_goes unknown a is) ∙ none) (λ other. ap (are_alike unknown) (known_stays unknown a other) ∙ other)
 
 fields_known : (r : Record) → AreKnown (fields_of r)
 fields_known r = grind arith
@@ -65,18 +165,17 @@ min_of : (q : Record) (m : Fields) → add_likely likely_subtags (fields_of q) �
 unfolding minimal_record
 min_of q m is = ap (λ o. option_map_or (put_fields q) (option_map (least likely_subtags) o) q) is
 
-max_none : (q : Record) → add_likely likely_subtags (fields_of q) ≡ None → maximal_record q ≡ q
-unfolding maximal_record
-max_none q is = ap (λ o. option_map_or (put_fields q) o q) is
-
-min_none : (q : Record) → add_likely likely_subtags (fields_of q) ≡ None → minimal_record q ≡ q
-unfolding minimal_record
-min_none q is = ap (λ o. option_map_or (put_fields q) (option_map (least likely_subtags) o) q) is
-
 -- nothing is known of the record
 record HasNone (r : Record) : Type 0 where
   max_is : maximal_record r ≡ r
   min_is : minimal_record r ≡ r
+
+none_is : (r : Record) → add_likely likely_subtags (fields_of r) ≡ None → HasNone r
+unfolding maximal_record minimal_record
+none_is r is = record {
+  max_is = ap (λ o. option_map_or (put_fields r) o r) is;
+  min_is = ap (λ o. option_map_or (put_fields r) (option_map (least likely_subtags) o) r) is;
+}
 
 -- it has likely subtags
 record HasMost (r : Record) : Type 0 where
@@ -90,7 +189,7 @@ forms_of : (r : Record) → IsWellFormed r → HasNone r ⊎ HasMost r
 forms_of r fits = by_option (add_likely likely_subtags (fields_of r)) refl
   where
     by_option : (o : Option Fields) → add_likely likely_subtags (fields_of r) ≡ o → HasNone r ⊎ HasMost r
-    by_option None is = inl (record { max_is = max_none r is; min_is = min_none r is })
+    by_option None is = inl (none_is r is)
     by_option (Some m) is =
         let h = added (fields_of r) m (fields_known r) is in
         inr (record {
@@ -119,16 +218,6 @@ minimal-twice r fits = grind (arith, forms_of r fits, has_form, min_of, put_twic
 
 -- ---- without regard to case
 
-or_other-both : (a b v w : List ℕ) → Alike a b → Alike v w → Alike (or_other a v) (or_other b w)
-or_other-both a b v w h k = grind arith
-
-put_language-alike :
-    (p q : List ℕ) (es fs : List (List ℕ)) (l m : List ℕ) → Alike p q → map fold_text es ≡ map fold_text fs → Alike l m → Alike (put_language p es l) (put_language q fs m)
-put_language-alike p q es fs l m h all k = grind arith
-
-subtag-alike : (a b : List ℕ) → Alike a b → option_map fold_text (subtag_of a) ≡ option_map fold_text (subtag_of b)
-subtag-alike a b h = grind arith
-
 put-alike : (r q : Record) (a b : Fields) → AlikeRecords r q → AlikeFields a b → AlikeRecords (put_fields r a) (put_fields q b)
 put-alike r q a b same h = grind arith
 
@@ -141,9 +230,6 @@ language_field-alike p q (e ∷ []) (f ∷ []) h all = cc
 language_field-alike p q (e ∷ []) (f ∷ g ∷ fs) h all = absurd cc
 language_field-alike p q (e ∷ d ∷ es) (f ∷ []) h all = absurd cc
 language_field-alike p q (e ∷ d ∷ es) (f ∷ g ∷ fs) h all = language_field-alike p q (d ∷ es) (g ∷ fs) h cc
-
-subtag_text-alike : (o p : Option (List ℕ)) → option_map fold_text o ≡ option_map fold_text p → Alike (unwrap_or o []) (unwrap_or p [])
-subtag_text-alike o p h = grind arith
 
 pub fields-alike : (r q : Record) → AlikeRecords r q → AlikeFields (fields_of r) (fields_of q)
 fields-alike r q same = grind (arith, language_field-alike)

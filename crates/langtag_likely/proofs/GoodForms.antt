@@ -1,19 +1,26 @@
--- The maximal and the minimal record of a well-formed one are well-formed.
-use Rattle.std.specs.Option.{option_map_or}
-use Rattle.std.proofs.Common.{◌≡◌, ℕ, ◌≤◌, ◌⊎◌, true, Bool, cond, List, [], ◌∷◌, length, Option, None, Some, option_map, unwrap_or, IfSome, IsTrue, inr, refl, arith, rules}
-use Rattle.std.specs.Prelude.{◌&&◌, codes}
-use Rattle.std.specs.List.{list_all, AllByRecursion}
+-- The maximal and the minimal record of a well-formed one are well-formed, and not much longer.
+use Rattle.std.proofs.Common.{◌≡◌, ℕ, ◌≤◌, true, Bool, cond, List, [], ◌∷◌, length, Option, None, Some, option_map, IfSome, IsTrue, refl, arith, rules, ◌&&◌, codes, ◌+◌, length-append}
 use Rattle.std.proofs.lemmas.Bool.{and_parts}
+use Rattle.std.specs.List.{list_all, AllByRecursion}
+use Rattle.std.specs.Option.{option_map_or}
 use Rattle.langtag_scan.specs.Case.{fold_byte}
 use Rattle.langtag_scan.specs.Class.{is_letter, is_digit, is_primary, is_extended, is_script, is_region}
-use Rattle.langtag_scan.specs.Record.{Record, IsWellFormed}
+use Rattle.langtag_scan.specs.Record.{Record, IsWellFormed, one_flat, spell}
+use Rattle.langtag_scan.specs.Tag.{IsNormal}
+use Rattle.langtag_scan.proofs.Disjoint.{script_four, region_short}
+use Rattle.langtag_scan.proofs.Joins.{hyphenated}
+use Rattle.langtag_scan.proofs.PartOffsets.{length-spell}
+use Rattle.langtag_scan.proofs.SubtagFacts.{of_primary}
 use Rattle.langtag.specs.FieldClasses.{is_language_field, is_script_field, is_region_field}
-use Rattle.langtag_likely.specs.Likely.{Likely, likely_for, looked_up, or_else, or_other, filled, known, known_fields, add_likely, remove_likely, least, suffices, language_alone, without_script, without_region}
+use Rattle.langtag_likely.specs.Likely.{Likely, likely_for, looked_up, or_else, filled, known_fields, add_likely, remove_likely, least, suffices, language_alone, without_script, without_region}
 use Rattle.langtag.specs.Fields.{Fields, subtag_of}
 use Rattle.langtag_likely.specs.LikelySubtags.{language_rows, other_rows, likely_subtags}
 use Rattle.langtag_likely.specs.Maximal.{fields_of, language_field, put_fields, put_language, maximal_record, minimal_record}
+use Rattle.langtag.specs.Form.{IsForm}
 use Rattle.langtag_likely.proofs.FieldClasses.{from_extended, known_good}
 use Rattle.langtag.proofs.FieldClasses.{from_primary}
+
+-- ---- the fields
 
 -- each field is of its class
 pub record AreGood (f : Fields) : Type 0 where
@@ -42,16 +49,11 @@ row_good (row ∷ rows) key to all is = grind (arith, row_good rows key to, and_
 
 either_good : (a b : Option Fields) → IfGood a → IfGood b → IfGood (or_else a b)
 unfolding IfGood
-either_good None b ga gb = gb
-either_good (Some f) b ga gb = ga
+either_good a b ga gb = grind arith
 
 looked_up-good : (key : Fields) → IfGood (looked_up likely_subtags key)
 unfolding IfGood
 looked_up-good key = search (rules, either_good, row_good, rows_good)
-
-or_other-good : (is_good : List ℕ → Bool) (a b : List ℕ) → is_good a ≡ true → is_good b ≡ true → is_good (or_other a b) ≡ true
-or_other-good is_good [] b ga gb = gb
-or_other-good is_good (x ∷ a) b ga gb = ga
 
 filled-good : (f v : Fields) → AreGood f → AreGood v → AreGood (filled f v)
 filled-good f v gf gv = grind arith
@@ -86,39 +88,17 @@ language_field-good p [] is all = known_good is_language_field (codes "und") p r
 language_field-good p (e ∷ []) is all = from_extended e all.0
 language_field-good p (e ∷ f ∷ es) is all = language_field-good p (f ∷ es) is all.1
 
-optional-good :
-    (is_class is_good : List ℕ → Bool) (unknown : List ℕ) → is_good [] ≡ true → ((s : List ℕ) → is_class s ≡ true → is_good s ≡ true) → (o : Option (List ℕ)) →
-    IfSome o (λ s. IsTrue (is_class s)) → is_good (known unknown (unwrap_or o [])) ≡ true
-optional-good is_class is_good unknown none some None is = known_good is_good unknown [] none none
-optional-good is_class is_good unknown none some (Some s) is = known_good is_good unknown s none (some s is)
-
 pub fields_of-good : (r : Record) → IsWellFormed r → AreGood (fields_of r)
 fields_of-good r well = grind (arith, language_field-good)
 
 -- ---- a tag with other fields
-
-put_language-good : (p : List ℕ) (es : List (List ℕ)) (l : List ℕ) → is_primary p ≡ true → is_language_field l ≡ true → is_primary (put_language p es l) ≡ true
-put_language-good p es l is good = grind arith
-
-put_language-short : (p : List ℕ) (es : List (List ℕ)) (l : List ℕ) → (length p ≤ 3) ⊎ (es ≡ []) → (length (put_language p es l) ≤ 3) ⊎ (es ≡ [])
-put_language-short p [] l short = inr refl
-put_language-short p (e ∷ es) l short = short
-
-subtag_of-script : (s : List ℕ) → is_script_field s ≡ true → IfSome (subtag_of s) (λ t. IsTrue (is_script t))
-subtag_of-script [] good = tt
-subtag_of-script (b ∷ s) good = good
-
-subtag_of-region : (s : List ℕ) → is_region_field s ≡ true → IfSome (subtag_of s) (λ t. IsTrue (is_region t))
-subtag_of-region [] good = tt
-subtag_of-region (b ∷ s) good = good
 
 put_fields-well_formed : (r : Record) (f : Fields) → IsWellFormed r → AreGood f → IsWellFormed (put_fields r f)
 put_fields-well_formed r f well good = grind arith
 
 put-well_formed : (r : Record) (o : Option Fields) → IsWellFormed r → IfGood o → IsWellFormed (option_map_or (put_fields r) o r)
 unfolding IfGood
-put-well_formed r None well good = well
-put-well_formed r (Some f) well good = put_fields-well_formed r f well (good f refl)
+put-well_formed r o well good = grind (arith, put_fields-well_formed)
 
 pub maximal_well_formed : (r : Record) → IsWellFormed r → IsWellFormed (maximal_record r)
 unfolding maximal_record
@@ -130,3 +110,35 @@ removed-good f good = mapped-good (least likely_subtags) (add_likely likely_subt
 pub minimal_well_formed : (r : Record) → IsWellFormed r → IsWellFormed (minimal_record r)
 unfolding minimal_record
 minimal_well_formed r well = put-well_formed r (remove_likely likely_subtags (fields_of r)) well (removed-good (fields_of r) (fields_of-good r well))
+
+-- ---- how long they are
+
+-- a script and a region with the hyphen before them
+script_size : (o : Option (List ℕ)) → IfSome o (λ s. IsTrue (is_script s)) → length (hyphenated (one_flat o)) ≤ 5
+script_size o is = grind (arith, script_four, length-append)
+
+region_size : (o : Option (List ℕ)) → IfSome o (λ s. IsTrue (is_region s)) → length (hyphenated (one_flat o)) ≤ 4
+region_size o is = grind (arith, region_short, length-append)
+
+-- the fields of another tag
+put_length : (r : Record) (f : Fields) → IsWellFormed (put_fields r f) → length (spell (put_fields r f)) ≤ length (spell r) + 17
+put_length r f well =
+    omega (arith, length-spell r, length-spell (put_fields r f), (of_primary _ well.primary).short, script_size _ well.script, region_size _ well.region)
+
+by_fields : (r : Record) (o : Option Fields) → IsWellFormed (option_map_or (put_fields r) o r) → length (spell (option_map_or (put_fields r) o r)) ≤ length (spell r) + 17
+by_fields r o well = grind (arith, put_length)
+
+pub maximal_length : (r : Record) → IsWellFormed r → length (spell (maximal_record r)) ≤ length (spell r) + 17
+unfolding maximal_record
+maximal_length r well = by_fields r (add_likely likely_subtags (fields_of r)) (maximal_well_formed r well)
+
+pub minimal_length : (r : Record) → IsWellFormed r → length (spell (minimal_record r)) ≤ length (spell r) + 17
+unfolding minimal_record
+minimal_length r well = by_fields r (remove_likely likely_subtags (fields_of r)) (minimal_well_formed r well)
+
+-- of every text
+pub form_bounded :
+    (form_of : Record → Record) → ((r : Record) → IsWellFormed r → length (spell (form_of r)) ≤ length (spell r) + 17) → (old new : List ℕ) → IsForm form_of old new →
+    length new ≤ length old + 17
+unfolding IsNormal
+form_bounded form_of longer old new is = grind arith

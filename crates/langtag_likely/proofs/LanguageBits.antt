@@ -135,9 +135,6 @@ module _ (table last numbers : List ℕ) (all : list_all is_word table ≡ true)
   before : ℕ
   before = count (take place (words table))
 
-  divided : place ≡ place / 64 * 64 + place % 64
-  divided = omega arith
-
   count_is : before + count_ones rest ≡ get_or last (place / 64) 0
   unfolding before
   count_is = grind (arith, count-words 0 table (place / 64) (place % 64) all inside)

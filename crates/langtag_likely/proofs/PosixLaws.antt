@@ -1,12 +1,8 @@
 -- The tag of a POSIX locale's name: its parts, and its length.
-use Rattle.std.proofs.Common.{◌≡◌, ℕ, ◌+◌, ◌≤◌, true, false, Bool, cond, List, [], ◌∷◌, length, Option, None, Some, IsTrue, refl, sym, subst, arith}
-use Rattle.std.specs.Prelude.{◌||◌, codes, IfSome, MatchOption}
-use Rattle.std.specs.Borrow.{Bor}
+use Rattle.std.proofs.Common.{◌≡◌, ℕ, ◌+◌, ◌≤◌, true, false, Bool, cond, List, [], ◌∷◌, length, Option, None, Some, IsTrue, refl, sym, subst, arith, ◌||◌, codes, IfSome, MatchOption, Bor, IsUtf8, length-append}
 use Rattle.std.specs.Option.{option_map, option_or}
-use Rattle.std.specs.Str.{IsUtf8}
 use Rattle.std.proofs.lemmas.Str.{IsUtf8-from_ascii}
 use Rattle.std.proofs.lemmas.Bool.{and_parts}
-use Rattle.std.proofs.lemmas.List.{length-append}
 use Rattle.std.proofs.lemmas.Grind.{common_steps}
 use Rattle.langtag_scan.specs.Case.{are_alike, fold_byte}
 use Rattle.langtag_scan.specs.Class.{is_letter, is_digit, is_script, is_variant}
@@ -37,31 +33,19 @@ scripts_listed = refl
 
 -- ---- what a name says is well-formed
 
-one_variant : (variant : List ℕ) → IsTrue (is_variant variant) → SpellsVariants (variant ∷ []) variant
-one_variant variant is = record { members = (is, tt); joined = refl }
-
 pub is_variants : (variant : List ℕ) → IsTrue (is_variant variant) → IsVariants variant
-is_variants variant is = (variant ∷ [], one_variant variant is)
+is_variants variant is = (variant ∷ [], record { members = (is, tt); joined = refl })
 
 module _ (r : Record) (fits : IsWellFormed r) where
   variant_fits : (variant : Option (List ℕ)) → IfSome variant (λ v. IsTrue (is_variant v)) → IsWellFormed (with_said_variant variant r)
   variant_fits variant is = grind arith
 
   script_fits : (script : Option (List ℕ)) → IfSome script (λ s. IsTrue (is_script s)) → IsWellFormed (with_said_script script r)
-  script_fits None is = fits
-  script_fits (Some s) is = (script-replaces (Some s) is).fits r fits
+  script_fits script is = grind (arith, script-replaces)
 
-latin : IsTrue (is_script (codes "Latn"))
+scripts_are : IsTrue (is_script (codes "Latn")) × IsTrue (is_script (codes "Cyrl")) × IsTrue (is_script (codes "Deva"))
 unfolding is_script is_letter
-latin = refl
-
-cyrillic : IsTrue (is_script (codes "Cyrl"))
-unfolding is_script is_letter
-cyrillic = refl
-
-devanagari : IsTrue (is_script (codes "Deva"))
-unfolding is_script is_letter
-devanagari = refl
+scripts_are = (refl, refl, refl)
 
 pub modifier_script-fits : (modifier : List ℕ) → IfSome (modifier_script modifier) (λ s. IsTrue (is_script s))
 modifier_script-fits modifier =
@@ -71,32 +55,24 @@ modifier_script-fits modifier =
     by_tests :
         (a b c d : Bool) → (d ≡ true → IsTrue (is_script modifier)) →
         IfSome (cond a (Some (codes "Latn")) (cond b (Some (codes "Cyrl")) (cond c (Some (codes "Deva")) (cond d (Some modifier) None)))) (λ s. IsTrue (is_script s))
-    by_tests true b c d is = latin
-    by_tests false true c d is = cyrillic
-    by_tests false false true d is = devanagari
+    by_tests true b c d is = scripts_are.0
+    by_tests false true c d is = scripts_are.1
+    by_tests false false true d is = scripts_are.2
     by_tests false false false true is = is refl
     by_tests false false false false is = tt
 
-ijekavsk : IsTrue (is_variant (codes "ijekavsk"))
+variants_are : IsTrue (is_variant (codes "ijekavsk")) × IsTrue (is_variant (codes "tarask")) × IsTrue (is_variant (codes "valencia"))
 unfolding is_variant is_letter is_digit
-ijekavsk = refl
-
-tarask : IsTrue (is_variant (codes "tarask"))
-unfolding is_variant is_letter is_digit
-tarask = refl
-
-valencia : IsTrue (is_variant (codes "valencia"))
-unfolding is_variant is_letter is_digit
-valencia = refl
+variants_are = (refl, refl, refl)
 
 pub modifier_variant-fits : (modifier : List ℕ) → IfSome (modifier_variant modifier) (λ v. IsTrue (is_variant v))
 modifier_variant-fits modifier = by_tests (are_alike (codes "ijekavian") modifier || are_alike (codes "ijekavianlatin") modifier) (are_alike (codes "tarask") modifier) (are_alike (codes "valencia") modifier)
   where
     by_tests :
         (a b c : Bool) → IfSome (cond a (Some (codes "ijekavsk")) (cond b (Some (codes "tarask")) (cond c (Some (codes "valencia")) None))) (λ v. IsTrue (is_variant v))
-    by_tests true b c = ijekavsk
-    by_tests false true c = tarask
-    by_tests false false true = valencia
+    by_tests true b c = variants_are.0
+    by_tests false true c = variants_are.1
+    by_tests false false true = variants_are.2
     by_tests false false false = tt
 
 behind-fits : (front : List ℕ) → IfSome (script_behind front) (λ s. IsTrue (is_script s))
@@ -122,12 +98,10 @@ said_well_formed name r fits =
 -- ---- values of the code
 
 pub variant_of : (o : Option (Bor (List ℕ))) (variant : Option (List ℕ)) → option_map (λ v. v.now) o ≡ variant → IfSome variant (λ v. IsTrue (is_variant v)) → IfSome o (λ v. IsTrue (is_variant v.now))
-variant_of None variant same is = tt
-variant_of (Some v) variant same is = subst (λ o. IfSome o (λ v. IsTrue (is_variant v))) (sym same) is
+variant_of o variant same is = grind arith
 
 pub script_or : (a b : Option Script) → option_map script_text (option_or a b) ≡ or_else (option_map script_text a) (option_map script_text b)
-script_or None b = refl
-script_or (Some s) b = refl
+script_or a b = grind arith
 
 -- ---- a script makes a text at most five bytes longer
 
@@ -156,5 +130,4 @@ utf8_script text is = IsUtf8-from_ascii text (IsAscii-spelled text (text ∷ [])
 -- ---- where a name says a tag, one is written
 
 pub written_of : {N : Type 0} {W : ℕ → Type 0} (o : Option ℕ) → MatchOption o (N → ⊥) (λ len. N × W len) → N → (len : ℕ) × W len
-written_of None none named = absurd (none named)
-written_of (Some len) is named = (len, is.1)
+written_of o none named = grind arith

@@ -1,11 +1,7 @@
 -- A tag with other fields, piece by piece.
-use Rattle.std.proofs.Common.{◌≡◌, ℕ, ◌+◌, ◌≤◌, true, List, [], ◌∷◌, ◌++◌, length, drop, sym, ap, arith, append_assoc, rules}
-use Rattle.std.specs.Prelude.{codes}
-use Rattle.std.specs.List.{flat_map}
-use Rattle.std.proofs.lemmas.List.{length-append, append-nil}
+use Rattle.std.proofs.Common.{◌≡◌, ℕ, ◌+◌, ◌≤◌, true, List, [], ◌∷◌, ◌++◌, length, drop, ap, arith, append_assoc, rules, codes, flat_map, length-append, append-nil}
 use Rattle.std.proofs.lemmas.Grind.{common_steps}
 use Rattle.langtag_scan.specs.Case.{are_alike}
-use Rattle.langtag_scan.specs.CaseLaws.{are_alike-decides}
 use Rattle.langtag_scan.specs.Ends.{ends_of}
 use Rattle.langtag_scan.specs.Record.{Record, one_flat, extension_flat, private_part_flat, spell}
 use Rattle.langtag_scan.specs.Subtags.{join}
@@ -18,9 +14,6 @@ use Rattle.langtag.specs.Fields.{Fields, subtag_of}
 use Rattle.langtag_likely.specs.Maximal.{put_fields, put_language}
 
 -- ---- the language
-
-alike_turned : (a b : List ℕ) → are_alike a b ≡ true → are_alike b a ≡ true
-alike_turned a b alike = (are_alike-decides b a).1 (sym ((are_alike-decides a b).0 alike))
 
 -- `und` has no extended subtags
 pub und_alone :
@@ -52,8 +45,7 @@ pub region_inside : (r : Record) → (ends_of r).region ≤ length (spell r)
 region_inside r = grind (arith, ends_in_order r)
 
 subtag-length : (s : List ℕ) → length (hyphenated (one_flat (subtag_of s))) ≤ length s + 1
-subtag-length [] = omega arith
-subtag-length (b ∷ s) = let same = ap length (append-nil s) in omega (arith, same)
+subtag-length s = grind (arith, append-nil)
 
 put_language-length : (p : List ℕ) (es : List (List ℕ)) (l : List ℕ) → length (put_language p es l) ≤ length p + length l
 put_language-length p es l = grind arith

@@ -1,6 +1,5 @@
 -- A row is found by the number of its left side.
-use Rattle.std.proofs.Common.{◌≡◌, ℕ, ◌+◌, ◌*◌, ◌<◌, true, false, ◌==◌, Bool, cond, ltb, List, [], ◌∷◌, ◌++◌, length, get_or, map, Option, None, Some, option_map, refl, arith}
-use Rattle.std.specs.Prelude.{◌&&◌}
+use Rattle.std.proofs.Common.{◌≡◌, ℕ, ◌+◌, ◌*◌, ◌<◌, true, false, ◌==◌, Bool, cond, ltb, List, [], ◌∷◌, ◌++◌, length, get_or, map, Option, None, Some, option_map, refl, arith, ◌&&◌}
 use Rattle.std.specs.List.{list_all}
 use Rattle.langtag_likely.specs.Likely.{Likely, are_alike_fields, likely_for, or_else}
 use Rattle.langtag.specs.Fields.{Fields}
@@ -26,8 +25,7 @@ module _ (is_good : Likely → Bool) (key : Fields) (apart : (row : Likely) → 
 
 append-test :
     (b : Bool) (to : Fields) (xs ys all : Option Fields) → all ≡ or_else xs ys → cond b (Some to) all ≡ or_else (cond b (Some to) xs) ys
-append-test true to xs ys all same = refl
-append-test false to xs ys all same = same
+append-test b to xs ys all same = grind arith
 
 pub likely_for-append : (xs ys : List Likely) (key : Fields) → likely_for (xs ++ ys) key ≡ or_else (likely_for xs key) (likely_for ys key)
 likely_for-append [] ys key = refl
@@ -36,12 +34,7 @@ likely_for-append (row ∷ xs) ys key =
 
 -- ---- by the lengths of fields
 
-record HaveLengths (a b : Fields) : Type 0 where
-  language : length a.language ≡ length b.language
-  script : length a.script ≡ length b.script
-  region : length a.region ≡ length b.region
-
-alike_lengths : (a b : Fields) → are_alike_fields a b ≡ true → HaveLengths a b
+alike_lengths : (a b : Fields) → are_alike_fields a b ≡ true → (length a.language ≡ length b.language) × (length a.script ≡ length b.script) × (length a.region ≡ length b.region)
 alike_lengths a b alike = grind (arith, alike_length)
 
 -- a language of at most three letters

@@ -1,6 +1,5 @@
 -- The tables have the rows of the lists: by computation.
-use Rattle.std.proofs.Common.{◌≡◌, true, length, map, refl}
-use Rattle.std.specs.Prelude.{◌&&◌}
+use Rattle.std.proofs.Common.{◌≡◌, true, length, map, refl, ◌&&◌}
 use Rattle.std.specs.List.{list_all}
 use Rattle.langtag_scan.specs.Case.{fold_byte, folded_number}
 use Rattle.langtag_scan.specs.Class.{is_letter, is_digit, are_letters, is_primary, is_script, is_region}
@@ -14,30 +13,22 @@ use Rattle.langtag_likely.proofs.RowsFound.{is_short, is_alone, is_other}
 
 -- ---- the rows of a language alone
 
-pub language_scripts : map (name_at table.SCRIPT_NAMES) table.LANGUAGE_SCRIPTS ≡ map (λ row. row.to.script) language_rows
-unfolding language_rows fold_byte
-language_scripts = refl
+-- the table of languages that have rows
+pub record AreLanguages : Type 0 where
+  pub scripts : map (name_at table.SCRIPT_NAMES) table.LANGUAGE_SCRIPTS ≡ map (λ row. row.to.script) language_rows
+  pub regions : map (name_at table.REGION_NAMES) table.LANGUAGE_REGIONS ≡ map (λ row. row.to.region) language_rows
+  -- a language and no more, of two or three letters
+  pub alone : list_all (λ row. are_letters row.from.language && is_alone row) language_rows ≡ true
+  pub only : list_all is_alone language_rows ≡ true
+  pub short : list_all is_short language_rows ≡ true
 
-pub language_regions : map (name_at table.REGION_NAMES) table.LANGUAGE_REGIONS ≡ map (λ row. row.to.region) language_rows
-unfolding language_rows fold_byte
-language_regions = refl
-
--- a language and no more, of two or three letters
-pub languages_alone : list_all (λ row. are_letters row.from.language && is_alone row) language_rows ≡ true
+pub languages_listed : AreLanguages
 unfolding language_rows is_letter fold_byte
-languages_alone = refl
-
-pub languages_only : list_all is_alone language_rows ≡ true
-unfolding language_rows fold_byte
-languages_only = refl
+languages_listed = record { scripts = refl; regions = refl; alone = refl; only = refl; short = refl }
 
 pub language_count : length language_rows ≡ length table.LANGUAGE_SCRIPTS
 unfolding language_rows fold_byte
 language_count = refl
-
-pub languages_short : list_all is_short language_rows ≡ true
-unfolding language_rows fold_byte
-languages_short = refl
 
 -- ---- the other rows
 
@@ -45,33 +36,25 @@ pub other_numbers : table.OTHER_KEYS ≡ map (λ row. key_number row.from) other
 unfolding other_rows key_number letter_number folded_number fold_byte
 other_numbers = refl
 
-pub other_languages : map (name_at table.LANGUAGE_NAMES) table.OTHER_LANGUAGES ≡ map (λ row. row.to.language) other_rows
+pub other_key_count : length table.OTHER_KEYS ≡ length other_rows
 unfolding other_rows fold_byte
-other_languages = refl
-
-pub other_scripts : map (name_at table.SCRIPT_NAMES) table.OTHER_SCRIPTS ≡ map (λ row. row.to.script) other_rows
-unfolding other_rows fold_byte
-other_scripts = refl
-
-pub other_regions : map (name_at table.REGION_NAMES) table.OTHER_REGIONS ≡ map (λ row. row.to.region) other_rows
-unfolding other_rows fold_byte
-other_regions = refl
-
-pub others_numbered : list_all is_numbered other_rows ≡ true
-unfolding other_rows is_letter is_digit folded_number fold_byte
-others_numbered = refl
-
-pub others_other : list_all is_other other_rows ≡ true
-unfolding other_rows fold_byte
-others_other = refl
+other_key_count = refl
 
 pub other_count : length other_rows ≡ length table.OTHER_SCRIPTS
 unfolding other_rows fold_byte
 other_count = refl
 
-pub others_short : list_all is_short other_rows ≡ true
-unfolding other_rows fold_byte
-others_short = refl
+pub record AreOthers : Type 0 where
+  pub languages : map (name_at table.LANGUAGE_NAMES) table.OTHER_LANGUAGES ≡ map (λ row. row.to.language) other_rows
+  pub scripts : map (name_at table.SCRIPT_NAMES) table.OTHER_SCRIPTS ≡ map (λ row. row.to.script) other_rows
+  pub regions : map (name_at table.REGION_NAMES) table.OTHER_REGIONS ≡ map (λ row. row.to.region) other_rows
+  pub numbered : list_all is_numbered other_rows ≡ true
+  pub other : list_all is_other other_rows ≡ true
+  pub short : list_all is_short other_rows ≡ true
+
+pub others_listed : AreOthers
+unfolding other_rows is_letter is_digit folded_number fold_byte
+others_listed = record { languages = refl; scripts = refl; regions = refl; numbered = refl; other = refl; short = refl }
 
 -- ---- the classes of names
 

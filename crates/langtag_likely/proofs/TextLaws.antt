@@ -1,5 +1,5 @@
 -- The laws of the maximal and the minimal form, over texts.
-use Rattle.std.proofs.Common.{◌≡◌, ℕ, List, Option, None, Some, refl, sym, ap, ◌∙◌}
+use Rattle.std.proofs.Common.{◌≡◌, ℕ, List, Option, None, Some, refl, sym, ap, ◌∙◌, arith}
 use Rattle.std.specs.Option.{option_map_or}
 use Rattle.langtag_scan.specs.Record.{Record}
 use Rattle.langtag_scan.proofs.NormalTexts.{spelled_once}
@@ -51,8 +51,7 @@ others_stay :
     (r : Record) (o : Option Fields) →
     ((option_map_or (put_fields r) o r).extended ≡ r.extended) × ((option_map_or (put_fields r) o r).variants ≡ r.variants)
     × ((option_map_or (put_fields r) o r).extensions ≡ r.extensions) × ((option_map_or (put_fields r) o r).private_use ≡ r.private_use)
-others_stay r None = (refl, refl, refl, refl)
-others_stay r (Some f) = (refl, refl, refl, refl)
+others_stay r o = grind arith
 
 pub maximal_keeps : (old new : List ℕ) → IsMaximalForm old new → KeepsOthers old new
 unfolding maximal_record

@@ -1,6 +1,5 @@
 -- What the tables of likely subtags contain. Only contracts of private functions cite this page.
-use Rattle.std.specs.Prelude.{ℕ, List, [], Option}
-use Rattle.std.specs.Option.{option_map}
+use Rattle.std.specs.Prelude.{ℕ, List, [], Option, option_map}
 use Rattle.langtag_likely.specs.Likely.{Likely, likely_for}
 use Rattle.langtag.specs.Fields.{Fields}
 use Rattle.langtag_likely.specs.LikelySubtags.{language_rows}

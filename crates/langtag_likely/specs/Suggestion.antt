@@ -1,7 +1,6 @@
 -- The code that was probably meant by a language or a region that is not registered. It is the replacement by CLDR's
 -- aliases, if the replacement is one subtag (UTS #35, part 1, annex C, 'LocaleId Canonicalization').
-use Rattle.std.specs.Prelude.{ℕ, ◌==◌, ◌&&◌, List, [], length, Option, None, Some, if◌then◌else◌}
-use Rattle.std.specs.Option.{option_map, option_and_then}
+use Rattle.std.specs.Prelude.{ℕ, ◌==◌, ◌&&◌, List, [], length, Option, None, Some, if◌then◌else◌, option_map, option_and_then}
 use Rattle.langtag_scan.specs.Class.{is_primary, is_region}
 use Rattle.langtag_likely.specs.Likely.{likely_for}
 use Rattle.langtag.specs.Fields.{Fields}

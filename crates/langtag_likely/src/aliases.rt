@@ -1,6 +1,5 @@
 //! Replacing deprecated languages and regions in the fields of a tag.
-ghost use Rattle.std.specs.Prelude.{◌≡◌, IsTrue, length, map};
-ghost use Rattle.std.specs.Option.{option_map};
+ghost use Rattle.std.specs.Prelude.{◌≡◌, IsTrue, length, map, option_map};
 ghost use Rattle.langtag_scan.specs.Case.{folded_number};
 ghost use Rattle.langtag_tables.specs.Numbers.{climbs_from, letter_number};
 ghost use Rattle.langtag_likely.specs.Likely.{likely_for, language_alone};
@@ -68,7 +67,7 @@ fn region_alias(fields: TagFields<'_>) -> Option<TagFields<'static>>
     })
 }
 
-#[tactic(auto, using(crate::proofs::AliasTables::alias_numbers))]
+#[tactic(auto, using(crate::proofs::AliasTables::aliases_listed))]
 fn alias_keys() -> &'static [u16]
     ensures numbers { result.now ≡ map (λ row. letter_number row.from.language) language_aliases }
     ensures climbs { IsTrue (climbs_from 0 result.now) }
@@ -77,7 +76,7 @@ fn alias_keys() -> &'static [u16]
     &tables::ALIAS_KEYS
 }
 
-#[tactic(auto, using(crate::proofs::AliasTables::region_alias_numbers))]
+#[tactic(auto, using(crate::proofs::AliasTables::region_aliases_listed))]
 fn region_alias_keys() -> &'static [u32]
     ensures numbers { result.now ≡ map (λ row. folded_number row.from.region) region_aliases }
     ensures climbs { IsTrue (climbs_from 0 result.now) }

@@ -38,6 +38,7 @@ fn is_right_to_left_script(script: &[u8]) -> bool
     scripts().iter().any(|it| case_insensitive_eq(it, script))
 }
 
+#[tactic(auto, unfolding(crate::specs::RightToLeft::right_to_left_scripts))]
 fn scripts() -> &'static [[u8; 4]]
     ensures { result.now ≡ right_to_left_scripts }
 {

@@ -1,6 +1,5 @@
 //! The text of each field of a tag, which is empty if the field is absent or unknown.
-ghost use Rattle.std.specs.Prelude.{◌≡◌, IsTrue, [], codes, unwrap_or};
-ghost use Rattle.std.specs.Option.{option_map};
+ghost use Rattle.std.specs.Prelude.{◌≡◌, IsTrue, [], codes, unwrap_or, option_map};
 ghost use Rattle.langtag_language.specs.Language.{EachLanguageSpelling};
 ghost use Rattle.langtag_language.specs.Text.{language_text};
 ghost use Rattle.langtag_place.specs.Text.{script_text, region_text};

@@ -1,6 +1,5 @@
 //! Adding and removing the likely subtags of fields (UTS #35, part 1, section 'Likely Subtags').
-ghost use Rattle.std.specs.Prelude.{◌≡◌};
-ghost use Rattle.std.specs.Option.{option_map};
+ghost use Rattle.std.specs.Prelude.{◌≡◌, option_map};
 ghost use Rattle.langtag_likely.specs.Likely.{filled, add_likely, looked_up, suffices, least, remove_likely};
 ghost use Rattle.langtag_likely.specs.LikelySubtags.{likely_subtags};
 ghost use Rattle.langtag_likely.specs.Texts.{field_texts};
@@ -12,10 +11,7 @@ use crate::tag_fields::TagFields;
 pub fn add_likely<'a>(fields: TagFields<'a>) -> Option<TagFields<'a>>
     ensures { option_map field_texts result ≡ add_likely likely_subtags (field_texts fields.entry) }
 {
-    match looked_up(fields) {
-        Some(likely) => Some(fields.filled(likely)),
-        None => None,
-    }
+    Some(fields.filled(looked_up(fields)?))
 }
 
 /// Returns the right side of the first row that fits.
@@ -40,10 +36,7 @@ fn looked_up(fields: TagFields<'_>) -> Option<TagFields<'static>>
 pub(crate) fn remove_likely<'a>(fields: TagFields<'a>) -> Option<TagFields<'a>>
     ensures { option_map field_texts result ≡ remove_likely likely_subtags (field_texts fields.entry) }
 {
-    match add_likely(fields) {
-        Some(most) => Some(least(most)),
-        None => None,
-    }
+    Some(least(add_likely(fields)?))
 }
 
 /// Returns the fewest fields of a maximal form that have the same maximal form. A region is preferred to a script.

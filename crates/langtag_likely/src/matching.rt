@@ -1,6 +1,5 @@
 //! The fields by which two tags are compared (UTS #35, part 1, section 'Language Matching').
-ghost use Rattle.std.specs.Prelude.{◌≡◌};
-ghost use Rattle.std.specs.Option.{option_map};
+ghost use Rattle.std.specs.Prelude.{◌≡◌, option_map};
 ghost use Rattle.langtag_likely.specs.Matching as spec;
 ghost use Rattle.langtag_likely.specs.Texts.{field_texts};
 
@@ -15,10 +14,7 @@ use crate::tag_fields::TagFields;
 pub fn matching_form(text: &[u8]) -> Option<TagFields<'_>>
     ensures { option_map field_texts result ≡ spec.matching_form text.now }
 {
-    match replaced_form(text) {
-        Some(fields) => Some(completed(fields)),
-        None => None,
-    }
+    Some(completed(replaced_form(text)?))
 }
 
 /// Returns the fields of a text, with its language replaced if CLDR replaces it.
@@ -29,10 +25,7 @@ pub fn replaced_form(text: &[u8]) -> Option<TagFields<'_>>
     if are_alike(text, b"und") {
         return None;
     }
-    match TagFields::of_text(text) {
-        Some(fields) => Some(language_replaced(fields)),
-        None => None,
-    }
+    Some(language_replaced(TagFields::of_text(text)?))
 }
 
 /// Returns the fields with a deprecated region replaced, and with likely subtags added.

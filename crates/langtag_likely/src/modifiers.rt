@@ -1,7 +1,6 @@
 //! What the modifiers of locale names mean.
-ghost use Rattle.std.specs.Prelude.{◌≡◌, ◌||◌, IsTrue, MatchOption, None, Some, codes, false, if◌then◌else◌};
+ghost use Rattle.std.specs.Prelude.{◌≡◌, ◌||◌, IsTrue, MatchOption, None, Some, codes, false, if◌then◌else◌, option_map};
 ghost use Rattle.std.specs.List.{list_any};
-ghost use Rattle.std.specs.Option.{option_map};
 ghost use Rattle.langtag_scan.specs.Case.{are_alike};
 ghost use Rattle.langtag_scan.specs.Class.{is_script, is_variant};
 ghost use Rattle.langtag_place.specs.Text.{script_text};

@@ -1,6 +1,5 @@
 //! Writes a tag with other fields.
-ghost use Rattle.std.specs.Prelude.{◌≡◌, ◌∷◌, ◌++◌, drop};
-ghost use Rattle.std.specs.List.{flat_map};
+ghost use Rattle.std.specs.Prelude.{◌≡◌, ◌∷◌, ◌++◌, drop, flat_map};
 ghost use Rattle.std.specs.Option.{option_map, option_map_or};
 ghost use Rattle.langtag_scan.specs.Ends.{ends_of};
 ghost use Rattle.langtag_scan.specs.Record.{EachRecord, one_flat, spell};
@@ -59,6 +58,7 @@ fn hyphen_before(subtag: &[u8]) -> &[u8]
 }
 
 /// Returns the rest of a tag after its region, with the hyphen before it.
+#[tactic(auto, unfolding(langtag_scan::specs::Tag::IsNormal), using(crate::proofs::PutLaws::region_inside))]
 fn after_region<'a>(tag: NormalLangTag<'a>) -> &'a [u8]
     ensures { EachRecord (normal_lang_tag_text tag.entry) (λ r. result.now ≡ drop (ends_of r).region (spell r)) }
 {

@@ -1,7 +1,6 @@
 //! The rows of likely subtags, in tables: one table for rows with only a language on the left, and one for all other
 //! rows.
-ghost use Rattle.std.specs.Prelude.{◌≡◌, ◌≤◌, ◌<◌, IsTrue, length, map, slice_index_or};
-ghost use Rattle.std.specs.Option.{option_map};
+ghost use Rattle.std.specs.Prelude.{◌≡◌, ◌≤◌, ◌<◌, IsTrue, length, map, slice_index_or, option_map};
 ghost use Rattle.langtag_scan.specs.Class as class;
 ghost use Rattle.langtag_tables.specs.Numbers.{climbs_from, letter_number};
 ghost use Rattle.langtag.specs.FieldClasses.{is_language_field};
@@ -110,7 +109,7 @@ fn region_keys() -> &'static [u32]
     &tables::REGION_KEYS
 }
 
-#[tactic(auto, using(crate::proofs::TableRows::other_numbers))]
+#[tactic(auto, using(crate::proofs::TableRows::other_numbers, crate::proofs::TableRows::other_key_count))]
 fn other_keys() -> &'static [u32]
     ensures numbers { result.now ≡ map (λ row. key_number row.from) other_rows }
     ensures climbs { IsTrue (climbs_from 0 result.now) }

@@ -1,6 +1,5 @@
 //! The code that was probably meant by a language or a region that is not registered.
-ghost use Rattle.std.specs.Prelude.{◌≡◌, IfSome, IsTrue, length, map};
-ghost use Rattle.std.specs.Option.{option_map};
+ghost use Rattle.std.specs.Prelude.{◌≡◌, IfSome, IsTrue, length, map, option_map};
 ghost use Rattle.langtag_scan.specs.Case.{folded_number};
 ghost use Rattle.langtag_scan.specs.Class.{are_alphanumeric};
 ghost use Rattle.langtag_tables.specs.Numbers.{climbs_from};
@@ -61,15 +60,19 @@ pub fn suggested_language(code: &str) -> Option<&'static str>
 /// suggested_region("UK"); // Some("GB")
 /// suggested_region("GB"); // None
 /// ```
-#[tactic(auto, using(langtag_scan::proofs::Disjoint::region_short), unfolding(crate::specs::Suggestion::suggested_region))]
+#[tactic(auto, using(crate::proofs::FieldClasses::region_alphanumeric), unfolding(crate::specs::Suggestion::suggested_region))]
 pub fn suggested_region(code: &str) -> Option<&'static str>
     ensures { option_map (λ text. text.now) result ≡ spec.suggested_region code.now }
 {
     if !is_region(code.as_bytes()) {
         return None;
     }
-    let index = index_of(replacement_keys(), code.as_bytes())?;
-    Some(text_of(name_at(&tables::REPLACEMENT_NAMES, index)))
+    let fields = TagFields {
+        language: b"",
+        script: b"",
+        region: code.as_bytes(),
+    };
+    Some(text_of(region_replacement(fields)?))
 }
 
 /// Returns the region that replaces the region of these fields, if there is exactly one such region: `GB` for `UK`, and
@@ -84,7 +87,7 @@ pub fn region_replacement(fields: TagFields<'_>) -> Option<&'static [u8]>
 }
 
 /// Returns a name of the tables as a text.
-#[tactic(auto, using(crate::proofs::SuggestionLaws::utf8_name))]
+#[tactic(auto, using(crate::proofs::AliasTables::utf8_name))]
 fn text_of(name: &'static [u8]) -> &'static str
     requires { IsTrue (are_alphanumeric name.now) }
     ensures { result.now ≡ name.now }
@@ -95,7 +98,7 @@ fn text_of(name: &'static [u8]) -> &'static str
     text
 }
 
-#[tactic(auto, using(crate::proofs::AliasTables::replacement_numbers))]
+#[tactic(auto, using(crate::proofs::AliasTables::replacements_listed))]
 fn replacement_keys() -> &'static [u32]
     ensures numbers { result.now ≡ map (λ row. folded_number row.from.region) region_replacements }
     ensures climbs { IsTrue (climbs_from 0 result.now) }

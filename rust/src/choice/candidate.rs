@@ -107,8 +107,5 @@ impl Candidate<'_, '_> {
 /// Returns the index of the tag that was found.
 #[inline]
 pub(crate) fn index_of(found: Option<Candidate<'_, '_>>) -> Option<usize> {
-    match found {
-        Some(found) => Some(found.index),
-        None => None,
-    }
+    Some(found?.index)
 }

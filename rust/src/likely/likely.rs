@@ -8,10 +8,7 @@ use crate::likely::tag_fields::TagFields;
 /// Returns the fields with the likely subtag in place of each empty field, or `None` if no row fits.
 #[inline]
 pub fn add_likely<'a>(fields: TagFields<'a>) -> Option<TagFields<'a>> {
-    match looked_up(fields) {
-        Some(likely) => Some(fields.filled(likely)),
-        None => None,
-    }
+    Some(fields.filled(looked_up(fields)?))
 }
 
 /// Returns the right side of the first row that fits.
@@ -32,10 +29,7 @@ fn looked_up(fields: TagFields<'_>) -> Option<TagFields<'static>> {
 /// Returns the fewest fields that have the same maximal form, or `None` if no row fits.
 #[inline]
 pub(crate) fn remove_likely<'a>(fields: TagFields<'a>) -> Option<TagFields<'a>> {
-    match add_likely(fields) {
-        Some(most) => Some(least(most)),
-        None => None,
-    }
+    Some(least(add_likely(fields)?))
 }
 
 /// Returns the fewest fields of a maximal form that have the same maximal form. A region is preferred to a script.

@@ -11,21 +11,16 @@ use crate::likely::tag_fields::TagFields;
 /// Returns `None` for `und`, and for a text that does not begin with a language.
 #[inline]
 pub fn matching_form(text: &[u8]) -> Option<TagFields<'_>> {
-    match replaced_form(text) {
-        Some(fields) => Some(completed(fields)),
-        None => None,
-    }
+    Some(completed(replaced_form(text)?))
 }
 
 /// Returns the fields of a text, with its language replaced if CLDR replaces it.
+#[inline]
 pub fn replaced_form(text: &[u8]) -> Option<TagFields<'_>> {
     if are_alike(text, b"und") {
         return None;
     }
-    match TagFields::of_text(text) {
-        Some(fields) => Some(language_replaced(fields)),
-        None => None,
-    }
+    Some(language_replaced(TagFields::of_text(text)?))
 }
 
 /// Returns the fields with a deprecated region replaced, and with likely subtags added.

@@ -52,8 +52,12 @@ pub fn suggested_region(code: &str) -> Option<&'static str> {
     if !is_region(code.as_bytes()) {
         return None;
     }
-    let index = index_of(replacement_keys(), code.as_bytes())?;
-    Some(text_of(name_at(&tables::REPLACEMENT_NAMES, index)))
+    let fields = TagFields {
+        language: b"",
+        script: b"",
+        region: code.as_bytes(),
+    };
+    Some(text_of(region_replacement(fields)?))
 }
 
 /// Returns the region that replaces the region of these fields, if there is exactly one such region: `GB` for `UK`, and

@@ -2,9 +2,6 @@ use Rattle.std.proofs.Common.{None, Some}
 use Rattle.langtag_choice.proofs.FoundLaws.{first_best, first_open}
 use Rattle.langtag_choice.proofs.best.best.Goals as goal
 
-pub returns-in_default : goal.returns-in_default
-returns-in_default g c = first_best _ _ _ None c.in_default.is c.first_by_ranges-has_zero.ensures.least c.first_by_ranges-has_zero.ensures.real tt
-
 pub returns-then-is_chosen : goal.returns-then-is_chosen
 returns-then-is_chosen g c =
     first_best _ _ _ (Some c.in-Some.found) c.in-Some.is c.first_by_ranges-has_zero.ensures.least c.first_by_ranges-has_zero.ensures.real (c.is_chosen.ensures c.if-is_chosen.true)

@@ -1,14 +1,10 @@
 use Rattle.std.proofs.Common.{sym}
 use Rattle.langtag_choice.specs.Best.{IsMatchOf}
-use Rattle.langtag_choice.proofs.ChoiceLaws.{match_found}
+use Rattle.langtag_choice.proofs.FoundLaws.{match_found}
 use Rattle.langtag_choice.proofs.best.match_among.Goals as goal
 
-pub returns-in-Some-clause-found : goal.returns-in-Some-clause-found
-returns-in-Some-clause-found g c =
-    match_found _ _ _ c.in-Some.found c.match_of.result c.in-Some.is c.best.ensures c.match_of.ensures.index c.match_of.ensures.range c.match_of.ensures.place c.match_of.ensures.distance
-
-pub returns-in-Some-clause-choice : goal.returns-in-Some-clause-choice
-returns-in-Some-clause-choice g c =
+pub returns-in-Some : goal.returns-in-Some
+returns-in-Some g c =
     let is : IsMatchOf (g.R.RangeList.elements c.args.ranges) (g.T.TagList.texts c.args.tags.now) c.match_of.result =
     match_found _ _ _ c.in-Some.found c.match_of.result c.in-Some.is c.best.ensures c.match_of.ensures.index c.match_of.ensures.range c.match_of.ensures.place c.match_of.ensures.distance in
-    record { pair = is.pair; here = sym is.index; least = is.least }
+    record { found = is; choice = record { pair = is.pair; here = sym is.index; least = is.least } }

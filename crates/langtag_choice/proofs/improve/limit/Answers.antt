@@ -1,7 +1,7 @@
 use Rattle.std.proofs.Common.{◌≡◌, ◌-◌, ◌==◌, ◌&&◌, ◌||◌, nat_lt, sym, ap, subst, arith, ◌∙◌}
 use Rattle.langtag_choice.specs.Best.{rank, reach}
 use Rattle.langtag_choice.specs.Found.{IsNotAfter}
-use Rattle.langtag_choice.proofs.Ranks.{reach_most, settled}
+use Rattle.langtag_choice.proofs.FoundLaws.{reach_most, settled}
 use Rattle.langtag_choice.proofs.improve.limit.Goals as goal
 
 pub returns-in-Some : goal.returns-in-Some
@@ -11,9 +11,3 @@ returns-in-Some c = λ element index tag weight near.
     (settled c.in-Some.found c.args.place element index tag (c.least_distance.ensures (reach element.range tag) near)
     (ap (λ lack. nat_lt c.in-Some.found.rank.lack lack || ((c.in-Some.found.rank.lack == lack) && nat_lt c.in-Some.found.rank.place c.args.place)) (sym lacks)
     ∙ sym c.is_wanted_more.ensures ∙ c.if-is_wanted_more.true))
-
-pub returns-in_default : goal.returns-in_default
-returns-in_default c = λ element index tag weight near. absurd (omega (arith, near, reach_most element.range tag))
-
-pub returns-in_default-2 : goal.returns-in_default-2
-returns-in_default-2 c = λ element index tag weight near. absurd (omega (arith, near, reach_most element.range tag))

@@ -7,7 +7,7 @@ use Rattle.langtag_tables.proofs.Rising.{climb_searched, found_among}
 use Rattle.langtag_choice.specs.Lone.{is_lone, is_related}
 use Rattle.langtag_likely.proofs.FieldClasses.{language_letters}
 use Rattle.langtag_choice.proofs.MatchingTables.{desired_listed, replacing_listed}
-use Rattle.langtag_choice.proofs.RelatedLanguages.{has_number, not_among}
+use Rattle.langtag_choice.proofs.LoneLanguages.{has_number, not_among}
 use Rattle.langtag_choice.proofs.lone.is_related.Goals as goal
 
 pub returns : goal.returns

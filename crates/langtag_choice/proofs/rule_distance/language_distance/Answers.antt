@@ -1,9 +1,9 @@
 use Rattle.std.proofs.Common.{None, Some, refl, sym, ap, ◌∙◌}
 use Rattle.std.specs.Result.{result_ok}
 use Rattle.langtag_likely.specs.Texts.{field_texts}
-use Rattle.langtag_choice.proofs.DistanceLaws.{language_long_desired, language_long_supported, language_found}
+use Rattle.langtag_choice.proofs.MatchingTables.{language_long_desired, language_long_supported, language_found}
 use Rattle.langtag_likely.proofs.FieldClasses.{language_letters}
-use Rattle.langtag_likely.proofs.FirstIndex.{index_searched}
+use Rattle.langtag_likely.proofs.KeyNumbers.{index_searched}
 use Rattle.langtag_choice.proofs.rule_distance.language_distance.Goals as goal
 use Rattle.langtag_choice.proofs.rule_distance.language_distance.Goals.{then-desired-gt3-via-then-desired-gt3, then-desired-gt3-via-else-desired-gt3+then-supported-gt3}
 

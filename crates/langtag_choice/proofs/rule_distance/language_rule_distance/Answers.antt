@@ -1,15 +1,9 @@
-use Rattle.std.proofs.Common.{◌<◌, get_or, arith, ltb, ltb-true}
-use Rattle.langtag_choice.specs.declared.matching_tables.TheConstants.{LANGUAGE_RULE_DISTANCES}
-use Rattle.langtag_choice.proofs.MatchingTables.{language_rule_count, language_rules_some, language_rules_most}
-use Rattle.langtag_likely.proofs.FirstIndex.{index_inside, test_at}
+use Rattle.std.proofs.Common.{arith}
+use Rattle.langtag_choice.proofs.MatchingTables.{language_between}
 use Rattle.langtag_choice.proofs.rule_distance.language_rule_distance.Goals as goal
 
 pub returns-clause-some : goal.returns-clause-some
-returns-clause-some c =
-    let some : 0 < get_or LANGUAGE_RULE_DISTANCES c.args.index 0 = ltb-true 0 _ (test_at (λ n. ltb 0 n) LANGUAGE_RULE_DISTANCES c.args.index language_rules_some (omega (arith, c.requires, language_rule_count))) in
-    omega (arith, some)
+returns-clause-some c = omega (arith, language_between c.args.index c.requires)
 
 pub returns-clause-most : goal.returns-clause-most
-returns-clause-most c =
-    let most : get_or LANGUAGE_RULE_DISTANCES c.args.index 0 < 81 = index_inside 81 LANGUAGE_RULE_DISTANCES c.args.index language_rules_most (omega (arith, c.requires, language_rule_count)) in
-    omega (arith, most)
+returns-clause-most c = omega (arith, language_between c.args.index c.requires)

@@ -2,9 +2,9 @@ use Rattle.std.proofs.Common.{None, Some, refl, sym, ap, ◌∙◌}
 use Rattle.std.specs.Result.{result_ok}
 use Rattle.langtag_likely.specs.Likely.{without_region}
 use Rattle.langtag_likely.specs.Texts.{field_texts}
-use Rattle.langtag_choice.proofs.DistanceLaws.{script_long_desired, script_long_supported, script_found}
+use Rattle.langtag_choice.proofs.MatchingTables.{script_long_desired, script_long_supported, script_found}
 use Rattle.langtag_likely.proofs.FieldClasses.{fields_plain}
-use Rattle.langtag_likely.proofs.FirstIndex.{index_searched}
+use Rattle.langtag_likely.proofs.KeyNumbers.{index_searched}
 use Rattle.langtag_choice.proofs.rule_distance.script_distance.Goals as goal
 use Rattle.langtag_choice.proofs.rule_distance.script_distance.Goals.{then-desired-gt3-via-then-desired-gt3, then-desired-gt3-via-else-desired-gt3+then-supported-gt3}
 

@@ -3,7 +3,7 @@ use Rattle.langtag.specs.Text.{lang_tag_text}
 use Rattle.langtag_output.proofs.Taken.{written_taken}
 use Rattle.langtag_likely.specs.Maximal.{maximal_record}
 use Rattle.langtag.specs.Form.{IsForm}
-use Rattle.langtag_likely.proofs.FormLengths.{form_bounded, maximal_length}
+use Rattle.langtag_likely.proofs.GoodForms.{form_bounded, maximal_length}
 use Rattle.langtag_likely.proofs.forms.maximal_bytes.Goals as goal
 
 pub returns : goal.returns

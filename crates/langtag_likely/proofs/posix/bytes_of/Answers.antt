@@ -1,5 +1,4 @@
-use Rattle.std.proofs.Common.{◌≡◌, length, sym, ap, subst, arith}
-use Rattle.std.proofs.lemmas.List.{take_at}
+use Rattle.std.proofs.Common.{◌≡◌, length, sym, ap, subst, arith, take_at}
 use Rattle.langtag_range.specs.Locale.{locale_place}
 use Rattle.langtag_likely.specs.Posix.{IsTagOfName, with_said}
 use Rattle.langtag.proofs.FormLaws.{written_whole}

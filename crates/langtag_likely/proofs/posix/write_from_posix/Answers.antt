@@ -1,5 +1,4 @@
-use Rattle.std.proofs.Common.{◌≡◌, ap, subst, ◌∙◌}
-use Rattle.std.specs.Option.{option_map}
+use Rattle.std.proofs.Common.{◌≡◌, ap, subst, ◌∙◌, option_map}
 use Rattle.langtag.specs.Text.{lang_tag_text}
 use Rattle.langtag_place.specs.Text.{script_text}
 use Rattle.langtag_range.specs.Locale.{locale_place}

@@ -1,5 +1,4 @@
-use Rattle.std.proofs.Common.{◌==◌, length, sym, ap, ◌∙◌}
-use Rattle.std.specs.Prelude.{◌&&◌}
+use Rattle.std.proofs.Common.{◌==◌, length, sym, ap, ◌∙◌, ◌&&◌}
 use Rattle.langtag_likely.proofs.CommonTexts.{nothing_left}
 use Rattle.langtag_likely.proofs.read_text.are_alike.Goals as goal
 

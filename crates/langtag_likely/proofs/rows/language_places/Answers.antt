@@ -1,9 +1,9 @@
 use Rattle.std.proofs.Common.{[], get_or, refl, ap, ◌∙◌, arith}
 use Rattle.langtag_likely.specs.declared.tables.TheConstants.{SCRIPT_NAMES, LANGUAGE_SCRIPTS, REGION_NAMES, LANGUAGE_REGIONS}
 use Rattle.langtag.specs.FieldClasses.{is_script_field, is_region_field}
-use Rattle.langtag_likely.proofs.Columns.{column_good}
+use Rattle.langtag_likely.proofs.KeyNumbers.{column_good}
 use Rattle.langtag_likely.proofs.RowLaws.{language_at}
-use Rattle.langtag_likely.proofs.TableRows.{language_count, language_scripts, language_regions, scripts_good, regions_good}
+use Rattle.langtag_likely.proofs.TableRows.{language_count, languages_listed, scripts_good, regions_good}
 use Rattle.langtag_likely.proofs.rows.language_places.Goals as goal
 
 pub invariant_of-result : goal.invariant_of-result
@@ -16,4 +16,4 @@ invariant_of-result c = record {
 pub returns : goal.returns
 returns c =
     language_at c.args.index _ _ c.requires
-    (c.name_in.ensures ∙ ap (λ list. get_or list c.args.index []) language_scripts) (c.name_in-2.ensures ∙ ap (λ list. get_or list c.args.index []) language_regions)
+    (c.name_in.ensures ∙ ap (λ list. get_or list c.args.index []) languages_listed.scripts) (c.name_in-2.ensures ∙ ap (λ list. get_or list c.args.index []) languages_listed.regions)

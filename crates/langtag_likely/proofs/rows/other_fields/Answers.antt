@@ -1,9 +1,9 @@
 use Rattle.std.proofs.Common.{[], get_or, refl, ap, ◌∙◌, arith}
 use Rattle.langtag_likely.specs.declared.tables.TheConstants.{LANGUAGE_NAMES, OTHER_LANGUAGES, SCRIPT_NAMES, OTHER_SCRIPTS, REGION_NAMES, OTHER_REGIONS}
 use Rattle.langtag.specs.FieldClasses.{is_language_field, is_script_field, is_region_field}
-use Rattle.langtag_likely.proofs.Columns.{column_good}
+use Rattle.langtag_likely.proofs.KeyNumbers.{column_good}
 use Rattle.langtag_likely.proofs.RowLaws.{other_at}
-use Rattle.langtag_likely.proofs.TableRows.{other_count, other_languages, other_scripts, other_regions, languages_good, scripts_good, regions_good}
+use Rattle.langtag_likely.proofs.TableRows.{other_count, others_listed, languages_good, scripts_good, regions_good}
 use Rattle.langtag_likely.proofs.rows.other_fields.Goals as goal
 
 pub invariant_of-result : goal.invariant_of-result
@@ -16,5 +16,5 @@ invariant_of-result c = record {
 pub returns : goal.returns
 returns c =
     other_at c.args.index _ _ _ c.requires
-    (c.name_in.ensures ∙ ap (λ list. get_or list c.args.index []) other_languages) (c.name_in-2.ensures ∙ ap (λ list. get_or list c.args.index []) other_scripts)
-    (c.name_in-3.ensures ∙ ap (λ list. get_or list c.args.index []) other_regions)
+    (c.name_in.ensures ∙ ap (λ list. get_or list c.args.index []) others_listed.languages) (c.name_in-2.ensures ∙ ap (λ list. get_or list c.args.index []) others_listed.scripts)
+    (c.name_in-3.ensures ∙ ap (λ list. get_or list c.args.index []) others_listed.regions)

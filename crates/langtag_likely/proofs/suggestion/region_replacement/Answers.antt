@@ -3,11 +3,9 @@ use Rattle.langtag_likely.specs.declared.alias_tables.TheConstants.{REPLACEMENT_
 use Rattle.langtag_likely.specs.Aliases.{region_replacements}
 use Rattle.langtag.specs.FieldClasses.{is_region_field}
 use Rattle.langtag_likely.specs.Texts.{field_texts}
-use Rattle.langtag_likely.proofs.AliasLaws.{at_index}
-use Rattle.langtag_likely.proofs.AliasTables.{replacement_count, replacement_names, replacements_good}
-use Rattle.langtag_likely.proofs.Columns.{name_good}
+use Rattle.langtag_likely.proofs.AliasTables.{at_index, replacements_listed, replaced_region}
+use Rattle.langtag_likely.proofs.KeyNumbers.{name_good}
 use Rattle.langtag_likely.proofs.FieldClasses.{region_alphanumeric}
-use Rattle.langtag_likely.proofs.SuggestionLaws.{replaced_region}
 use Rattle.langtag_likely.proofs.suggestion.region_replacement.Goals as goal
 
 pub returns-in_err-index-clause-region : goal.returns-in_err-index-clause-region
@@ -17,11 +15,11 @@ returns-in_err-index-clause-region c =
 
 pub returns-clause-region : goal.returns-clause-region
 returns-clause-region c =
-    let inside : c.in_ok-index.index < length region_replacements = omega (arith, c.in_ok-index.ensures.within, c.replacement_keys.ensures.count, replacement_count) in
-    ap Some (c.name_at.ensures ∙ at_index region_replacements _ (λ row. row.to.region) c.in_ok-index.index replacement_names inside)
+    let inside : c.in_ok-index.index < length region_replacements = omega (arith, c.in_ok-index.ensures.within, c.replacement_keys.ensures.count, replacements_listed.count) in
+    ap Some (c.name_at.ensures ∙ at_index region_replacements _ (λ row. row.to.region) c.in_ok-index.index replacements_listed.regions inside)
     ∙ replaced_region (field_texts c.args.fields) c.replacement_keys.result.now _ (region_alphanumeric _ c.args.fields.region_class) c.replacement_keys.ensures.numbers c.in_ok-index.ensures.found
 
 pub returns-clause-in_class : goal.returns-clause-in_class
 returns-clause-in_class c =
     let within : c.in_ok-index.index < length REPLACEMENT_NAMES = omega (arith, c.in_ok-index.ensures.within, c.replacement_keys.ensures.count) in
-    name_good is_region_field REPLACEMENT_NAMES c.name_at.result.now c.in_ok-index.index replacements_good within c.name_at.ensures
+    name_good is_region_field REPLACEMENT_NAMES c.name_at.result.now c.in_ok-index.index replacements_listed.good within c.name_at.ensures
