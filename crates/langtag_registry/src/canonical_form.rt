@@ -47,7 +47,6 @@ const LONGEST_PREFERRED: usize = 14;
 /// canonical(alloc, LangTag::new("iw-BU")?)?.as_str(); // "he-MM"
 /// canonical(alloc, LangTag::new("zh-yue")?)?.as_str(); // "yue"
 /// ```
-#[tactic(auto, using(crate::proofs::TwiceLaws::one_form, crate::proofs::TwiceLaws::form_twice, crate::proofs::ValidForms::valid_form, crate::proofs::ValidForms::apart_form, crate::proofs::NoExtlang::no_extlang_form))]
 pub fn canonical(alloc: Global, tag: LangTag<'_>) -> Result<LangTagBuf, AllocError>
     ensures canonical { IfOk result (λ form. IsCanonicalForm (lang_tag_text tag.entry) (lang_tag_buf_text form)) }
 
