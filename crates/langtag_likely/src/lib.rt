@@ -39,7 +39,7 @@ pub use posix_error::PosixError;
 pub use suggestion::{suggested_language, suggested_region};
 pub use tables::CLDR_VERSION;
 
-// For langtag_unicode.
+// For langtag_locale.
 pub use aliases::language_replaced;
 pub use likely::add_likely;
 pub use suggestion::region_replacement;

@@ -1,4 +1,4 @@
--- Which singletons occur among the texts of extensions. Only contracts of private functions, and of a function for langtag_unicode, cite
+-- Which singletons occur among the texts of extensions. Only contracts of private functions, and of a function for langtag_locale, cite
 -- this page.
 use Rattle.std.specs.Prelude.{◌≡◌, ℕ, Bool, false, List, [], filter, slice_index, slice_index_or}
 use Rattle.langtag_scan.specs.Case.{fold_byte}

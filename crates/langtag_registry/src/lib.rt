@@ -58,5 +58,5 @@ pub use subtags::{
 pub use tables::FILE_DATE;
 pub use validity::{fault_at, validate};
 
-// For langtag_unicode.
+// For langtag_locale.
 pub use extension_order::{SINGLETONS, singletons_of};

@@ -48,7 +48,7 @@ pub use posix_error::PosixError;
 pub use suggestion::{suggested_language, suggested_region};
 pub use tables::CLDR_VERSION;
 
-// For langtag_unicode.
+// For langtag_locale.
 pub(crate) use aliases::language_replaced;
 pub(crate) use likely::add_likely;
 pub(crate) use suggestion::region_replacement;

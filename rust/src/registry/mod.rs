@@ -65,5 +65,5 @@ pub use subtags::{
 pub use tables::FILE_DATE;
 pub use validity::{fault_at, validate};
 
-// For langtag_unicode.
+// For langtag_locale.
 pub(crate) use extension_order::{singletons_of, SINGLETONS};
