@@ -1,5 +1,5 @@
 -- The distance of texts, and what it is made of, do not change with the case of letters.
-use Rattle.std.proofs.Common.{◌≡◌, ℕ, cond, List, [], ◌∷◌, Option, refl, ap, ◌∙◌, arith, rules, ◌&&◌, codes, ◌+◌, true, false, Bool, map, None, Some, option_map, sym}
+use Rattle.std.proofs.Common.{◌≡◌, ℕ, cond, List, [], ◌∷◌, Option, refl, ap, ◌∙◌, arith, rules, ◌&&◌, codes, Bool, map, None, Some, option_map, sym}
 use Rattle.std.proofs.lemmas.Bool.Decides.{nat_tests}
 use Rattle.std.proofs.lemmas.Grind.{common_steps}
 use Rattle.std.specs.Option.{option_map_or}
@@ -18,9 +18,9 @@ use Rattle.langtag_likely.specs.Matching.{language_replaced, region_replaced, wi
 use Rattle.langtag_likely.specs.TextFields.{text_fields, fields_of_subtags, counted, counts, last_language, after_language, script_of, after_script, region_of}
 use Rattle.langtag_likely.proofs.AlikeFields.{AlikeOptions, fields-right, likely_for-alike, alone_alike, or_other-alike, added-alike, by_options, by_same, suffices-alike}
 use Rattle.langtag.proofs.Alike.{AlikeFields, are_alike-left, are_alike-right}
-use Rattle.langtag_choice.specs.Distance.{RegionSet, by_language, by_side, distance_of_forms, en_us, is_among, is_british, is_outside, language_distance, region_distance, script_distance, DistanceIgnoresCase, distance_of_texts}
+use Rattle.langtag_choice.specs.Distance.{by_language, distance_of_forms, is_among, language_distance, region_distance, script_distance, DistanceIgnoresCase, distance_of_texts}
 use Rattle.langtag_choice.specs.MatchingData.{language_rules}
-use Rattle.langtag_choice.specs.Nearness.{is_form, unlikely, unlikely_form}
+use Rattle.langtag_choice.specs.Nearness.{unlikely, unlikely_form}
 use Rattle.langtag_choice.specs.Rules.{Rule, fits, distance_by}
 
 -- ---- the matching form

@@ -1,6 +1,5 @@
 -- The choice is the only one, answers look-up, is the tag that is equal, and does not change with the case of letters.
-use Rattle.std.proofs.Common.{◌≡◌, ℕ, true, List, get_or, Option, Some, None, option_map, ap, refl, sym, subst, ◌∙◌, ◌-◌, ◌==◌, ◌≤◌, false, ◌&&◌, nat_lt, arith, Ordering, Less, Equal, Greater, inl, inr, ◌<◌, cond, not, [], ◌∷◌, ◌++◌, length, map, filter, All, lt-ltb, eq-eqb, IsTrue, length-take, take, Bool, drop, slice_get}
-use Rattle.std.proofs.Math.Bool.{or-true}
+use Rattle.std.proofs.Common.{◌≡◌, ℕ, true, List, get_or, Option, Some, None, option_map, ap, refl, sym, subst, ◌∙◌, ◌-◌, ◌==◌, ◌≤◌, false, nat_lt, arith, Ordering, Less, Equal, Greater, inl, inr, ◌<◌, cond, not, [], ◌∷◌, ◌++◌, length, map, filter, All, eq-eqb, IsTrue, length-take, take, Bool, slice_get}
 use Rattle.std.proofs.Math.ListN.{get_or-map}
 use Rattle.std.proofs.Math.Seq.{take-append_seam, drop-append_seam, take-length, drop-length}
 use Rattle.std.proofs.lemmas.Bool.Decides.{eqb_tells, nat_tests}
@@ -16,7 +15,7 @@ use Rattle.langtag_scan.specs.Case.{Alike, fold_byte, fold_text, are_alike}
 use Rattle.langtag_scan.specs.CaseLaws.{are_alike-decides}
 use Rattle.langtag_scan.proofs.CaseLaw.{hyphen-fold, fold_text-twice, length-fold}
 use Rattle.langtag_range.specs.Element.{Element}
-use Rattle.langtag_range.specs.Basic.{ends_subtag, test_basic}
+use Rattle.langtag_range.specs.Basic.{ends_subtag}
 use Rattle.langtag_range.specs.Fallback.{before_hyphens, ends_in_single, fallbacks}
 use Rattle.langtag_range.specs.Range.{is_star}
 use Rattle.langtag_range.specs.Wanted.{folded, wanted_elements}

@@ -1,5 +1,5 @@
 -- What loops over ranges and over tags have found, and that it is the choice.
-use Rattle.std.proofs.Common.{◌≡◌, ℕ, true, List, get_or, Option, Some, None, option_map, ap, refl, sym, subst, ◌∙◌, ◌-◌, ◌==◌, ◌≤◌, false, ◌&&◌, ◌||◌, nat_lt, arith, Bool, [], ◌∷◌, ◌⊎◌, inl, inr, ◌+◌, ◌<◌, suc, length, below_more, slice_get}
+use Rattle.std.proofs.Common.{◌≡◌, ℕ, true, List, get_or, Option, Some, None, option_map, ap, refl, sym, subst, ◌∙◌, ◌-◌, ◌==◌, ◌≤◌, false, ◌&&◌, ◌||◌, nat_lt, arith, Bool, [], ◌∷◌, ◌⊎◌, ◌+◌, ◌<◌, suc, length, below_more, slice_get}
 use Rattle.std.proofs.lemmas.Bool.Decides.{eqb_tells, nat_tests}
 use Rattle.std.proofs.lemmas.Bool.{and_parts, eqb-true, ltb-false, ltb-true, or_cases, cases_lt}
 use Rattle.std.proofs.lemmas.Grind.{common_steps}

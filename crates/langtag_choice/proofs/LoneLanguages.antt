@@ -1,7 +1,7 @@
 -- Languages to which no other is near: a text that begins otherwise, and not as `und` does, is far, and is not what look-up falls back to.
 use Rattle.std.proofs.Common.{◌≡◌, ℕ, Bool, true, false, ◌||◌, not, ◌==◌, List, [], ◌∷◌, length, inl, inr, refl, sym, ap, ◌∙◌, arith, ◌&&◌, ◌<◌, ◌≤◌, cond, ltb, get_or, length-take, map, take, drop, Option, Some, None, option_map, rules, codes}
 use Rattle.std.proofs.lemmas.Bool.Decides.{eqb_tells, nat_tests}
-use Rattle.std.proofs.lemmas.Bool.{and_parts, both_ways, eq-eqb, false_from_ne_true, not_from_true, or_cases, and_from, ltb-true, or_parts, eqb-false, not-true}
+use Rattle.std.proofs.lemmas.Bool.{and_parts, both_ways, eq-eqb, false_from_ne_true, not_from_true, or_cases, and_from, or_parts, not-true}
 use Rattle.std.proofs.lemmas.Grind.{common_steps}
 use Rattle.std.proofs.lemmas.List.Sums.{take_while-cons}
 use Rattle.std.specs.List.{list_all, list_any, after_first, before_first, position_or_len}
@@ -15,7 +15,7 @@ use Rattle.langtag_range.specs.Listed.{basic_text}
 use Rattle.langtag_range.specs.Wanted.{hyphened, is_separator}
 use Rattle.langtag_range.proofs.Prefixes.{length-alike}
 use Rattle.langtag_likely.specs.Aliases.{language_aliases}
-use Rattle.langtag_likely.specs.Likely.{Likely, are_alike_fields, known, language_alone, likely_for}
+use Rattle.langtag_likely.specs.Likely.{Likely, known, language_alone, likely_for}
 use Rattle.langtag.specs.Fields.{Fields}
 use Rattle.langtag_likely.specs.Matching.{language_replaced, matching_fields, matching_form}
 use Rattle.langtag_likely.specs.TextFields.{last_language, counted_parts, text_fields}

@@ -1,7 +1,7 @@
 -- The tables of language matching have the rows of the lists, by computation, and a rule is found by its number.
-use Rattle.std.proofs.Common.{◌≡◌, ℕ, ◌<◌, true, false, ◌==◌, Bool, ltb, List, [], ◌∷◌, length, get_or, map, refl, arith, rules, ◌&&◌, is_some, ◌+◌, ◌*◌, ap, ◌∙◌, cond, Option, sym, ◌⊎◌}
+use Rattle.std.proofs.Common.{◌≡◌, ℕ, ◌<◌, true, false, ◌==◌, Bool, ltb, List, [], ◌∷◌, length, get_or, map, refl, arith, rules, ◌&&◌, is_some, ◌+◌, ◌*◌, ap, ◌∙◌, cond, Option, sym}
 use Rattle.std.proofs.lemmas.Bool.Decides.{nat_tests, eqb_tells}
-use Rattle.std.proofs.lemmas.Bool.{and_parts, ltb-true, false_from_ne_true, eq-eqb, ne_eqb}
+use Rattle.std.proofs.lemmas.Bool.{and_parts, ltb-true, eq-eqb, ne_eqb}
 use Rattle.std.proofs.lemmas.Grind.{common_steps}
 use Rattle.std.specs.List.{list_all}
 use Rattle.std.specs.Option.{option_map_or}

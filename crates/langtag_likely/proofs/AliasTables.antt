@@ -1,5 +1,5 @@
 -- What is deprecated is found by its number, with what replaces it. The tables have the rows of the lists: by computation.
-use Rattle.std.proofs.Common.{◌≡◌, ℕ, ◌+◌, true, ◌==◌, Bool, ltb, length, arith, ◌&&◌, map, refl, [], ◌<◌, List, get_or, option_map, sym, ap, ◌∙◌, Option, None, Some, IsUtf8}
+use Rattle.std.proofs.Common.{◌≡◌, ℕ, ◌+◌, true, ◌==◌, Bool, ltb, length, arith, ◌&&◌, map, refl, [], ◌<◌, List, get_or, option_map, sym, ap, ◌∙◌, Option, IsUtf8}
 use Rattle.std.proofs.lemmas.List.{nil_from_length, get_or-map}
 use Rattle.std.proofs.lemmas.Str.{IsUtf8-from_ascii}
 use Rattle.std.specs.List.{list_all}
@@ -7,7 +7,6 @@ use Rattle.langtag_scan.specs.Case.{folded_number, fold_byte}
 use Rattle.langtag_scan.specs.Class.{are_alphanumeric, is_letter, is_digit, is_primary, is_script, is_region, are_letters, is_alphanumeric}
 use Rattle.langtag_scan.proofs.Ascii.{IsAscii-each, alphanumeric_below}
 use Rattle.langtag_scan.proofs.FoldedNumbers.{folded_number-tells}
-use Rattle.langtag_scan.proofs.SubtagFacts.{of_region}
 use Rattle.langtag_tables.specs.Numbers.{letter_number}
 use Rattle.langtag_likely.specs.Aliases.{language_aliases, region_aliases, region_replacements}
 use Rattle.langtag.specs.FieldClasses.{is_language_field, is_script_field, is_region_field}

@@ -2,7 +2,7 @@
 use Rattle.std.proofs.Common.{◌≡◌, ℕ, true, false, Bool, cond, List, [], ◌∷◌, Option, None, Some, option_map, refl, ap, ◌∙◌, subst, arith}
 use Rattle.std.specs.Option.{option_map_or}
 use Rattle.langtag_scan.specs.Case.{Alike}
-use Rattle.langtag_likely.specs.Likely.{Likely, are_alike_fields, likely_for, looked_up, or_other, filled, known, known_fields, add_likely, remove_likely, least, suffices, language_alone, without_script, without_region}
+use Rattle.langtag_likely.specs.Likely.{Likely, are_alike_fields, likely_for, looked_up, or_other, known, known_fields, add_likely, remove_likely, least, suffices, language_alone, without_script, without_region}
 use Rattle.langtag.specs.Fields.{Fields}
 use Rattle.langtag_likely.specs.LikelySubtags.{likely_subtags}
 use Rattle.langtag.proofs.Alike.{AlikeFields, alike_is, are_alike-left, are_alike-right}

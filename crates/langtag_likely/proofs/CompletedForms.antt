@@ -1,8 +1,7 @@
 -- The matching form of a text, made in two steps; a language that is there stays.
-use Rattle.std.proofs.Common.{◌≡◌, ℕ, ◌<◌, List, [], ◌∷◌, length, option_map, refl, arith}
-use Rattle.langtag_likely.specs.Likely.{or_other}
+use Rattle.std.proofs.Common.{◌≡◌, ℕ, ◌<◌, List, length, option_map, arith}
 use Rattle.langtag.specs.Fields.{Fields}
-use Rattle.langtag_likely.specs.Matching.{completed, matching_form, most_likely, most_unknown, region_replaced, replaced_form}
+use Rattle.langtag_likely.specs.Matching.{completed, matching_form, most_likely, region_replaced, replaced_form}
 
 pub form_completed : (text : List ℕ) → matching_form text ≡ option_map completed (replaced_form text)
 unfolding matching_form replaced_form

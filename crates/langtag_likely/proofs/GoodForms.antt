@@ -13,9 +13,9 @@ use Rattle.langtag_scan.proofs.PartOffsets.{length-spell}
 use Rattle.langtag_scan.proofs.SubtagFacts.{of_primary}
 use Rattle.langtag.specs.FieldClasses.{is_language_field, is_script_field, is_region_field}
 use Rattle.langtag_likely.specs.Likely.{Likely, likely_for, looked_up, or_else, filled, known_fields, add_likely, remove_likely, least, suffices, language_alone, without_script, without_region}
-use Rattle.langtag.specs.Fields.{Fields, subtag_of}
+use Rattle.langtag.specs.Fields.{Fields}
 use Rattle.langtag_likely.specs.LikelySubtags.{language_rows, other_rows, likely_subtags}
-use Rattle.langtag_likely.specs.Maximal.{fields_of, language_field, put_fields, put_language, maximal_record, minimal_record}
+use Rattle.langtag_likely.specs.Maximal.{fields_of, language_field, put_fields, maximal_record, minimal_record}
 use Rattle.langtag.specs.Form.{IsForm}
 use Rattle.langtag_likely.proofs.FieldClasses.{from_extended, known_good}
 use Rattle.langtag.proofs.FieldClasses.{from_primary}

@@ -1,5 +1,5 @@
 -- The tag of a POSIX locale's name: its parts, and its length.
-use Rattle.std.proofs.Common.{◌≡◌, ℕ, ◌+◌, ◌≤◌, true, false, Bool, cond, List, [], ◌∷◌, length, Option, None, Some, IsTrue, refl, sym, subst, arith, ◌||◌, codes, IfSome, MatchOption, Bor, IsUtf8, length-append}
+use Rattle.std.proofs.Common.{◌≡◌, ℕ, ◌+◌, ◌≤◌, true, false, Bool, cond, List, [], ◌∷◌, length, Option, None, Some, IsTrue, refl, arith, ◌||◌, codes, IfSome, MatchOption, Bor, IsUtf8, length-append}
 use Rattle.std.specs.Option.{option_map, option_or}
 use Rattle.std.proofs.lemmas.Str.{IsUtf8-from_ascii}
 use Rattle.std.proofs.lemmas.Bool.{and_parts}
@@ -14,7 +14,7 @@ use Rattle.langtag.specs.Edit.{with_script}
 use Rattle.langtag.proofs.EditLaws.{script-replaces}
 use Rattle.langtag_place.specs.Text.{script_text}
 use Rattle.langtag_place.specs.declared.script.Script.{Script}
-use Rattle.langtag_place.specs.Variants.{IsVariants, SpellsVariants}
+use Rattle.langtag_place.specs.Variants.{IsVariants}
 use Rattle.langtag_likely.specs.declared.tables.TheConstants.{SCRIPT_NAMES}
 use Rattle.langtag_likely.specs.Scripts.{script_codes}
 use Rattle.langtag_likely.specs.Likely.{or_else}

@@ -1,5 +1,5 @@
 -- The laws of the maximal and the minimal form, over texts.
-use Rattle.std.proofs.Common.{◌≡◌, ℕ, List, Option, None, Some, refl, sym, ap, ◌∙◌, arith}
+use Rattle.std.proofs.Common.{◌≡◌, ℕ, List, Option, sym, ap, ◌∙◌, arith}
 use Rattle.std.specs.Option.{option_map_or}
 use Rattle.langtag_scan.specs.Record.{Record}
 use Rattle.langtag_scan.proofs.NormalTexts.{spelled_once}

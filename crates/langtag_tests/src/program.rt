@@ -58,6 +58,11 @@ impl Ended {
     fn is(&self, outcome: Result<(), ShowError>) -> bool {
         self.outcome == outcome && self.has_all
     }
+
+    /// Returns also whether it made this many flushes, and read the end of the input once unless it failed.
+    fn is_after(&self, outcome: Result<(), ShowError>, flushes: u64) -> bool {
+        self.is(outcome) && self.flushes == flushes && (self.ends == 1 || outcome.is_err())
+    }
 }
 
 /// Makes a run. If allocation fails, the output must consist of whole answers, and the run is made again. When a read
@@ -96,466 +101,124 @@ const FR_AND_PRIVATE: &[u8] =
 const THREE: &[u8] =
     b"normal language=fr script= region= variants= extensions= private= repeats=no\nprivate x-a\nnormal language=en script= region= variants= extensions= private= repeats=no\n";
 
-const NO_READ: Option<(u64, ErrorKind)> = None;
+/// A run: the text, the greatest number of bytes for a read, the fault of the writer, the answers, and the numbers of
+/// writes and flushes.
+type Run = (&'static [u8], usize, Fault, &'static [u8], u64, u64);
 
-/// The text, the greatest number of bytes for a read, the number of the read that fails, and the fault of the writer.
-/// Then come the answers, the outcome, and the numbers of reads, writes and flushes. A number that is `None` is not
-/// checked.
-type Run = (
-    &'static [u8],
-    &'static [usize],
-    Option<(u64, ErrorKind)>,
-    Fault,
-    &'static [u8],
-    Result<(), ShowError>,
-    Option<u64>,
-    Option<u64>,
-    u64,
-);
-
-/// Runs on each kind of line, reads that fail, and writes and a flush that fail. The expected results include the
-/// number of writes: one for the lines of a read, and one more for a last line without LF. A read returns at most
-/// 16,384 bytes. So 40,000 bytes take three reads, and one more read finds the end.
-const RUNS: &[Run] = &[
-    (
-        b"",
-        &[1, 2, 3, 100],
-        NO_READ,
-        Fault::None,
-        b"",
-        Ok(()),
-        None,
-        None,
-        1,
-    ),
-    (
-        b"\n",
-        &[1, 2, 3, 100],
-        NO_READ,
-        Fault::None,
-        b"refused\n",
-        Ok(()),
-        None,
-        None,
-        1,
-    ),
-    (
-        b"\n\n",
-        &[1, 2, 3, 100],
-        NO_READ,
-        Fault::None,
-        b"refused\nrefused\n",
-        Ok(()),
-        None,
-        None,
-        1,
-    ),
-    (
-        b"fr\r\n",
-        &[1, 2, 3, 100],
-        NO_READ,
-        Fault::None,
-        b"refused\n",
-        Ok(()),
-        None,
-        None,
-        1,
-    ),
-    (
-        b"\xff\n",
-        &[1, 2, 3, 100],
-        NO_READ,
-        Fault::None,
-        b"refused\n",
-        Ok(()),
-        None,
-        None,
-        1,
-    ),
+/// Texts with each kind of line, and the answers.
+const ANSWERED: &[(&[u8], &[u8])] = &[
+    (b"", b""),
+    (b"\n", b"refused\n"),
+    (b"\n\n", b"refused\nrefused\n"),
+    (b"fr\r\n", b"refused\n"),
+    (b"\xff\n", b"refused\n"),
     (
         b"fr\0\nfr",
-        &[1, 2, 3, 100],
-        NO_READ,
-        Fault::None,
         b"refused\nnormal language=fr script= region= variants= extensions= private= repeats=no\n",
-        Ok(()),
-        None,
-        None,
-        1,
     ),
     (
         b"fr-FR\nde-CH-1996\n",
-        &[1, 2, 3, 100],
-        NO_READ,
-        Fault::None,
         b"normal language=fr script= region=FR variants= extensions= private= repeats=no\nnormal language=de script= region=CH variants=1996 extensions= private= repeats=no\n",
-        Ok(()),
-        None,
-        None,
-        1,
     ),
     (
         b"fr-FR\n\nde-CH-1996",
-        &[1, 2, 3, 100],
-        NO_READ,
-        Fault::None,
         b"normal language=fr script= region=FR variants= extensions= private= repeats=no\nrefused\nnormal language=de script= region=CH variants=1996 extensions= private= repeats=no\n",
-        Ok(()),
-        None,
-        None,
-        1,
     ),
     (
         b"fr\n\xff\nx-A\ni-AMI",
-        &[1, 2, 3, 100],
-        NO_READ,
-        Fault::None,
         b"normal language=fr script= region= variants= extensions= private= repeats=no\nrefused\nprivate x-A\nirregular i-ami\n",
-        Ok(()),
-        None,
-        None,
-        1,
     ),
     (
         b"fr-FR\n\nx-a\ni-ami\nde-CH-1996-1996",
-        &[1, 2, 3, 100],
-        NO_READ,
-        Fault::None,
         b"normal language=fr script= region=FR variants= extensions= private= repeats=no\nrefused\nprivate x-a\nirregular i-ami\nnormal language=de script= region=CH variants=1996-1996 extensions= private= repeats=yes\n",
-        Ok(()),
-        None,
-        None,
-        1,
     ),
     (
         b"zh-min-nan-Hant-TW-rozaj-a-bb-u-co-x-y\nfr-a-bb-A-cc\nzh-hakka\nzh_Hant\n",
-        &[1, 2, 3, 100],
-        NO_READ,
-        Fault::None,
         b"normal language=zh-min-nan script=Hant region=TW variants=rozaj extensions=a-bb-u-co private=x-y repeats=no\nnormal language=fr script= region= variants= extensions=a-bb-A-cc private= repeats=yes\nnormal language=zh script= region= variants=hakka extensions= private= repeats=no\nrefused\n",
-        Ok(()),
-        None,
-        None,
-        1,
-    ),
-    (
-        b"fr\nx-",
-        &[8],
-        Some((2, ErrorKind::Other)),
-        Fault::None,
-        FR,
-        Err(ShowError::Read),
-        Some(2),
-        None,
-        0,
-    ),
-    (
-        b"fr\nx-",
-        &[8],
-        Some((2, ErrorKind::Interrupted)),
-        Fault::None,
-        FR,
-        Err(ShowError::Read),
-        Some(2),
-        None,
-        0,
-    ),
-    (
-        b"fr\n",
-        &[3],
-        Some((1, ErrorKind::Other)),
-        Fault::None,
-        b"",
-        Err(ShowError::Read),
-        Some(1),
-        None,
-        0,
-    ),
-    (
-        b"fr\n",
-        &[3],
-        Some((1, ErrorKind::Interrupted)),
-        Fault::None,
-        b"",
-        Err(ShowError::Read),
-        Some(1),
-        None,
-        0,
-    ),
-    (
-        b"fr\n",
-        &[3],
-        Some((2, ErrorKind::Other)),
-        Fault::None,
-        FR,
-        Err(ShowError::Read),
-        Some(2),
-        None,
-        0,
-    ),
-    (
-        b"fr\n",
-        &[3],
-        Some((2, ErrorKind::Interrupted)),
-        Fault::None,
-        FR,
-        Err(ShowError::Read),
-        Some(2),
-        None,
-        0,
-    ),
-    (
-        b"x-a\nen",
-        &[6],
-        Some((2, ErrorKind::Other)),
-        Fault::None,
-        b"private x-a\n",
-        Err(ShowError::Read),
-        Some(2),
-        None,
-        0,
-    ),
-    (
-        b"x-a\nen",
-        &[6],
-        Some((2, ErrorKind::Interrupted)),
-        Fault::None,
-        b"private x-a\n",
-        Err(ShowError::Read),
-        Some(2),
-        None,
-        0,
-    ),
-    (
-        b"x-a\nen\n",
-        &[4],
-        Some((2, ErrorKind::Other)),
-        Fault::None,
-        b"private x-a\n",
-        Err(ShowError::Read),
-        Some(2),
-        None,
-        0,
-    ),
-    (
-        b"x-a\nen\n",
-        &[4],
-        Some((2, ErrorKind::Interrupted)),
-        Fault::None,
-        b"private x-a\n",
-        Err(ShowError::Read),
-        Some(2),
-        None,
-        0,
-    ),
-    (
-        b"fr\nx-a\nfr\nx-a\nen-x",
-        &[7],
-        Some((2, ErrorKind::Other)),
-        Fault::None,
-        FR_AND_PRIVATE,
-        Err(ShowError::Read),
-        Some(2),
-        None,
-        0,
-    ),
-    (
-        b"fr\nx-a\nfr\nx-a\nen-x",
-        &[7],
-        Some((2, ErrorKind::Interrupted)),
-        Fault::None,
-        FR_AND_PRIVATE,
-        Err(ShowError::Read),
-        Some(2),
-        None,
-        0,
-    ),
-    (
-        b"fr\n",
-        &[3],
-        NO_READ,
-        Fault::Write(1, ErrorKind::Other),
-        b"",
-        Err(ShowError::Write),
-        None,
-        Some(1),
-        0,
-    ),
-    (
-        b"fr\n",
-        &[3],
-        NO_READ,
-        Fault::None,
-        b"",
-        Err(ShowError::Write),
-        None,
-        Some(1),
-        0,
-    ),
-    (
-        b"fr\n",
-        &[3],
-        NO_READ,
-        Fault::Flush,
-        FR,
-        Err(ShowError::Write),
-        None,
-        Some(1),
-        1,
-    ),
-    (
-        b"fr\nx-a\nen",
-        &[3],
-        NO_READ,
-        Fault::Write(2, ErrorKind::Other),
-        FR,
-        Err(ShowError::Write),
-        None,
-        Some(2),
-        0,
-    ),
-    (
-        b"fr\nx-a\nen",
-        &[9],
-        NO_READ,
-        Fault::Write(2, ErrorKind::Other),
-        FR_AND_PRIVATE,
-        Err(ShowError::Write),
-        None,
-        Some(2),
-        0,
-    ),
-    (
-        &[b'\n'; 5_000],
-        &[5000],
-        NO_READ,
-        Fault::Write(1, ErrorKind::Other),
-        b"",
-        Err(ShowError::Write),
-        None,
-        Some(1),
-        0,
-    ),
-    (
-        b"fr\n",
-        &[3],
-        NO_READ,
-        Fault::Write(1, ErrorKind::Interrupted),
-        FR,
-        Ok(()),
-        None,
-        None,
-        1,
-    ),
-    (
-        b"",
-        &[100],
-        NO_READ,
-        Fault::None,
-        b"",
-        Ok(()),
-        None,
-        Some(0),
-        1,
-    ),
-    (
-        b"fr",
-        &[1],
-        NO_READ,
-        Fault::None,
-        FR,
-        Ok(()),
-        None,
-        Some(1),
-        1,
-    ),
-    (
-        b"fr\nx-a\nen\n",
-        &[100],
-        NO_READ,
-        Fault::None,
-        THREE,
-        Ok(()),
-        None,
-        Some(1),
-        1,
-    ),
-    (
-        b"fr\nx-a\nen",
-        &[100],
-        NO_READ,
-        Fault::None,
-        THREE,
-        Ok(()),
-        None,
-        Some(2),
-        1,
-    ),
-    (
-        b"fr\nx-a\nen\n",
-        &[7],
-        NO_READ,
-        Fault::None,
-        THREE,
-        Ok(()),
-        None,
-        Some(2),
-        1,
-    ),
-    (
-        b"fr\nx-a\nen\n",
-        &[1],
-        NO_READ,
-        Fault::None,
-        THREE,
-        Ok(()),
-        None,
-        Some(3),
-        1,
-    ),
-    (
-        &[b'-'; 20_000],
-        &[16384],
-        NO_READ,
-        Fault::None,
-        b"refused\n",
-        Ok(()),
-        None,
-        Some(1),
-        1,
-    ),
-    (
-        &[255; 40_000],
-        &[40_000],
-        NO_READ,
-        Fault::None,
-        b"refused\n",
-        Ok(()),
-        Some(4),
-        None,
-        1,
     ),
 ];
 
 #[test]
-fn each_run_ends_as_it_has_to(rt: HostRuntime) {
-    for (text, steps, failing_read, fault, answers, outcome, reads, writes, flushes) in RUNS {
-        for step in *steps {
-            let mut given = Given::new(text, *step, answers);
-            given.failing_read = *failing_read;
-            given.fault = *fault;
-            let ended = ran(&rt, rt.alloc(), given);
-            let number = text.len();
-            expect_true(&rt, ended.is(*outcome) && ended.flushes == *flushes, number);
-            expect_true(&rt, ended.reads == reads.unwrap_or(ended.reads), number);
-            expect_true(&rt, ended.writes == writes.unwrap_or(ended.writes), number);
-            expect_true(
-                &rt,
-                ended.ends == u64::from(outcome.is_ok()) || outcome.is_err(),
-                number,
-            );
+fn lines_are_answered_whatever_a_read_returns(rt: HostRuntime) {
+    for (text, answers) in ANSWERED {
+        for step in [1, 2, 3, 100] {
+            let ended = ran(&rt, rt.alloc(), Given::new(text, step, answers));
+            expect_true(&rt, ended.is_after(Ok(()), 1), text.len());
         }
     }
+}
+
+/// A text, the greatest number of bytes for a read, the number of the read that fails, and the answers.
+const FAILING_READS: &[(&[u8], usize, u64, &[u8])] = &[
+    (b"fr\nx-", 8, 2, FR),
+    (b"fr\n", 3, 1, b""),
+    (b"fr\n", 3, 2, FR),
+    (b"x-a\nen", 6, 2, b"private x-a\n"),
+    (b"x-a\nen\n", 4, 2, b"private x-a\n"),
+    (b"fr\nx-a\nfr\nx-a\nen-x", 7, 2, FR_AND_PRIVATE),
+];
+
+#[test]
+fn a_read_that_fails_ends_the_run(rt: HostRuntime) {
+    for (text, step, read, answers) in FAILING_READS {
+        for kind in [ErrorKind::Other, ErrorKind::Interrupted] {
+            let mut given = Given::new(text, *step, answers);
+            given.failing_read = Some((*read, kind));
+            let ended = ran(&rt, rt.alloc(), given);
+            let is_ended = ended.is_after(Err(ShowError::Read), 0);
+            expect_true(&rt, is_ended && ended.reads == *read, text.len());
+        }
+    }
+}
+
+const FIRST_FAILS: Fault = Fault::Write(1, ErrorKind::Other);
+
+const SECOND_FAILS: Fault = Fault::Write(2, ErrorKind::Other);
+
+const INTERRUPTED: Fault = Fault::Write(1, ErrorKind::Interrupted);
+
+/// Runs that a write, or the flush, ends.
+const FAILING_WRITES: &[Run] = &[
+    (b"fr\n", 3, FIRST_FAILS, b"", 1, 0),
+    (b"fr\n", 3, Fault::None, b"", 1, 0),
+    (b"fr\n", 3, Fault::Flush, FR, 1, 1),
+    (b"fr\nx-a\nen", 3, SECOND_FAILS, FR, 2, 0),
+    (b"fr\nx-a\nen", 9, SECOND_FAILS, FR_AND_PRIVATE, 2, 0),
+    (&[b'\n'; 5_000], 5000, FIRST_FAILS, b"", 1, 0),
+];
+
+/// Runs that succeed. There is one write for the lines of a read, one more for a last line without LF, and one more if a
+/// write is interrupted.
+const WRITES: &[Run] = &[
+    (b"fr\n", 3, INTERRUPTED, FR, 2, 1),
+    (b"", 100, Fault::None, b"", 0, 1),
+    (b"fr", 1, Fault::None, FR, 1, 1),
+    (b"fr\nx-a\nen\n", 100, Fault::None, THREE, 1, 1),
+    (b"fr\nx-a\nen", 100, Fault::None, THREE, 2, 1),
+    (b"fr\nx-a\nen\n", 7, Fault::None, THREE, 2, 1),
+    (b"fr\nx-a\nen\n", 1, Fault::None, THREE, 3, 1),
+    (&[b'-'; 20_000], 16384, Fault::None, b"refused\n", 1, 1),
+    (&[255; 40_000], 40_000, Fault::None, b"refused\n", 1, 1),
+];
+
+#[test]
+fn each_run_ends_as_its_writes_do(rt: HostRuntime) {
+    for (runs, outcome) in [(FAILING_WRITES, Err(ShowError::Write)), (WRITES, Ok(()))] {
+        for (text, step, fault, answers, writes, flushes) in runs {
+            let mut given = Given::new(text, *step, answers);
+            given.fault = *fault;
+            let ended = ran(&rt, rt.alloc(), given);
+            let is_ended = ended.is_after(outcome, *flushes);
+            expect_true(&rt, is_ended && ended.writes == *writes, text.len());
+        }
+    }
+}
+
+// A read returns at most 16,384 bytes. So 40,000 bytes take three reads, and one more read finds the end.
+#[test]
+fn a_read_is_of_one_page(rt: HostRuntime) {
+    let given = Given::new(&[255; 40_000], 40_000, b"refused\n");
+    expect_true(&rt, ran(&rt, rt.alloc(), given).reads == 4, 40_000);
 }
 
 /// Returns the answer to a tag for private use of this many bytes, at least three.

@@ -1,4 +1,4 @@
-use Rattle.std.proofs.Common.{None, Some}
+use Rattle.std.proofs.Common.{Some}
 use Rattle.langtag_choice.proofs.FoundLaws.{first_best, first_open}
 use Rattle.langtag_choice.proofs.best.best.Goals as goal
 

@@ -1,7 +1,6 @@
 use Rattle.std.proofs.Common.{option_map, sym, ap, ◌∙◌}
 use Rattle.std.proofs.lemmas.Bool.{not-true}
 use Rattle.langtag.specs.Text.{lang_tag_text}
-use Rattle.langtag_choice.specs.Best.{is_refused}
 use Rattle.langtag_choice.proofs.FoundLaws.{open_at, none_refused}
 use Rattle.langtag_choice.proofs.best.is_chosen.Goals as goal
 

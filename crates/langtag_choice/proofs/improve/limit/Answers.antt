@@ -1,7 +1,7 @@
-use Rattle.std.proofs.Common.{◌≡◌, ◌-◌, ◌==◌, ◌&&◌, ◌||◌, nat_lt, sym, ap, subst, arith, ◌∙◌}
+use Rattle.std.proofs.Common.{◌≡◌, ◌-◌, ◌==◌, ◌&&◌, ◌||◌, nat_lt, sym, ap, subst, ◌∙◌}
 use Rattle.langtag_choice.specs.Best.{rank, reach}
 use Rattle.langtag_choice.specs.Found.{IsNotAfter}
-use Rattle.langtag_choice.proofs.FoundLaws.{reach_most, settled}
+use Rattle.langtag_choice.proofs.FoundLaws.{settled}
 use Rattle.langtag_choice.proofs.improve.limit.Goals as goal
 
 pub returns-in-Some : goal.returns-in-Some
