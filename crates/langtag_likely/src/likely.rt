@@ -11,7 +11,7 @@ use crate::tag_fields::TagFields;
 pub fn add_likely<'a>(fields: TagFields<'a>) -> Option<TagFields<'a>>
     ensures { option_map field_texts result ≡ add_likely likely_subtags (field_texts fields.entry) }
 {
-    looked_up(fields).map(|likely| fields.filled(likely))
+    Some(fields.filled(looked_up(fields)?))
 }
 
 /// Returns the right side of the first row that fits.
@@ -60,5 +60,8 @@ fn least<'a>(most: TagFields<'a>) -> TagFields<'a>
 pub fn suffices(most: TagFields<'_>, few: TagFields<'_>) -> bool
     ensures { result ≡ suffices likely_subtags (field_texts most.entry) (field_texts few.entry) }
 {
-    add_likely(few).is_some_and(|form| most.are_alike(form))
+    match add_likely(few) {
+        Some(form) => most.are_alike(form),
+        None => false,
+    }
 }

@@ -1,6 +1,7 @@
 -- How long the form of a language identifier may be: at most 6 bytes longer. 5 of them are those of `sh`, which becomes
 -- `sr-Latn`, and one is that of the variant `heploc`, which becomes `alalc97`.
 use Rattle.std.proofs.Common.{◌≡◌, ℕ, suc, ◌+◌, ◌-◌, ◌≤◌, leb, Bool, true, false, not, cond, ◌&&◌, ◌||◌, List, [], ◌∷◌, ◌++◌, fold, length, Option, Some, None, option_map, unwrap_or, refl, sym, ap, ◌∙◌, arith}
+use Rattle.std.proofs.Math.Dec.{leb-zero}
 use Rattle.std.proofs.lemmas.Bool.{false≢true, leb-true, not-true, or_right}
 use Rattle.std.proofs.lemmas.Grind.{common_steps}
 use Rattle.std.proofs.lemmas.List.Folds.{Any-from_list_any}
@@ -149,7 +150,7 @@ heir-size likely regions n all =
     (heir_good (λ text. leb (bytes text) n) likely regions
     (among (λ text. IsTrue (leb (bytes text) n)) (λ a b alike short. ap (λ k. leb k n) (bytes-alike b a ((are_alike-decides b a).1 alike)) ∙ short) regions
     (each_from_test (λ region. leb (bytes region) n) regions all) likely)
-    refl all)
+    (leb-zero n) all)
 
 region-size : (f : Fields) → bytes (form.new_region f) ≤ bytes f.region
 unfolding form.new_region

@@ -8,7 +8,7 @@ use crate::likely::tag_fields::TagFields;
 /// Returns the fields with the likely subtag in place of each empty field, or `None` if no row fits.
 #[inline]
 pub fn add_likely<'a>(fields: TagFields<'a>) -> Option<TagFields<'a>> {
-    looked_up(fields).map(|likely| fields.filled(likely))
+    Some(fields.filled(looked_up(fields)?))
 }
 
 /// Returns the right side of the first row that fits.
@@ -50,5 +50,8 @@ fn least<'a>(most: TagFields<'a>) -> TagFields<'a> {
 /// Returns whether the fields `few` have the maximal form `most`.
 #[inline]
 pub fn suffices(most: TagFields<'_>, few: TagFields<'_>) -> bool {
-    add_likely(few).is_some_and(|form| most.are_alike(form))
+    match add_likely(few) {
+        Some(form) => most.are_alike(form),
+        None => false,
+    }
 }

@@ -1,4 +1,5 @@
-use Rattle.std.proofs.Common.{Some, sym, ap, ◌∙◌}
+use Rattle.std.proofs.Common.{Some, option_map, sym, ap, ◌∙◌}
+use Rattle.langtag_language.specs.Text.{primary_language_text}
 use Rattle.langtag_registry.specs.Fields.{macrolanguage}
 use Rattle.langtag_registry.specs.Subtags.{language_macrolanguage}
 use Rattle.langtag_registry.proofs.FieldTables.{macro_table, macro_good}
@@ -14,4 +15,4 @@ returns c = ap Some c.from_checked.ensures ∙ c.in_ok-text.ensures language_mac
 
 pub returns-in_err-text : goal.returns-in_err-text
 unfolding macrolanguage
-returns-in_err-text c = c.in_err-text.ensures language_macrolanguage macro_table ∙ ap macrolanguage c.as_bytes.ensures
+returns-in_err-text c = ap (option_map primary_language_text) c.from_residual.ensures ∙ c.in_err-text.ensures language_macrolanguage macro_table ∙ ap macrolanguage c.as_bytes.ensures
