@@ -146,7 +146,7 @@ class Values(unittest.TestCase):
 
     def test_copies(self):
         values = [parse("zh-Hant"), Range("*-CH"), Kind.NORMAL, Tag("qt").invalid_subtag, AcceptLanguage("fr;q=0.5, de").ranges[0],
-                  AcceptLanguage("fr;q=0.5, de, en;q=0"), AcceptLanguage.lenient(b"fr, de_CH")]
+                  AcceptLanguage("fr;q=0.5, de, en;q=0"), AcceptLanguage.lenient(b"fr, de_CH"), langtag.Error("lost")]
         values += [error for call in REFUSALS if (error := caught(call))]
         for value in values:
             dumps = [pickle.dumps(value, protocol) for protocol in range(pickle.HIGHEST_PROTOCOL + 1)]
