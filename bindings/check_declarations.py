@@ -1,8 +1,8 @@
 #!/usr/bin/env python3
-"""Checks that all declarations of the C interface agree: in crates/langtag_c, which defines it, in the header, and in the Python
-binding. It compares names, types and order of parameters, and the members of the structs. The header must say LANGTAG_PURE for each
-function that writes nothing and returns something, and for no other. The meaning of the numbers is not compared, since the tests of
-each language check its constants with the library.
+"""Checks that all declarations of the C interface agree: in crates/langtag_c and crates/langtag_span, which define it, in the header,
+and in the Python binding. It compares names, types and order of parameters, and the members of the structs. The header must say
+LANGTAG_PURE for each function that writes nothing and returns something, and for no other. The meaning of the numbers is not compared,
+since the tests of each language check its constants with the library.
 
     check_declarations.py [ROOT] the root of the repository; by default, the repository that contains this file
 """
@@ -49,7 +49,7 @@ def pairs(text: str) -> list[tuple[str, str]]:
 def of_crate(root: pathlib.Path) -> Interface:
     """Reads the crate's functions. A slice is passed as a pointer and a length, and the length is named after the slice, except for
     `bytes`."""
-    files = sorted((root / "crates/langtag_c/src").rglob("*.rt"))
+    files = sorted(path for crate in ("langtag_c", "langtag_span") for path in (root / "crates" / crate / "src").rglob("*.rt"))
     source = without_comments("\n".join(path.read_text() for path in files))
     functions = {}
     for name, parameters, result in re.findall(r'pub extern "C" fn (\w+)\(([^)]*)\)(?:\s*->\s*(\w+))?', source):
@@ -99,8 +99,8 @@ def of_exports(root: pathlib.Path) -> Interface:
     functions = {}
     for name, parameters, result in re.findall(r'#\[no_mangle\]\npub (?:unsafe )?extern "C" fn (\w+)\(([^)]*)\)(?: -> (\w+))?', source):
         functions[name] = Function(types[result], [(types[kind], parameter) for parameter, kind in pairs(parameters)])
-    calls = sorted((root / "rust/c/src/calls").glob("*.rs"))
-    return Interface(functions, structs_of(without_comments("\n".join(path.read_text() for path in calls))))
+    modules = sorted(path for folder in ("calls", "spans") for path in (root / "rust/c/src" / folder).glob("*.rs"))
+    return Interface(functions, structs_of(without_comments("\n".join(path.read_text() for path in modules))))
 
 
 def of_python(root: pathlib.Path) -> Interface:
@@ -167,7 +167,7 @@ NUMBERS = [
 
 # The file with the registry's date, and the files that get the date from the library and so must not have a copy of it.
 DATED = "crates/langtag_registry/src/tables.rt"
-UNDATED = ["crates/langtag_c/src", "rows", "bindings/include", "bindings/python/langtag", "bindings/python/native"]
+UNDATED = ["crates/langtag_c/src", "crates/langtag_span/src", "rows", "bindings/include", "bindings/python/langtag", "bindings/python/native"]
 
 
 def registry_date(root: pathlib.Path) -> str:

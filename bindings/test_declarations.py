@@ -16,8 +16,8 @@ import check_declarations
 ROOT = pathlib.Path(sys.argv[1] if sys.argv[1:] else pathlib.Path(__file__).parent.parent).resolve()
 HEADER, PYTHON = "bindings/include/langtag.h", check_declarations.PYTHON
 MODULE = "bindings/python/langtag/__init__.py"
-CRATE = "crates/langtag_c/src"
-EXPORTS, CALLS = "rust/c/src/exports.rs", "rust/c/src/calls"
+CRATE, SPANS = "crates/langtag_c/src", "crates/langtag_span/src"
+EXPORTS, CALLS, SPANS_OF_RUST = "rust/c/src/exports.rs", "rust/c/src/calls", "rust/c/src/spans"
 NUMBERED = check_declarations.VERSIONS + check_declarations.NUMBERS
 DATE = check_declarations.registry_date(ROOT)
 FILES = {HEADER, EXPORTS, PYTHON, MODULE, check_declarations.DATED, "rows/table.txt", *(name for name, _ in NUMBERED)}
@@ -57,6 +57,7 @@ PLANTED = [
     (check_declarations.DATED, "pub const FILE_DATE", "pub const DATE", "the registry's date"),
     (CRATE, "fn langtag_eq(a: &[u8], b: &[u8])", "fn langtag_eq(b: &[u8], a: &[u8])", "langtag_eq"),
     (CRATE, "pub singleton: Span", "pub singletons: Span", "langtag_repeated"),
+    (SPANS, "pub len: usize", "pub length: usize", "langtag_span"),
 ]
 
 
@@ -82,7 +83,7 @@ class Planted(unittest.TestCase):
                 for name in FILES:
                     (copy / name).parent.mkdir(parents=True, exist_ok=True)
                     shutil.copy(ROOT / name, copy / name)
-                for name in (CRATE, CALLS):
+                for name in (CRATE, SPANS, CALLS, SPANS_OF_RUST):
                     shutil.copytree(ROOT / name, copy / name)
                 plant(copy / where, old, new)
                 status, said = outcome(copy)

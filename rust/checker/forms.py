@@ -21,10 +21,11 @@ CRATES = {
     "langtag_choice": "choice",
     "langtag_unicode": "unicode",
     "langtag_locale": "locale",
+    "langtag_span": "spans",
     "langtag_c": "calls",
 }
-# The crates whose modules are not below src. The C library also has the modules below src.
-ELSEWHERE = {"langtag_c": "../c/src"}
+# The crates whose modules are not below src. The C library has these modules and those below src.
+ELSEWHERE = {"langtag_span": "../c/src", "langtag_c": "../c/src"}
 # The modules that also export what another crate exports.
 SHOWING = {"langtag_unicode": "langtag_locale"}
 # The error whose message ends with a suggestion, which is written by hand.

@@ -27,6 +27,7 @@ MODULES = [
     Module("langtag_unicode", "src/unicode", "crate::unicode"),
     Module("langtag_locale", "src/locale", "crate::locale"),
     # The C library is a separate crate, rust/c, which also has the modules above.
+    Module("langtag_span", "c/src/spans", "crate::spans"),
     Module("langtag_c", "c/src/calls", "crate::calls"),
 ]
 

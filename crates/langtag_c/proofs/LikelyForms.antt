@@ -18,7 +18,7 @@ use Rattle.langtag_locale.proofs.LocaleRecords.{locale_tag}
 use Rattle.langtag_locale.proofs.WholeForms.{not_both, whole_of_record}
 use Rattle.langtag_unicode.specs.Form.{IsExtensionsForm, extensions_record}
 use Rattle.langtag_locale.specs.LocaleForm.{IsWholeForm}
-use Rattle.langtag_c.proofs.TagLengths.{some_tag}
+use Rattle.langtag_span.proofs.TagLengths.{some_tag}
 
 pub some_canonical : (old new : List ℕ) → IsTag old → IsCanonicalForm old new → 1 ≤ length new
 some_canonical old new tag is = some_tag new (canonical.form_is_tag old new tag is)

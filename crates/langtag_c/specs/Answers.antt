@@ -47,3 +47,7 @@ pub record IsRangeMatch (Matches : List ℕ → List ℕ → Type 0) (range tag 
 -- the digits of a text, read as one number: 20250131 for 2025-01-31
 abbrev pub digits_number : List ℕ → ℕ
 digits_number text = fold (λ number digit. number * 10 + (digit - 48)) 0 (filter is_digit text)
+
+-- the text if the answer is true, or `None` if it is false
+abbrev pub answered : Bool → List ℕ → Option (List ℕ)
+answered answer text = if answer then Some text else None

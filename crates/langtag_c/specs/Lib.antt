@@ -1,12 +1,5 @@
 pub mod Answers
 pub mod Choice
-pub mod Heaviest
-pub mod Keywords
-pub mod LookUp
-pub mod Negotiation
-pub mod Repeats
+pub mod PartSpans
 pub mod Setting
-pub mod Spans
-pub mod TagsAt
 pub mod Validity
-pub mod Walks

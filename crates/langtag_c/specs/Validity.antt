@@ -4,9 +4,9 @@ use Rattle.langtag_scan.specs.Ends.{ends_of}
 use Rattle.langtag_scan.specs.Record.{Record}
 use Rattle.langtag_registry.specs.Fault.{Told, fault_index, language, extlang, second_extlang, script, region, variant, repeated_variant, repeated_singleton}
 use Rattle.langtag_likely.specs.Suggestion.{suggested_language, suggested_region}
-use Rattle.langtag_c.specs.Repeats.{member_span, singleton_place, variant_place}
-use Rattle.langtag_c.specs.Spans.{empty_at, span_between}
-use Rattle.langtag_c.specs.declared.span.Span.{Span}
+use Rattle.langtag_span.specs.Members.{member_span, singleton_place, variant_place}
+use Rattle.langtag_span.specs.Spans.{empty_at, span_between}
+use Rattle.langtag_span.specs.declared.span.Span.{Span}
 
 -- the number for a fault; 0 means that a text is not a tag, and 1 means that it is valid
 abbrev pub number_of : Told → ℕ

@@ -1,22 +1,20 @@
 //! A walk over the elements of an Accept-Language header (RFC 9110 section 12.5.4), without allocating.
-ghost use Rattle.std.specs.Prelude.{◌≡◌, ◌↔◌, ◌<◌, ◌≤◌, [], IfSome, None, is_some, length};
+ghost use Rattle.std.specs.Prelude.{◌≡◌, ◌↔◌, ◌≤◌, [], is_some};
 ghost use Rattle.std.specs.List.{filter_map, list_all};
 ghost use Rattle.langtag_match.specs.AcceptLanguage as spec;
 ghost use Rattle.langtag_range.specs.Element.{element, items};
 ghost use Rattle.langtag_match.specs.declared.accept_language_error.ElementPart.TheVariants.{Range, Weight};
-ghost use Rattle.langtag_c.specs.Negotiation.{TakesBad, TakesElement, TakesItem, filled_items};
-ghost use Rattle.langtag_c.specs.Spans.{HasBytes, IsWithin, span_text};
+ghost use Rattle.langtag_span.specs.Negotiation.{TakesBad, TakesElement, filled_items};
+ghost use Rattle.langtag_span.specs.Spans.{HasBytes, span_text};
 
-use crate::span::Span;
-use langtag_match::{ElementPart, element_at};
-use langtag_range::is_empty_element;
-use langtag_scan::len_before;
+use langtag_match::element_at;
+use langtag_span::{Span, next_item, number_of};
 
 /// Removes the first element that is not empty from a header, with the comma after it. Returns 1 for a language range
 /// with its weight in thousandths, 2 for an element with a malformed language range, and 3 for an element with a
 /// malformed weight. For a malformed element, the range is the whole element and the weight is 0. Returns 0 and changes
 /// nothing if no element is left, or if the span reaches beyond the bytes.
-#[tactic(auto, using(crate::proofs::ReadingLaws::same_elements, crate::proofs::ReadingLaws::same_good))]
+#[tactic(auto, using(langtag_span::proofs::ReadingLaws::same_elements, langtag_span::proofs::ReadingLaws::same_good))]
 #[unsafe(no_mangle)]
 pub extern "C" fn langtag_next_accepted(
     bytes: &[u8],
@@ -51,40 +49,5 @@ pub extern "C" fn langtag_next_accepted(
             *weight = 0;
             number_of(&part)
         }
-    }
-}
-
-/// Removes the first item that is not empty from a list, together with the comma after it.
-#[tactic(auto, using(crate::proofs::ReadingLaws::nothing_filled))]
-pub(crate) fn next_item(header: &[u8], rest: &mut Span) -> Option<Span>
-    ensures within { IfSome result (IsWithin header.now) }
-    ensures taken { IfSome result (TakesItem header.now rest.old rest.new) }
-    ensures some { IfSome result (λ _. HasBytes header.now rest.old) }
-    ensures none { result ≡ None → IsWithin header.now rest.old → filled_items (span_text header.now rest.old) ≡ [] }
-    ensures nothing { result ≡ None → rest.new ≡ rest.old }
-    ensures shorter { IfSome result (λ _. rest.new.len < rest.old.len) }
-    ensures left { IfSome result (λ _. IsWithin header.now rest.new) }
-{
-    let mut left = *rest;
-    while let Some(list) = left.of(header) {
-        let len = len_before(list, b',');
-        let item = left.take_first(len);
-        if !is_empty_element(&list[..len]) {
-            *rest = left;
-            return Some(item);
-        }
-    }
-    None
-}
-
-/// Returns the number of the part that is malformed.
-pub(crate) fn number_of(part: &ElementPart) -> u32
-    ensures range { result ≡ 2 ↔ part.now ≡ Range }
-    ensures weight { result ≡ 3 ↔ part.now ≡ Weight }
-    ensures few { (2 ≤ result) × (result ≤ 3) }
-{
-    match part {
-        ElementPart::Range => 2,
-        ElementPart::Weight => 3,
     }
 }

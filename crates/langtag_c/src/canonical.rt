@@ -4,8 +4,8 @@ ghost use Rattle.langtag_scan.specs.Tag.{IsTag};
 ghost use Rattle.langtag_registry.specs.Canonical.{IsCanonicalForm, canonical_bound};
 ghost use Rattle.langtag_output.specs.Writes.{Writes};
 
-use crate::tag::tag_of;
 use langtag_registry::{is_canonical, write_canonical};
+use langtag_span::tag_of;
 
 /// Writes the canonical form of a tag, and returns its length in bytes: `he` for `iw`, `yue` for `zh-yue`.
 /// Replacements are in the case of the registry, and everything else keeps its case. If the buffer is too short, it

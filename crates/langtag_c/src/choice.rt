@@ -3,13 +3,13 @@ ghost use Rattle.std.specs.Prelude.{◌≡◌, ◌↔◌, ◌-◌, ◌^◌, ◌�
 ghost use Rattle.langtag_scan.specs.Tag.{IsTag};
 ghost use Rattle.langtag_range.specs.Wanted.{wanted_elements};
 ghost use Rattle.langtag_choice.specs.Distance.{distance_of_texts};
-ghost use Rattle.langtag_c.specs.Choice.{IsBest, ranges_at};
+ghost use Rattle.langtag_c.specs.Choice.{IsBest};
+ghost use Rattle.langtag_span.specs.Spanned.{ranges_at};
 
-use crate::span::Span;
 use crate::spanned_ranges::SpannedRanges;
 use crate::spanned_tags::SpannedTags;
-use crate::tag::tag_of;
 use langtag_choice::{best_among, distance};
+use langtag_span::{Span, tag_of};
 
 /// The result if one of the two texts is not a tag.
 const NO_DISTANCE: u32 = u32::MAX;

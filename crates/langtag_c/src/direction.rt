@@ -3,8 +3,8 @@ ghost use Rattle.std.specs.Prelude.{◌≡◌, false};
 ghost use Rattle.langtag_scan.specs.Tag.{IsTag};
 ghost use Rattle.langtag_likely.specs.Direction as spec;
 
-use crate::tag::tag_of;
 use langtag_likely::is_right_to_left;
+use langtag_span::tag_of;
 
 /// Returns whether the bytes are a tag that is written from right to left: `true` for `he`, `pa-PK` and `az-Arab`,
 /// `false` for `ar-Latn`, and for bytes that are not a tag.

@@ -4,7 +4,7 @@ ghost use Rattle.langtag_scan.specs.Tag.{IsTag};
 ghost use Rattle.langtag_output.specs.Writes.{Writes};
 ghost use Rattle.langtag_unicode.specs.Form.{IsExtensionsForm};
 
-use crate::tag::tag_of;
+use langtag_span::tag_of;
 use langtag_unicode::write_extensions_form;
 
 /// Writes a tag with its extensions `u` and `t` in canonical form (UTS #35, part 1, Annex C), and returns its length in

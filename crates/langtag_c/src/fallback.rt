@@ -1,11 +1,11 @@
 //! The fallbacks of a language range in a look-up (RFC 4647 section 3.4), without allocating.
-ghost use Rattle.std.specs.Prelude.{◌≡◌, ◌<◌, ◌∷◌, [], IsTrue, false};
+ghost use Rattle.std.specs.Prelude.{◌≡◌, ◌<◌, ◌∷◌, IsTrue, false};
 ghost use Rattle.langtag_range.specs.Fallback.{fallbacks};
-ghost use Rattle.langtag_c.specs.Negotiation.{later_fallbacks};
-ghost use Rattle.langtag_c.specs.Spans.{HasBytes, span_text};
+ghost use Rattle.langtag_span.specs.Negotiation.{later_fallbacks};
+ghost use Rattle.langtag_span.specs.Spans.{HasBytes, span_text};
 
-use crate::span::Span;
 use langtag_range::shortened_len;
+use langtag_span::Span;
 
 /// Removes the last subtag of a language range, and each single letter, digit or `*` that would then be last
 /// (RFC 4647 section 3.4). Returns `false` and changes nothing if nothing would be left, or if the span reaches beyond

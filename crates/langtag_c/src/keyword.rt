@@ -6,11 +6,11 @@ ghost use Rattle.langtag_scan.specs.Record.{EachRecord};
 ghost use Rattle.langtag_scan.specs.Subtags.{join};
 ghost use Rattle.langtag_scan.specs.Tag.{IsNormal};
 ghost use Rattle.langtag_unicode.specs.Keywords as spec;
-ghost use Rattle.langtag_c.specs.Keywords.{answered, keywords_from};
-ghost use Rattle.langtag_c.specs.Spans.{IsWithin, span_text};
+ghost use Rattle.langtag_c.specs.Answers.{answered};
+ghost use Rattle.langtag_span.specs.Keywords.{keywords_from};
+ghost use Rattle.langtag_span.specs.Spans.{IsWithin, span_text};
 
-use crate::extension_subtags::{before_key, extension_subtags, next_key, value_of};
-use crate::span::Span;
+use langtag_span::{Span, before_key, extension_subtags, next_key, value_of};
 use langtag_unicode::Keys;
 
 /// Returns whether the extension `u` has a key (RFC 6067 section 2.1), ignoring case, and writes its value:

@@ -7,8 +7,8 @@ ghost use Rattle.langtag_likely.specs.declared.tables.TheConstants.{CLDR_VERSION
 ghost use Rattle.langtag_c.specs.Answers.{digits_number};
 
 use crate::registry_date::number_of;
-use crate::tag::tag_of;
 use langtag_likely::{CLDR_VERSION, write_maximized, write_minimized};
+use langtag_span::tag_of;
 
 /// Writes a tag with its likely subtags (UTS #35, Add Likely Subtags), and returns its length in bytes: `zh-TW`
 /// becomes `zh-Hant-TW`. If the buffer is too short, it stays unchanged, and the length says how long a buffer must

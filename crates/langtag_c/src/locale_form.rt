@@ -6,8 +6,8 @@ ghost use Rattle.langtag_output.specs.Writes.{Writes};
 ghost use Rattle.langtag_locale.specs.Locale.{is_locale_record};
 ghost use Rattle.langtag_locale.specs.LocaleForm.{IsWholeForm};
 
-use crate::tag::tag_of;
 use langtag_locale::{is_locale, write_locale_form};
+use langtag_span::tag_of;
 
 /// Returns whether bytes are a Unicode locale identifier (UTS #35, part 1, section 'Unicode Locale Identifier'): `true`
 /// for `de-1996-u-co-phonebk`, `false` for `x-a` and `zh-yue`.

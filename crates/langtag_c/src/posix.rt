@@ -3,10 +3,10 @@ ghost use Rattle.std.specs.Prelude.{◌≡◌, ◌↔◌, IsTrue, false, length,
 ghost use Rattle.langtag_output.specs.Writes.{Writes};
 ghost use Rattle.langtag_likely.specs.Modifiers.{is_known};
 ghost use Rattle.langtag_likely.specs.Posix.{IsTagOfName, NamesTag, modifier_of};
-ghost use Rattle.langtag_c.specs.Spans.{end_of, span_text};
+ghost use Rattle.langtag_span.specs.Spans.{end_of, span_text};
 
-use crate::span::Span;
 use langtag_likely::{unknown_modifier, write_from_posix};
+use langtag_span::Span;
 
 /// Writes the tag for a POSIX locale name (IEEE Std 1003.1, section 8.2), and returns its length in bytes: `pt-BR`
 /// for `pt_BR.UTF-8`, `sr-Latn-RS` for `sr_RS@latin`. If the buffer is too short, it stays unchanged, and the length
@@ -30,7 +30,7 @@ pub extern "C" fn langtag_from_posix(name: &[u8], buffer: &mut [u8]) -> usize
 /// modifier is: `foo` in `de_DE@foo`. It returns `false` for `sr_RS@latin`, `de_DE@euro` and `de_DE`.
 ///
 /// If it returns `false`, `modifier` is unchanged.
-#[tactic(auto, using(crate::proofs::SpanLaws::end_after_first))]
+#[tactic(auto, using(langtag_span::proofs::SpanLaws::end_after_first))]
 #[unsafe(no_mangle)]
 pub extern "C" fn langtag_unknown_modifier(name: &[u8], modifier: &mut Span) -> bool
     ensures unknown { result ≡ not (is_known (modifier_of name.now)) }

@@ -6,8 +6,8 @@ ghost use Rattle.langtag_range.specs.Range.{is_language_range};
 ghost use Rattle.langtag_match.specs.Text.{language_range_text};
 ghost use Rattle.langtag_c.specs.Answers.{IsRangeKind, IsRangeMatch};
 
-use crate::tag::tag_of;
 use langtag_match::LanguageRange;
+use langtag_span::tag_of;
 
 /// Returns 1 for a basic language range (RFC 4647 section 2.1), such as `de-CH` and `*`. Returns 2 for an extended
 /// range that is not basic (section 2.2), such as `de-*-DE`, and 0 if the bytes are not a range.

@@ -2,10 +2,10 @@
 ghost use Rattle.std.specs.Prelude.{◌≡◌, ◌↔◌, ◌⊎◌, ◌≤◌, ◌<◌, length};
 ghost use Rattle.langtag_scan.specs.Tag.{IsTag};
 ghost use Rattle.langtag.specs.Refusal.{AlphanumericWithin, EndsTooSoon, IsFirstOther, IsRefusedSubtag};
-ghost use Rattle.langtag_c.specs.Spans.{empty_at, end_of};
+ghost use Rattle.langtag_span.specs.Spans.{empty_at, end_of};
 
-use crate::span::Span;
 use langtag::{Refusal, RefusalKind};
+use langtag_span::Span;
 
 /// Returns 0 if the bytes are a tag, and otherwise what is wrong. The result is 1 for a subtag that is not allowed at
 /// its position, such as `DE` in `de-419-DE`. It is 2 for a subtag with a byte that is neither a letter nor a digit,

@@ -6,12 +6,12 @@ ghost use Rattle.langtag_scan.specs.Tag.{IsNormal};
 ghost use Rattle.langtag.specs.Repeat.{are_alike_bytes, repeat, repeat_index};
 ghost use Rattle.langtag.specs.Text.{normal_lang_tag_text};
 ghost use Rattle.langtag_c.specs.Answers.{repeat_flags};
-ghost use Rattle.langtag_c.specs.Repeats.{member_span, none_repeated, singleton_place, variant_place};
-ghost use Rattle.langtag_c.specs.Spans.{empty_at};
+ghost use Rattle.langtag_span.specs.Members.{member_span, singleton_place, variant_place};
+ghost use Rattle.langtag_c.specs.PartSpans.{none_repeated};
+ghost use Rattle.langtag_span.specs.Spans.{empty_at};
 
-use crate::span::Span;
-use crate::tag::normal_tag_of;
 use langtag::NormalLangTag;
+use langtag_span::{Span, normal_tag_of, singleton_at, variant_at};
 
 /// The spans of the first repeated variant and of the first repeated singleton, ignoring case. A span is empty if
 /// nothing is repeated.
@@ -61,41 +61,12 @@ fn repeated_variant(tag: &NormalLangTag<'_>) -> Option<Span>
     variant_at(tag, tag.repeated_variant_index()?)
 }
 
-/// Returns where the variant at an index is in a tag.
-pub(crate) fn variant_at(tag: &NormalLangTag<'_>, wanted: usize) -> Option<Span>
-    ensures { EachRecord (normal_lang_tag_text tag.now) (λ r. result ≡ member_span (variant_place r) r.variants (Some wanted)) }
-{
-    tag.variants()
-        .iter()
-        .scan(tag.ends().region, |end, variant| {
-            let start = *end + 1;
-            let len = variant.as_str().len();
-            *end = start + len;
-            Some(Span { start, len })
-        })
-        .nth(wanted)
-}
-
 /// Returns where the first repeated singleton is in a tag.
 fn repeated_singleton(tag: &NormalLangTag<'_>) -> Option<Span>
     ensures { EachRecord (normal_lang_tag_text tag.now) (λ r.
         result ≡ member_span (singleton_place r) r.extensions (repeat_index are_alike_bytes (map (λ e. e.singleton) r.extensions))) }
 {
     singleton_at(tag, tag.repeated_singleton_index()?)
-}
-
-/// Returns where the singleton of the extension at an index is in a tag.
-pub(crate) fn singleton_at(tag: &NormalLangTag<'_>, wanted: usize) -> Option<Span>
-    ensures { EachRecord (normal_lang_tag_text tag.now) (λ r. result ≡ member_span (singleton_place r) r.extensions (Some wanted)) }
-{
-    tag.extensions()
-        .iter()
-        .scan(tag.ends().variants, |end, extension| {
-            let start = *end + 1;
-            *end = start + extension.as_str().len();
-            Some(Span { start, len: 1 })
-        })
-        .nth(wanted)
 }
 
 /// Returns 1 if a variant is repeated, plus 2 if a singleton is repeated.

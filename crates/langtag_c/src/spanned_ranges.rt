@@ -1,14 +1,9 @@
 //! Language ranges as spans of a text.
-ghost use Rattle.std.specs.Prelude.{◌≡◌, IfSome, IsTrue};
-ghost use Rattle.std.specs.Option.{option_map};
-ghost use Rattle.langtag_range.specs.Listed.{listed_element};
-ghost use Rattle.langtag_range.specs.Range.{is_language_range};
-ghost use Rattle.langtag_range.specs.Wanted.{hyphened};
-ghost use Rattle.langtag_c.specs.Choice.{range_at, ranges_at};
+ghost use Rattle.langtag_span.specs.Spanned.{ranges_at};
 
-use crate::span::Span;
 use langtag_choice::RangeList;
-use langtag_range::{WantedRange, listed_range};
+use langtag_range::WantedRange;
+use langtag_span::{Span, range_in};
 
 /// A text, and spans of it that are language ranges, the most wanted first.
 #[derive(Clone, Copy)]
@@ -17,7 +12,7 @@ pub(crate) struct SpannedRanges<'a> {
     pub(crate) spans: &'a [Span],
 }
 
-#[tactic(auto, using(crate::proofs::RangesAt::few_ranges))]
+#[tactic(auto, using(langtag_span::proofs::RangesAt::few_ranges))]
 impl<'a> RangeList<'a> for SpannedRanges<'a> {
     ghost elements = { λ ranges. ranges_at ranges.text.now ranges.spans.now };
 
@@ -35,13 +30,4 @@ impl<'a> RangeList<'a> for SpannedRanges<'a> {
         }
         None
     }
-}
-
-/// Returns a span of a text as a language range, or `None` if it is not one.
-#[tactic(auto, using(crate::proofs::RangesAt::range_there, crate::proofs::RangesAt::no_range))]
-fn range_in<'a>(text: &'a [u8], span: Span) -> Option<WantedRange<'a>>
-    ensures range { option_map listed_element result ≡ range_at text.now span }
-    ensures in_class { IfSome result (λ found. IsTrue (is_language_range (hyphened found.bytes.now))) }
-{
-    listed_range(span.of(text)?)
 }

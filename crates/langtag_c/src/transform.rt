@@ -8,11 +8,11 @@ ghost use Rattle.langtag_scan.specs.Subtags.{join};
 ghost use Rattle.langtag_scan.specs.Tag.{IsNormal};
 ghost use Rattle.langtag_unicode.specs.Keywords as spec;
 ghost use Rattle.langtag_unicode.specs.Transform.{is_field_key};
-ghost use Rattle.langtag_c.specs.Keywords.{answered, keywords_from};
-ghost use Rattle.langtag_c.specs.Spans.{IsWithin, span_text};
+ghost use Rattle.langtag_c.specs.Answers.{answered};
+ghost use Rattle.langtag_span.specs.Keywords.{keywords_from};
+ghost use Rattle.langtag_span.specs.Spans.{IsWithin, span_text};
 
-use crate::extension_subtags::{before_key, extension_subtags, next_key, value_of};
-use crate::span::Span;
+use langtag_span::{Span, before_key, extension_subtags, next_key, value_of};
 use langtag_unicode::Keys;
 
 /// Returns whether a tag has the extension `t` (RFC 6497 section 2.2), and writes the span of its language, which

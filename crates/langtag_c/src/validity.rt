@@ -5,14 +5,12 @@ ghost use Rattle.langtag_scan.specs.Tag.{IsTag};
 ghost use Rattle.langtag.specs.Text.{normal_lang_tag_text};
 ghost use Rattle.langtag_registry.specs.Fault.{Told, faults, fault_index, told};
 ghost use Rattle.langtag_registry.specs.Valid.{IsValid};
-ghost use Rattle.langtag_c.specs.Spans.{empty_at};
+ghost use Rattle.langtag_span.specs.Spans.{empty_at};
 ghost use Rattle.langtag_c.specs.Validity.{number_of, fault_span};
 
-use crate::repeats::{singleton_at, variant_at};
-use crate::span::Span;
-use crate::tag::tag_of;
 use langtag::NormalLangTag;
 use langtag_registry::{InvalidSubtag, fault_at};
+use langtag_span::{Span, singleton_at, tag_of, variant_at};
 
 /// Returns 1 for a valid tag, 0 if the bytes are not a tag, and otherwise the first fault. The result is 2 for a
 /// language, 3 for an extended language, 5 for a script, 6 for a region and 7 for a variant that is not registered. It

@@ -6,7 +6,7 @@ ghost use Rattle.langtag_scan.specs.Subtags.{subtags};
 ghost use Rattle.langtag_unicode.specs.Edit.{edited_record};
 ghost use Rattle.langtag_c.specs.Setting.{CanRemoveKeyword, CanSetKeyword, keyword_bound};
 
-use crate::tag::tag_of;
+use langtag_span::tag_of;
 use langtag_unicode::{write_with_keyword, write_without_keyword};
 
 /// Writes a tag with a value of a key of the extension `u`, and returns its length in bytes: with `buddhist` for `ca`,

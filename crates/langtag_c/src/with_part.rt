@@ -1,11 +1,11 @@
 //! A tag with one part changed, written to the caller's buffer (RFC 5646 sections 2.2.1 to 2.2.7).
 ghost use Rattle.std.specs.Prelude.{◌≡◌, ◌↔◌, IfSome};
 ghost use Rattle.langtag_output.specs.Writes.{Writes};
-ghost use Rattle.langtag_c.specs.Setting.{CanSet, SetsNamedPart, part_numbered};
+ghost use Rattle.langtag_c.specs.Setting.{CanSet};
+ghost use Rattle.langtag_span.specs.NumberedParts.{SetsNamedPart, part_numbered};
 
-use crate::part::part_of;
-use crate::tag::normal_tag_of;
 use langtag::write_part;
+use langtag_span::{normal_tag_of, part_of};
 
 /// Writes a normal tag with one part set to a text, and returns its length in bytes. The empty text removes the part.
 /// The parts are numbered in their order, from 0 for the language. If the buffer is too short, it stays unchanged,

@@ -11,12 +11,12 @@
 use crate::calls::best_match::BestMatch;
 use crate::calls::parse::Parts;
 use crate::calls::repeats::Repeated;
-use crate::calls::span::Span;
 use crate::calls::{
     accepted, best_match, canonical, choice, compare, direction, extensions_form, fallback,
     grandfathered, keyword, likely, locale_form, look_up, parse, posix, range as ranges, recommend, refused,
     registry_date, repeats, suggestion, transform, validity, viable, walk, with_keyword, with_part,
 };
+use crate::spans::Span;
 use core::slice;
 
 const NO_SPAN: Span = Span { start: 0, len: 0 };

@@ -5,8 +5,8 @@
 //! ```
 //!
 //! This writes `target/release/liblangtag_verified.a`, and the shared library beside it. All modules except `calls`,
-//! `exports` and `panic` are shared with the Rust crate. `rust/erase` made the modules from the proved sources, except
-//! `exports`, `panic`, `shim` and `suggestion`, which are written by hand.
+//! `exports`, `panic` and `spans` are shared with the Rust crate. `rust/erase` made the modules from the proved sources,
+//! except `exports`, `panic`, `shim` and `suggestion`, which are written by hand.
 #![no_std]
 #![deny(unsafe_code)]
 #![allow(dead_code, unused_imports, unused_macros, clippy::all)] // The Rust crate uses more items, and has its own lints.
@@ -58,3 +58,4 @@ mod unicode;
 
 mod calls;
 mod exports;
+mod spans;

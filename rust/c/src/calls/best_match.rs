@@ -2,11 +2,9 @@
 
 //! The best tag for a reader, with the range that it serves and its distance from that range.
 
-use crate::calls::look_up::is_comma;
-use crate::calls::span::Span;
 use crate::calls::spanned_tags::SpannedTags;
 use crate::choice::match_among;
-use crate::range::split_wanted;
+use crate::spans::{range_at, Span};
 
 /// The range that the best tag serves, and the distance from the range to the tag.
 #[repr(C)]
@@ -48,40 +46,4 @@ pub fn langtag_match_for_header(
         distance: u32::from(chosen.distance),
     };
     chosen.index
-}
-
-/// Returns the span of the range that has this number of ranges before it in a header.
-fn range_at(header: &[u8], place: usize) -> Option<Span> {
-    let mut start = 0;
-    let mut left = place;
-    for item in header.split(|byte| is_comma(*byte)) {
-        if let Some((wanted, _)) = split_wanted(item) {
-            if left == 0 {
-                return Some(Span {
-                    start: start + spaces_before(item),
-                    len: wanted.bytes.len(),
-                });
-            }
-            left -= 1;
-        }
-        start += item.len() + 1;
-    }
-    None
-}
-
-/// Returns the number of spaces and tabs at the start of an item.
-#[inline]
-fn spaces_before(item: &[u8]) -> usize {
-    first_filled(item).unwrap_or(item.len())
-}
-
-/// Returns the index of the first byte that is neither a space nor a tab.
-#[inline]
-fn first_filled(item: &[u8]) -> Option<usize> {
-    item.iter().position(|byte| !is_space(*byte))
-}
-
-#[inline]
-fn is_space(byte: u8) -> bool {
-    byte == b' ' || byte == b'\t'
 }

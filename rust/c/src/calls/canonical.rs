@@ -2,8 +2,8 @@
 
 //! The canonical form of a tag, in the caller's buffer (RFC 5646 section 4.5).
 
-use crate::calls::tag::tag_of;
 use crate::registry::{is_canonical, write_canonical};
+use crate::spans::tag_of;
 
 /// Writes the canonical form of a tag, and returns its length in bytes: `he` for `iw`, `yue` for `zh-yue`.
 /// Replacements are in the case of the registry, and everything else keeps its case. If the buffer is too short, it

@@ -2,11 +2,10 @@
 
 //! The best tag for a reader, and the distance of two tags (UTS #35, part 1, section 'Language Matching').
 
-use crate::calls::span::Span;
 use crate::calls::spanned_ranges::SpannedRanges;
 use crate::calls::spanned_tags::SpannedTags;
-use crate::calls::tag::tag_of;
 use crate::choice::{best_among, distance};
+use crate::spans::{tag_of, Span};
 
 /// The result if one of the two texts is not a tag.
 const NO_DISTANCE: u32 = u32::MAX;

@@ -2,8 +2,8 @@
 
 //! Whether a tag is written from right to left.
 
-use crate::calls::tag::tag_of;
 use crate::likely::is_right_to_left;
+use crate::spans::tag_of;
 
 /// Returns whether the bytes are a tag that is written from right to left: `true` for `he`, `pa-PK` and `az-Arab`,
 /// `false` for `ar-Latn`, and for bytes that are not a tag.

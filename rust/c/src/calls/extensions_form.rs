@@ -2,7 +2,7 @@
 
 //! The canonical form of a tag's extensions, in the caller's buffer (UTS #35, part 1, Annex C).
 
-use crate::calls::tag::tag_of;
+use crate::spans::tag_of;
 use crate::unicode::write_extensions_form;
 
 /// Writes a tag with its extensions `u` and `t` in canonical form (UTS #35, part 1, Annex C), and returns its length in

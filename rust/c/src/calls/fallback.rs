@@ -2,8 +2,8 @@
 
 //! The fallbacks of a language range in a look-up (RFC 4647 section 3.4), without allocating.
 
-use crate::calls::span::Span;
 use crate::range::shortened_len;
+use crate::spans::Span;
 
 /// Removes the last subtag of a language range, and each single letter, digit or `*` that would then be last
 /// ([RFC 4647 section 3.4]). Returns `false` and changes nothing if nothing would be left, or if the span reaches beyond

@@ -2,8 +2,7 @@
 
 //! Where the keywords and attributes of the extension `u` are (RFC 6067 section 2.1).
 
-use crate::calls::extension_subtags::{before_key, extension_subtags, next_key, value_of};
-use crate::calls::span::Span;
+use crate::spans::{before_key, extension_subtags, next_key, value_of, Span};
 use crate::unicode::Keys;
 
 /// Returns whether the extension `u` has a key ([RFC 6067 section 2.1]), ignoring case, and writes its value:

@@ -3,8 +3,8 @@
 //! The maximal and minimal forms of a tag, in the caller's buffer (UTS #35, part 1, section 'Likely Subtags').
 
 use crate::calls::registry_date::number_of;
-use crate::calls::tag::tag_of;
 use crate::likely::{write_maximized, write_minimized, CLDR_VERSION};
+use crate::spans::tag_of;
 
 /// Writes a tag with its likely subtags (UTS #35, Add Likely Subtags), and returns its length in bytes: `zh-TW`
 /// becomes `zh-Hant-TW`. If the buffer is too short, it stays unchanged, and the length says how long a buffer must

@@ -2,8 +2,8 @@
 
 //! Whether bytes are a tag, of which kind, and where its parts are.
 
-use crate::calls::span::Span;
 use crate::scan::{recognise, Ends, Found, Metered};
+use crate::spans::Span;
 
 /// Where the parts of a tag are in its text.
 #[repr(C)]

@@ -2,8 +2,8 @@
 
 //! The tag for a POSIX locale name, in the caller's buffer, and the unknown modifier that is dropped.
 
-use crate::calls::span::Span;
 use crate::likely::{unknown_modifier, write_from_posix};
+use crate::spans::Span;
 
 /// Writes the tag for a POSIX locale name (IEEE Std 1003.1, section 8.2), and returns its length in bytes: `pt-BR`
 /// for `pt_BR.UTF-8`, `sr-Latn-RS` for `sr_RS@latin`. If the buffer is too short, it stays unchanged, and the length

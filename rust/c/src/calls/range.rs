@@ -2,8 +2,8 @@
 
 //! Language ranges, and the tags that they match (RFC 4647).
 
-use crate::calls::tag::tag_of;
 use crate::matching::LanguageRange;
+use crate::spans::tag_of;
 
 /// Returns 1 for a basic language range ([RFC 4647 section 2.1]), such as `de-CH` and `*`. Returns 2 for an extended
 /// range that is not basic (section 2.2), such as `de-*-DE`, and 0 if the bytes are not a range.

@@ -2,7 +2,7 @@
 
 //! Where a text that is not a tag is wrong (RFC 5646 section 2.1).
 
-use crate::calls::span::Span;
+use crate::spans::Span;
 use crate::tag::{Refusal, RefusalKind};
 
 /// Returns 0 if the bytes are a tag, and otherwise what is wrong. The result is 1 for a subtag that is not allowed at

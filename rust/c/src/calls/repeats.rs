@@ -2,8 +2,7 @@
 
 //! Variants and singletons that occur twice in a tag (RFC 5646 section 2.2.9).
 
-use crate::calls::span::Span;
-use crate::calls::tag::normal_tag_of;
+use crate::spans::{normal_tag_of, singleton_at, variant_at, Span};
 use crate::tag::NormalLangTag;
 
 /// The spans of the first repeated variant and of the first repeated singleton, ignoring case. A span is empty if
@@ -42,35 +41,10 @@ fn repeated_variant(tag: &NormalLangTag<'_>) -> Option<Span> {
     variant_at(tag, tag.repeated_variant_index()?)
 }
 
-/// Returns where the variant at an index is in a tag.
-pub(crate) fn variant_at(tag: &NormalLangTag<'_>, wanted: usize) -> Option<Span> {
-    tag.variants()
-        .iter()
-        .scan(tag.ends().region, |end, variant| {
-            let start = *end + 1;
-            let len = variant.as_str().len();
-            *end = start + len;
-            Some(Span { start, len })
-        })
-        .nth(wanted)
-}
-
 /// Returns where the first repeated singleton is in a tag.
 #[inline]
 fn repeated_singleton(tag: &NormalLangTag<'_>) -> Option<Span> {
     singleton_at(tag, tag.repeated_singleton_index()?)
-}
-
-/// Returns where the singleton of the extension at an index is in a tag.
-pub(crate) fn singleton_at(tag: &NormalLangTag<'_>, wanted: usize) -> Option<Span> {
-    tag.extensions()
-        .iter()
-        .scan(tag.ends().variants, |end, extension| {
-            let start = *end + 1;
-            *end = start + extension.as_str().len();
-            Some(Span { start, len: 1 })
-        })
-        .nth(wanted)
 }
 
 /// Returns 1 if a variant is repeated, plus 2 if a singleton is repeated.

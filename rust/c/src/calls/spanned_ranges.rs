@@ -2,9 +2,9 @@
 
 //! Language ranges as spans of a text.
 
-use crate::calls::span::Span;
 use crate::choice::RangeList;
-use crate::range::{listed_range, WantedRange};
+use crate::range::WantedRange;
+use crate::spans::{range_in, Span};
 
 /// A text, and spans of it that are language ranges, the most wanted first.
 #[derive(Clone, Copy)]
@@ -28,10 +28,4 @@ impl<'a> RangeList<'a> for SpannedRanges<'a> {
         }
         None
     }
-}
-
-/// Returns a span of a text as a language range, or `None` if it is not one.
-#[inline]
-fn range_in<'a>(text: &'a [u8], span: Span) -> Option<WantedRange<'a>> {
-    listed_range(span.of(text)?)
 }

@@ -2,9 +2,8 @@
 
 //! Tags as spans of a text.
 
-use crate::calls::span::Span;
-use crate::calls::tag::tag_of;
 use crate::choice::TagList;
+use crate::spans::{bytes_in, tag_in, Span};
 use crate::tag::LangTag;
 
 /// A text, and spans of it that are tags.
@@ -29,16 +28,4 @@ impl TagList for SpannedTags<'_> {
     fn bytes_at(&self, index: usize) -> &[u8] {
         bytes_in(self.text, self.spans[index])
     }
-}
-
-/// Returns a span of a text as a tag, or `None` if it is not one.
-#[inline]
-pub(crate) fn tag_in<'a>(text: &'a [u8], span: Span) -> Option<LangTag<'a>> {
-    tag_of(span.of(text)?)
-}
-
-/// Returns the bytes of a span of a text, or no bytes if the span reaches beyond the text.
-#[inline]
-pub(crate) fn bytes_in<'a>(text: &'a [u8], span: Span) -> &'a [u8] {
-    span.of(text).unwrap_or(b"")
 }

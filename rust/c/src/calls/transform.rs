@@ -2,8 +2,7 @@
 
 //! Where the language and the fields of the extension `t` are (RFC 6497 section 2.2).
 
-use crate::calls::extension_subtags::{before_key, extension_subtags, next_key, value_of};
-use crate::calls::span::Span;
+use crate::spans::{before_key, extension_subtags, next_key, value_of, Span};
 use crate::unicode::Keys;
 
 /// Returns whether a tag has the extension `t` ([RFC 6497 section 2.2]), and writes the span of its language, which

@@ -2,10 +2,8 @@
 
 //! Whether a tag is valid by the registry (RFC 5646 section 2.2.9).
 
-use crate::calls::repeats::{singleton_at, variant_at};
-use crate::calls::span::Span;
-use crate::calls::tag::tag_of;
 use crate::registry::{fault_at, InvalidSubtag};
+use crate::spans::{singleton_at, tag_of, variant_at, Span};
 use crate::tag::NormalLangTag;
 
 /// Returns 1 for a valid tag, 0 if the bytes are not a tag, and otherwise the first fault. The result is 2 for a

@@ -2,9 +2,9 @@
 
 //! Walks over the subtags and the extensions of a part, without allocating.
 
-use crate::calls::span::Span;
 use crate::extension::first_extension_end;
 use crate::scan::segment_end;
+use crate::spans::Span;
 
 /// Removes the first subtag from a span, with the hyphen after it. Returns `false` and changes nothing if nothing is
 /// left, or if the span reaches beyond the bytes.

@@ -2,7 +2,7 @@
 
 //! A tag with a keyword of the extension `u` set or removed, written to the caller's buffer (RFC 6067 section 2.1).
 
-use crate::calls::tag::tag_of;
+use crate::spans::tag_of;
 use crate::unicode::{write_with_keyword, write_without_keyword};
 
 /// Writes a tag with a value of a key of the extension `u`, and returns its length in bytes: with `buddhist` for `ca`,

@@ -2,8 +2,7 @@
 
 //! A tag with one part changed, written to the caller's buffer (RFC 5646 sections 2.2.1 to 2.2.7).
 
-use crate::calls::part::part_of;
-use crate::calls::tag::normal_tag_of;
+use crate::spans::{normal_tag_of, part_of};
 use crate::tag::write_part;
 
 /// Writes a normal tag with one part set to a text, and returns its length in bytes. The empty text removes the part.

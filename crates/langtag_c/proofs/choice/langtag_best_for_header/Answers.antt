@@ -1,6 +1,6 @@
 use Rattle.std.proofs.Common.{rules}
 use Rattle.langtag_range.specs.Wanted.{wanted_elements}
-use Rattle.langtag_c.proofs.TagsAt.{is_best, within_spans}
+use Rattle.langtag_c.proofs.ChoiceLaws.{is_best, within_spans}
 use Rattle.langtag_c.proofs.choice.langtag_best_for_header.Goals as goal
 
 pub returns-clause-best : goal.returns-clause-best

@@ -1,4 +1,4 @@
-use Rattle.langtag_c.proofs.TagsAt.{tag_bytes}
+use Rattle.langtag_span.proofs.TagsAt.{tag_bytes}
 use Rattle.langtag_c.proofs.spanned_tags.SpannedTagsTagList.bytes_at.Goals as goal
 
 pub returns : goal.returns

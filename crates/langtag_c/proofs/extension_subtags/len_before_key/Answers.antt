@@ -1,8 +1,0 @@
-use Rattle.std.proofs.Common.{arith}
-use Rattle.std.proofs.lemmas.Bool.Decides.{nat_tests}
-use Rattle.langtag_unicode.proofs.SubtagTexts.{before_key-more, length-before_key}
-use Rattle.langtag_c.proofs.SubtagSpans.{length-spanned}
-use Rattle.langtag_c.proofs.extension_subtags.len_before_key.Goals as goal
-
-pub overflow_add-len-in-Some : goal.overflow_add-len-in-Some
-overflow_add-len-in-Some c = grind (arith, nat_tests, length-before_key, length-spanned, before_key-more)

@@ -1,6 +1,0 @@
-use Rattle.std.proofs.Common.{◌∙◌}
-use Rattle.langtag_c.proofs.LookUps.{position_spans}
-use Rattle.langtag_c.proofs.look_up.index_alike.Goals as goal
-
-pub returns : goal.returns
-returns c = c.first_alike.ensures ∙ position_spans c.args.tags.now.text.now c.args.text.now c.args.tags.now.spans.now

@@ -1,0 +1,158 @@
+-- The first extension of a singleton, by where it stands in a tag.
+use Rattle.std.proofs.Common.{◌≡◌, ℕ, slice_index, slice_index_or, ◌+◌, ◌-◌, ◌<◌, ◌≤◌, true, false, List, [], ◌∷◌, length, take, drop, map, find, Option, None, Some, Bor, refl, ap, sym, subst, ◌∙◌, arith}
+use Rattle.std.specs.List.{AllByRecursion}
+use Rattle.std.specs.Option.{option_map, option_map_or}
+use Rattle.std.proofs.lemmas.List.{drop-drop, drop-take}
+use Rattle.std.proofs.lemmas.Bool.{cases_lt}
+use Rattle.std.proofs.lemmas.Bool.Decides.{eqb_tells, nat_tests}
+use Rattle.langtag_scan.specs.Case.{fold_byte}
+use Rattle.std.proofs.lemmas.List.Splits.{length-slice_split}
+use Rattle.langtag_scan.specs.Class.{is_extension_subtag}
+use Rattle.langtag_scan.specs.Ends.{HasEnds, ends_of}
+use Rattle.langtag_scan.specs.Parts.{extensions_part}
+use Rattle.langtag_scan.specs.Record.{EachRecord, Extension, Record, IsWellFormed}
+use Rattle.langtag_scan.specs.Subtags.{is_hyphen, subtags}
+use Rattle.langtag_scan.specs.Tag.{IsNormal}
+use Rattle.langtag_scan.specs.declared.ends.Ends.{Ends}
+use Rattle.langtag_scan.proofs.SpelledTexts.{ends_ordered, ends_whole}
+use Rattle.langtag_scan.proofs.SubtagFacts.{IsSubtag, of_extension_subtag}
+use Rattle.langtag_scan.proofs.SubtagLists.{each_subtag}
+use Rattle.langtag_extension.specs.Decided.{opens_alike}
+use Rattle.langtag_extension.specs.ExtensionTexts.{IsFirstExtension, extension_texts}
+use Rattle.langtag_extension.specs.Spelling.{IsExtension, IsExtensions, SpellsExtensions, extension_spelling, find_extension}
+use Rattle.langtag_extension.proofs.ExtensionLookUp.{extension_found, find_spellings, subtags_found, subtags_not_found}
+use Rattle.langtag_extension.proofs.Rules.{extension_texts_spelled}
+use Rattle.langtag.proofs.PartsFound.{extensions_found}
+use Rattle.langtag_unicode.proofs.SubtagTexts.{subtags-after_singleton}
+use Rattle.langtag_span.specs.Keywords.{subtags_in}
+use Rattle.langtag_span.specs.Spans.{HasBytes, IsWithin, end_of, span_between, span_text}
+use Rattle.langtag_span.specs.declared.span.Span.{Span}
+use Rattle.langtag_span.proofs.ExtensionSpans.{extension-taken, length-span, span-first}
+use Rattle.langtag_span.proofs.SpanLaws.{between_text}
+use Rattle.langtag_span.proofs.SubtagSpans.{AllSome, length-spanned}
+
+-- ---- all extensions of a tag
+
+had-ends : (text : List ℕ) (ends : Ends) → IsNormal text → EachRecord text (λ r. ends ≡ ends_of r) → HasEnds text ends
+unfolding IsNormal HasEnds
+had-ends text ends (r, spells) each = (r, spells, each r spells)
+
+pub extensions-span :
+    (text : List ℕ) (ends : Ends) (span : Span) → IsNormal text → EachRecord text (λ r. ends ≡ ends_of r) →
+    (ends.variants ≤ ends.extensions → span ≡ span_between ends.variants ends.extensions) → (ends.variants ≤ ends.extensions → end_of span ≡ ends.extensions) →
+    EachRecord text (λ r. span_text text span ≡ extensions_part r) × IsWithin text span
+extensions-span text ends span normal each is ending =
+    let had = had-ends text ends normal each in
+    let order = ends_ordered text ends had in (
+      λ r spells. ap (span_text text) (is order.extensions) ∙ between_text text ends.variants ends.extensions order.extensions ∙ extensions_found text ends had r spells,
+      omega (arith, ending order.extensions, order.private_use, ends_whole text ends had),
+    )
+
+-- ---- the first of some
+
+-- no bytes
+pub nothing-in : (text : List ℕ) (span : Span) → span.len ≡ 0 → span_text text span ≡ []
+nothing-in text span none = grind (arith, nat_tests)
+
+pub no-bytes : (text : List ℕ) (span : Span) → IsWithin text span → (HasBytes text span → ⊥) → span.len ≡ 0
+no-bytes text span within none = grind (arith, nat_tests, cases_lt 0 span.len)
+
+-- the first, and those that are left
+pub record IsStep (text : List ℕ) (before after taken : Span) : Type 0 where
+  pub texts : extension_texts (span_text text before) ≡ span_text text taken ∷ extension_texts (span_text text after)
+  pub left : IsExtensions (span_text text after)
+  pub first : IsExtension (span_text text taken)
+
+pub extension-step :
+    (text : List ℕ) (before after taken : Span) (part : Bor (List ℕ)) (len : ℕ) → IsExtensions (span_text text before) →
+    HasBytes text before → part.now ≡ span_text text before → IsFirstExtension part.now len → taken ≡ record { start = before.start; len = len } →
+    after ≡ span_between (before.start + len) (end_of before) → IsStep text before after taken
+extension-step text before after taken part len ([], spells) has is first taken_is after_is = grind (arith, nat_tests, length-span text before has)
+extension-step text before after taken part len (e ∷ es, spells) has is first taken_is after_is =
+    let cut = extension-taken text before after taken part len e es has is first taken_is after_is spells in
+    record {
+      texts = extension_texts_spelled (e ∷ es) (span_text text before) spells ∙ ap (λ t. t ∷ map extension_spelling es) (sym cut.0)
+          ∙ ap (λ ts. span_text text taken ∷ ts) (sym (extension_texts_spelled es (span_text text after) cut.1));
+      left = (es, cut.1);
+      first = (e, record { member = spells.members.0; joined = sym cut.0 });
+    }
+
+-- an extension has a singleton and a hyphen, and then subtags that are not empty
+all-some : (ss : List (List ℕ)) → AllByRecursion IsSubtag ss → AllSome ss
+all-some [] fits = tt
+all-some (s ∷ ss) fits = (fits.0.some, all-some ss fits.1)
+
+pub after-singleton : (text : List ℕ) → IsExtension text → AllSome (subtags (drop 2 text)) × (2 ≤ length text)
+after-singleton text (e, spelled) = (
+  subst AllSome (sym (subtags-after_singleton e text spelled)) (all-some e.subtags (each_subtag is_extension_subtag of_extension_subtag e.subtags spelled.member.subtags)),
+  by_subtags e.subtags refl,
+)
+  where
+    by_subtags : (ss : List (List ℕ)) → e.subtags ≡ ss → 2 ≤ length text
+    by_subtags ss is = grind (arith, nat_tests)
+
+-- what stands behind them
+pub without-singleton : (text : List ℕ) (taken : Span) → 2 ≤ taken.len → span_text text (record { start = taken.start + 2; len = taken.len - 2 }) ≡ drop 2 (span_text text taken)
+without-singleton text taken some = grind (arith, nat_tests, drop-drop 2 taken.start text, drop-take 2 (taken.len - 2) (drop taken.start text))
+
+-- a taken span lies within the text, and has a singleton and more
+pub taken-some :
+    (text : List ℕ) (before after taken : Span) (part : Bor (List ℕ)) (len : ℕ) → HasBytes text before → part.now ≡ span_text text before → len ≤ length part.now →
+    taken ≡ record { start = before.start; len = len } → IsStep text before after taken → IsWithin text taken × (2 ≤ taken.len)
+taken-some text before after taken part len has is few taken_is step = grind (arith, nat_tests, length-span, after-singleton, length-spanned)
+
+-- its bytes
+pub taken-text :
+    (text : List ℕ) (before taken : Span) (part : Bor (List ℕ)) (len : ℕ) → HasBytes text before → part.now ≡ span_text text before → len ≤ length part.now →
+    taken ≡ record { start = before.start; len = len } → span_text text taken ≡ take len part.now
+taken-text text before taken part len has is few taken_is = grind (arith, nat_tests, span-first text before len has, length-span text before has)
+
+-- whether it opens with the byte
+first-byte : (part : List ℕ) (len : ℕ) → 0 < len → slice_index (take len part) 0 ≡ slice_index_or part 0 0
+first-byte part len some = grind (arith, nat_tests)
+
+pub opens-so : (b : ℕ) (text part : List ℕ) (len : ℕ) → text ≡ take len part → 0 < len → fold_byte (slice_index_or part 0 0) ≡ fold_byte b → opens_alike b text ≡ true
+opens-so b text part len is some same = grind (arith, nat_tests, first-byte part len some, eqb_tells (fold_byte (slice_index text 0)) (fold_byte b))
+
+pub opens-not : (b : ℕ) (text part : List ℕ) (len : ℕ) → text ≡ take len part → 0 < len → (fold_byte (slice_index_or part 0 0) ≡ fold_byte b → ⊥) → opens_alike b text ≡ false
+opens-not b text part len is some apart = grind (arith, nat_tests, first-byte part len some, eqb_tells (fold_byte (slice_index text 0)) (fold_byte b))
+
+-- the subtags of the first that opens with the byte
+pub subtags-first :
+    (b : ℕ) (text : List ℕ) (whole taken result : Span) (left : List (List ℕ)) → find (opens_alike b) left ≡ find (opens_alike b) (extension_texts (span_text text whole)) →
+    find (opens_alike b) left ≡ Some (span_text text taken) → span_text text result ≡ drop 2 (span_text text taken) →
+    (es : List Extension) → SpellsExtensions es (span_text text whole) → subtags_in text result ≡ option_map_or (λ e. e.subtags) (find_extension b es) []
+subtags-first b text whole taken result left same found is es spells =
+    subtags_found b es spells.members (span_text text taken) (subtags_in text result)
+    (sym found ∙ same ∙ ap (find (opens_alike b)) (extension_texts_spelled es (span_text text whole) spells) ∙ find_spellings b es)
+    (λ e spelled. ap subtags is ∙ subtags-after_singleton e (span_text text taken) spelled)
+
+-- none where none does
+pub subtags-none :
+    (b : ℕ) (text : List ℕ) (whole rest result : Span) → find (opens_alike b) (extension_texts (span_text text rest)) ≡ find (opens_alike b) (extension_texts (span_text text whole)) →
+    rest.len ≡ 0 → result.len ≡ 0 → (es : List Extension) → SpellsExtensions es (span_text text whole) →
+    subtags_in text result ≡ option_map_or (λ e. e.subtags) (find_extension b es) []
+subtags-none b text whole rest result same none empty es spells =
+    ap subtags (nothing-in text result empty)
+    ∙ subtags_not_found (find_extension b es)
+    (ap (λ t. find (opens_alike b) (extension_texts t)) (sym (nothing-in text rest none)) ∙ same
+    ∙ ap (find (opens_alike b)) (extension_texts_spelled es (span_text text whole) spells) ∙ find_spellings b es)
+
+-- ---- an extension that is there has subtags
+
+-- the first of a singleton, by its subtags
+pub found-none : (r : Record) → IsWellFormed r → (b : ℕ) (f : Extension → List ℕ) → option_map_or (λ e. e.subtags) (find_extension b r.extensions) [] ≡ [] → None ≡ option_map f (find_extension b r.extensions)
+found-none r well b f none = by_found (find_extension b r.extensions) refl none
+  where
+    by_found : (o : Option Extension) → find_extension b r.extensions ≡ o → option_map_or (λ e. e.subtags) o [] ≡ [] → None ≡ option_map f o
+    by_found None is none = refl
+    by_found (Some e) is none = absurd (omega (arith, ap length none, (extension_found b r.extensions well.extensions e is).some))
+
+pub found-some :
+    (es : List Extension) (b : ℕ) (f : List (List ℕ) → List ℕ) → 0 < length (option_map_or (λ e. e.subtags) (find_extension b es) []) →
+    Some (f (option_map_or (λ e. e.subtags) (find_extension b es) [])) ≡ option_map (λ e. f e.subtags) (find_extension b es)
+found-some es b f some = grind (arith, nat_tests)
+
+-- some bytes have a subtag
+pub some-in : (text : List ℕ) (span : Span) → 0 < span.len → IsWithin text span → 0 < length (subtags_in text span)
+some-in text span some within = grind (arith, nat_tests, length-span text span (some, within), length-slice_split is_hyphen)

@@ -1,0 +1,14 @@
+pub mod ExtensionSpans
+pub mod FoundExtension
+pub mod HeaderRanges
+pub mod ItemLaws
+pub mod LookUps
+pub mod PartLaws
+pub mod PlaceLaws
+pub mod RangesAt
+pub mod ReadingLaws
+pub mod RepeatSpans
+pub mod SpanLaws
+pub mod SubtagSpans
+pub mod TagLengths
+pub mod TagsAt

@@ -1,0 +1,15 @@
+use Rattle.std.proofs.Common.{◌≡◌}
+use Rattle.langtag_unicode.specs.Keys.{opens_keyword}
+use Rattle.langtag_unicode.specs.Keywords.{value_of}
+use Rattle.langtag_span.specs.Keywords.{HasSubtags, subtags_in}
+use Rattle.langtag_span.proofs.extension_walk.value_of.Given as goal
+
+-- what was passed over is no such key
+abbrev pub invariant-loop-subtag : goal.invariant-loop-subtag
+invariant-loop-subtag l = record {
+  some : HasSubtags l.bytes l.rest;
+  same : value_of (opens_keyword l.keys) l.key (subtags_in l.bytes l.rest) ≡ value_of (opens_keyword l.keys) l.key (subtags_in l.bytes l.initial.rest);
+}
+
+abbrev pub decreases-loop-subtag : goal.decreases-loop-subtag
+decreases-loop-subtag l = l.rest.len

@@ -1,0 +1,19 @@
+use Rattle.std.proofs.Common.{◌≡◌, None}
+use Rattle.langtag_span.specs.Spans.{IsWithin, span_text}
+use Rattle.langtag_span.specs.Negotiation.{filled_items}
+use Rattle.langtag_match.specs.AcceptLanguage.{elements}
+use Rattle.langtag_range.specs.Element.{items}
+use Rattle.langtag_span.specs.Heaviest.{heaviest}
+use Rattle.langtag_span.specs.TagsAt.{tags_at}
+use Rattle.langtag_span.proofs.look_up.heaviest_found.Given as goal
+
+-- what is left of the header, from what was found on
+abbrev pub invariant-loop-item : goal.invariant-loop-item
+invariant-loop-item l = record {
+  within : IsWithin l.header l.rest;
+  same : heaviest (tags_at l.tags.text.now l.tags.spans.now) (elements (filled_items (span_text l.header l.rest))) l.found l.weight
+      ≡ heaviest (tags_at l.tags.text.now l.tags.spans.now) (elements (items l.header)) None 0;
+}
+
+abbrev pub decreases-loop-item : goal.decreases-loop-item
+decreases-loop-item l = l.rest.len

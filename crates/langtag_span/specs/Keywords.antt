@@ -1,0 +1,21 @@
+-- The keywords of `u` and the fields of `t` (RFC 6067 section 2.1, RFC 6497 section 2.2) that are left after a walk has
+-- passed some subtags.
+use Rattle.std.specs.Prelude.{◌≤◌, ℕ, Bool, if◌then◌else◌, List, Option, None, Some, drop, length, take}
+use Rattle.std.specs.List.{AllByRecursion}
+use Rattle.langtag_scan.specs.Subtags.{subtags}
+use Rattle.langtag_unicode.specs.Keywords.{Keyword, keywords_after}
+use Rattle.langtag_span.specs.Spans.{IsWithin, span_text}
+use Rattle.langtag_span.specs.declared.span.Span.{Span}
+
+-- the subtags of a span
+abbrev pub subtags_in : List ℕ → Span → List (List ℕ)
+subtags_in text span = subtags (span_text text span)
+
+-- the keywords after the first `passed` subtags: each key that equals no subtag before it, with its value
+abbrev pub keywords_from : (List ℕ → Bool) → List (List ℕ) → ℕ → List Keyword
+keywords_from opens subtags passed = keywords_after opens (take passed subtags) (drop passed subtags)
+
+-- the span is within the text, and none of its subtags is empty
+pub record HasSubtags (text : List ℕ) (span : Span) : Type 0 where
+  pub within : IsWithin text span
+  pub some : AllByRecursion (λ s. 1 ≤ length s) (subtags_in text span)

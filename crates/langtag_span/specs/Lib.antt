@@ -1,0 +1,11 @@
+pub mod Heaviest
+pub mod Keywords
+pub mod LookUp
+pub mod Members
+pub mod Negotiation
+pub mod NumberedParts
+pub mod RangePlaces
+pub mod Spanned
+pub mod Spans
+pub mod TagsAt
+pub mod Walks

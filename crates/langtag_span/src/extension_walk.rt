@@ -1,0 +1,194 @@
+//! Where the subtags of an extension are in a tag (RFC 5646 section 2.2.6).
+ghost use Rattle.std.specs.Prelude.{◌≡◌, ◌∷◌, ◌+◌, ◌<◌, List, [], None, MatchOption, IfSome, drop, take};
+ghost use Rattle.std.specs.List.{list_any};
+ghost use Rattle.std.specs.Option.{option_map, option_map_or};
+ghost use Rattle.langtag.specs.Part.{PartOf};
+ghost use Rattle.langtag_scan.specs.Case.{are_alike};
+ghost use Rattle.langtag_extension.specs.Spelling.{IsExtensions, SpellsExtensions, find_extension};
+ghost use Rattle.langtag_scan.specs.Parts.{extensions_part};
+ghost use Rattle.langtag_scan.specs.Record.{EachRecord, Extension};
+ghost use Rattle.langtag_scan.specs.Subtags.{join};
+ghost use Rattle.langtag_scan.specs.Tag.{IsNormal};
+ghost use Rattle.langtag_unicode.specs.Keys.{length_with_hyphens, opens_keyword};
+ghost use Rattle.langtag_unicode.specs.Keywords as spec;
+ghost use Rattle.langtag_span.specs.Keywords.{HasSubtags, keywords_from, subtags_in};
+ghost use Rattle.langtag_span.specs.Spans.{IsWithin, span_text};
+
+use crate::span::Span;
+use crate::tag::normal_tag_of;
+use langtag_extension::first_extension_end;
+use langtag_scan::{case_insensitive_eq, into_smallcase, segment_end};
+use langtag_unicode::Keys;
+
+/// Where a key and its value are.
+#[derive(Drop)]
+pub struct KeyPlace {
+    pub key: Span,
+    pub value: Span,
+}
+
+/// Returns the subtags of the first extension with a singleton, or an empty span if there is none.
+pub fn extension_subtags(bytes: &[u8], singleton: u8) -> Span
+    ensures subtags { PartOf bytes.now (spec.subtags_of singleton) [] (subtags_in bytes.now result) }
+    ensures some { HasSubtags bytes.now result }
+{
+    let Some(extensions) = extensions_of(bytes) else {
+        return Span { start: 0, len: 0 };
+    };
+    find_extension(bytes, extensions, singleton)
+}
+
+/// Returns the extensions, if the bytes are a normal tag.
+fn extensions_of(bytes: &[u8]) -> Option<Span>
+    ensures none { result ≡ None → IsNormal bytes.now → ⊥ }
+    ensures normal { IfSome result (λ _. IsNormal bytes.now) }
+    ensures text { IfSome result (λ span. EachRecord bytes.now (λ r. span_text bytes.now span ≡ extensions_part r)) }
+    ensures within { IfSome result (IsWithin bytes.now) }
+{
+    let ends = normal_tag_of(bytes)?.ends();
+    Some(Span::between(ends.variants, ends.extensions))
+}
+
+/// Returns the subtags of the first of several extensions that has the given singleton, or an empty span if none has
+/// it.
+fn find_extension(bytes: &[u8], extensions: Span, singleton: u8) -> Span
+    requires within { IsWithin bytes.now extensions }
+    requires extensions { IsExtensions (span_text bytes.now extensions) }
+    ensures subtags { (es : List Extension) → SpellsExtensions es (span_text bytes.now extensions) →
+        subtags_in bytes.now result ≡ option_map_or (λ e. e.subtags) (find_extension singleton es) [] }
+    ensures some { HasSubtags bytes.now result }
+{
+    let mut rest = extensions;
+    while let Some(part) = rest.of(bytes) {
+        let extension = rest.take_first(first_extension_end(part));
+        if into_smallcase(part[0]) == into_smallcase(singleton) {
+            return extension.without_singleton();
+        }
+    }
+    Span { start: 0, len: 0 }
+}
+
+/// Returns the subtags before the first key.
+pub fn before_key(bytes: &[u8], subtags: Span, keys: Keys) -> Span
+    requires { HasSubtags bytes.now subtags }
+    ensures text { span_text bytes.now result ≡ join (spec.before_key (opens_keyword keys) (subtags_in bytes.now subtags)) }
+    ensures within { IsWithin bytes.now result }
+{
+    Span {
+        start: subtags.start,
+        len: len_before_key(bytes, subtags, keys).saturating_sub(1),
+    }
+}
+
+/// Returns the number of bytes of the subtags before the first key, each with a hyphen after it.
+fn len_before_key(bytes: &[u8], subtags: Span, keys: Keys) -> usize
+    requires { HasSubtags bytes.now subtags }
+    ensures { result ≡ length_with_hyphens (spec.before_key (opens_keyword keys) (subtags_in bytes.now subtags)) }
+{
+    let mut rest = subtags;
+    let mut len = 0;
+    while let Some((_, subtag)) = take_subtag(bytes, &mut rest) {
+        if keys.has(subtag) {
+            return len;
+        }
+        len += subtag.len() + 1;
+    }
+    len
+}
+
+/// Returns the value of the first key that equals a text, ignoring case.
+pub fn value_of(bytes: &[u8], subtags: Span, keys: Keys, key: &[u8]) -> Option<Span>
+    requires { HasSubtags bytes.now subtags }
+    ensures value { option_map (span_text bytes.now) result ≡ option_map join (spec.value_of (opens_keyword keys) key.now (subtags_in bytes.now subtags)) }
+    ensures within { IfSome result (IsWithin bytes.now) }
+{
+    let mut rest = subtags;
+    while let Some((_, subtag)) = take_subtag(bytes, &mut rest) {
+        if keys.has(subtag) && case_insensitive_eq(subtag, key) {
+            return Some(before_key(bytes, rest, keys));
+        }
+    }
+    None
+}
+
+/// Returns whether a subtag equals one of the first `count` subtags, ignoring case.
+fn is_among_first(bytes: &[u8], subtags: Span, count: usize, subtag: &[u8]) -> bool
+    requires { HasSubtags bytes.now subtags }
+    ensures { result ≡ list_any (are_alike subtag.now) (take count (subtags_in bytes.now subtags)) }
+{
+    let mut rest = subtags;
+    let mut left = count;
+    while let Some((_, other)) = take_subtag(bytes, &mut rest) {
+        if left == 0 {
+            return false;
+        }
+        if case_insensitive_eq(subtag, other) {
+            return true;
+        }
+        left -= 1;
+    }
+    false
+}
+
+/// Returns the rest of the subtags after the first `count`.
+fn after_first(bytes: &[u8], subtags: Span, count: usize) -> Span
+    requires { HasSubtags bytes.now subtags }
+    ensures left { subtags_in bytes.now result ≡ drop count (subtags_in bytes.now subtags) }
+    ensures some { HasSubtags bytes.now result }
+{
+    let mut rest = subtags;
+    let mut left = count;
+    while left > 0 {
+        if take_subtag(bytes, &mut rest).is_none() {
+            return rest;
+        }
+        left -= 1;
+    }
+    rest
+}
+
+/// Returns whether a subtag is a key that equals none of the first `count` subtags, ignoring case.
+fn is_new_key(bytes: &[u8], subtags: Span, keys: Keys, count: usize, subtag: &[u8]) -> bool
+    requires { HasSubtags bytes.now subtags }
+    ensures { result ≡ spec.is_new_key (opens_keyword keys) (take count (subtags_in bytes.now subtags)) subtag.now }
+{
+    keys.has(subtag) && !is_among_first(bytes, subtags, count, subtag)
+}
+
+/// Returns the first key after the first `passed` subtags that equals no subtag before it, with its value. `passed`
+/// then counts the subtags up to and including that key.
+pub fn next_key(bytes: &[u8], subtags: Span, keys: Keys, passed: &mut usize) -> Option<KeyPlace>
+    requires { HasSubtags bytes.now subtags }
+    ensures some { IfSome result (λ place. keywords_from (opens_keyword keys) (subtags_in bytes.now subtags) passed.old
+        ≡ record { key = span_text bytes.now place.key; value = span_text bytes.now place.value } ∷ keywords_from (opens_keyword keys) (subtags_in bytes.now subtags) passed.new) }
+    ensures within { IfSome result (λ place. IsWithin bytes.now place.key × IsWithin bytes.now place.value) }
+    ensures none { result ≡ None → keywords_from (opens_keyword keys) (subtags_in bytes.now subtags) passed.old ≡ [] }
+    ensures nothing { result ≡ None → passed.new ≡ passed.old }
+{
+    let mut rest = after_first(bytes, subtags, *passed);
+    let mut count = *passed;
+    while let Some((key, subtag)) = take_subtag(bytes, &mut rest) {
+        if is_new_key(bytes, subtags, keys, count, subtag) {
+            *passed = count + 1;
+            let value = before_key(bytes, rest, keys);
+            return Some(KeyPlace { key, value });
+        }
+        count += 1;
+    }
+    None
+}
+
+/// Removes the first of some subtags, with the hyphen after it. Returns its span and its text.
+fn take_subtag<'a>(bytes: &'a [u8], rest: &mut Span) -> Option<(Span, &'a [u8])>
+    requires { HasSubtags bytes.now rest.old }
+    ensures subtags { MatchOption result (subtags_in bytes.now rest.old ≡ []) (λ taken. subtags_in bytes.now rest.old ≡ taken.1.now ∷ subtags_in bytes.now rest.new) }
+    ensures left { HasSubtags bytes.now rest.new }
+    ensures nothing { result ≡ None → rest.new ≡ rest.old }
+    ensures place { IfSome result (λ taken. IsWithin bytes.now taken.0 × (span_text bytes.now taken.0 ≡ taken.1.now)) }
+    ensures shorter { IfSome result (λ _. rest.new.len < rest.old.len) }
+{
+    let part = rest.of(bytes)?;
+    let len = segment_end(part, 0);
+    let subtag = rest.take_first(len);
+    Some((subtag, &part[..len]))
+}

@@ -1,0 +1,37 @@
+//! Spans of a text as tags and as language ranges.
+ghost use Rattle.std.specs.Prelude.{◌≡◌, IfSome, IsTrue};
+ghost use Rattle.std.specs.Option.{option_map};
+ghost use Rattle.langtag.specs.Text.{lang_tag_text};
+ghost use Rattle.langtag_range.specs.Listed.{listed_element};
+ghost use Rattle.langtag_range.specs.Range.{is_language_range};
+ghost use Rattle.langtag_range.specs.Wanted.{hyphened};
+ghost use Rattle.langtag_span.specs.Spanned.{IsTagAt, range_at};
+ghost use Rattle.langtag_span.specs.Spans.{HasBytes, span_text};
+
+use crate::span::Span;
+use crate::tag::tag_of;
+use langtag::LangTag;
+use langtag_range::{WantedRange, listed_range};
+
+/// Returns a span of a text as a tag, or `None` if it is not one.
+pub fn tag_in<'a>(text: &'a [u8], span: Span) -> Option<LangTag<'a>>
+    ensures { IsTagAt text.now span (option_map lang_tag_text result) }
+{
+    tag_of(span.of(text)?)
+}
+
+/// Returns the bytes of a span of a text, or no bytes if the span reaches beyond the text.
+pub fn bytes_in<'a>(text: &'a [u8], span: Span) -> &'a [u8]
+    ensures { HasBytes text.now span → result.now ≡ span_text text.now span }
+{
+    span.of(text).unwrap_or(b"")
+}
+
+/// Returns a span of a text as a language range, or `None` if it is not one.
+#[tactic(auto, using(crate::proofs::RangesAt::range_there, crate::proofs::RangesAt::no_range))]
+pub fn range_in<'a>(text: &'a [u8], span: Span) -> Option<WantedRange<'a>>
+    ensures range { option_map listed_element result ≡ range_at text.now span }
+    ensures in_class { IfSome result (λ found. IsTrue (is_language_range (hyphened found.bytes.now))) }
+{
+    listed_range(span.of(text)?)
+}

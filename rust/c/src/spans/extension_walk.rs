@@ -1,0 +1,136 @@
+// Made by rust/erase from crates/langtag_span/src/extension_walk.rt. Change that file, not this one.
+
+//! Where the subtags of an extension are in a tag (RFC 5646 section 2.2.6).
+
+use crate::extension::first_extension_end;
+use crate::scan::{case_insensitive_eq, into_smallcase, segment_end};
+use crate::spans::span::Span;
+use crate::spans::tag::normal_tag_of;
+use crate::unicode::Keys;
+
+/// Where a key and its value are.
+pub struct KeyPlace {
+    pub key: Span,
+    pub value: Span,
+}
+
+/// Returns the subtags of the first extension with a singleton, or an empty span if there is none.
+#[inline]
+pub fn extension_subtags(bytes: &[u8], singleton: u8) -> Span {
+    let Some(extensions) = extensions_of(bytes) else {
+        return Span { start: 0, len: 0 };
+    };
+    find_extension(bytes, extensions, singleton)
+}
+
+/// Returns the extensions, if the bytes are a normal tag.
+#[inline]
+fn extensions_of(bytes: &[u8]) -> Option<Span> {
+    let ends = normal_tag_of(bytes)?.ends();
+    Some(Span::between(ends.variants, ends.extensions))
+}
+
+/// Returns the subtags of the first of several extensions that has the given singleton, or an empty span if none has
+/// it.
+fn find_extension(bytes: &[u8], extensions: Span, singleton: u8) -> Span {
+    let mut rest = extensions;
+    while let Some(part) = rest.of(bytes) {
+        let extension = rest.take_first(first_extension_end(part));
+        if into_smallcase(part[0]) == into_smallcase(singleton) {
+            return extension.without_singleton();
+        }
+    }
+    Span { start: 0, len: 0 }
+}
+
+/// Returns the subtags before the first key.
+#[inline]
+pub fn before_key(bytes: &[u8], subtags: Span, keys: Keys) -> Span {
+    Span {
+        start: subtags.start,
+        len: len_before_key(bytes, subtags, keys).saturating_sub(1),
+    }
+}
+
+/// Returns the number of bytes of the subtags before the first key, each with a hyphen after it.
+fn len_before_key(bytes: &[u8], subtags: Span, keys: Keys) -> usize {
+    let mut rest = subtags;
+    let mut len = 0;
+    while let Some((_, subtag)) = take_subtag(bytes, &mut rest) {
+        if keys.has(subtag) {
+            return len;
+        }
+        len += subtag.len() + 1;
+    }
+    len
+}
+
+/// Returns the value of the first key that equals a text, ignoring case.
+pub fn value_of(bytes: &[u8], subtags: Span, keys: Keys, key: &[u8]) -> Option<Span> {
+    let mut rest = subtags;
+    while let Some((_, subtag)) = take_subtag(bytes, &mut rest) {
+        if keys.has(subtag) && case_insensitive_eq(subtag, key) {
+            return Some(before_key(bytes, rest, keys));
+        }
+    }
+    None
+}
+
+/// Returns whether a subtag equals one of the first `count` subtags, ignoring case.
+fn is_among_first(bytes: &[u8], subtags: Span, count: usize, subtag: &[u8]) -> bool {
+    let mut rest = subtags;
+    let mut left = count;
+    while let Some((_, other)) = take_subtag(bytes, &mut rest) {
+        if left == 0 {
+            return false;
+        }
+        if case_insensitive_eq(subtag, other) {
+            return true;
+        }
+        left -= 1;
+    }
+    false
+}
+
+/// Returns the rest of the subtags after the first `count`.
+fn after_first(bytes: &[u8], subtags: Span, count: usize) -> Span {
+    let mut rest = subtags;
+    let mut left = count;
+    while left > 0 {
+        if take_subtag(bytes, &mut rest).is_none() {
+            return rest;
+        }
+        left -= 1;
+    }
+    rest
+}
+
+/// Returns whether a subtag is a key that equals none of the first `count` subtags, ignoring case.
+#[inline]
+fn is_new_key(bytes: &[u8], subtags: Span, keys: Keys, count: usize, subtag: &[u8]) -> bool {
+    keys.has(subtag) && !is_among_first(bytes, subtags, count, subtag)
+}
+
+/// Returns the first key after the first `passed` subtags that equals no subtag before it, with its value. `passed`
+/// then counts the subtags up to and including that key.
+pub fn next_key(bytes: &[u8], subtags: Span, keys: Keys, passed: &mut usize) -> Option<KeyPlace> {
+    let mut rest = after_first(bytes, subtags, *passed);
+    let mut count = *passed;
+    while let Some((key, subtag)) = take_subtag(bytes, &mut rest) {
+        if is_new_key(bytes, subtags, keys, count, subtag) {
+            *passed = count + 1;
+            let value = before_key(bytes, rest, keys);
+            return Some(KeyPlace { key, value });
+        }
+        count += 1;
+    }
+    None
+}
+
+/// Removes the first of some subtags, with the hyphen after it. Returns its span and its text.
+fn take_subtag<'a>(bytes: &'a [u8], rest: &mut Span) -> Option<(Span, &'a [u8])> {
+    let part = rest.of(bytes)?;
+    let len = segment_end(part, 0);
+    let subtag = rest.take_first(len);
+    Some((subtag, &part[..len]))
+}
