@@ -11,8 +11,8 @@ use Rattle.langtag_span.proofs.look_up.heaviest_found.Given as goal
 abbrev pub invariant-loop-item : goal.invariant-loop-item
 invariant-loop-item l = record {
   within : IsWithin l.header l.rest;
-  same : heaviest (tags_at l.tags.text.now l.tags.spans.now) (elements (filled_items (span_text l.header l.rest))) l.found l.weight
-      ≡ heaviest (tags_at l.tags.text.now l.tags.spans.now) (elements (items l.header)) None 0;
+  same : heaviest (tags_at l.bytes l.spans) (elements (filled_items (span_text l.header l.rest))) l.found l.weight
+      ≡ heaviest (tags_at l.bytes l.spans) (elements (items l.header)) None 0;
 }
 
 abbrev pub decreases-loop-item : goal.decreases-loop-item

@@ -3,4 +3,4 @@ use Rattle.langtag_span.proofs.LookUps.{position_spans}
 use Rattle.langtag_span.proofs.look_up.index_alike.Goals as goal
 
 pub returns : goal.returns
-returns c = c.first_alike.ensures ∙ position_spans c.args.tags.now.text.now c.args.text.now c.args.tags.now.spans.now
+returns c = c.first_alike.ensures ∙ position_spans c.args.bytes.now c.args.text.now c.args.spans.now

@@ -9,6 +9,6 @@ abbrev pub invariant-loop-fallback : goal.invariant-loop-fallback
 invariant-loop-fallback l = record {
   can_next : (goal.iterator-loop-fallback).can_next l.fallback-iterator;
   is_finite : (goal.iterator-loop-fallback).is_finite l.fallback-iterator;
-  same : first_index_alike (tags_at l.tags.text.now l.tags.spans.now) (fallbacks_left l.fallback-iterator)
-      ≡ first_index_alike (tags_at l.tags.text.now l.tags.spans.now) (fallbacks (language_range_text l.fn.range));
+  same : first_index_alike (tags_at l.bytes l.spans) (fallbacks_left l.fallback-iterator)
+      ≡ first_index_alike (tags_at l.bytes l.spans) (fallbacks (language_range_text l.fn.range));
 }
