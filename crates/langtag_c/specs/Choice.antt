@@ -1,16 +1,14 @@
--- The tags and the language ranges in spans of a text, and the best of the tags for a reader.
-use Rattle.std.specs.Prelude.{◌≡◌, ◌+◌, ◌-◌, ◌^◌, ◌<◌, ℕ, Bool, not, if◌then◌else◌, List, [], ◌∷◌, Option, None, Some, MatchOption, count_by, is_some, length, slice_get, slice_index_or, take, unwrap_or}
-use Rattle.std.specs.List.{cons_option, position}
-use Rattle.langtag_scan.specs.Tag.{IsTag}
-use Rattle.langtag_match.specs.AcceptLanguage.{StandsAt}
-use Rattle.langtag_range.specs.Element.{Element, is_space, items}
-use Rattle.langtag_range.specs.Listed.{listed}
-use Rattle.langtag_range.specs.Wanted.{wanted, wanted_elements}
+-- The best of the tags in spans of a text, for a reader.
+use Rattle.std.specs.Prelude.{◌≡◌, ◌-◌, ◌^◌, ℕ, List, Option, MatchOption, length, unwrap_or}
+use Rattle.langtag_range.specs.Element.{Element}
+use Rattle.langtag_range.specs.Wanted.{wanted_elements}
 use Rattle.langtag_choice.specs.Best.{IsChoice, IsMatch}
 use Rattle.langtag_choice.specs.declared.best_match.BestMatch as choice
-use Rattle.langtag_span.specs.Spans.{HasBytes, empty_at, has_bytes, span_text}
-use Rattle.langtag_c.specs.declared.best_match.BestMatch.{BestMatch}
+use Rattle.langtag_span.specs.RangePlaces.{IsRangeAt}
+use Rattle.langtag_span.specs.Spanned.{AreTagsAt}
+use Rattle.langtag_span.specs.Spans.{empty_at}
 use Rattle.langtag_span.specs.declared.span.Span.{Span}
+use Rattle.langtag_c.specs.declared.best_match.BestMatch.{BestMatch}
 
 -- the answer is the index of the best tag for these elements, or the number of spans if no tag is suitable
 pub record IsBest (elements : List Element) (text : List ℕ) (spans : List Span) (answer : ℕ) : Type 0 where
