@@ -1,11 +1,14 @@
 -- What the tables of language identifiers make of a field or a variant has no alias of its own: by computation.
-use Rattle.std.proofs.Common.{◌≡◌, ℕ, Bool, true, not, ◌&&◌, List, [], refl}
+use Rattle.std.proofs.Common.{◌≡◌, ℕ, ◌+◌, ◌*◌, ◌==◌, Bool, true, not, ◌&&◌, List, [], ◌∷◌, fold, map, refl, arith}
+use Rattle.std.proofs.lemmas.Bool.{eq-eqb}
+use Rattle.std.proofs.lemmas.Bool.Decides.{nat_tests}
 use Rattle.std.specs.List.{list_all}
 use Rattle.std.specs.Option.{is_none, is_some}
 use Rattle.std.specs.Prelude.{◌||◌, codes}
 use Rattle.langtag_likely.specs.Aliases.{language_aliases, region_replacements}
-use Rattle.langtag_likely.specs.Likely.{likely_for}
-use Rattle.langtag_scan.specs.Case.{are_alike, fold_byte}
+use Rattle.langtag_likely.specs.Likely.{Likely, likely_for}
+use Rattle.langtag_scan.specs.Case.{are_alike, fold_byte, fold_text}
+use Rattle.langtag_scan.specs.CaseLaws.{are_alike-decides}
 use Rattle.langtag_scan.specs.Subtags.{segments}
 use Rattle.langtag_unicode.specs.Alias.{Alias, TypeAlias, alias_for, type_alias_for}
 use Rattle.langtag_locale.specs.LocaleAliases as list
@@ -17,9 +20,29 @@ use Rattle.langtag_locale.specs.LocaleForm.{has_variant}
 abbrev pub is_last_language : List ℕ → Bool
 is_last_language l = is_none (likely_for language_aliases (record { language = l; script = []; region = [] }))
 
-pub replaced_last : list_all (λ row. is_last_language row.to.language) language_aliases ≡ true
+-- a text as a number, the same in any case
+abbrev number : List ℕ → ℕ
+number text = fold (λ n b. 256 * n + b) 0 (fold_text text)
+
+-- none of the rows has a language with this number
+abbrev is_new : List Likely → ℕ → Bool
+is_new rows m = list_all (λ n. not (n == m)) (map (λ row. number row.from.language) rows)
+
+new_last : (l : List ℕ) (rows : List Likely) → is_new rows (number l) ≡ true → is_none (likely_for rows (record { language = l; script = []; region = [] })) ≡ true
+new_last l [] new = refl
+new_last l (row ∷ rows) new = grind (arith, nat_tests, new_last l rows, are_alike-decides row.from.language l, eq-eqb (number row.from.language) (number l))
+
+-- numbers compare in less time than texts
+languages_new : list_all (is_new language_aliases) (map (λ row. number row.to.language) language_aliases) ≡ true
 unfolding language_aliases fold_byte
-replaced_last = refl
+languages_new = refl
+
+pub replaced_last : list_all (λ row. is_last_language row.to.language) language_aliases ≡ true
+replaced_last = each language_aliases languages_new
+  where
+    each : (rows : List Likely) → list_all (is_new language_aliases) (map (λ row. number row.to.language) rows) ≡ true → list_all (λ row. is_last_language row.to.language) rows ≡ true
+    each [] new = refl
+    each (row ∷ rows) new = grind (arith, nat_tests, each rows, new_last row.to.language language_aliases)
 
 pub variant_languages_last : list_all {X = TypeAlias} (λ alias. is_last_language alias.new) list.variant_languages ≡ true
 unfolding language_aliases list.variant_languages fold_byte

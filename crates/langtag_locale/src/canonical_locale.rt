@@ -95,7 +95,6 @@ fn form_bytes(alloc: Global, tag: NormalLangTag<'_>) -> Result<Vec<u8>, AllocErr
 /// write_locale_form(LangTag::new("zh-yue")?, &mut buffer); // Some(3)
 /// write_locale_form(LangTag::new("x-a")?, &mut buffer); // None
 /// ```
-#[tactic(auto, using(crate::proofs::LocaleSettled::locale_settled))]
 pub fn write_locale_form(tag: LangTag<'_>, buffer: &mut [u8]) -> Option<usize>
     ensures form { IfSome result (λ len. Writes (λ form. spec.IsWholeForm (lang_tag_text tag.entry) (Some form)) buffer.old buffer.new len) }
     ensures bounded { IfSome result (λ len. len ≤ length (lang_tag_text tag.entry) + 32) }

@@ -11,8 +11,7 @@ use Rattle.langtag_unicode.specs.Form.{extension_form, extensions_record, forms_
 use Rattle.langtag_unicode.proofs.CanonicalKeywords.{canonical_set}
 use Rattle.langtag_unicode.proofs.ExtensionForms.{form_by, form_tested}
 use Rattle.langtag_unicode.proofs.FormRecords.{Good}
-use Rattle.langtag_unicode.proofs.KeywordLaws.{none_after_removal, others_after_removal, others_after_set, read_after_set}
-use Rattle.langtag_unicode.proofs.KeywordTwice.{extension-some, find_u, set_twice, some-put, u_is_u}
+use Rattle.langtag_unicode.proofs.KeywordTwice.{extension-some, find_u, some-put, u_is_u}
 
 abbrev extension : ℕ → List (List ℕ) → Extension
 extension n ss = record { singleton = n; subtags = ss }
@@ -137,7 +136,3 @@ canonical_tag key v r none canonical well own =
     (forms-changed (with_keyword key v) (λ ss. some-put key (unwrap_or (find (is_this_key key) ss) key) (is_some (find (is_this_key key) ss)) v ss)
     (λ ss good form. canonical_set key v ss none canonical.0 canonical.1 good form) false (is_some (find_extension 117 r.extensions)) r.extensions well.extensions
     (none-from r.extensions) (ap (λ q. q.extensions) own))
-
-pub ruleset laws_of_setting = (read_after_set, others_after_set, set_twice, canonical_tag)
-
-pub ruleset laws_of_removal = (none_after_removal, others_after_removal)

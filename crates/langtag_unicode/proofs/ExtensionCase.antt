@@ -1,5 +1,5 @@
 -- The case of letters changes nothing in the forms of extensions but case.
-use Rattle.std.proofs.Common.{◌≡◌, ℕ, Bool, true, false, not, ◌&&◌, ◌||◌, ◌==◌, List, [], ◌∷◌, map, Option, None, Some, option_map, unwrap_or, refl, sym, ap, ◌∙◌, arith}
+use Rattle.std.proofs.Common.{◌≡◌, ℕ, Bool, true, false, not, ◌&&◌, ◌||◌, ◌==◌, List, [], ◌∷◌, ◌++◌, map, Option, None, Some, option_map, unwrap_or, refl, sym, ap, ◌∙◌, arith}
 use Rattle.std.specs.List.{AllByRecursion, list_any}
 use Rattle.std.specs.Option.{option_map_or}
 use Rattle.std.proofs.lemmas.Bool.Decides.{nat_tests}
@@ -16,14 +16,14 @@ use Rattle.langtag_scan.specs.Subtags.{join, subtags}
 use Rattle.langtag_unicode.specs.Aliases.{transform_type_aliases}
 use Rattle.langtag_unicode.specs.Alias.{type_alias_for}
 use Rattle.langtag_unicode.specs.Form as form
-use Rattle.langtag_unicode.specs.Form.{IsExtensionsForm, after_one, are_different_variants, are_fields, extension_form, extensions_record, forms_after, language_form, is_language_or_none, is_of, is_transform, may_follow, one_of, subdivision, transform_form, transform_value, unicode_form, unicode_type, unicode_value, without_true}
+use Rattle.langtag_unicode.specs.Form.{IsExtensionsForm, after_one, are_different_variants, are_fields, extension_form, extensions_record, forms_after, in_alphabet, language_form, is_language_or_none, is_of, is_transform, may_follow, one_of, subdivision, transform_form, transform_value, unicode_form, unicode_type, unicode_value, without_true}
 use Rattle.langtag_unicode.specs.Keywords.{before_key, is_key, value_of}
 use Rattle.langtag_unicode.specs.Identifier.{first_subtag, identifier_fields, identifier_variants}
 use Rattle.langtag_unicode.specs.Transform.{is_field_key}
 use Rattle.langtag_unicode.proofs.AlphabetTwice.{in_alphabet-alike}
 use Rattle.langtag_unicode.proofs.CanonicalKeywords.{key-fold}
 use Rattle.langtag_unicode.proofs.CanonicalValues.{replaced, subtags-fold}
-use Rattle.langtag_unicode.proofs.ExtensionForms.{form_by, form_tested}
+use Rattle.langtag_unicode.proofs.ExtensionForms.{form_by, form_tested, forms-next}
 use Rattle.langtag_unicode.proofs.FormTwice.{language-parts, lower_fields, same_fields, unicode_language-fold}
 use Rattle.langtag_unicode.proofs.AliasCase.{alias_for-alike, type_alias_for-alike}
 use Rattle.langtag_unicode.proofs.KeySplits.{all_keys}
@@ -89,7 +89,10 @@ transform_value-fold key text = ap (λ o. fold_text (unwrap_or o (fold_text text
 -- ---- the extension `u`
 
 pub unicode-fold : (ss : List (List ℕ)) → unicode_form (map fold_text ss) ≡ unicode_form ss
-unicode-fold ss = rw (before-fold is_key key-fold ss, keywords-fold is_key key-fold unicode_value unicode_value-fold ss, in_alphabet-alike (map fold_text (before_key is_key ss)) (before_key is_key ss) (lower-twice (before_key is_key ss))) refl
+unicode-fold ss =
+    ap (λ t. in_alphabet t ++ form.keywords_form is_key unicode_value (map fold_text ss)) (before-fold is_key key-fold ss)
+    ∙ ap (λ t. t ++ form.keywords_form is_key unicode_value (map fold_text ss)) (in_alphabet-alike (map fold_text (before_key is_key ss)) (before_key is_key ss) (lower-twice (before_key is_key ss)))
+    ∙ ap (λ t. in_alphabet (before_key is_key ss) ++ t) (keywords-fold is_key key-fold unicode_value unicode_value-fold ss)
 
 -- ---- the language of `t`
 
@@ -146,7 +149,9 @@ language_form-fold ss = grind (arith, nat_tests, fields-fold, language-parts, sa
 
 transform_form-fold : (ss : List (List ℕ)) → transform_form (map fold_text ss) ≡ transform_form ss
 transform_form-fold ss =
-    rw (before-fold is_field_key field_key-fold ss, language_form-fold (before_key is_field_key ss), keywords-fold is_field_key field_key-fold transform_value transform_value-fold ss) refl
+    ap (λ t. language_form t ++ form.keywords_form is_field_key transform_value (map fold_text ss)) (before-fold is_field_key field_key-fold ss)
+    ∙ ap (λ t. t ++ form.keywords_form is_field_key transform_value (map fold_text ss)) (language_form-fold (before_key is_field_key ss))
+    ∙ ap (λ t. language_form (before_key is_field_key ss) ++ t) (keywords-fold is_field_key field_key-fold transform_value transform_value-fold ss)
 
 -- ---- extensions
 
@@ -172,7 +177,9 @@ one_form-fold u t e =
 
 forms-fold : (u t : Bool) (es : List Extension) → map fold_extension (forms_after u t (map fold_extension es)) ≡ map fold_extension (forms_after u t es)
 forms-fold u t [] = refl
-forms-fold u t (e ∷ es) = rw (one_form-fold u t e, is_of-fold 117 e, is_of-fold 116 e, forms-fold (u || is_of 117 e) (t || is_of 116 e) es) refl
+forms-fold u t (e ∷ es) =
+    forms-next (λ a b. map fold_extension (forms_after (u || a) (t || b) (map fold_extension es))) _ _ _ _ _ _ _
+    (one_form-fold u t e) (is_of-fold 117 e) (is_of-fold 116 e) (forms-fold (u || is_of 117 e) (t || is_of 116 e) es)
 
 abbrev with_extensions : List Extension → Record → Record
 with_extensions es r = record r { extensions = es }

@@ -78,6 +78,11 @@ pub form_tested :
     (u t a b : Bool) (e : Extension) → (is_of 117 e && not u) ≡ a → (is_of 116 e && not t && is_transform e.subtags) ≡ b → extension_form u t e ≡ form_by a b e
 form_tested u t a b e one two = ap (λ x. form_by x (is_of 116 e && not t && is_transform e.subtags) e) one ∙ ap (λ x. form_by a x e) two
 
+-- one more extension, where the tests of the extension before those that are left have the same answers
+pub forms-next :
+    (forms : Bool → Bool → List Extension) (x y : Extension) (a b c d : Bool) (others : List Extension) → x ≡ y → a ≡ b → c ≡ d → forms b d ≡ others → x ∷ forms a c ≡ y ∷ others
+forms-next forms x y a b c d others one two three four = cc
+
 -- ---- the whole tag
 
 -- what precedes the extensions, at the start of a tag

@@ -5,7 +5,7 @@ use Rattle.langtag.proofs.FormLaws.{composed}
 use Rattle.langtag_scan.specs.Case.{fold_byte}
 use Rattle.langtag_scan.specs.Record.{Extension, IsWellFormed, IsWellFormedExtension, Record}
 use Rattle.langtag_unicode.specs.Form.{IsExtensionsForm, extension_form, extensions_record, forms_after, is_of, is_transform, transform_form}
-use Rattle.langtag_unicode.proofs.ExtensionForms.{form_by, form_tested}
+use Rattle.langtag_unicode.proofs.ExtensionForms.{form_by, form_tested, forms-next}
 use Rattle.langtag_unicode.proofs.FormRecords.{form_well_formed}
 use Rattle.langtag_unicode.proofs.FormTwice.{transform-twice, transform_form-is, unicode-twice}
 use Rattle.langtag_unicode.proofs.Found.{both}
@@ -38,7 +38,9 @@ extension-again u t e fits = subst (λ x. extension_form u t x ≡ x) (sym (form
 
 forms-again : (u t : Bool) (es : List Extension) → AllByRecursion IsWellFormedExtension es → forms_after u t (forms_after u t es) ≡ forms_after u t es
 forms-again u t [] fits = refl
-forms-again u t (e ∷ es) fits = rw (extension-again u t e fits.0, form-of 117 u t e, form-of 116 u t e, forms-again (u || is_of 117 e) (t || is_of 116 e) es fits.1) refl
+forms-again u t (e ∷ es) fits =
+    forms-next (λ a b. forms_after (u || a) (t || b) (forms_after (u || is_of 117 e) (t || is_of 116 e) es)) _ _ _ _ _ _ _
+    (extension-again u t e fits.0) (form-of 117 u t e) (form-of 116 u t e) (forms-again (u || is_of 117 e) (t || is_of 116 e) es fits.1)
 
 record-again : (r : Record) → IsWellFormed r → extensions_record (extensions_record r) ≡ extensions_record r
 unfolding extensions_record

@@ -45,7 +45,6 @@ use langtag_output::Output;
 /// let length = write_with_keyword(LangTag::new("de-x-a")?, "ca", "buddhist", &mut buffer)?;
 /// buffer.get(..length); // Some(&b"de-u-ca-buddhist-x-a"[..])
 /// ```
-#[tactic(auto, using(crate::proofs::CanonicalTags::laws_of_setting))]
 pub fn write_with_keyword(
     tag: LangTag<'_>,
     key: &str,
@@ -97,7 +96,6 @@ pub fn write_with_keyword(
 /// let length = write_without_keyword(LangTag::new("de-u-ca-buddhist-x-a")?, "ca", &mut buffer)?;
 /// buffer.get(..length); // Some(&b"de-x-a"[..])
 /// ```
-#[tactic(auto, using(crate::proofs::CanonicalTags::laws_of_removal))]
 pub fn write_without_keyword(
     tag: LangTag<'_>,
     key: &str,

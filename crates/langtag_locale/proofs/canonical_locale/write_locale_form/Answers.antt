@@ -1,6 +1,7 @@
 use Rattle.std.proofs.Common.{arith}
 use Rattle.langtag.proofs.FormLaws.{rewritten}
 use Rattle.langtag_locale.proofs.IdentifierForms.{form_is}
+use Rattle.langtag_locale.proofs.LocaleSettled.{locale_settled}
 use Rattle.langtag_locale.proofs.canonical_locale.write_locale_form.Goals as goal
 
 pub returns-clause-form : goal.returns-clause-form
@@ -14,3 +15,9 @@ returns-clause-bounded c =
     let written = c.write_parts.ensures r spells in
     let short = c.in_ok-locale.ensures.bounded written.text (form_is _ written.text r spells locale written.is_so) in
     omega (arith, written.whole, short)
+
+pub returns-clause-locale : goal.returns-clause-locale
+returns-clause-locale c = locale_settled
+
+pub returns-in_err-locale-clause-locale : goal.returns-in_err-locale-clause-locale
+returns-in_err-locale-clause-locale c = locale_settled
