@@ -19,6 +19,7 @@ CRATES = {
     "langtag_registry": "registry",
     "langtag_likely": "likely",
     "langtag_choice": "choice",
+    "langtag_keyword": "keyword",
     "langtag_unicode": "unicode",
     "langtag_locale": "locale",
     "langtag_span": "spans",

@@ -24,6 +24,7 @@ MODULES = [
     Module("langtag_registry", "src/registry", "crate::registry"),
     Module("langtag_likely", "src/likely", "crate::likely"),
     Module("langtag_choice", "src/choice", "crate::choice"),
+    Module("langtag_keyword", "src/keyword", "crate::keyword"),
     Module("langtag_unicode", "src/unicode", "crate::unicode"),
     Module("langtag_locale", "src/locale", "crate::locale"),
     # The C library is a separate crate, rust/c, which also has the modules above.

@@ -107,6 +107,7 @@ pub mod choice;
 // For the C library: first_extension_end.
 #[allow(dead_code, unused_imports)]
 mod extension;
+mod keyword;
 mod language;
 pub mod likely;
 mod locale;

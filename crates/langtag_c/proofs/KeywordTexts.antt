@@ -16,7 +16,7 @@ use Rattle.langtag_scan.proofs.TagLaws.{tag_normal}
 use Rattle.langtag_scan.specs.Class.{is_alphanumeric, is_extension_subtag, is_letter}
 use Rattle.langtag_scan.specs.Subtags.{subtags}
 use Rattle.langtag_scan.specs.Tag.{IsNormal}
-use Rattle.langtag_unicode.specs.Edit.{edited_record, invalid_type, invalid_type_from, is_unicode_key, keyword_error}
+use Rattle.langtag_keyword.specs.Edit.{edited_record, invalid_type, invalid_type_from, is_unicode_key, keyword_error}
 use Rattle.langtag_span.proofs.PartLaws.{IsUtf8-joined}
 
 -- ---- a key and a value are UTF-8

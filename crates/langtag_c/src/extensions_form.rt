@@ -2,7 +2,7 @@
 ghost use Rattle.std.specs.Prelude.{◌≡◌, ◌↔◌, ◌≤◌, ◌+◌, length};
 ghost use Rattle.langtag_scan.specs.Tag.{IsTag};
 ghost use Rattle.langtag_output.specs.Writes.{Writes};
-ghost use Rattle.langtag_unicode.specs.Form.{IsExtensionsForm};
+ghost use Rattle.langtag_unicode.specs.ExtensionsForm.{IsExtensionsForm};
 
 use langtag_span::tag_of;
 use langtag_unicode::write_extensions_form;

@@ -5,13 +5,13 @@ ghost use Rattle.langtag.specs.Part.{PartOf};
 ghost use Rattle.langtag_scan.specs.Record.{EachRecord};
 ghost use Rattle.langtag_scan.specs.Subtags.{join};
 ghost use Rattle.langtag_scan.specs.Tag.{IsNormal};
-ghost use Rattle.langtag_unicode.specs.Keywords as spec;
+ghost use Rattle.langtag_keyword.specs.Keywords as spec;
 ghost use Rattle.langtag_c.specs.Answers.{answered};
 ghost use Rattle.langtag_span.specs.Keywords.{keywords_from};
 ghost use Rattle.langtag_span.specs.Spans.{IsWithin, span_text};
 
+use langtag_keyword::Keys;
 use langtag_span::{Span, before_key, extension_subtags, next_key, value_of};
-use langtag_unicode::Keys;
 
 /// Returns whether the extension `u` has a key (RFC 6067 section 2.1), ignoring case, and writes its value:
 /// `islamic-civil` for `ca` in `ar-u-ca-islamic-civil`. The value is empty if the key has none, which means `true`. If

@@ -6,14 +6,14 @@ ghost use Rattle.langtag_extension.specs.Spelling.{find_extension};
 ghost use Rattle.langtag_scan.specs.Record.{EachRecord};
 ghost use Rattle.langtag_scan.specs.Subtags.{join};
 ghost use Rattle.langtag_scan.specs.Tag.{IsNormal};
-ghost use Rattle.langtag_unicode.specs.Keywords as spec;
-ghost use Rattle.langtag_unicode.specs.Transform.{is_field_key};
+ghost use Rattle.langtag_keyword.specs.Keywords as spec;
+ghost use Rattle.langtag_keyword.specs.Transform.{is_field_key};
 ghost use Rattle.langtag_c.specs.Answers.{answered};
 ghost use Rattle.langtag_span.specs.Keywords.{keywords_from};
 ghost use Rattle.langtag_span.specs.Spans.{IsWithin, span_text};
 
+use langtag_keyword::Keys;
 use langtag_span::{Span, before_key, extension_subtags, next_key, value_of};
-use langtag_unicode::Keys;
 
 /// Returns whether a tag has the extension `t` (RFC 6497 section 2.2), and writes the span of its language, which
 /// precedes its first field: `ja-latn` in `und-t-ja-latn-m0-hepburn`. The language is empty if there is none, as in

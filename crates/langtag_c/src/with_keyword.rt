@@ -3,7 +3,7 @@ ghost use Rattle.std.specs.Prelude.{◌≡◌, ◌↔◌, ◌<◌, ◌≤◌, �
 ghost use Rattle.langtag.specs.Form.{IsForm};
 ghost use Rattle.langtag_output.specs.Writes.{Writes};
 ghost use Rattle.langtag_scan.specs.Subtags.{subtags};
-ghost use Rattle.langtag_unicode.specs.Edit.{edited_record};
+ghost use Rattle.langtag_keyword.specs.Edit.{edited_record};
 ghost use Rattle.langtag_c.specs.Setting.{CanRemoveKeyword, CanSetKeyword, keyword_bound};
 
 use langtag_span::tag_of;

@@ -14,13 +14,13 @@ use Rattle.langtag_likely.specs.Matching.{language_replaced, region_alone, with_
 use Rattle.langtag_scan.specs.Case.{Alike, are_alike, fold_text}
 use Rattle.langtag_scan.specs.Record.{one_flat}
 use Rattle.langtag_scan.specs.Subtags.{segments}
-use Rattle.langtag_unicode.specs.Alias.{Alias, TypeAlias, alias_for, type_alias_for}
+use Rattle.langtag_keyword.specs.Alias.{Alias, TypeAlias, alias_for, type_alias_for}
 use Rattle.langtag_locale.specs.LocaleAliases as list
 use Rattle.langtag_locale.specs.LocaleForm as form
 use Rattle.langtag_locale.specs.LocaleForm.{has_variant, heir, identifier_form, is_pair_of, language_after, new_variants, sign_for, variant_form}
-use Rattle.langtag_unicode.proofs.AlphabetTwice.{in_alphabet-alike}
+use Rattle.langtag_keyword.proofs.AlphabetTwice.{in_alphabet-alike}
 use Rattle.langtag_locale.proofs.VariantForms.{forms}
-use Rattle.langtag_unicode.proofs.AliasCase.{alias_for-alike, type_alias_for-alike}
+use Rattle.langtag_keyword.proofs.AliasCase.{alias_for-alike, type_alias_for-alike}
 
 -- lists of texts that are alike, one by one
 abbrev pub AreAlike : List (List ℕ) → List (List ℕ) → Type 0

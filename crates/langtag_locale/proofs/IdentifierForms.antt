@@ -26,15 +26,15 @@ use Rattle.langtag_scan.specs.Class.{is_region, is_script}
 use Rattle.langtag_scan.specs.Record.{IsWellFormed, Record, Spells, extension_flat, one_flat, private_part_flat, spell}
 use Rattle.langtag_scan.specs.Subtags.{segments}
 use Rattle.langtag_scan.specs.Tag.{IsNormal}
-use Rattle.langtag_unicode.specs.Alias.{Alias, TypeAlias, alias_for}
-use Rattle.langtag_unicode.specs.Form.{is_unicode_language}
+use Rattle.langtag_keyword.specs.Alias.{Alias, TypeAlias, alias_for}
+use Rattle.langtag_keyword.specs.Form.{is_unicode_language}
 use Rattle.langtag_locale.specs.Locale.{is_locale_extension, is_locale_record}
 use Rattle.langtag_locale.specs.LocaleAliases as list
 use Rattle.langtag_locale.specs.LocaleForm as form
 use Rattle.langtag_locale.specs.LocaleForm.{IsLocaleForm, extensions_in_order, has_variant, identifier_form, language_after, locale_record, locale_text, new_variants, record_fields, sign_for}
 use Rattle.langtag_unicode.specs.Identifier.{identifier_flat}
 use Rattle.langtag_locale.proofs.LocaleTables.{found_good, heir_good, region_heirs_good, scripts_good, variant_regions_good}
-use Rattle.langtag_unicode.proofs.Found.{both, found_has}
+use Rattle.langtag_keyword.proofs.Found.{both, found_has}
 use Rattle.langtag_unicode.proofs.IdentifierParts.{AreSubtags, language_primary}
 
 abbrev are_subtags : Fields → Bool

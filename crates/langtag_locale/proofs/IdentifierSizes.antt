@@ -20,8 +20,8 @@ use Rattle.langtag_scan.specs.Class.{is_variant}
 use Rattle.langtag_scan.specs.Record.{one_flat}
 use Rattle.langtag_scan.specs.Subtags.{segments}
 use Rattle.langtag_tables.proofs.Letters.{primary_length}
-use Rattle.langtag_unicode.specs.Alias.{Alias, TypeAlias, alias_for, type_alias_for}
-use Rattle.langtag_unicode.specs.Form.{are_different_variants}
+use Rattle.langtag_keyword.specs.Alias.{Alias, TypeAlias, alias_for, type_alias_for}
+use Rattle.langtag_keyword.specs.Form.{are_different_variants}
 use Rattle.langtag_locale.specs.LocaleAliases as list
 use Rattle.langtag_locale.specs.LocaleForm as form
 use Rattle.langtag_locale.specs.LocaleForm.{has_variant, identifier_form, is_pair_of, language_after, new_variants, variant_form}
@@ -32,7 +32,7 @@ use Rattle.langtag_locale.proofs.IdentifierForms.{form_subtags, row_found, sign_
 use Rattle.langtag_unicode.proofs.IdentifierParts.{AreSubtags, language_primary}
 use Rattle.langtag_locale.proofs.IdentifierLast.{among}
 use Rattle.langtag_locale.proofs.LocaleTables.{found_good, heir_good}
-use Rattle.langtag_unicode.proofs.Found.{both, found_has, found_is}
+use Rattle.langtag_keyword.proofs.Found.{both, found_has, found_is}
 use Rattle.langtag_locale.proofs.VariantForms.{forms}
 
 -- the bytes of fields, each with a hyphen

@@ -12,19 +12,19 @@ use Rattle.langtag_scan.proofs.CaseLaw.{fold_text-twice}
 use Rattle.langtag_scan.specs.Case.{Alike, are_alike, fold_text}
 use Rattle.langtag_scan.specs.CaseLaws.{are_alike-decides}
 use Rattle.langtag_scan.specs.Record.{one_flat}
-use Rattle.langtag_unicode.specs.Alias.{Alias, TypeAlias, alias_for, type_alias_for}
-use Rattle.langtag_unicode.specs.Form.{in_alphabet}
+use Rattle.langtag_keyword.specs.Alias.{Alias, TypeAlias, alias_for, type_alias_for}
+use Rattle.langtag_keyword.specs.Form.{in_alphabet}
 use Rattle.langtag_locale.specs.LocaleAliases as list
 use Rattle.langtag_locale.specs.LocaleForm as form
 use Rattle.langtag_locale.specs.LocaleForm.{has_variant, identifier_form, is_pair_of, new_variants, sign_for, variant_form}
-use Rattle.langtag_unicode.proofs.AlphabetTwice.{in_alphabet-twice}
-use Rattle.langtag_unicode.proofs.Each.{each-alphabet}
+use Rattle.langtag_keyword.proofs.AlphabetTwice.{in_alphabet-twice}
+use Rattle.langtag_keyword.proofs.Each.{each-alphabet}
 use Rattle.langtag_locale.proofs.IdentifierCase.{region_by, replaced_by, replacement}
-use Rattle.langtag_unicode.proofs.AliasCase.{type_alias_for-alike}
+use Rattle.langtag_keyword.proofs.AliasCase.{type_alias_for-alike}
 use Rattle.langtag_locale.proofs.IdentifierForms.{fold_good}
 use Rattle.langtag_locale.proofs.IdentifierLast.{Stays, among, all_weaker, fold_stays, forms-stay, kept-fold, kept-sign, new_region-last, new_script-last, none_found, none_is, not_both, replaced-last, sign-good, sign-last, sign-region, stays-alike}
 use Rattle.langtag_locale.proofs.IdentifierTables.{is_last_language, is_last_region, is_last_script, is_last_sign, is_last_variant, is_old_language, languages_old, pairs_replaced, regions_dropped, sign_languages_last, variant_languages_last}
-use Rattle.langtag_unicode.proofs.Found.{both}
+use Rattle.langtag_keyword.proofs.Found.{both}
 use Rattle.langtag_locale.proofs.VariantForms.{forms}
 
 -- ---- the form of the form

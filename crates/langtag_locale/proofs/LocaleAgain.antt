@@ -15,22 +15,22 @@ use Rattle.langtag_scan.specs.Case.{are_alike, fold_byte, fold_text}
 use Rattle.langtag_scan.specs.CaseLaws.{are_alike-decides}
 use Rattle.langtag_scan.specs.Record.{Extension}
 use Rattle.langtag_scan.specs.Subtags.{join, subtags}
-use Rattle.langtag_unicode.specs.Edit.{is_unicode_key}
-use Rattle.langtag_unicode.specs.Form.{in_alphabet, is_of, unicode_form, unicode_value}
-use Rattle.langtag_unicode.specs.Keywords.{before_key, is_key, value_of}
+use Rattle.langtag_keyword.specs.Edit.{is_unicode_key}
+use Rattle.langtag_keyword.specs.Form.{in_alphabet, is_of, unicode_form, unicode_value}
+use Rattle.langtag_keyword.specs.Keywords.{before_key, is_key, value_of}
 use Rattle.langtag_locale.specs.Locale.{is_unicode_subtag}
 use Rattle.langtag_registry.specs.Canonical.{singletons}
 use Rattle.langtag_locale.specs.LocaleForm.{extension_at, extensions_in_order, locale_extension_form, new_variants}
 use Rattle.langtag_unicode.proofs.CanonicalKeywords.{form-blocks, key-fold, values, values-are}
-use Rattle.langtag_unicode.proofs.Each.{each-alphabet, each-before}
+use Rattle.langtag_keyword.proofs.Each.{each-alphabet, each-before}
 use Rattle.langtag_unicode.proofs.FormRecords.{Good}
 use Rattle.langtag_unicode.proofs.FormSizes.{are_apart}
 use Rattle.langtag_unicode.proofs.KeySplits.{all_keys}
-use Rattle.langtag_unicode.proofs.KeywordBlocks.{block, blocks}
-use Rattle.langtag_unicode.proofs.KeywordLaws.{AreNoKeys}
+use Rattle.langtag_keyword.proofs.KeywordBlocks.{block, blocks}
+use Rattle.langtag_keyword.proofs.KeywordLaws.{AreNoKeys}
 use Rattle.langtag_locale.proofs.LocaleExtensions.{locale_form_by, locale_form_tested}
 use Rattle.langtag_locale.proofs.LocaleSizes.{singletons_apart}
-use Rattle.langtag_unicode.proofs.Found.{both, found_is}
+use Rattle.langtag_keyword.proofs.Found.{both, found_is}
 use Rattle.langtag_locale.proofs.VariantForms.{forms}
 use Rattle.langtag_unicode.proofs.Apart.{Apart, alphabet-apart}
 

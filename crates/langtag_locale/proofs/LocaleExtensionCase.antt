@@ -13,14 +13,14 @@ use Rattle.langtag_scan.specs.AlikeRecords.{fold_extension}
 use Rattle.langtag_scan.specs.Case.{are_alike, fold_byte, fold_text}
 use Rattle.langtag_scan.specs.Record.{Extension, one_flat}
 use Rattle.langtag_scan.specs.Subtags.{subtags}
-use Rattle.langtag_unicode.specs.Form as form
-use Rattle.langtag_unicode.specs.Form.{is_of, transform_value}
-use Rattle.langtag_unicode.specs.Keywords.{before_key}
+use Rattle.langtag_keyword.specs.Form as form
+use Rattle.langtag_keyword.specs.Form.{is_of, transform_value}
+use Rattle.langtag_keyword.specs.Keywords.{before_key}
 use Rattle.langtag_locale.specs.Locale.{is_locale_extension, is_unicode_subtag}
 use Rattle.langtag_registry.specs.Canonical.{singletons}
 use Rattle.langtag_locale.specs.LocaleForm.{extension_at, extensions_in_order, locale_extension_form, locale_transform_form, transform_language_form}
 use Rattle.langtag_unicode.specs.Identifier.{identifier_flat, identifier_variants}
-use Rattle.langtag_unicode.specs.Transform.{is_field_key}
+use Rattle.langtag_keyword.specs.Transform.{is_field_key}
 use Rattle.langtag_unicode.proofs.CanonicalKeywords.{key-fold, unicode_key-fold}
 use Rattle.langtag_locale.proofs.IdentifierCase.{AreAlike, identifier_form-alike, new_variants-alike}
 use Rattle.langtag_locale.proofs.LocaleExtensions.{locale_form_by, locale_form_tested}

@@ -15,7 +15,7 @@ use Rattle.langtag_scan.specs.Case.{fold_byte}
 use Rattle.langtag_scan.specs.Class as class
 use Rattle.langtag_scan.specs.Class.{is_singleton}
 use Rattle.langtag_scan.specs.Record.{Extension, IsWellFormedExtension, extension_flat}
-use Rattle.langtag_unicode.specs.Form.{is_of, is_transform, unicode_form}
+use Rattle.langtag_keyword.specs.Form.{is_of, is_transform, unicode_form}
 use Rattle.langtag_locale.specs.Locale.{is_locale_extension, is_unicode_subtag}
 use Rattle.langtag_registry.specs.Canonical.{singletons}
 use Rattle.langtag_locale.specs.LocaleForm.{extension_at, locale_extension_form, locale_transform_form}

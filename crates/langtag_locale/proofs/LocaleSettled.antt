@@ -9,13 +9,13 @@ use Rattle.langtag.specs.Fields.{Fields}
 use Rattle.langtag_scan.proofs.SubtagLists.{each_from_test, test_from_each}
 use Rattle.langtag_scan.specs.Case.{are_alike, fold_byte}
 use Rattle.langtag_scan.specs.Record.{Extension, IsWellFormed, IsWellFormedExtension, Record}
-use Rattle.langtag_unicode.specs.Form.{are_different_variants, are_fields, is_language_or_none, is_of, is_transform, is_unicode_language, unicode_form}
-use Rattle.langtag_unicode.specs.Keywords.{before_key}
+use Rattle.langtag_keyword.specs.Form.{are_different_variants, are_fields, is_language_or_none, is_of, is_transform, is_unicode_language, unicode_form}
+use Rattle.langtag_keyword.specs.Keywords.{before_key}
 use Rattle.langtag_locale.specs.Locale.{is_locale_extension, is_locale_record, is_unicode_subtag}
 use Rattle.langtag_registry.specs.Canonical.{singletons}
 use Rattle.langtag_locale.specs.LocaleForm.{extension_at, extensions_in_order, identifier_form, locale_extension_form, locale_record, new_variants, record_fields, transform_language_form}
 use Rattle.langtag_unicode.specs.Identifier.{identifier_fields, identifier_flat, identifier_variants}
-use Rattle.langtag_unicode.specs.Transform.{is_field_key}
+use Rattle.langtag_keyword.specs.Transform.{is_field_key}
 use Rattle.langtag_unicode.proofs.FormTwice.{IsLanguageForm, after_language, fields-again, variants-again, with-allowed}
 use Rattle.langtag_locale.proofs.IdentifierForms.{form_subtags, record_subtags}
 use Rattle.langtag_locale.proofs.IdentifierTwice.{identifier_form-twice, new_variants-twice}
@@ -24,7 +24,7 @@ use Rattle.langtag_unicode.proofs.Apart.{none_repeated}
 use Rattle.langtag_locale.proofs.LocaleExtensions.{locale_form_by, locale_form_tested, transform_allowed}
 use Rattle.langtag_locale.proofs.LocaleRecords.{all_allowed, new_variants_good}
 use Rattle.langtag_unicode.proofs.IdentifierParts.{different_variants, fields_good}
-use Rattle.langtag_unicode.proofs.Found.{both, found_has}
+use Rattle.langtag_keyword.proofs.Found.{both, found_has}
 use Rattle.langtag_unicode.proofs.TransformParts.{identifier-no_field, identifier-variants}
 
 both_true : (x y : Bool) → x ≡ true → y ≡ true → (x && y) ≡ true

@@ -12,21 +12,21 @@ use Rattle.langtag_scan.proofs.NormalTexts.{spelled_once}
 use Rattle.langtag_scan.proofs.PartOffsets.{length-spell}
 use Rattle.langtag_scan.specs.Case.{are_alike, fold_byte}
 use Rattle.langtag_scan.specs.Record.{Extension, IsWellFormed, Record, Spells, extension_flat, one_flat, spell}
-use Rattle.langtag_unicode.specs.Form.{are_fields, is_language_or_none, is_of}
-use Rattle.langtag_unicode.specs.Keywords.{before_key}
+use Rattle.langtag_keyword.specs.Form.{are_fields, is_language_or_none, is_of}
+use Rattle.langtag_keyword.specs.Keywords.{before_key}
 use Rattle.langtag_locale.specs.Locale.{IsLocale, is_locale_extension, is_locale_record}
 use Rattle.langtag_registry.specs.Canonical.{singletons}
 use Rattle.langtag_locale.specs.LocaleForm.{extension_at, extensions_in_order, identifier_form, locale_extension_form, locale_record, locale_text, new_variants, record_fields, transform_language_form}
 use Rattle.langtag_unicode.specs.Identifier.{first_subtag}
-use Rattle.langtag_unicode.specs.Transform.{is_field_key}
+use Rattle.langtag_keyword.specs.Transform.{is_field_key}
 use Rattle.langtag_unicode.proofs.FormSizes.{are_apart, bytes, bytes-most, fields-size, flat-size, once, one-size, size, size-append, total, total-none, unicode-size}
 use Rattle.langtag_locale.proofs.IdentifierForms.{record_subtags, same_length}
 use Rattle.langtag_locale.proofs.IdentifierSizes.{HasOneHeploc, identifier-size, one-different, one-pairs}
 use Rattle.langtag_locale.proofs.LocaleExtensions.{flat_of_each, locale_form_by, locale_form_tested, transform_allowed}
 use Rattle.langtag_locale.proofs.LocaleRecords.{all_allowed}
 use Rattle.langtag_unicode.proofs.IdentifierParts.{fields_good}
-use Rattle.langtag_unicode.proofs.Found.{both, found_has, found_is}
-use Rattle.langtag_unicode.proofs.SubtagTexts.{length-with_hyphens}
+use Rattle.langtag_keyword.proofs.Found.{both, found_has, found_is}
+use Rattle.langtag_keyword.proofs.SubtagTexts.{length-with_hyphens}
 
 -- ---- the extension `t`
 

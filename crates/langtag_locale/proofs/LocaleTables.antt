@@ -7,11 +7,11 @@ use Rattle.langtag.specs.FieldClasses.{is_language_field, is_region_field, is_sc
 use Rattle.langtag_scan.specs.Case.{are_alike, fold_byte}
 use Rattle.langtag_scan.specs.Class.{is_digit, is_letter, is_primary, is_region, is_script}
 use Rattle.langtag_scan.specs.Subtags.{segments}
-use Rattle.langtag_unicode.specs.Alias.{Alias}
+use Rattle.langtag_keyword.specs.Alias.{Alias}
 use Rattle.langtag_locale.specs.LocaleAliases as list
 use Rattle.langtag_locale.specs.LocaleForm.{has_variant, heir}
 use Rattle.langtag_locale.specs.declared.locale_tables.TheConstants as table
-use Rattle.langtag_unicode.proofs.Found.{both, found_has}
+use Rattle.langtag_keyword.proofs.Found.{both, found_has}
 
 pub variant_language_rows : map (λ row. record { key = row.0.now; old = row.1.now; new = row.2.now }) table.VARIANT_LANGUAGES ≡ list.variant_languages
 unfolding list.variant_languages

@@ -11,7 +11,7 @@ use Rattle.langtag.specs.Fields.{Fields, subtag_of}
 use Rattle.langtag_scan.proofs.CaseLaw.{alike_parts}
 use Rattle.langtag_scan.specs.Case.{fold_byte, fold_text}
 use Rattle.langtag_scan.specs.Record.{Extension, IsWellFormed, IsWellFormedExtension, Record, spell}
-use Rattle.langtag_unicode.specs.Form.{is_of}
+use Rattle.langtag_keyword.specs.Form.{is_of}
 use Rattle.langtag_locale.specs.Locale.{IsLocale, is_locale_extension, is_locale_record}
 use Rattle.langtag_registry.specs.Canonical.{singletons}
 use Rattle.langtag_locale.specs.LocaleForm.{IsLocaleForm, extension_at, extensions_in_order, identifier_form, locale_extension_form, locale_record, locale_text, record_fields, transform_language_form}
@@ -23,7 +23,7 @@ use Rattle.langtag_locale.proofs.LocaleCase.{locale-alike, text-alike}
 use Rattle.langtag_locale.proofs.LocaleExtensions.{locale_form_by, locale_form_tested, transform_allowed}
 use Rattle.langtag_locale.proofs.LocaleRecords.{all_allowed, locale_well_formed}
 use Rattle.langtag_locale.proofs.LocaleSettled.{locale_settled, start-is_form}
-use Rattle.langtag_unicode.proofs.Found.{both, found_has, found_is}
+use Rattle.langtag_keyword.proofs.Found.{both, found_has, found_is}
 
 -- ---- the extension with a singleton, among the forms
 

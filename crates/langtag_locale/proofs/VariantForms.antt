@@ -5,10 +5,10 @@ use Rattle.std.specs.List.{flat_map}
 use Rattle.langtag.specs.Fields.{subtag_of}
 use Rattle.langtag_scan.specs.Case.{fold_text}
 use Rattle.langtag_scan.specs.Record.{one_flat}
-use Rattle.langtag_unicode.specs.Alphabet.{is_after, is_before_best, is_better}
+use Rattle.langtag_keyword.specs.Alphabet.{is_after, is_before_best, is_better}
 use Rattle.langtag_locale.specs.LocaleForm.{variant_form}
-use Rattle.langtag_unicode.proofs.AlphabetLaws.{better, better-early, better-late, better-taken, found, found-next}
-use Rattle.langtag_unicode.proofs.Found.{both}
+use Rattle.langtag_keyword.proofs.AlphabetLaws.{better, better-early, better-late, better-taken, found, found-next}
+use Rattle.langtag_keyword.proofs.Found.{both}
 
 -- the forms of some of the variants
 abbrev pub forms : List ℕ → List (List ℕ) → List (List ℕ) → List (List ℕ)

@@ -5,9 +5,9 @@ use Rattle.std.specs.Option.{is_none}
 use Rattle.langtag.specs.Repeat.{are_alike_bytes, repeat}
 use Rattle.langtag_scan.specs.Case.{are_alike}
 use Rattle.langtag_scan.specs.Record.{Extension, Record, Spells}
-use Rattle.langtag_unicode.specs.Edit.{is_unicode_key}
-use Rattle.langtag_unicode.specs.Form.{is_of, is_transform, is_unicode_language}
-use Rattle.langtag_unicode.specs.Keywords.{is_key}
+use Rattle.langtag_keyword.specs.Edit.{is_unicode_key}
+use Rattle.langtag_keyword.specs.Form.{is_of, is_transform, is_unicode_language}
+use Rattle.langtag_keyword.specs.Keywords.{is_key}
 
 -- whether a subtag may be in the extension `u`: if it is a key, it is a letter or a digit, and then a letter (ukey =
 -- alphanum alpha)

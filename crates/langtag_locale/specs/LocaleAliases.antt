@@ -2,7 +2,7 @@
 use Rattle.std.specs.Prelude.{ℕ, [], ◌∷◌, List, codes}
 use Rattle.std.specs.List.{flat_map}
 use Rattle.langtag_tables.specs.Words.{words}
-use Rattle.langtag_unicode.specs.Alias.{Alias, TypeAlias, aliases_of, type_aliases_of}
+use Rattle.langtag_keyword.specs.Alias.{Alias, TypeAlias, aliases_of, type_aliases_of}
 
 -- the languages that change with a variant: the language, the variant and the new language
 unfoldable pub variant_languages : List TypeAlias

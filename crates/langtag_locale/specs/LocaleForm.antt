@@ -18,12 +18,12 @@ use Rattle.langtag_registry.specs.Registered.{is_registered_extlang}
 use Rattle.langtag_scan.specs.Case.{Alike, are_alike}
 use Rattle.langtag_scan.specs.Record.{Extension, Record, one_flat, spell}
 use Rattle.langtag_scan.specs.Subtags.{segments}
-use Rattle.langtag_unicode.specs.Alias.{Alias, TypeAlias, alias_for, type_alias_for}
-use Rattle.langtag_unicode.specs.Form.{in_alphabet, is_of, keywords_form, transform_value, unicode_form}
-use Rattle.langtag_unicode.specs.Keywords.{before_key}
+use Rattle.langtag_keyword.specs.Alias.{Alias, TypeAlias, alias_for, type_alias_for}
+use Rattle.langtag_keyword.specs.Form.{in_alphabet, is_of, keywords_form, transform_value, unicode_form}
+use Rattle.langtag_keyword.specs.Keywords.{before_key}
 use Rattle.langtag_locale.specs.Locale.{IsLocale, is_locale_record}
 use Rattle.langtag_locale.specs.LocaleAliases.{dropped_variants, region_heirs, script_aliases, sign_languages, variant_aliases, variant_languages, variant_pairs, variant_regions}
-use Rattle.langtag_unicode.specs.Transform.{is_field_key}
+use Rattle.langtag_keyword.specs.Transform.{is_field_key}
 use Rattle.langtag_unicode.specs.Identifier.{identifier_flat, identifier_fields, identifier_variants}
 
 -- ---- the language, the script and the region

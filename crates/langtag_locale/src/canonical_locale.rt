@@ -19,9 +19,9 @@ use langtag::{
     LangTag, LangTagBuf, Language, NormalLangTag, Region, Script, push_private_use, tag_of,
 };
 use langtag_case::make_recommended_case;
+use langtag_keyword::nonempty;
 use langtag_likely::TagFields;
 use langtag_output::Output;
-use langtag_unicode::nonempty;
 use std::alloc::{AllocError, Global};
 
 /// Returns the canonical form of a tag as a Unicode locale identifier (UTS #35, part 1, Annex C): `ger-UK` becomes

@@ -7,11 +7,11 @@ ghost use Rattle.langtag_extension.specs.Spelling.{SpellsExtension, SpellsExtens
 ghost use Rattle.langtag_extension.specs.Text.{extension_text, extensions_text};
 ghost use Rattle.langtag_scan.specs.Record as model;
 ghost use Rattle.langtag_scan.specs.Subtags.{subtags};
-ghost use Rattle.langtag_unicode.specs.Form.{is_unicode_language};
+ghost use Rattle.langtag_keyword.specs.Form.{is_unicode_language};
 ghost use Rattle.langtag_locale.specs.Locale as spec;
 
 use langtag::{Extension, Extensions, LangTag, NormalLangTag, Subtags};
-use langtag_unicode::{Keys, is_of, is_transform, is_unicode_key, is_unicode_language, subtags_of};
+use langtag_keyword::{Keys, is_of, is_transform, is_unicode_key, is_unicode_language, subtags_of};
 
 /// Returns whether a tag is a Unicode locale identifier (UTS #35, part 1, section 'Unicode Locale Identifier'), as
 /// JavaScript's `Intl` requires.

@@ -12,22 +12,22 @@ ghost use Rattle.langtag_scan.specs.Class.{is_singleton};
 ghost use Rattle.langtag_scan.specs.Record as model;
 ghost use Rattle.langtag_scan.specs.Subtags.{segments, segments_left, subtags};
 ghost use Rattle.langtag_locale.specs.Allowed.{AreAllowed, IsAllowed};
-ghost use Rattle.langtag_unicode.specs.Form.{is_language_id, is_transform};
+ghost use Rattle.langtag_keyword.specs.Form.{is_language_id, is_transform};
 ghost use Rattle.langtag_unicode.specs.Identifier.{first_subtag, identifier_flat};
-ghost use Rattle.langtag_unicode.specs.Keywords.{before_key};
+ghost use Rattle.langtag_keyword.specs.Keywords.{before_key};
 ghost use Rattle.langtag_locale.specs.LocaleForm as spec;
-ghost use Rattle.langtag_unicode.specs.Transform.{is_field_key};
+ghost use Rattle.langtag_keyword.specs.Transform.{is_field_key};
 
 use crate::locale_fields::identifier_form;
 use crate::locale_variants::push_variants;
 use langtag::{Extension, Extensions, Singleton, into_smallcase};
-use langtag_likely::{TagFields, language_replaced};
-use langtag_output::Output;
-use langtag_registry::{SINGLETONS, singletons_of};
-use langtag_unicode::{
+use langtag_keyword::{
     Keys, is_of, preceding, push_keywords, push_unicode, split_first, subtags_of, take_region,
     take_script,
 };
+use langtag_likely::{TagFields, language_replaced};
+use langtag_output::Output;
+use langtag_registry::{SINGLETONS, singletons_of};
 
 /// Appends the extensions in their forms, in the order of their singletons.
 pub(crate) fn push_locale_extensions(out: &mut Output<'_>, extensions: Extensions<'_>)

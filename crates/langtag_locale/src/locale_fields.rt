@@ -12,8 +12,8 @@ ghost use Rattle.langtag_locale.specs.LocaleForm as spec;
 use crate::locale_tables as tables;
 use crate::locale_variants::variant_languages;
 use langtag::case_insensitive_eq;
+use langtag_keyword::{alias_for, is_among, split_first};
 use langtag_likely::{TagFields, add_likely, language_replaced, region_replacement};
-use langtag_unicode::{alias_for, is_among, split_first};
 
 /// Returns the form of the fields of a language identifier with these variants.
 #[tactic(auto, unfolding(crate::specs::LocaleForm::identifier_form))]

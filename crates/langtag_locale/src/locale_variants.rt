@@ -5,16 +5,16 @@ ghost use Rattle.std.specs.Option.{option_map};
 ghost use Rattle.langtag_output.specs.Output.{Pushes};
 ghost use Rattle.langtag_scan.specs.Case.{are_alike, fold_text};
 ghost use Rattle.langtag_scan.specs.Subtags.{segments_left};
-ghost use Rattle.langtag_unicode.specs.Alphabet as order;
+ghost use Rattle.langtag_keyword.specs.Alphabet as order;
 ghost use Rattle.langtag_locale.specs.LocaleAliases as list;
 ghost use Rattle.langtag_locale.specs.LocaleForm as spec;
 
 use crate::locale_tables as tables;
 use langtag::case_insensitive_eq;
-use langtag_output::Output;
-use langtag_unicode::{
+use langtag_keyword::{
     alias_for, is_after, is_among, is_before_best, push_lowercase, split_first, type_alias_for,
 };
+use langtag_output::Output;
 
 /// Appends the variants of a language identifier in their forms, each once, in lowercase and in alphabetical order.
 ///

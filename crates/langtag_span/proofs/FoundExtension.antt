@@ -23,7 +23,7 @@ use Rattle.langtag_extension.specs.Spelling.{IsExtension, IsExtensions, SpellsEx
 use Rattle.langtag_extension.proofs.ExtensionLookUp.{extension_found, find_spellings, subtags_found, subtags_not_found}
 use Rattle.langtag_extension.proofs.Rules.{extension_texts_spelled}
 use Rattle.langtag.proofs.PartsFound.{extensions_found}
-use Rattle.langtag_unicode.proofs.SubtagTexts.{subtags-after_singleton}
+use Rattle.langtag_keyword.proofs.SubtagTexts.{subtags-after_singleton}
 use Rattle.langtag_span.specs.Keywords.{subtags_in}
 use Rattle.langtag_span.specs.Spans.{HasBytes, IsWithin, end_of, span_between, span_text}
 use Rattle.langtag_span.specs.declared.span.Span.{Span}

@@ -19,7 +19,7 @@ use Rattle.langtag.specs.Edit as typed
 use Rattle.langtag.specs.Text.{part_text}
 use Rattle.langtag.specs.declared.part.Part.{Part}
 use Rattle.langtag_span.specs.NumberedParts.{PartName, language, script, region, variants, extensions, private_use, IsPartText, IsTextOf, SetsNamedPart, name_of, part_numbered}
-use Rattle.langtag_unicode.specs.Transform.{some_text}
+use Rattle.langtag_keyword.specs.Transform.{some_text}
 use Rattle.langtag_span.proofs.TagLengths.{some_tag}
 
 -- ---- what a part does

@@ -8,9 +8,9 @@ use Rattle.std.proofs.lemmas.List.Splits.{slice_split_at, slice_split_none}
 use Rattle.std.proofs.lemmas.Bool.Decides.{nat_tests}
 use Rattle.langtag_scan.specs.Subtags.{is_hyphen, IsHyphenFree, NoHyphenWithin, join, segments, subtags}
 use Rattle.langtag_scan.proofs.SubtagLists.{length-subtags, subtags-segments}
-use Rattle.langtag_unicode.specs.Keys.{length_with_hyphens}
-use Rattle.langtag_unicode.specs.Keywords.{before_key}
-use Rattle.langtag_unicode.proofs.SubtagTexts.{length-before_key, take-before_key}
+use Rattle.langtag_keyword.specs.Keys.{length_with_hyphens}
+use Rattle.langtag_keyword.specs.Keywords.{before_key}
+use Rattle.langtag_keyword.proofs.SubtagTexts.{length-before_key, take-before_key}
 use Rattle.langtag_span.specs.Keywords.{HasSubtags, subtags_in}
 use Rattle.langtag_span.specs.Spans.{HasBytes, IsWithin, end_of, span_between, span_text}
 use Rattle.langtag_span.specs.declared.span.Span.{Span}

@@ -3,7 +3,7 @@
 use Rattle.std.specs.Prelude.{◌≤◌, ℕ, Bool, if◌then◌else◌, List, Option, None, Some, drop, length, take}
 use Rattle.std.specs.List.{AllByRecursion}
 use Rattle.langtag_scan.specs.Subtags.{subtags}
-use Rattle.langtag_unicode.specs.Keywords.{Keyword, keywords_after}
+use Rattle.langtag_keyword.specs.Keywords.{Keyword, keywords_after}
 use Rattle.langtag_span.specs.Spans.{IsWithin, span_text}
 use Rattle.langtag_span.specs.declared.span.Span.{Span}
 

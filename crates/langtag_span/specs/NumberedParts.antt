@@ -5,7 +5,7 @@ use Rattle.langtag_language.specs.Language.{IsLanguage}
 use Rattle.langtag_place.specs.Variants.{IsVariants}
 use Rattle.langtag_extension.specs.Spelling.{IsExtensions}
 use Rattle.langtag_private.specs.PrivateUse.{IsPrivateUse}
-use Rattle.langtag_unicode.specs.Transform.{some_text}
+use Rattle.langtag_keyword.specs.Transform.{some_text}
 use Rattle.langtag.specs.Edit.{SetsLanguage, SetsScript, SetsRegion, SetsVariants, SetsExtensions, SetsPrivateUse}
 use Rattle.langtag.specs.declared.part.Part.{Part}
 use Rattle.langtag.specs.declared.part.Part.TheVariants.{Language, Script, Region, Variants, Extensions, PrivateUse}

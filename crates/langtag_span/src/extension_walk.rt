@@ -9,16 +9,16 @@ ghost use Rattle.langtag_scan.specs.Parts.{extensions_part};
 ghost use Rattle.langtag_scan.specs.Record.{EachRecord, Extension};
 ghost use Rattle.langtag_scan.specs.Subtags.{join};
 ghost use Rattle.langtag_scan.specs.Tag.{IsNormal};
-ghost use Rattle.langtag_unicode.specs.Keys.{length_with_hyphens, opens_keyword};
-ghost use Rattle.langtag_unicode.specs.Keywords as spec;
+ghost use Rattle.langtag_keyword.specs.Keys.{length_with_hyphens, opens_keyword};
+ghost use Rattle.langtag_keyword.specs.Keywords as spec;
 ghost use Rattle.langtag_span.specs.Keywords.{HasSubtags, keywords_from, subtags_in};
 ghost use Rattle.langtag_span.specs.Spans.{IsWithin, span_text};
 
 use crate::span::Span;
 use crate::tag::normal_tag_of;
 use langtag_extension::first_extension_end;
+use langtag_keyword::Keys;
 use langtag_scan::{case_insensitive_eq, into_smallcase, segment_end};
-use langtag_unicode::Keys;
 
 /// Where a key and its value are.
 #[derive(Drop)]

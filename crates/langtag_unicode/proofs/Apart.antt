@@ -8,9 +8,9 @@ use Rattle.std.specs.Option.{is_none, option_and_then}
 use Rattle.langtag.specs.Repeat.{repeat, repeat_index_after}
 use Rattle.langtag_scan.specs.Case.{are_alike, fold_text}
 use Rattle.langtag_scan.specs.CaseLaws.{are_alike-decides}
-use Rattle.langtag_unicode.specs.Form.{in_alphabet, is_before}
-use Rattle.langtag_unicode.proofs.AlphabetLaws.{Rise, Under, before-itself, before-trans, rise-in_alphabet}
-use Rattle.langtag_unicode.proofs.AlphabetTwice.{lower-in_alphabet}
+use Rattle.langtag_keyword.specs.Form.{in_alphabet, is_before}
+use Rattle.langtag_keyword.proofs.AlphabetLaws.{Rise, Under, before-itself, before-trans, rise-in_alphabet}
+use Rattle.langtag_keyword.proofs.AlphabetTwice.{lower-in_alphabet}
 
 module _ {A : Type 0} (alike : A → A → Bool) where
   -- no element is alike one before it

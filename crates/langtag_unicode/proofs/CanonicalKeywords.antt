@@ -13,17 +13,17 @@ use Rattle.langtag_scan.specs.Case.{are_alike, fold_text}
 use Rattle.langtag_scan.specs.CaseLaws.{are_alike-decides}
 use Rattle.langtag_scan.specs.Class.{are_alphanumeric, has_length, is_extension_subtag}
 use Rattle.langtag_scan.specs.Subtags.{join, subtags}
-use Rattle.langtag_unicode.specs.Edit.{is_this_key, is_type, is_unicode_key, keyword_error, put_keyword, with_keyword, without_keyword, without_within}
-use Rattle.langtag_unicode.specs.Form as form
-use Rattle.langtag_unicode.specs.Form.{in_alphabet, unicode_form, unicode_value}
-use Rattle.langtag_unicode.specs.Keywords.{before_key, is_key, value_of}
-use Rattle.langtag_unicode.proofs.Each.{each-alphabet}
+use Rattle.langtag_keyword.specs.Edit.{is_this_key, is_type, is_unicode_key, keyword_error, put_keyword, with_keyword, without_keyword, without_within}
+use Rattle.langtag_keyword.specs.Form as form
+use Rattle.langtag_keyword.specs.Form.{in_alphabet, unicode_form, unicode_value}
+use Rattle.langtag_keyword.specs.Keywords.{before_key, is_key, value_of}
+use Rattle.langtag_keyword.proofs.Each.{each-alphabet}
 use Rattle.langtag_unicode.proofs.FormRecords.{Good, good-value, types-unicode}
 use Rattle.langtag_unicode.proofs.KeySplits.{KeySplit, all_keys, key-split}
-use Rattle.langtag_unicode.proofs.KeywordBlocks.{AreValues, block, blocks, find-among, find-passed, found_key, put-among, put-passed, removed-among, without-passed}
+use Rattle.langtag_keyword.proofs.KeywordBlocks.{AreValues, block, blocks, find-among, find-passed, found_key, put-among, put-passed, removed-among, without-passed}
 use Rattle.langtag_unicode.proofs.KeywordsInForm as in_form
 use Rattle.langtag_unicode.proofs.KeywordsInForm.{flat-same, plain-before}
-use Rattle.langtag_unicode.proofs.KeywordLaws.{AreNoKeys, alike-itself, allowed_from, before-kept, before-put, fits_from, none_after_removal, others_after_removal, others_after_set, read_after_set, standing-this, type-no_key}
+use Rattle.langtag_keyword.proofs.KeywordLaws.{AreNoKeys, alike-itself, allowed_from, before-kept, before-put, fits_from, none_after_removal, others_after_removal, others_after_set, read_after_set, standing-this, type-no_key}
 
 -- ---- values in canonical form have no keys
 

@@ -6,12 +6,12 @@ use Rattle.std.specs.Option.{is_some}
 use Rattle.langtag_extension.specs.Spelling.{find_extension}
 use Rattle.langtag_scan.specs.Case.{fold_byte}
 use Rattle.langtag_scan.specs.Record.{Extension, IsWellFormed, IsWellFormedExtension, Record}
-use Rattle.langtag_unicode.specs.Edit.{IsCanonicalKeyword, at_place, changed_from, edited_record, extension_of, is_place_of_u, is_this_key, keyword_error, with_keyword}
-use Rattle.langtag_unicode.specs.Form.{extension_form, extensions_record, forms_after, is_of, is_transform, unicode_form}
+use Rattle.langtag_keyword.specs.Edit.{IsCanonicalKeyword, at_place, changed_from, edited_record, extension_of, is_place_of_u, is_this_key, keyword_error, with_keyword}
+use Rattle.langtag_keyword.specs.Form.{extension_form, extensions_record, forms_after, is_of, is_transform, unicode_form}
 use Rattle.langtag_unicode.proofs.CanonicalKeywords.{canonical_set}
-use Rattle.langtag_unicode.proofs.ExtensionForms.{form_by, form_tested}
+use Rattle.langtag_keyword.proofs.ExtensionForms.{form_by, form_tested}
 use Rattle.langtag_unicode.proofs.FormRecords.{Good}
-use Rattle.langtag_unicode.proofs.KeywordTwice.{extension-some, find_u, some-put, u_is_u}
+use Rattle.langtag_keyword.proofs.KeywordTwice.{extension-some, find_u, some-put, u_is_u}
 
 abbrev extension : ℕ → List (List ℕ) → Extension
 extension n ss = record { singleton = n; subtags = ss }

@@ -13,21 +13,22 @@ use Rattle.langtag_scan.specs.Class.{is_region, is_script, is_variant}
 use Rattle.langtag_scan.specs.Record.{Extension, Record}
 use Rattle.langtag_scan.specs.Stage.{Classes}
 use Rattle.langtag_scan.specs.Subtags.{join, subtags}
-use Rattle.langtag_unicode.specs.Aliases.{transform_type_aliases}
-use Rattle.langtag_unicode.specs.Alias.{type_alias_for}
-use Rattle.langtag_unicode.specs.Form as form
-use Rattle.langtag_unicode.specs.Form.{IsExtensionsForm, after_one, are_different_variants, are_fields, extension_form, extensions_record, forms_after, in_alphabet, language_form, is_language_or_none, is_of, is_transform, may_follow, one_of, subdivision, transform_form, transform_value, unicode_form, unicode_type, unicode_value, without_true}
-use Rattle.langtag_unicode.specs.Keywords.{before_key, is_key, value_of}
+use Rattle.langtag_keyword.specs.Aliases.{transform_type_aliases}
+use Rattle.langtag_keyword.specs.Alias.{type_alias_for}
+use Rattle.langtag_keyword.specs.Form as form
+use Rattle.langtag_keyword.specs.Form.{after_one, are_different_variants, are_fields, extension_form, extensions_record, forms_after, in_alphabet, language_form, is_language_or_none, is_of, is_transform, may_follow, one_of, subdivision, transform_form, transform_value, unicode_form, unicode_type, unicode_value, without_true}
+use Rattle.langtag_unicode.specs.ExtensionsForm.{IsExtensionsForm}
+use Rattle.langtag_keyword.specs.Keywords.{before_key, is_key, value_of}
 use Rattle.langtag_unicode.specs.Identifier.{first_subtag, identifier_fields, identifier_variants}
-use Rattle.langtag_unicode.specs.Transform.{is_field_key}
-use Rattle.langtag_unicode.proofs.AlphabetTwice.{in_alphabet-alike}
+use Rattle.langtag_keyword.specs.Transform.{is_field_key}
+use Rattle.langtag_keyword.proofs.AlphabetTwice.{in_alphabet-alike}
 use Rattle.langtag_unicode.proofs.CanonicalKeywords.{key-fold}
-use Rattle.langtag_unicode.proofs.CanonicalValues.{replaced, subtags-fold}
-use Rattle.langtag_unicode.proofs.ExtensionForms.{form_by, form_tested, forms-next}
+use Rattle.langtag_keyword.proofs.CanonicalValues.{replaced, subtags-fold}
+use Rattle.langtag_keyword.proofs.ExtensionForms.{form_by, form_tested, forms-next}
 use Rattle.langtag_unicode.proofs.FormTwice.{language-parts, lower_fields, same_fields, unicode_language-fold}
-use Rattle.langtag_unicode.proofs.AliasCase.{alias_for-alike, type_alias_for-alike}
+use Rattle.langtag_keyword.proofs.AliasCase.{alias_for-alike, type_alias_for-alike}
 use Rattle.langtag_unicode.proofs.KeySplits.{all_keys}
-use Rattle.langtag_unicode.proofs.KeywordBlocks.{block}
+use Rattle.langtag_keyword.proofs.KeywordBlocks.{block}
 use Rattle.langtag_unicode.proofs.KeywordsInForm.{flat-same, form-blocks, values_in_form}
 use Rattle.langtag_unicode.proofs.TransformParts.{field_key-fold}
 

@@ -4,11 +4,12 @@ use Rattle.std.specs.List.{AllByRecursion}
 use Rattle.langtag.proofs.FormLaws.{composed}
 use Rattle.langtag_scan.specs.Case.{fold_byte}
 use Rattle.langtag_scan.specs.Record.{Extension, IsWellFormed, IsWellFormedExtension, Record}
-use Rattle.langtag_unicode.specs.Form.{IsExtensionsForm, extension_form, extensions_record, forms_after, is_of, is_transform, transform_form}
-use Rattle.langtag_unicode.proofs.ExtensionForms.{form_by, form_tested, forms-next}
+use Rattle.langtag_keyword.specs.Form.{extension_form, extensions_record, forms_after, is_of, is_transform, transform_form}
+use Rattle.langtag_unicode.specs.ExtensionsForm.{IsExtensionsForm}
+use Rattle.langtag_keyword.proofs.ExtensionForms.{form_by, form_tested, forms-next}
 use Rattle.langtag_unicode.proofs.FormRecords.{form_well_formed}
 use Rattle.langtag_unicode.proofs.FormTwice.{transform-twice, transform_form-is, unicode-twice}
-use Rattle.langtag_unicode.proofs.Found.{both}
+use Rattle.langtag_keyword.proofs.Found.{both}
 
 -- an extension and its form begin with alike singletons
 form-of : (n : ℕ) (u t : Bool) (e : Extension) → is_of n (extension_form u t e) ≡ is_of n e

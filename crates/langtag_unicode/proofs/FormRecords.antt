@@ -13,16 +13,16 @@ use Rattle.langtag_scan.specs.CaseLaws.{are_alike-decides}
 use Rattle.langtag_scan.specs.Class.{are_alphanumeric, has_length, is_alphanumeric, is_digit, is_extension_subtag, is_letter, is_mark, is_singleton}
 use Rattle.langtag_scan.specs.Record.{Extension, IsWellFormed, IsWellFormedExtension, Record}
 use Rattle.langtag_scan.specs.Subtags.{join, subtags}
-use Rattle.langtag_unicode.specs.Alias.{Alias, TypeAlias, alias_for, type_alias_for}
-use Rattle.langtag_unicode.specs.Aliases.{subdivision_aliases, transform_type_aliases, unicode_type_aliases}
-use Rattle.langtag_unicode.specs.Edit.{is_type}
-use Rattle.langtag_unicode.specs.Form as form
-use Rattle.langtag_unicode.specs.Form.{extension_form, extensions_record, forms_after, in_alphabet, is_of, is_transform, letters_and_digits, put_among, transform_form, transform_value, unicode_form, unicode_value}
-use Rattle.langtag_unicode.specs.Keywords.{before_key, is_key, value_of}
-use Rattle.langtag_unicode.specs.Transform.{is_field_key}
+use Rattle.langtag_keyword.specs.Alias.{Alias, TypeAlias, alias_for, type_alias_for}
+use Rattle.langtag_keyword.specs.Aliases.{subdivision_aliases, transform_type_aliases, unicode_type_aliases}
+use Rattle.langtag_keyword.specs.Edit.{is_type}
+use Rattle.langtag_keyword.specs.Form as form
+use Rattle.langtag_keyword.specs.Form.{extension_form, extensions_record, forms_after, in_alphabet, is_of, is_transform, letters_and_digits, put_among, transform_form, transform_value, unicode_form, unicode_value}
+use Rattle.langtag_keyword.specs.Keywords.{before_key, is_key, value_of}
+use Rattle.langtag_keyword.specs.Transform.{is_field_key}
 use Rattle.langtag_tables.proofs.Elements.{list_all_get}
-use Rattle.langtag_unicode.proofs.Each.{each-alphabet, each-before}
-use Rattle.langtag_unicode.proofs.ExtensionForms.{form_by, form_tested}
+use Rattle.langtag_keyword.proofs.Each.{each-alphabet, each-before}
+use Rattle.langtag_keyword.proofs.ExtensionForms.{form_by, form_tested}
 use Rattle.langtag_unicode.proofs.FormSizes.{field-two, key-two}
 use Rattle.langtag_scan.specs.Stage.{Classes}
 

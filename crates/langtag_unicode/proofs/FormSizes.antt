@@ -16,16 +16,17 @@ use Rattle.langtag_scan.specs.Class.{is_region, is_script}
 use Rattle.langtag_scan.specs.Record.{Extension, Record, extension_flat, spell}
 use Rattle.langtag_scan.specs.Subtags.{join, subtags}
 use Rattle.langtag_scan.specs.Tag.{IsNormal}
-use Rattle.langtag_unicode.specs.Alias.{Alias, TypeAlias, alias_for, type_alias_for}
-use Rattle.langtag_unicode.specs.Aliases.{subdivision_aliases, transform_type_aliases, unicode_type_aliases}
-use Rattle.langtag_unicode.specs.Form as form
-use Rattle.langtag_unicode.specs.Form.{IsExtensionsForm, extension_form, extensions_record, forms_after, in_alphabet, is_of, is_transform, language_form, letters_and_digits, put_among, transform_value, unicode_form, unicode_value}
-use Rattle.langtag_unicode.specs.Keys.{length_with_hyphens}
-use Rattle.langtag_unicode.specs.Keywords.{before_key, is_key, value_of}
-use Rattle.langtag_unicode.specs.Transform.{is_field_key}
-use Rattle.langtag_unicode.proofs.ExtensionForms.{form_by, form_tested}
-use Rattle.langtag_unicode.proofs.Found.{both, found_has, found_is}
-use Rattle.langtag_unicode.proofs.SubtagTexts.{before-from, from_key, length-with_hyphens}
+use Rattle.langtag_keyword.specs.Alias.{Alias, TypeAlias, alias_for, type_alias_for}
+use Rattle.langtag_keyword.specs.Aliases.{subdivision_aliases, transform_type_aliases, unicode_type_aliases}
+use Rattle.langtag_keyword.specs.Form as form
+use Rattle.langtag_keyword.specs.Form.{extension_form, extensions_record, forms_after, in_alphabet, is_of, is_transform, language_form, letters_and_digits, put_among, transform_value, unicode_form, unicode_value}
+use Rattle.langtag_unicode.specs.ExtensionsForm.{IsExtensionsForm}
+use Rattle.langtag_keyword.specs.Keys.{length_with_hyphens}
+use Rattle.langtag_keyword.specs.Keywords.{before_key, is_key, value_of}
+use Rattle.langtag_keyword.specs.Transform.{is_field_key}
+use Rattle.langtag_keyword.proofs.ExtensionForms.{form_by, form_tested}
+use Rattle.langtag_keyword.proofs.Found.{both, found_has, found_is}
+use Rattle.langtag_keyword.proofs.SubtagTexts.{before-from, from_key, length-with_hyphens}
 use Rattle.langtag_scan.proofs.PartOffsets.{length-spell}
 
 -- the bytes of some subtags, each with a hyphen

@@ -8,20 +8,20 @@ use Rattle.langtag_scan.specs.Class.{is_primary, is_region, is_script, is_varian
 use Rattle.langtag_scan.specs.Record.{one_flat}
 use Rattle.langtag_scan.specs.Stage.{Classes}
 use Rattle.langtag_scan.specs.Subtags.{subtags}
-use Rattle.langtag_unicode.specs.Form as form
-use Rattle.langtag_unicode.specs.Form.{after_one, are_different_variants, are_fields, in_alphabet, is_language_or_none, is_transform, is_unicode_language, language_form, one_of, transform_form, transform_value, unicode_form, unicode_value}
-use Rattle.langtag_unicode.specs.Keywords.{before_key, is_key}
+use Rattle.langtag_keyword.specs.Form as form
+use Rattle.langtag_keyword.specs.Form.{after_one, are_different_variants, are_fields, in_alphabet, is_language_or_none, is_transform, is_unicode_language, language_form, one_of, transform_form, transform_value, unicode_form, unicode_value}
+use Rattle.langtag_keyword.specs.Keywords.{before_key, is_key}
 use Rattle.langtag_unicode.specs.Identifier.{first_subtag, identifier_fields, identifier_flat, identifier_variants}
-use Rattle.langtag_unicode.specs.Transform.{is_field_key}
-use Rattle.langtag_unicode.proofs.AlphabetTwice.{in_alphabet-twice}
+use Rattle.langtag_keyword.specs.Transform.{is_field_key}
+use Rattle.langtag_keyword.proofs.AlphabetTwice.{in_alphabet-twice}
 use Rattle.langtag_unicode.proofs.CanonicalKeywords.{key-fold, values-are}
-use Rattle.langtag_unicode.proofs.CanonicalValues.{transform-settled, unicode-settled}
-use Rattle.langtag_unicode.proofs.Each.{each-alphabet}
+use Rattle.langtag_keyword.proofs.CanonicalValues.{transform-settled, unicode-settled}
+use Rattle.langtag_keyword.proofs.Each.{each-alphabet}
 use Rattle.langtag_unicode.proofs.FormRecords.{Good}
 use Rattle.langtag_unicode.proofs.IdentifierParts.{AreSubtags, AreVariants, different_variants, fields_good}
 use Rattle.langtag_unicode.proofs.KeywordsInForm.{Plain, front-again, keywords-again, plain-before}
 use Rattle.langtag_unicode.proofs.Apart.{alphabet-apart}
-use Rattle.langtag_unicode.proofs.Found.{both}
+use Rattle.langtag_keyword.proofs.Found.{both}
 use Rattle.langtag_unicode.proofs.TransformParts.{AreNoFields, after_region, after_script, are-fields, field_values, identifier-no_field, identifier-variants, variant-no_region, variant-no_script, region-no_script}
 
 -- ---- the extension `u`

@@ -7,9 +7,9 @@ use Rattle.langtag.specs.FieldClasses.{is_region_field, is_script_field}
 use Rattle.langtag.specs.Fields.{Fields}
 use Rattle.langtag_scan.specs.Case.{are_alike}
 use Rattle.langtag_scan.specs.Class.{is_primary, is_variant}
-use Rattle.langtag_unicode.specs.Form.{is_unicode_language, are_different_variants, one_of}
+use Rattle.langtag_keyword.specs.Form.{is_unicode_language, are_different_variants, one_of}
 use Rattle.langtag_unicode.specs.Identifier.{first_subtag, identifier_fields}
-use Rattle.langtag_unicode.proofs.Found.{both}
+use Rattle.langtag_keyword.proofs.Found.{both}
 use Rattle.std.proofs.lemmas.Bool.Decides.{nat_tests}
 
 -- a language, and a script and a region, either of which may be absent

@@ -10,10 +10,10 @@ use Rattle.std.proofs.lemmas.Bool.Decides.{nat_tests}
 use Rattle.langtag_scan.specs.Case.{are_alike, fold_byte, fold_text}
 use Rattle.langtag_scan.specs.CaseLaws.{are_alike-decides}
 use Rattle.langtag_scan.specs.Class.{is_alphanumeric, is_digit, is_letter}
-use Rattle.langtag_unicode.specs.Edit.{is_unicode_key}
-use Rattle.langtag_unicode.specs.Form.{is_before, letters_and_digits}
-use Rattle.langtag_unicode.proofs.AlphabetLaws.{Rise, Under, before-back, before-itself, before-trans}
-use Rattle.langtag_unicode.proofs.Each.{each-back, each-front}
+use Rattle.langtag_keyword.specs.Edit.{is_unicode_key}
+use Rattle.langtag_keyword.specs.Form.{is_before, letters_and_digits}
+use Rattle.langtag_keyword.proofs.AlphabetLaws.{Rise, Under, before-back, before-itself, before-trans}
+use Rattle.langtag_keyword.proofs.Each.{each-back, each-front}
 use Rattle.langtag_unicode.proofs.FormRecords.{among-letters}
 
 -- ---- texts that rise

@@ -6,11 +6,11 @@ use Rattle.std.specs.Option.{option_map_or}
 use Rattle.langtag_scan.specs.Case.{are_alike, fold_text}
 use Rattle.langtag_scan.specs.CaseLaws.{are_alike-decides}
 use Rattle.langtag_scan.specs.Subtags.{join, subtags}
-use Rattle.langtag_unicode.specs.Form as form
-use Rattle.langtag_unicode.specs.Form.{in_alphabet, language_form, letters_and_digits, transform_form, transform_value, unicode_form, unicode_value}
+use Rattle.langtag_keyword.specs.Form as form
+use Rattle.langtag_keyword.specs.Form.{in_alphabet, language_form, letters_and_digits, transform_form, transform_value, unicode_form, unicode_value}
 use Rattle.langtag_unicode.specs.FormLaws.{IsKeyword, OrderChangesNothing}
-use Rattle.langtag_unicode.specs.Keywords.{before_key, is_key, value_of}
-use Rattle.langtag_unicode.specs.Transform.{is_field_key}
+use Rattle.langtag_keyword.specs.Keywords.{before_key, is_key, value_of}
+use Rattle.langtag_keyword.specs.Transform.{is_field_key}
 use Rattle.langtag_unicode.proofs.KeywordsInForm.{before-plain, value-plain}
 
 module _ (opens : List ℕ → Bool) where

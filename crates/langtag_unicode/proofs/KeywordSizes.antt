@@ -12,11 +12,11 @@ use Rattle.langtag_scan.specs.Case.{are_alike}
 use Rattle.langtag_scan.specs.Record.{Extension, Record, extension_flat, spell}
 use Rattle.langtag_scan.specs.Subtags.{subtags}
 use Rattle.langtag_scan.specs.Tag.{IsNormal}
-use Rattle.langtag_unicode.specs.Edit.{at_place, belongs, changed_from, edited_record, extension_of, is_place, is_place_of_u, is_this_key, put_keyword, with_keyword, without_keyword, without_within}
-use Rattle.langtag_unicode.specs.Keywords.{is_key}
-use Rattle.langtag_unicode.proofs.ExtensionsPut.{flat-last}
+use Rattle.langtag_keyword.specs.Edit.{at_place, belongs, changed_from, edited_record, extension_of, is_place, is_place_of_u, is_this_key, put_keyword, with_keyword, without_keyword, without_within}
+use Rattle.langtag_keyword.specs.Keywords.{is_key}
+use Rattle.langtag_keyword.proofs.ExtensionsPut.{flat-last}
 use Rattle.langtag_unicode.proofs.FormSizes.{bytes-most, extensions-length, size, size-append, subtags-size}
-use Rattle.langtag_unicode.proofs.KeywordEdits.{u-here, u-later}
+use Rattle.langtag_keyword.proofs.KeywordEdits.{u-here, u-later}
 
 -- ---- the subtags of `u`
 

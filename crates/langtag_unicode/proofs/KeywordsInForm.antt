@@ -6,11 +6,11 @@ use Rattle.std.specs.Option.{option_map_or}
 use Rattle.langtag_scan.specs.Case.{are_alike, fold_text}
 use Rattle.langtag_scan.specs.CaseLaws.{are_alike-decides}
 use Rattle.langtag_scan.specs.Subtags.{join, subtags}
-use Rattle.langtag_unicode.specs.Form as form
-use Rattle.langtag_unicode.specs.Form.{letters_and_digits}
-use Rattle.langtag_unicode.specs.Keywords.{before_key, value_of}
+use Rattle.langtag_keyword.specs.Form as form
+use Rattle.langtag_keyword.specs.Form.{letters_and_digits}
+use Rattle.langtag_keyword.specs.Keywords.{before_key, value_of}
 use Rattle.langtag_unicode.proofs.KeySplits.{all_keys, all_lower, flat-pairs}
-use Rattle.langtag_unicode.proofs.KeywordBlocks.{block, blocks}
+use Rattle.langtag_keyword.proofs.KeywordBlocks.{block, blocks}
 
 pub flat-same : (f g : List ℕ → List (List ℕ)) (keys : List (List ℕ)) → AllByRecursion (λ k. f k ≡ g k) keys → flat_map f keys ≡ flat_map g keys
 flat-same f g [] same = refl

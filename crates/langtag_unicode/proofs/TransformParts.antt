@@ -15,19 +15,19 @@ use Rattle.langtag_scan.specs.Class.{are_letters, is_extension_subtag, is_region
 use Rattle.langtag_scan.specs.Record.{one_flat}
 use Rattle.langtag_scan.specs.Subtags.{join, subtags}
 use Rattle.langtag_tables.proofs.Letters.{primary_letters}
-use Rattle.langtag_unicode.specs.Alias.{TypeAlias}
-use Rattle.langtag_unicode.specs.Aliases.{transform_type_aliases}
-use Rattle.langtag_unicode.specs.Form as form
-use Rattle.langtag_unicode.specs.Form.{after_one, are_different_variants, are_fields, letters_and_digits, may_follow, transform_value}
-use Rattle.langtag_unicode.specs.Keywords.{before_key, value_of}
+use Rattle.langtag_keyword.specs.Alias.{TypeAlias}
+use Rattle.langtag_keyword.specs.Aliases.{transform_type_aliases}
+use Rattle.langtag_keyword.specs.Form as form
+use Rattle.langtag_keyword.specs.Form.{after_one, are_different_variants, are_fields, letters_and_digits, may_follow, transform_value}
+use Rattle.langtag_keyword.specs.Keywords.{before_key, value_of}
 use Rattle.langtag_unicode.specs.Identifier.{identifier_flat}
-use Rattle.langtag_unicode.specs.Transform.{is_field_key}
+use Rattle.langtag_keyword.specs.Transform.{is_field_key}
 use Rattle.langtag_unicode.proofs.CanonicalKeywords.{alike-back}
 use Rattle.langtag_unicode.proofs.FormRecords.{Good, good-value}
 use Rattle.langtag_unicode.proofs.IdentifierParts.{AreSubtags, language_primary, AreVariants}
 use Rattle.langtag_unicode.proofs.KeywordsInForm.{AreKeywords, values_in_form}
 use Rattle.langtag_unicode.proofs.Apart.{Apart}
-use Rattle.langtag_unicode.proofs.Found.{both, found_has}
+use Rattle.langtag_keyword.proofs.Found.{both, found_has}
 
 -- ---- no subtag of a language identifier is the key of a field
 

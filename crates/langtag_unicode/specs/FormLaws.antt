@@ -2,7 +2,7 @@
 use Rattle.std.specs.Prelude.{◌≡◌, ℕ, Bool, true, false, List, [], ◌∷◌, ◌++◌}
 use Rattle.std.specs.List.{AllByRecursion}
 use Rattle.langtag_scan.specs.Case.{are_alike}
-use Rattle.langtag_unicode.specs.Keywords.{before_key}
+use Rattle.langtag_keyword.specs.Keywords.{before_key}
 
 -- `opens` says which subtags are keys
 module _ (opens : List ℕ → Bool) where

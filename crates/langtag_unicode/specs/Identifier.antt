@@ -3,7 +3,7 @@ use Rattle.std.specs.Prelude.{ℕ, List, [], ◌∷◌, ◌++◌}
 use Rattle.langtag.specs.Fields.{Fields, subtag_of}
 use Rattle.langtag_scan.specs.Class.{is_region, is_script}
 use Rattle.langtag_scan.specs.Record.{one_flat}
-use Rattle.langtag_unicode.specs.Form.{after_one, one_of}
+use Rattle.langtag_keyword.specs.Form.{after_one, one_of}
 
 -- the first subtag, or the empty text if there is none
 abbrev pub first_subtag : List (List ℕ) → List ℕ

@@ -1,13 +1,10 @@
-pub mod Keys
-pub mod Keywords
-pub mod Text
-pub mod Transform
-pub mod Alias
-pub mod Aliases
-pub mod Form
+pub mod ExtensionsForm
 pub mod FormLaws
-pub mod Alphabet
-pub mod Marks
-pub mod Edit
-pub mod EditText
 pub mod Identifier
+pub mod Text
+-- the pages that are cited by the contracts of this crate and of what it exports. So callers need to name only this crate
+pub use Rattle.langtag_keyword.specs.Edit
+pub use Rattle.langtag_keyword.specs.Form
+pub use Rattle.langtag_keyword.specs.Keys
+pub use Rattle.langtag_keyword.specs.Keywords
+pub use Rattle.langtag_keyword.specs.Transform

@@ -5,8 +5,8 @@ use Rattle.langtag_unicode.specs.declared.attributes_iter.AttributesIter.{Attrib
 use Rattle.langtag_unicode.specs.declared.unicode_extension.KeyValue.{KeyValue}
 use Rattle.langtag_unicode.specs.declared.keywords_iter.KeywordsIter.{KeywordsIter}
 use Rattle.langtag_unicode.specs.declared.transformation.Transformation.{Transformation}
-use Rattle.langtag_unicode.specs.Keys.{opens_keyword}
-use Rattle.langtag_unicode.specs.Keywords.{Keyword, keywords_after, each_once_after}
+use Rattle.langtag_keyword.specs.Keys.{opens_keyword}
+use Rattle.langtag_keyword.specs.Keywords.{Keyword, keywords_after, each_once_after}
 
 abbrev pub key_value_texts : KeyValue → Keyword
 key_value_texts pair = record { key = pair.key.now; value = pair.value.now }

@@ -2,10 +2,10 @@
 ghost use Rattle.std.specs.Prelude.{◌≡◌, ◌<◌, ◌^◌, [], drop, length, ⊤};
 ghost use Rattle.std.specs.Iterator.{YieldsFirstRef, item_count};
 ghost use Rattle.langtag_scan.specs.Subtags.{subtags};
-ghost use Rattle.langtag_unicode.specs.Keywords as spec;
+ghost use Rattle.langtag_keyword.specs.Keywords as spec;
 
-use crate::subtags::is_among_first;
 use langtag::Subtags;
+use langtag_keyword::is_among_first;
 use std::alloc::AllocError;
 
 /// The iterator that `attributes` returns: the attributes of the extension `u`, in the order of the tag, each once.
@@ -29,7 +29,7 @@ impl<'a> AttributesIter<'a> {
     ghost use Rattle.langtag_unicode.specs.Text.{attributes_left};
 
     /// Returns an iterator over the distinct subtags of a text.
-    #[tactic(auto, using(crate::proofs::SubtagTexts::few_subtags))]
+    #[tactic(auto, using(langtag_keyword::proofs::SubtagTexts::few_subtags))]
     pub(crate) fn new(text: &'a str) -> Self
         ensures { attributes_left result ≡ spec.each_once_after [] (subtags text.now) }
     {

@@ -1,30 +1,18 @@
 //! The canonical form of a tag's extensions `u` and `t` (UTS #35, part 1, Annex C).
-ghost use Rattle.std.specs.Prelude.{◌≡◌, ◌≤◌, ◌<◌, ◌+◌, ◌∷◌, ◌&&◌, ◌||◌, length, not, [], IfOk, IfSome, List, None, false};
-ghost use Rattle.std.specs.List.{AllByRecursion, flat_map};
+ghost use Rattle.std.specs.Prelude.{◌≡◌, ◌≤◌, ◌<◌, ◌+◌, length, [], IfOk, IfSome, None};
 ghost use Rattle.langtag.specs.Text.{lang_tag_buf_text, lang_tag_text, normal_lang_tag_text};
-ghost use Rattle.langtag_extension.specs.Spelling.{SpellsExtension, SpellsExtensions};
-ghost use Rattle.langtag_extension.specs.Text.{extension_text, extensions_text};
 ghost use Rattle.langtag.specs.Form.{IsOnlyForm, IsAlikeForm};
 ghost use Rattle.langtag_output.specs.Output.{IsCounted, Pushes};
 ghost use Rattle.langtag_output.specs.Writes.{Writes};
-ghost use Rattle.langtag_scan.proofs.SubtagFacts.{IsSubtag};
 ghost use Rattle.langtag_scan.specs.Record as model;
-ghost use Rattle.langtag_scan.specs.Subtags.{subtags};
-ghost use Rattle.langtag_unicode.specs.Form as spec;
+ghost use Rattle.langtag_keyword.specs.Form as spec;
 ghost use Rattle.langtag_unicode.specs.FormLaws.{OrderChangesNothing};
-ghost use Rattle.langtag_unicode.specs.Keywords.{is_key};
-ghost use Rattle.langtag_unicode.specs.Transform.{is_field_key};
+ghost use Rattle.langtag_keyword.specs.Keywords.{is_key};
+ghost use Rattle.langtag_keyword.specs.Transform.{is_field_key};
 ghost use Rattle.langtag_scan.specs.Ends.{to_variants};
 
-use crate::alphabet::push_in_alphabet;
-use crate::keys::Keys;
-use crate::keyword_form::push_keywords;
-use crate::subtags::preceding;
-use crate::transform_form::{is_transform, push_transform};
-use langtag::{
-    Extension, Extensions, LangTag, LangTagBuf, NormalLangTag, into_smallcase, push_private_use,
-    tag_of,
-};
+use langtag::{LangTag, LangTagBuf, NormalLangTag, push_private_use, tag_of};
+use langtag_keyword::push_extensions;
 use langtag_output::{Output, write_text};
 use std::alloc::{AllocError, Global};
 
@@ -144,82 +132,4 @@ pub(crate) fn push_head(out: &mut Output<'_>, tag: NormalLangTag<'_>)
 {
     let text = tag.as_str();
     out.push_subtag(&text.as_bytes()[..tag.ends().variants]);
-}
-
-fn push_extensions(out: &mut Output<'_>, extensions: Extensions<'_>)
-    ensures same_buffer { out.new.buffer.ghost_name ≡ out.old.buffer.ghost_name }
-    ensures pushed { (es : List model.Extension) → SpellsExtensions es (extensions_text extensions.entry)
-        → Pushes (flat_map model.extension_flat (spec.forms_after false false es)) out.old out.new }
-{
-    let mut after_u = false;
-    let mut after_t = false;
-    for extension in extensions.iter() {
-        push_extension(out, extension, after_u, after_t);
-        after_u = is_after(b'u', extension, after_u);
-        after_t = is_after(b't', extension, after_t);
-    }
-}
-
-/// Appends an extension: in canonical form if it is the first `u`, or the first `t` and well-formed, and otherwise
-/// unchanged.
-fn push_extension(out: &mut Output<'_>, extension: Extension<'_>, after_u: bool, after_t: bool)
-    ensures same_buffer { out.new.buffer.ghost_name ≡ out.old.buffer.ghost_name }
-    ensures pushed { (e : model.Extension) → SpellsExtension e (extension_text extension.entry)
-        → Pushes (model.extension_flat (spec.extension_form after_u after_t e)) out.old out.new }
-{
-    if is_first(b'u', extension, after_u) {
-        return push_unicode(out, subtags_of(extension));
-    }
-    if is_first_transform(extension, after_t) {
-        return push_transform(out, subtags_of(extension));
-    }
-    out.push_subtag(extension.as_bytes());
-}
-
-/// Returns whether an extension is the first `t`, and is well-formed.
-fn is_first_transform(extension: Extension<'_>, after_t: bool) -> bool
-    ensures { (e : model.Extension) → SpellsExtension e (extension_text extension.entry)
-        → result ≡ (spec.is_of 116 e && not after_t && spec.is_transform e.subtags) }
-{
-    is_first(b't', extension, after_t) && is_transform(subtags_of(extension))
-}
-
-/// Returns whether an extension is the first extension with the given singleton.
-fn is_first(singleton: u8, extension: Extension<'_>, is_after: bool) -> bool
-    ensures { (e : model.Extension) → SpellsExtension e (extension_text extension.entry) → result ≡ (spec.is_of singleton e && not is_after) }
-{
-    is_of(singleton, extension) && !is_after
-}
-
-/// Returns whether an extension with the singleton has occurred, up to and including this extension.
-fn is_after(singleton: u8, extension: Extension<'_>, is_after: bool) -> bool
-    ensures { (e : model.Extension) → SpellsExtension e (extension_text extension.entry) → result ≡ (is_after || spec.is_of singleton e) }
-{
-    is_after || is_of(singleton, extension)
-}
-
-/// Returns the subtags after the singleton, joined by hyphens.
-pub fn subtags_of<'a>(extension: Extension<'a>) -> &'a str
-    ensures subtags { (e : model.Extension) → SpellsExtension e (extension_text extension.entry) → subtags result.now ≡ e.subtags }
-    ensures each { AllByRecursion IsSubtag (subtags result.now) }
-{
-    &extension.as_str()[2..]
-}
-
-/// Appends the canonical form of the extension `u` with these subtags.
-pub fn push_unicode(out: &mut Output<'_>, text: &str)
-    requires { AllByRecursion IsSubtag (subtags text.now) }
-    ensures same_buffer { out.new.buffer.ghost_name ≡ out.old.buffer.ghost_name }
-    ensures pushed { Pushes ((117 ∷ []) ∷ spec.unicode_form (subtags text.now)) out.old out.new }
-{
-    out.push_subtag(b"u");
-    push_in_alphabet(out, preceding(text, Keys::Unicode));
-    push_keywords(out, text, Keys::Unicode);
-}
-
-/// Returns whether an extension begins with a singleton, ignoring case.
-pub fn is_of(singleton: u8, extension: Extension<'_>) -> bool
-    ensures { (e : model.Extension) → SpellsExtension e (extension_text extension.entry) → result ≡ spec.is_of singleton e }
-{
-    into_smallcase(extension.singleton().unwrap()) == singleton
 }

@@ -1,7 +1,7 @@
 //! Setting and removing keywords (RFC 6067 section 2.1).
 ghost use Rattle.std.specs.Prelude.{◌≡◌, ◌↔◌, ◌<◌, ◌≤◌, ◌+◌, ◌^◌, ℕ, List, [], None, Some, false, IfOk, IsErrOf, IsTrue, OnErr, is_ok, length};
 ghost use Rattle.std.specs.List.{AllByRecursion};
-ghost use Rattle.langtag.specs.Text.{lang_tag_buf_text, lang_tag_text, normal_lang_tag_text};
+ghost use Rattle.langtag.specs.Text.{lang_tag_text, normal_lang_tag_text};
 ghost use Rattle.langtag.specs.Form.{IsForm};
 ghost use Rattle.langtag_output.specs.Output.{IsCounted};
 ghost use Rattle.langtag_output.specs.Writes.{Writes};
@@ -10,16 +10,14 @@ ghost use Rattle.langtag_scan.specs.Class.{is_extension_subtag};
 ghost use Rattle.langtag_scan.specs.Record as model;
 ghost use Rattle.langtag_scan.specs.Subtags.{subtags};
 ghost use Rattle.langtag_scan.specs.Tag.{IsNormal};
-ghost use Rattle.langtag_unicode.specs.Edit as spec;
-ghost use Rattle.langtag_unicode.specs.Form.{extensions_record, unicode_form};
-ghost use Rattle.langtag_unicode.specs.Keywords.{is_key, value_of};
-ghost use Rattle.langtag_unicode.specs.EditText.{edited_record_by};
+ghost use Rattle.langtag_keyword.specs.Edit as spec;
+ghost use Rattle.langtag_keyword.specs.Form.{extensions_record, unicode_form};
+ghost use Rattle.langtag_keyword.specs.Keywords.{is_key, value_of};
+ghost use Rattle.langtag_keyword.specs.EditText.{edited_record_by};
 
 use crate::form::push_head;
-use crate::keyword_check::{invalid_type, is_unicode_key};
-use crate::keyword_edit::{KeywordEdit, push_edited};
-use crate::keyword_error::KeywordError;
 use langtag::{LangTag, NormalLangTag, push_private_use};
+use langtag_keyword::{KeywordEdit, KeywordError, invalid_type, is_unicode_key, push_edited};
 use langtag_output::Output;
 
 /// Writes a tag with a value of a key of the extension `u` (RFC 6067 section 2.1) to a buffer, and returns its length

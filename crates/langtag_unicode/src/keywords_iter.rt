@@ -1,13 +1,12 @@
 //! An iterator over the keywords of a tag.
-ghost use Rattle.std.specs.Prelude.{◌≡◌, ◌<◌, ◌^◌, [], drop, length, take, ⊤};
+ghost use Rattle.std.specs.Prelude.{◌≡◌, ◌<◌, ◌^◌, drop, length, take, ⊤};
 ghost use Rattle.std.specs.Iterator.{YieldsFirstBy, item_count};
 ghost use Rattle.langtag_scan.specs.Subtags.{segments_left, subtags};
-ghost use Rattle.langtag_unicode.specs.Keys.{opens_keyword};
-ghost use Rattle.langtag_unicode.specs.Keywords as spec;
+ghost use Rattle.langtag_keyword.specs.Keys.{opens_keyword};
+ghost use Rattle.langtag_keyword.specs.Keywords as spec;
 
-use crate::keys::Keys;
-use crate::subtags::{before_key, is_among_first, nonempty, split_first};
 use crate::unicode_extension::KeyValue;
+use langtag_keyword::{Keys, before_key, is_among_first, nonempty, split_first};
 use std::alloc::AllocError;
 
 /// An iterator over the keywords of the extension `u`, or the fields of the extension `t`, in the order of the tag.
@@ -34,7 +33,7 @@ impl<'a> KeywordsIter<'a> {
     ghost use Rattle.langtag_unicode.specs.Text.{keywords_left};
 
     /// Returns an iterator over the keywords among the subtags of a text.
-    #[tactic(auto, using(crate::proofs::SubtagTexts::few_subtags))]
+    #[tactic(auto, using(langtag_keyword::proofs::SubtagTexts::few_subtags))]
     pub(crate) fn new(text: &'a str, keys: Keys) -> Self
         ensures { keywords_left result ≡ spec.keywords_of (opens_keyword keys) (subtags text.now) }
     {

@@ -6,14 +6,13 @@ ghost use Rattle.langtag.specs.Form.{IsForm};
 ghost use Rattle.langtag_scan.specs.Record as model;
 ghost use Rattle.langtag_scan.specs.Subtags.{subtags};
 ghost use Rattle.langtag_scan.specs.Tag.{IsNormal};
-ghost use Rattle.langtag_unicode.specs.Edit as spec;
-ghost use Rattle.langtag_unicode.specs.EditText.{edited_record_by, is_allowed};
+ghost use Rattle.langtag_keyword.specs.Edit as spec;
+ghost use Rattle.langtag_keyword.specs.EditText.{edited_record_by, is_allowed};
 
-use crate::keyword_edit::KeywordEdit;
-use crate::keyword_error::KeywordError;
 use crate::keyword_setters::{keyword_error, put_parts};
 use crate::set_keyword_error::SetKeywordError;
 use langtag::{LangTagBuf, NormalLangTag, tag_of};
+use langtag_keyword::{KeywordEdit, KeywordError};
 use std::alloc::{AllocError, Global};
 
 /// Sets the value of a key of the extension `u` (RFC 6067 section 2.1): with `buddhist` for `ca`, `de-x-a` becomes

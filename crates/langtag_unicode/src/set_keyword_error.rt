@@ -2,7 +2,7 @@
 ghost use Rattle.std.specs.Prelude.{◌≡◌};
 ghost use Rattle.langtag_unicode.specs.declared.set_keyword_error.SetKeywordError.TheVariants.{Memory};
 
-use crate::keyword_error::KeywordError;
+use langtag_keyword::KeywordError;
 use std::alloc::AllocError;
 use thiserror::Error;
 

@@ -6,14 +6,14 @@ ghost use Rattle.langtag.specs.Text.{lang_tag_text};
 ghost use Rattle.langtag_extension.specs.Spelling.{find_extension};
 ghost use Rattle.langtag_scan.specs.Case.{Alike};
 ghost use Rattle.langtag_scan.specs.Subtags.{join};
-ghost use Rattle.langtag_unicode.specs.Keywords as keywords;
+ghost use Rattle.langtag_keyword.specs.Keywords as keywords;
 ghost use Rattle.langtag_unicode.specs.Text.{keywords_left, transformation_subtags};
-ghost use Rattle.langtag_unicode.specs.Transform as spec;
+ghost use Rattle.langtag_keyword.specs.Transform as spec;
 
-use crate::keys::Keys;
+use crate::extension_text::extension_text;
 use crate::keywords_iter::KeywordsIter;
-use crate::subtags::{before_key, extension_text, nonempty, value_in};
 use langtag::{LangTag, Singleton};
+use langtag_keyword::{Keys, before_key, nonempty, value_in};
 
 /// The extension `t` of a tag (RFC 6497 section 2.2): the language of the text before it was transformed, and how it
 /// was transformed.

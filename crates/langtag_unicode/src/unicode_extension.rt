@@ -5,14 +5,14 @@ ghost use Rattle.langtag.specs.Part.{PartOf};
 ghost use Rattle.langtag.specs.Text.{lang_tag_text};
 ghost use Rattle.langtag_scan.specs.Case.{Alike};
 ghost use Rattle.langtag_scan.specs.Subtags.{join};
-ghost use Rattle.langtag_unicode.specs.Keywords as spec;
+ghost use Rattle.langtag_keyword.specs.Keywords as spec;
 ghost use Rattle.langtag_unicode.specs.Text.{attributes_left, keywords_left};
 
 use crate::attributes_iter::AttributesIter;
-use crate::keys::Keys;
+use crate::extension_text::unicode_text;
 use crate::keywords_iter::KeywordsIter;
-use crate::subtags::{before_key, nonempty, unicode_text, value_in};
 use langtag::LangTag;
+use langtag_keyword::{Keys, before_key, nonempty, value_in};
 
 /// A keyword of the extension `u` (RFC 6067 section 2.1), or a field of the extension `t` (RFC 6497 section 2.2), as
 /// slices of the tag.

@@ -27,6 +27,8 @@ mod case;
 mod choice;
 #[path = "../../src/extension/mod.rs"]
 mod extension;
+#[path = "../../src/keyword/mod.rs"]
+mod keyword;
 #[path = "../../src/language/mod.rs"]
 mod language;
 #[path = "../../src/likely/mod.rs"]

@@ -3,6 +3,7 @@
 //! The canonical form of a Unicode locale identifier (UTS #35, part 1, Annex C).
 
 use crate::case::make_recommended_case;
+use crate::keyword::nonempty;
 use crate::likely::TagFields;
 use crate::locale::locale_extensions::{push_identifier, push_locale_extensions};
 use crate::locale::locale_for::locale_for;
@@ -12,7 +13,6 @@ use crate::shim::{try_vec, AllocError};
 use crate::tag::{push_private_use, LangTag, Language, NormalLangTag, Region, Script};
 #[cfg(feature = "alloc")]
 use crate::tag::{tag_of, LangTagBuf};
-use crate::unicode::nonempty;
 #[cfg(feature = "alloc")]
 use alloc::vec::Vec;
 

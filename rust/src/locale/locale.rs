@@ -2,8 +2,8 @@
 
 //! Unicode locale identifiers (UTS #35, part 1, section 'Unicode Locale Identifier').
 
+use crate::keyword::{is_of, is_transform, is_unicode_key, is_unicode_language, subtags_of, Keys};
 use crate::tag::{Extension, Extensions, LangTag, NormalLangTag, Subtags};
-use crate::unicode::{is_of, is_transform, is_unicode_key, is_unicode_language, subtags_of, Keys};
 
 /// Returns whether a tag is a Unicode locale identifier (UTS #35, part 1, section 'Unicode Locale Identifier'), as
 /// JavaScript's `Intl` requires.

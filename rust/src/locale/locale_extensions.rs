@@ -2,16 +2,16 @@
 
 //! The extensions in the form of a Unicode locale identifier (UTS #35, part 1, Annex C).
 
+use crate::keyword::{
+    is_of, preceding, push_keywords, push_unicode, split_first, subtags_of, take_region,
+    take_script, Keys,
+};
 use crate::likely::{language_replaced, TagFields};
 use crate::locale::locale_fields::identifier_form;
 use crate::locale::locale_variants::push_variants;
 use crate::output::Output;
 use crate::registry::{singletons_of, SINGLETONS};
 use crate::tag::{into_smallcase, Extension, Extensions, Singleton};
-use crate::unicode::{
-    is_of, preceding, push_keywords, push_unicode, split_first, subtags_of, take_region,
-    take_script, Keys,
-};
 
 /// Appends the extensions in their forms, in the order of their singletons.
 pub(crate) fn push_locale_extensions(out: &mut Output<'_>, extensions: Extensions<'_>) {

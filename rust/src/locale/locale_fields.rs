@@ -2,11 +2,11 @@
 
 //! Language, script and region in the form of a Unicode locale identifier (UTS #35, part 1, Annex C).
 
+use crate::keyword::{alias_for, is_among, split_first};
 use crate::likely::{add_likely, language_replaced, region_replacement, TagFields};
 use crate::locale::locale_tables as tables;
 use crate::locale::locale_variants::variant_languages;
 use crate::tag::case_insensitive_eq;
-use crate::unicode::{alias_for, is_among, split_first};
 
 /// Returns the form of the fields of a language identifier with these variants.
 #[inline]

@@ -2,12 +2,12 @@
 
 //! The variants in the form of a Unicode locale identifier (UTS #35, part 1, Annex C).
 
+use crate::keyword::{
+    alias_for, is_after, is_among, is_before_best, push_lowercase, split_first, type_alias_for,
+};
 use crate::locale::locale_tables as tables;
 use crate::output::Output;
 use crate::tag::case_insensitive_eq;
-use crate::unicode::{
-    alias_for, is_after, is_among, is_before_best, push_lowercase, split_first, type_alias_for,
-};
 
 /// Appends the variants of a language identifier in their forms, each once, in lowercase and in alphabetical order.
 ///

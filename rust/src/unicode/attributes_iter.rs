@@ -2,8 +2,8 @@
 
 //! An iterator over the attributes of a tag.
 
+use crate::keyword::is_among_first;
 use crate::tag::Subtags;
-use crate::unicode::subtags::is_among_first;
 
 /// The iterator that `attributes` returns: the attributes of the extension `u`, in the order of the tag, each once.
 ///

@@ -2,12 +2,10 @@
 
 //! Setting and removing keywords (RFC 6067 section 2.1).
 
+use crate::keyword::{invalid_type, is_unicode_key, push_edited, KeywordEdit, KeywordError};
 use crate::output::Output;
 use crate::tag::{push_private_use, LangTag, NormalLangTag};
 use crate::unicode::form::push_head;
-use crate::unicode::keyword_check::{invalid_type, is_unicode_key};
-use crate::unicode::keyword_edit::{push_edited, KeywordEdit};
-use crate::unicode::keyword_error::KeywordError;
 
 /// Writes a tag with a value of a key of the extension `u` ([RFC 6067 section 2.1]) to a buffer, and returns its length
 /// in bytes. With `buddhist` for `ca`, `th-u-ca-gregory-nu-thai` becomes `th-u-ca-buddhist-nu-thai`, and `de` becomes

@@ -2,8 +2,7 @@
 
 //! An iterator over the keywords of a tag.
 
-use crate::unicode::keys::Keys;
-use crate::unicode::subtags::{before_key, is_among_first, nonempty, split_first};
+use crate::keyword::{before_key, is_among_first, nonempty, split_first, Keys};
 use crate::unicode::unicode_extension::KeyValue;
 
 /// An iterator over the keywords of the extension `u`, or the fields of the extension `t`, in the order of the tag.

@@ -2,13 +2,12 @@
 
 //! Setting and removing keywords of a tag that owns its text (RFC 6067 section 2.1).
 
+use crate::keyword::{KeywordEdit, KeywordError};
 #[cfg(feature = "alloc")]
 use crate::shim::{try_vec, AllocError};
 use crate::tag::NormalLangTag;
 #[cfg(feature = "alloc")]
 use crate::tag::{tag_of, LangTagBuf};
-use crate::unicode::keyword_edit::KeywordEdit;
-use crate::unicode::keyword_error::KeywordError;
 use crate::unicode::keyword_setters::{keyword_error, put_parts};
 #[cfg(feature = "alloc")]
 use crate::unicode::set_keyword_error::SetKeywordError;

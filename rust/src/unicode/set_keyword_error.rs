@@ -2,9 +2,9 @@
 
 //! Why a keyword of an owned tag could not be set.
 
+use crate::keyword::KeywordError;
 #[cfg(feature = "alloc")]
 use crate::shim::AllocError;
-use crate::unicode::keyword_error::KeywordError;
 use core::fmt;
 
 /// The error of [`set_keyword`](crate::unicode::set_keyword) and [`remove_keyword`](crate::unicode::remove_keyword): why a keyword was

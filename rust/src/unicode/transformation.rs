@@ -2,10 +2,10 @@
 
 //! The extension `t` of a tag, which says how a text was transformed.
 
+use crate::keyword::{before_key, nonempty, value_in, Keys};
 use crate::tag::{LangTag, Singleton};
-use crate::unicode::keys::Keys;
+use crate::unicode::extension_text::extension_text;
 use crate::unicode::keywords_iter::KeywordsIter;
-use crate::unicode::subtags::{before_key, extension_text, nonempty, value_in};
 
 /// The extension `t` of a tag ([RFC 6497 section 2.2]): the language of the text before it was transformed, and how it
 /// was transformed.

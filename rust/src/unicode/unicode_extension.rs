@@ -2,11 +2,11 @@
 
 //! The extension `u` of a tag, which describes the locale.
 
+use crate::keyword::{before_key, nonempty, value_in, Keys};
 use crate::tag::LangTag;
 use crate::unicode::attributes_iter::AttributesIter;
-use crate::unicode::keys::Keys;
+use crate::unicode::extension_text::unicode_text;
 use crate::unicode::keywords_iter::KeywordsIter;
-use crate::unicode::subtags::{before_key, nonempty, unicode_text, value_in};
 
 /// A keyword of the extension `u` ([RFC 6067 section 2.1]), or a field of the extension `t` ([RFC 6497 section 2.2]), as
 /// slices of the tag.

@@ -2,8 +2,8 @@
 
 //! Where the keywords and attributes of the extension `u` are (RFC 6067 section 2.1).
 
+use crate::keyword::Keys;
 use crate::spans::{before_key, extension_subtags, next_key, value_of, Span};
-use crate::unicode::Keys;
 
 /// Returns whether the extension `u` has a key ([RFC 6067 section 2.1]), ignoring case, and writes its value:
 /// `islamic-civil` for `ca` in `ar-u-ca-islamic-civil`. The value is empty if the key has none, which means `true`. If

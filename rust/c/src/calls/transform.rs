@@ -2,8 +2,8 @@
 
 //! Where the language and the fields of the extension `t` are (RFC 6497 section 2.2).
 
+use crate::keyword::Keys;
 use crate::spans::{before_key, extension_subtags, next_key, value_of, Span};
-use crate::unicode::Keys;
 
 /// Returns whether a tag has the extension `t` ([RFC 6497 section 2.2]), and writes the span of its language, which
 /// precedes its first field: `ja-latn` in `und-t-ja-latn-m0-hepburn`. The language is empty if there is none, as in

@@ -3,10 +3,10 @@
 //! Where the subtags of an extension are in a tag (RFC 5646 section 2.2.6).
 
 use crate::extension::first_extension_end;
+use crate::keyword::Keys;
 use crate::scan::{case_insensitive_eq, into_smallcase, segment_end};
 use crate::spans::span::Span;
 use crate::spans::tag::normal_tag_of;
-use crate::unicode::Keys;
 
 /// Where a key and its value are.
 pub struct KeyPlace {

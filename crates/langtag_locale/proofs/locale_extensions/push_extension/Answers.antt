@@ -2,7 +2,7 @@ use Rattle.std.proofs.Common.{◌∷◌, [], true, false, refl, sym, ap, ◌∙�
 use Rattle.langtag_output.proofs.Pushed.{pushes_joined, pushes_same}
 use Rattle.langtag_scan.specs.Record.{extension_flat}
 use Rattle.langtag_scan.specs.Subtags.{subtags}
-use Rattle.langtag_unicode.specs.Form.{is_of, is_transform, unicode_form}
+use Rattle.langtag_keyword.specs.Form.{is_of, is_transform, unicode_form}
 use Rattle.langtag_locale.specs.LocaleForm.{locale_extension_form, locale_transform_form}
 use Rattle.langtag_locale.proofs.LocaleExtensions.{locale_form_tested, transform_allowed}
 use Rattle.langtag_locale.proofs.locale_extensions.push_extension.Goals as goal

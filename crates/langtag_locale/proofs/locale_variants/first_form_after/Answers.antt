@@ -4,7 +4,7 @@ use Rattle.langtag.specs.Fields.{subtag_of}
 use Rattle.langtag_scan.specs.Case.{fold_text}
 use Rattle.langtag_scan.specs.Record.{one_flat}
 use Rattle.langtag_scan.specs.Subtags.{segments_left}
-use Rattle.langtag_unicode.proofs.AlphabetLaws.{found}
+use Rattle.langtag_keyword.proofs.AlphabetLaws.{found}
 use Rattle.langtag_locale.proofs.VariantForms.{better_found, forms, other_passed}
 use Rattle.langtag_locale.proofs.locale_variants.first_form_after.Goals as goal
 

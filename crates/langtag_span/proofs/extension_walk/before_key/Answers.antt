@@ -1,4 +1,4 @@
-use Rattle.langtag_unicode.specs.Keys.{opens_keyword}
+use Rattle.langtag_keyword.specs.Keys.{opens_keyword}
 use Rattle.langtag_span.proofs.SubtagSpans.{span-before_key}
 use Rattle.std.proofs.Common.{arith}
 use Rattle.langtag_span.proofs.extension_walk.before_key.Goals as goal

@@ -1,6 +1,6 @@
 use Rattle.std.proofs.Common.{arith}
 use Rattle.std.proofs.lemmas.Bool.Decides.{nat_tests}
-use Rattle.langtag_unicode.proofs.SubtagTexts.{before_key-more, length-before_key}
+use Rattle.langtag_keyword.proofs.SubtagTexts.{before_key-more, length-before_key}
 use Rattle.langtag_span.proofs.SubtagSpans.{length-spanned}
 use Rattle.langtag_span.proofs.extension_walk.len_before_key.Goals as goal
 

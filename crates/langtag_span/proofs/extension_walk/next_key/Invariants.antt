@@ -1,6 +1,6 @@
 use Rattle.std.proofs.Common.{◌≡◌, drop, take}
-use Rattle.langtag_unicode.specs.Keys.{opens_keyword}
-use Rattle.langtag_unicode.specs.Keywords.{keywords_after}
+use Rattle.langtag_keyword.specs.Keys.{opens_keyword}
+use Rattle.langtag_keyword.specs.Keywords.{keywords_after}
 use Rattle.langtag_span.specs.Keywords.{HasSubtags, keywords_from, subtags_in}
 use Rattle.langtag_span.proofs.extension_walk.next_key.Given as goal
 

@@ -3,7 +3,7 @@ use Rattle.std.proofs.lemmas.List.{take_at}
 use Rattle.langtag.specs.Text.{lang_tag_text}
 use Rattle.langtag.specs.Form.{IsForm}
 use Rattle.langtag.proofs.FormLaws.{written_whole}
-use Rattle.langtag_unicode.specs.Form.{extensions_record}
+use Rattle.langtag_keyword.specs.Form.{extensions_record}
 use Rattle.langtag_unicode.proofs.form.form_bytes.Goals as goal
 
 -- both calls write the one form, and the second one has just the room for it

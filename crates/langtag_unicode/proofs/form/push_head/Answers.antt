@@ -6,7 +6,7 @@ use Rattle.langtag_scan.specs.Record.{one_flat}
 use Rattle.langtag_scan.specs.Subtags.{join}
 use Rattle.langtag_scan.specs.Tag.{IsNormal}
 use Rattle.langtag_scan.specs.Ends.{to_variants}
-use Rattle.langtag_unicode.proofs.ExtensionForms.{head-cut, head_inside}
+use Rattle.langtag_keyword.proofs.ExtensionForms.{head-cut, head_inside}
 use Rattle.langtag_unicode.proofs.form.push_head.Goals as goal
 
 pub slice_bounds-push_subtag-end : goal.slice_bounds-push_subtag-end

@@ -3,9 +3,9 @@ use Rattle.std.specs.List.{flat_map}
 use Rattle.langtag_output.specs.Output.{HasText}
 use Rattle.langtag_output.proofs.Pushed.{pushes_both}
 use Rattle.langtag_scan.specs.Record.{extension_flat, private_part_flat, spell}
-use Rattle.langtag_unicode.specs.Form.{extensions_record, forms_after}
+use Rattle.langtag_keyword.specs.Form.{extensions_record, forms_after}
 use Rattle.langtag_scan.specs.Ends.{to_variants}
-use Rattle.langtag_unicode.proofs.ExtensionForms.{form_joined}
+use Rattle.langtag_keyword.proofs.ExtensionForms.{form_joined}
 use Rattle.langtag_unicode.proofs.form.put_parts.Goals as goal
 
 pub returns : goal.returns

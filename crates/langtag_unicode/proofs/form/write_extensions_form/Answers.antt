@@ -2,7 +2,7 @@ use Rattle.std.proofs.Common.{refl, sym, ◌∙◌, arith}
 use Rattle.langtag.specs.Text.{lang_tag_text}
 use Rattle.langtag.proofs.FormLaws.{kept_written, record_written}
 use Rattle.langtag_scan.specs.Tag.{IsNormal}
-use Rattle.langtag_unicode.specs.Form.{extensions_record}
+use Rattle.langtag_keyword.specs.Form.{extensions_record}
 use Rattle.langtag_unicode.proofs.FormSizes.{form_bounded}
 use Rattle.langtag_unicode.proofs.form.write_extensions_form.Goals as goal
 

@@ -3,10 +3,10 @@ use Rattle.std.specs.List.{flat_map}
 use Rattle.langtag_output.specs.Output.{HasText}
 use Rattle.langtag_output.proofs.Pushed.{pushes_both}
 use Rattle.langtag_scan.specs.Record.{extension_flat, private_part_flat, spell}
-use Rattle.langtag_unicode.specs.Edit.{with_changed_u}
-use Rattle.langtag_unicode.specs.EditText.{edited_by, edited_record_by, value_subtags}
+use Rattle.langtag_keyword.specs.Edit.{with_changed_u}
+use Rattle.langtag_keyword.specs.EditText.{edited_by, edited_record_by, value_subtags}
 use Rattle.langtag_scan.specs.Ends.{to_variants}
-use Rattle.langtag_unicode.proofs.KeywordEdits.{edited_joined}
+use Rattle.langtag_keyword.proofs.KeywordEdits.{edited_joined}
 use Rattle.langtag_unicode.proofs.keyword_setters.put_parts.Goals as goal
 
 pub returns : goal.returns

@@ -2,9 +2,9 @@ use Rattle.std.proofs.Common.{arith}
 use Rattle.std.proofs.lemmas.Result.{IfOk-weaker}
 use Rattle.langtag.specs.Text.{lang_tag_text}
 use Rattle.langtag_unicode.proofs.CanonicalTags.{canonical_tag}
-use Rattle.langtag_unicode.proofs.KeywordLaws.{others_after_set, read_after_set}
+use Rattle.langtag_keyword.proofs.KeywordLaws.{others_after_set, read_after_set}
 use Rattle.langtag_unicode.proofs.KeywordSizes.{set_bounded}
-use Rattle.langtag_unicode.proofs.KeywordTwice.{set_twice}
+use Rattle.langtag_keyword.proofs.KeywordTwice.{set_twice}
 use Rattle.langtag_unicode.proofs.keyword_setters.write_with_keyword.Goals as goal
 
 pub returns-clause-set : goal.returns-clause-set

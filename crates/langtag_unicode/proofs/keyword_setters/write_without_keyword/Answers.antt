@@ -2,7 +2,7 @@ use Rattle.std.proofs.Common.{arith}
 use Rattle.std.proofs.lemmas.Result.{IfOk-weaker}
 use Rattle.langtag.specs.Text.{lang_tag_text}
 use Rattle.langtag_unicode.proofs.CanonicalKeywords.{canonical_removal}
-use Rattle.langtag_unicode.proofs.KeywordLaws.{none_after_removal, others_after_removal}
+use Rattle.langtag_keyword.proofs.KeywordLaws.{none_after_removal, others_after_removal}
 use Rattle.langtag_unicode.proofs.KeywordSizes.{removed_bounded}
 use Rattle.langtag_unicode.proofs.keyword_setters.write_without_keyword.Goals as goal
 

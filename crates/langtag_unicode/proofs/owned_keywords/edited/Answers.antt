@@ -1,7 +1,7 @@
 use Rattle.std.proofs.Common.{inl, sym}
 use Rattle.langtag_scan.proofs.SpelledTexts.{offsets_kept}
 use Rattle.langtag_scan.specs.Tag.{IsNormal, IsTag}
-use Rattle.langtag_unicode.specs.EditText.{edited_record_by, value_subtags}
+use Rattle.langtag_keyword.specs.EditText.{edited_record_by, value_subtags}
 use Rattle.langtag_unicode.proofs.KeywordRecords.{edited_well_formed}
 use Rattle.langtag_unicode.proofs.owned_keywords.edited.Goals as goal
 

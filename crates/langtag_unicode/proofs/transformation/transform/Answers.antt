@@ -2,9 +2,9 @@ use Rattle.std.proofs.Common.{◌≡◌, None, Some, ap, ◌∙◌, arith}
 use Rattle.std.proofs.lemmas.Grind.{common_steps}
 use Rattle.std.specs.Option.{option_map}
 use Rattle.langtag_extension.specs.Text.{singleton_byte}
-use Rattle.langtag_unicode.specs.Keywords.{subtags_of}
+use Rattle.langtag_keyword.specs.Keywords.{subtags_of}
 use Rattle.langtag_unicode.specs.Text.{transformation_subtags}
-use Rattle.langtag_unicode.proofs.SubtagTexts.{extension-some, nothing-some}
+use Rattle.langtag_keyword.proofs.SubtagTexts.{extension-some, nothing-some}
 use Rattle.langtag_unicode.proofs.transformation.transform.Goals as goal
 
 pub returns-in_err-text-clause-first : goal.returns-in_err-text-clause-first

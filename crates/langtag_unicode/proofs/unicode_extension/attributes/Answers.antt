@@ -1,7 +1,7 @@
 use Rattle.std.proofs.Common.{◌≡◌, ℕ, List, [], ap, ◌∙◌}
 use Rattle.langtag_scan.specs.Subtags.{join, subtags}
-use Rattle.langtag_unicode.specs.Keywords.{before_key, each_once_after, is_key, subtags_of}
-use Rattle.langtag_unicode.proofs.SubtagTexts.{subtags-before_key}
+use Rattle.langtag_keyword.specs.Keywords.{before_key, each_once_after, is_key, subtags_of}
+use Rattle.langtag_keyword.proofs.SubtagTexts.{subtags-before_key}
 use Rattle.langtag_unicode.proofs.unicode_extension.attributes.Goals as goal
 
 pub returns-clause-list : goal.returns-clause-list

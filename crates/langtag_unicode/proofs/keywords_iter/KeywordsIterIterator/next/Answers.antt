@@ -1,8 +1,8 @@
 use Rattle.std.proofs.Common.{◌≡◌, ◌+◌, length, take, ◌∷◌, sym, ap, ◌∙◌, arith}
 use Rattle.langtag_scan.specs.Subtags.{segments_left, subtags}
 use Rattle.langtag.proofs.RepeatLaws.{IsAt-drop}
-use Rattle.langtag_unicode.specs.Keys.{opens_keyword}
-use Rattle.langtag_unicode.specs.Keywords.{keywords_after}
+use Rattle.langtag_keyword.specs.Keys.{opens_keyword}
+use Rattle.langtag_keyword.specs.Keywords.{keywords_after}
 use Rattle.langtag_unicode.specs.Text.{keywords_left}
 use Rattle.langtag_unicode.proofs.WalkLaws.{keywords-new, keywords-other}
 use Rattle.langtag_unicode.proofs.keywords_iter.KeywordsIterIterator.next.Goals as goal

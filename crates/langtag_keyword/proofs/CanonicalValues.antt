@@ -1,0 +1,157 @@
+-- A canonical value is its own canonical value: no replacement is replaced, and the empty value stays.
+use Rattle.std.proofs.Common.{◌≡◌, ℕ, Bool, true, false, not, cond, ◌&&◌, List, [], ◌∷◌, map, find, Option, None, Some, option_map, unwrap_or, refl, sym, ap, ◌∙◌}
+use Rattle.std.proofs.lemmas.Bool.{false≢true, not-true}
+use Rattle.std.specs.Prelude.{codes}
+use Rattle.std.specs.List.{list_all}
+use Rattle.std.specs.Option.{is_none}
+use Rattle.std.specs.Str.{bytes_eq}
+use Rattle.langtag_scan.proofs.CaseLaw.{fold_text-twice, join-fold, map-twice, segments-fold}
+use Rattle.langtag_scan.proofs.SubtagLists.{join-subtags}
+use Rattle.langtag_scan.specs.Case.{are_alike, fold_byte, fold_text}
+use Rattle.langtag_scan.specs.CaseLaws.{are_alike-decides}
+use Rattle.langtag_scan.specs.Subtags.{join, subtags}
+use Rattle.langtag_keyword.specs.Alias.{Alias, TypeAlias, alias_for, type_alias_for}
+use Rattle.langtag_keyword.specs.Aliases.{subdivision_aliases, transform_type_aliases, unicode_type_aliases}
+use Rattle.langtag_keyword.specs.Form.{has_subdivision, subdivision, transform_value, unicode_type, unicode_value, without_true}
+use Rattle.langtag_keyword.proofs.AliasCase.{alias_for-alike, type_alias_for-alike}
+use Rattle.langtag_keyword.proofs.Found.{both, found_has, found_is}
+
+-- ---- case
+
+pub subtags-fold : (text : List ℕ) → subtags (fold_text text) ≡ map fold_text (subtags text)
+subtags-fold [] = refl
+subtags-fold (b ∷ text) = segments-fold (b ∷ text)
+
+-- ---- by computation
+
+subdivisions_settled : list_all {X = Alias} (λ row. is_none (alias_for subdivision_aliases row.new)) subdivision_aliases ≡ true
+unfolding subdivision_aliases fold_byte
+subdivisions_settled = refl
+
+no_empty_subdivision : alias_for subdivision_aliases [] ≡ None
+unfolding subdivision_aliases fold_byte
+no_empty_subdivision = refl
+
+types_settled : list_all {X = TypeAlias} (λ row. is_none (type_alias_for unicode_type_aliases row.key row.new)) unicode_type_aliases ≡ true
+unfolding unicode_type_aliases fold_byte
+types_settled = refl
+
+no_empty_type : list_all {X = TypeAlias} (λ row. not (are_alike row.old [])) unicode_type_aliases ≡ true
+unfolding unicode_type_aliases fold_byte
+no_empty_type = refl
+
+transforms_settled : list_all {X = TypeAlias} (λ row. is_none (type_alias_for transform_type_aliases row.key row.new)) transform_type_aliases ≡ true
+unfolding transform_type_aliases fold_byte
+transforms_settled = refl
+
+-- ---- no replacement is replaced
+
+is_none-none : (o : Option (List ℕ)) → is_none o ≡ true → o ≡ None
+is_none-none None is = refl
+is_none-none (Some new) is = absurd (false≢true is)
+
+alias-own :
+    (rows : List Alias) (text : List ℕ) → list_all {X = Alias} (λ row. is_none (alias_for rows row.new)) rows ≡ true →
+    alias_for rows (fold_text (unwrap_or (alias_for rows text) text)) ≡ None
+alias-own rows text settled = alias_for-alike rows _ _ (fold_text-twice (unwrap_or (alias_for rows text) text)) ∙ by_row (find test rows) refl
+  where
+    test : Alias → Bool
+    test alias = are_alike alias.old text
+
+    by_row : (o : Option Alias) → find test rows ≡ o → alias_for rows (unwrap_or (option_map (λ alias. alias.new) o) text) ≡ None
+    by_row None none = ap (option_map (λ alias. alias.new)) none
+    by_row (Some a) found = is_none-none (alias_for rows a.new) (found_has (λ (alias : Alias). is_none (alias_for rows alias.new)) test rows a settled found)
+
+type-own :
+    (rows : List TypeAlias) (key text : List ℕ) → list_all {X = TypeAlias} (λ row. is_none (type_alias_for rows row.key row.new)) rows ≡ true →
+    type_alias_for rows key (fold_text (unwrap_or (type_alias_for rows key text) text)) ≡ None
+type-own rows key text settled = type_alias_for-alike rows key key _ _ refl (fold_text-twice (unwrap_or (type_alias_for rows key text) text)) ∙ by_row (find test rows) refl
+  where
+    test : TypeAlias → Bool
+    test alias = are_alike alias.key key && are_alike alias.old text
+
+    by_row : (o : Option TypeAlias) → find test rows ≡ o → type_alias_for rows key (unwrap_or (option_map (λ alias. alias.new) o) text) ≡ None
+    by_row None none = ap (option_map (λ alias. alias.new)) none
+    by_row (Some a) found =
+        let same = (are_alike-decides a.key key).0 (both (are_alike a.key key) (are_alike a.old text) (found_is test rows a found)).0 in
+        type_alias_for-alike rows key a.key a.new a.new (sym same) refl
+        ∙ is_none-none (type_alias_for rows a.key a.new) (found_has (λ (alias : TypeAlias). is_none (type_alias_for rows alias.key alias.new)) test rows a settled found)
+
+type-empty : (rows : List TypeAlias) (key : List ℕ) → list_all {X = TypeAlias} (λ row. not (are_alike row.old [])) rows ≡ true → type_alias_for rows key [] ≡ None
+type-empty rows key no_empty = ap (option_map (λ alias. alias.new)) (by_row (find test rows) refl)
+  where
+    test : TypeAlias → Bool
+    test alias = are_alike alias.key key && are_alike alias.old []
+
+    by_row : (o : Option TypeAlias) → find test rows ≡ o → o ≡ None
+    by_row None none = refl
+    by_row (Some a) found =
+        absurd
+        (false≢true
+        (sym (not-true (are_alike a.old []) (found_has (λ (alias : TypeAlias). not (are_alike alias.old [])) test rows a no_empty found))
+        ∙ (both (are_alike a.key key) (are_alike a.old []) (found_is test rows a found)).1))
+
+-- ---- values of `u`
+
+abbrev pub replaced : List ℕ → List ℕ → List ℕ
+replaced key text = cond (has_subdivision key) (subdivision text) (unicode_type key text)
+
+replaced-own : (key text : List ℕ) → replaced key (fold_text (replaced key text)) ≡ fold_text (replaced key text)
+unfolding subdivision unicode_type
+replaced-own key text = by_test (has_subdivision key)
+  where
+    by_test :
+        (b : Bool) →
+        cond b (subdivision (fold_text (cond b (subdivision text) (unicode_type key text)))) (unicode_type key (fold_text (cond b (subdivision text) (unicode_type key text))))
+        ≡ fold_text (cond b (subdivision text) (unicode_type key text))
+    by_test true = ap (λ o. unwrap_or o (fold_text (subdivision text))) (alias-own subdivision_aliases text subdivisions_settled)
+    by_test false = ap (λ o. unwrap_or o (fold_text (unicode_type key text))) (type-own unicode_type_aliases key text types_settled)
+
+replaced-empty : (key : List ℕ) → replaced key [] ≡ []
+unfolding subdivision unicode_type
+replaced-empty key = by_test (has_subdivision key)
+  where
+    by_test : (b : Bool) → cond b (subdivision []) (unicode_type key []) ≡ []
+    by_test true = ap (λ o. unwrap_or o []) no_empty_subdivision
+    by_test false = ap (λ o. unwrap_or o []) (type-empty unicode_type_aliases key no_empty_type)
+
+unicode-own : (key text : List ℕ) → unicode_value key (fold_text (unicode_value key text)) ≡ fold_text (unicode_value key text)
+unicode-own key text = by_true (are_alike (replaced key text) (codes "true")) refl
+  where
+    empty : (t : List ℕ) → t ≡ [] → without_true t ≡ []
+    empty t is = by_test (are_alike t (codes "true"))
+      where
+        by_test : (b : Bool) → cond b [] t ≡ []
+        by_test true = refl
+        by_test false = is
+
+    by_true :
+        (b : Bool) → are_alike (replaced key text) (codes "true") ≡ b → without_true (replaced key (fold_text (cond b [] (replaced key text)))) ≡ fold_text (cond b [] (replaced key text))
+    by_true true is = empty (replaced key []) (replaced-empty key)
+    by_true false is =
+        ap without_true (replaced-own key text)
+        ∙ ap (λ b. cond b [] (fold_text (replaced key text))) (ap (λ t. bytes_eq t (fold_text (codes "true"))) (fold_text-twice (replaced key text)) ∙ is)
+
+-- ---- values of `t`
+
+transform-own : (key text : List ℕ) → transform_value key (fold_text (transform_value key text)) ≡ fold_text (transform_value key text)
+unfolding transform_value
+transform-own key text = ap (λ o. unwrap_or o (fold_text (transform_value key text))) (type-own transform_type_aliases key text transforms_settled)
+
+-- ---- subtags of values
+
+module _ (canonical : List ℕ → List ℕ) (own : (text : List ℕ) → canonical (fold_text (canonical text)) ≡ fold_text (canonical text)) where
+  value-settled : (w : List (List ℕ)) → map fold_text (subtags (canonical (join (map fold_text (subtags (canonical (join w))))))) ≡ map fold_text (subtags (canonical (join w)))
+  value-settled w =
+      let c : List ℕ = canonical (join w) in
+      rw (join-fold (subtags c), join-subtags c, own (join w), subtags-fold c) (map-twice fold_text fold_text-twice (subtags c))
+
+pub unicode-settled :
+    (key : List ℕ) (w : List (List ℕ)) →
+    map fold_text (subtags (unicode_value key (join (map fold_text (subtags (unicode_value key (join w))))))) ≡ map fold_text (subtags (unicode_value key (join w)))
+unicode-settled key = value-settled (unicode_value key) (unicode-own key)
+
+pub transform-settled :
+    (key : List ℕ) (w : List (List ℕ)) →
+    map fold_text (subtags (transform_value key (join (map fold_text (subtags (transform_value key (join w))))))) ≡ map fold_text (subtags (transform_value key (join w)))
+transform-settled key = value-settled (transform_value key) (transform-own key)

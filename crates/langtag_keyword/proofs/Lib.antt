@@ -1,0 +1,15 @@
+pub mod AliasCase
+pub mod AliasTables
+pub mod AlphabetLaws
+pub mod AlphabetTwice
+pub mod CanonicalValues
+pub mod Each
+pub mod ExtensionForms
+pub mod ExtensionsPut
+pub mod Found
+pub mod KeywordBlocks
+pub mod KeywordEdits
+pub mod KeywordForms
+pub mod KeywordLaws
+pub mod KeywordTwice
+pub mod SubtagTexts

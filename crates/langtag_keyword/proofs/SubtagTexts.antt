@@ -1,0 +1,201 @@
+-- The subtags of an extension, and those before a key, in its text.
+use Rattle.std.proofs.Common.{◌≡◌, ℕ, ◌≤◌, ◌<◌, ◌+◌, ◌-◌, Bool, true, false, List, [], ◌∷◌, ◌++◌, length, take, drop, get_or, Option, None, Some, suc, refl, ap, sym, subst, ◌∙◌, arith, cond, append-nil, take-append-drop}
+use Rattle.std.specs.Str.{IsCharBoundary, IsUtf8}
+use Rattle.std.proofs.lemmas.Str.{IsCharBoundary-start, IsCharBoundary-end, IsCharBoundary-before_ascii, IsCharBoundary-after_ascii}
+use Rattle.std.proofs.lemmas.Grind.{common_steps}
+use Rattle.std.proofs.Math.Seq.{get_or-append_seam, drop-cons}
+use Rattle.std.proofs.lemmas.List.{length-append}
+use Rattle.std.specs.List.{AllByRecursion}
+use Rattle.std.specs.Option.{option_map, option_map_or}
+use Rattle.std.proofs.lemmas.List.Splits.{slice_split_at, slice_split_none, length-slice_split}
+use Rattle.langtag_scan.specs.Record.{Extension, Record, IsWellFormed}
+use Rattle.langtag_scan.specs.Subtags.{is_hyphen, join, segments, subtags, IsHyphenFree, NoHyphenWithin}
+use Rattle.langtag_scan.proofs.Joins.{hyphenated, join-append, length-join, length-hyphenated, take-join}
+use Rattle.langtag_scan.proofs.SubtagFacts.{IsSubtag, of_extension_subtag}
+use Rattle.langtag_scan.proofs.SubtagLists.{each_subtag, subtags-joined, join-subtags, length-subtags}
+use Rattle.langtag_scan.specs.Class.{is_extension_subtag}
+use Rattle.langtag_extension.specs.Spelling.{SpellsExtension, IsExtension, find_extension}
+use Rattle.langtag_extension.proofs.ExtensionLookUp.{extension_found}
+use Rattle.langtag_keyword.specs.Keys.{length_with_hyphens, opens_keyword}
+use Rattle.langtag_keyword.specs.Keywords.{before_key, subtags_of}
+use Rattle.langtag_keyword.specs.Transform.{some_text}
+use Rattle.langtag_keyword.specs.declared.keys.Keys.{Keys}
+use Rattle.langtag_keyword.specs.declared.keys.Keys.TheVariants.{Unicode, Transform}
+
+-- ---- the text of an extension without its singleton
+
+-- its subtags are those of the extension
+pub subtags-after_singleton : (e : Extension) (text : List ℕ) → SpellsExtension e text → subtags (drop 2 text) ≡ e.subtags
+subtags-after_singleton e text spells = by_subtags e.subtags refl
+  where
+    by_subtags : (ss : List (List ℕ)) → e.subtags ≡ ss → subtags (drop 2 text) ≡ e.subtags
+    by_subtags [] is = absurd (omega (arith, spells.member.some, ap length is))
+    by_subtags (s ∷ ss) is =
+        let cut : text ≡ e.singleton ∷ 45 ∷ join (s ∷ ss) = sym spells.joined ∙ ap (λ xs. join ((e.singleton ∷ []) ∷ xs)) is in
+        ap (λ t. subtags (drop 2 t)) cut ∙ ap (λ xs. subtags (join xs)) (sym is) ∙ subtags-joined e.subtags (each_subtag is_extension_subtag of_extension_subtag e.subtags spells.member.subtags)
+
+-- and the text may be cut there
+pub boundary-after_singleton : (text : List ℕ) → IsUtf8 text → IsExtension text → IsCharBoundary text 2
+boundary-after_singleton text utf8 (e, spells) = by_subtags e.subtags refl
+  where
+    by_subtags : (ss : List (List ℕ)) → e.subtags ≡ ss → IsCharBoundary text 2
+    by_subtags [] is = absurd (omega (arith, spells.member.some, ap length is))
+    by_subtags (s ∷ ss) is =
+        let cut : text ≡ e.singleton ∷ 45 ∷ join (s ∷ ss) = sym spells.joined ∙ ap (λ xs. join ((e.singleton ∷ []) ∷ xs)) is in
+        IsCharBoundary-after_ascii text 1 utf8 (rw cut (omega arith)) (rw cut (omega arith))
+
+-- no more than a number can count
+pub ruleset few_subtags = (length-subtags)
+
+-- ---- what stands before the first key
+
+-- what stands from the first key on
+abbrev pub from_key : (List ℕ → Bool) → List (List ℕ) → List (List ℕ)
+from_key test [] = []
+from_key test (s ∷ ss) = cond (test s) (s ∷ ss) (from_key test ss)
+
+pub before-from : (test : List ℕ → Bool) (ss : List (List ℕ)) → before_key test ss ++ from_key test ss ≡ ss
+before-from test [] = refl
+before-from test (s ∷ ss) = by_test (test s) (before-from test ss)
+  where
+    by_test : (b : Bool) → before_key test ss ++ from_key test ss ≡ ss → cond b [] (s ∷ before_key test ss) ++ cond b (s ∷ ss) (from_key test ss) ≡ s ∷ ss
+    by_test true others = refl
+    by_test false others = ap (λ xs. s ∷ xs) others
+
+pub length-with_hyphens : (ss : List (List ℕ)) → length_with_hyphens ss ≡ length (hyphenated ss)
+length-with_hyphens [] = refl
+length-with_hyphens (s ∷ ss) = omega (arith, length-with_hyphens ss, length-append s (hyphenated ss))
+
+length-more : (x : List ℕ) (xs : List (List ℕ)) → length_with_hyphens (x ∷ xs) - 1 ≡ length (join (x ∷ xs))
+length-more x xs = omega (arith, length-join x xs, length-with_hyphens xs)
+
+take-before : (bs ys : List (List ℕ)) → take (length_with_hyphens bs - 1) (join (bs ++ ys)) ≡ join bs
+take-before [] ys = refl
+take-before (x ∷ xs) ys = rw (length-more x xs) (take-join x xs ys)
+
+boundary-before : (bs ys : List (List ℕ)) → IsUtf8 (join (bs ++ ys)) → IsCharBoundary (join (bs ++ ys)) (length_with_hyphens bs - 1)
+boundary-before [] ys utf8 = IsCharBoundary-start (join ys) utf8
+boundary-before (x ∷ xs) ys utf8 = rw (length-more x xs) (rw (join-append x xs ys) (by_rest ys))
+  where
+    by_rest : (zs : List (List ℕ)) → IsCharBoundary (join (x ∷ xs) ++ hyphenated zs) (length (join (x ∷ xs)))
+    by_rest [] = rw (append-nil (join (x ∷ xs))) (IsCharBoundary-end (join (x ∷ xs)))
+    by_rest (z ∷ zs) =
+        IsCharBoundary-before_ascii (join (x ∷ xs) ++ hyphenated (z ∷ zs)) (length (join (x ∷ xs))) (omega (arith, length-append (join (x ∷ xs)) (hyphenated (z ∷ zs))))
+        (rw (get_or-append_seam (join (x ∷ xs)) 45 (z ++ hyphenated zs) 0) (omega arith))
+
+length-before : (bs ys : List (List ℕ)) → length_with_hyphens bs ≤ length (join (bs ++ ys)) + 1
+length-before [] ys = omega arith
+length-before (x ∷ xs) ys = omega (arith, length-with_hyphens xs, length-join x (xs ++ ys), length-hyphenated xs ys)
+
+before-whole : (test : List ℕ → Bool) (text : List ℕ) → join (before_key test (subtags text) ++ from_key test (subtags text)) ≡ text
+before-whole test text = ap join (before-from test (subtags text)) ∙ join-subtags text
+
+-- no more than the text and one hyphen
+pub length-before_key : (test : List ℕ → Bool) (text : List ℕ) → length_with_hyphens (before_key test (subtags text)) ≤ length text + 1
+length-before_key test text = omega (arith, length-before (before_key test (subtags text)) (from_key test (subtags text)), ap length (before-whole test text))
+
+-- the text of the subtags before the first key stands at the start
+pub take-before_key : (test : List ℕ → Bool) (text : List ℕ) (n : ℕ) → n ≡ length_with_hyphens (before_key test (subtags text)) - 1 → take n text ≡ join (before_key test (subtags text))
+take-before_key test text n is =
+    let ss = subtags text in
+    ap (λ k. take k text) is ∙ ap (take (length_with_hyphens (before_key test ss) - 1)) (sym (before-whole test text)) ∙ take-before (before_key test ss) (from_key test ss)
+
+-- and the text may be cut after it
+pub boundary-before_key : (test : List ℕ → Bool) (text : List ℕ) (n : ℕ) → IsUtf8 text → n ≡ length_with_hyphens (before_key test (subtags text)) - 1 → IsCharBoundary text n
+boundary-before_key test text n utf8 is =
+    let ss = subtags text in
+    let whole = before-whole test text in
+    let cut : IsCharBoundary text (length_with_hyphens (before_key test ss) - 1) =
+    subst (λ t. IsCharBoundary t (length_with_hyphens (before_key test ss) - 1)) whole (boundary-before (before_key test ss) (from_key test ss) (subst IsUtf8 (sym whole) utf8)) in
+    subst (IsCharBoundary text) (sym is) cut
+
+-- no key is empty
+opens-nothing : (keys : Keys) → opens_keyword keys [] ≡ false
+opens-nothing Unicode = refl
+opens-nothing Transform = refl
+
+-- the empty text has one segment, which is no key and has no bytes
+pub before_key-segments : (keys : Keys) (text : List ℕ) → join (before_key (opens_keyword keys) (subtags text)) ≡ join (before_key (opens_keyword keys) (segments text))
+before_key-segments keys [] = rw (opens-nothing keys) refl
+before_key-segments keys (b ∷ text) = refl
+
+-- one more subtag before the key, or the key
+pub before_key-more : (test : List ℕ → Bool) (s : List ℕ) (ss : List (List ℕ)) → test s ≡ false → before_key test (s ∷ ss) ≡ s ∷ before_key test ss
+before_key-more test s ss other = rw other refl
+
+pub before_key-key : (test : List ℕ → Bool) (s : List ℕ) (ss : List (List ℕ)) → test s ≡ true → before_key test (s ∷ ss) ≡ []
+before_key-key test s ss key = rw key refl
+
+pub ruleset counted_before_key = (before_key-more, before_key-key, length-before_key)
+
+pub ruleset cut_before_key = (take-before_key, before_key-segments)
+
+-- ---- a subtag and what follows it
+
+pub segments-cut :
+    (text first rest : List ℕ) (end : ℕ) → end < length text → NoHyphenWithin text 0 end → get_or text end 0 ≡ 45 →
+    first ≡ take end text → rest ≡ drop (end + 1) text → segments text ≡ first ∷ segments rest
+segments-cut text first rest end below free hyphen is_first is_rest =
+    let one : suc end ≡ end + 1 = omega arith in
+    let kept : IsHyphenFree first = grind (arith, common_steps) in
+    let cut : text ≡ first ++ 45 ∷ rest =
+    sym (take-append-drop end text) ∙ ap (λ t. take end text ++ t) (drop-cons text end 0 below) ∙ ap (λ b. take end text ++ b ∷ drop (suc end) text) hyphen
+    ∙ ap (λ t. t ++ 45 ∷ drop (suc end) text) (sym is_first) ∙ ap (λ n. first ++ 45 ∷ drop n text) one ∙ ap (λ t. first ++ 45 ∷ t) (sym is_rest) in
+    rw cut (slice_split_at is_hyphen first 45 rest kept refl)
+
+pub segments-whole : (text : List ℕ) (end : ℕ) → end ≡ length text → NoHyphenWithin text 0 end → segments text ≡ text ∷ []
+segments-whole text end is free =
+    let kept : IsHyphenFree text = grind (arith, common_steps) in
+    slice_split_none is_hyphen text kept
+
+-- ---- the subtags of the attributes
+
+pub fits-before_key : (test : List ℕ → Bool) (ss : List (List ℕ)) → AllByRecursion IsSubtag ss → AllByRecursion IsSubtag (before_key test ss)
+fits-before_key test [] fits = tt
+fits-before_key test (s ∷ ss) fits = by_test (test s) (fits-before_key test ss fits.1)
+  where
+    by_test : (b : Bool) → AllByRecursion IsSubtag (before_key test ss) → AllByRecursion IsSubtag (cond b [] (s ∷ before_key test ss))
+    by_test true others = tt
+    by_test false others = (fits.0, others)
+
+-- the subtags of an extension are subtags
+fits-subtags_of : (b : ℕ) (r : Record) → IsWellFormed r → AllByRecursion IsSubtag (subtags_of b r)
+fits-subtags_of b r fits = by_found (find_extension b r.extensions) refl
+  where
+    by_found : (o : Option Extension) → find_extension b r.extensions ≡ o → AllByRecursion IsSubtag (option_map_or (λ e. e.subtags) o [])
+    by_found None is = tt
+    by_found (Some e) is = each_subtag is_extension_subtag of_extension_subtag e.subtags (extension_found b r.extensions fits.extensions e is).subtags
+
+-- those before the first key are found again in their text
+pub subtags-before_key : (test : List ℕ → Bool) (b : ℕ) (r : Record) → IsWellFormed r → subtags (join (before_key test (subtags_of b r))) ≡ before_key test (subtags_of b r)
+subtags-before_key test b r fits = subtags-joined (before_key test (subtags_of b r)) (fits-before_key test (subtags_of b r) (fits-subtags_of b r fits))
+
+-- an extension has subtags
+pub extension-some :
+    (b : ℕ) (r : Record) → IsWellFormed r → (text : List ℕ) → subtags text ≡ subtags_of b r →
+    (option : Option (List ℕ)) → option ≡ some_text text → option_map subtags option ≡ option_map (λ e. e.subtags) (find_extension b r.extensions)
+extension-some b r fits text found option is = ap (option_map subtags) is ∙ by_found (find_extension b r.extensions) refl text found
+  where
+    by_found :
+        (o : Option Extension) → find_extension b r.extensions ≡ o → (t : List ℕ) → subtags t ≡ option_map_or (λ e. e.subtags) o [] →
+        option_map subtags (some_text t) ≡ option_map (λ e. e.subtags) o
+    by_found None none [] same = refl
+    by_found None none (c ∷ t) same = absurd (omega (arith, ap length same, length-slice_split is_hyphen (c ∷ t)))
+    by_found (Some e) some [] same = absurd (omega (arith, ap length same, (extension_found b r.extensions fits.extensions e some).some))
+    by_found (Some e) some (c ∷ t) same = ap Some same
+
+pub nothing-some : (text : List ℕ) → subtags text ≡ [] → some_text text ≡ None
+nothing-some [] none = refl
+nothing-some (c ∷ t) none = absurd (omega (arith, ap length none, length-slice_split is_hyphen (c ∷ t)))
+
+-- ---- an extension without its singleton
+
+pub fits-after_singleton : (text : List ℕ) → IsExtension text → AllByRecursion IsSubtag (subtags (drop 2 text))
+fits-after_singleton text (e, spells) =
+    subst (AllByRecursion IsSubtag) (sym (subtags-after_singleton e text spells)) (each_subtag is_extension_subtag of_extension_subtag e.subtags spells.member.subtags)
+
+-- no more bytes than the text and one hyphen
+pub length-all : (text : List ℕ) → length_with_hyphens (subtags text) ≤ length text + 1
+length-all text = omega (arith, length-before (subtags text) [], ap length (ap join (append-nil (subtags text)) ∙ join-subtags text))
+
+pub ruleset counted_subtags = (length-all)

@@ -1,0 +1,25 @@
+use Rattle.std.proofs.Common.{◌∷◌, [], true, false, refl, sym, ap, ◌∙◌, arith}
+use Rattle.langtag_output.proofs.Pushed.{pushes_joined, pushes_same}
+use Rattle.langtag_scan.specs.Record.{extension_flat}
+use Rattle.langtag_scan.specs.Subtags.{subtags}
+use Rattle.langtag_keyword.specs.Form.{extension_form, transform_form, unicode_form}
+use Rattle.langtag_keyword.proofs.ExtensionForms.{form_tested}
+use Rattle.langtag_keyword.proofs.extension_form.push_extension.Goals as goal
+
+pub returns-then-is_first-clause-pushed : goal.returns-then-is_first-clause-pushed
+returns-then-is_first-clause-pushed c = λ e spells.
+    let is = form_tested c.args.after_u c.args.after_t true _ e (sym (c.is_first.ensures e spells) ∙ c.if-is_first.true) refl in
+    pushes_same ((117 ∷ []) ∷ unicode_form (subtags c.subtags_of.result.now)) (extension_flat (extension_form c.args.after_u c.args.after_t e)) _ _
+    (ap (λ ss. (117 ∷ []) ∷ unicode_form ss) (c.subtags_of.ensures.subtags e spells) ∙ sym (ap extension_flat is)) c.push_unicode.ensures.pushed
+
+pub returns-then-is_first_transform-clause-pushed : goal.returns-then-is_first_transform-clause-pushed
+returns-then-is_first_transform-clause-pushed c = λ e spells.
+    let is = form_tested c.args.after_u c.args.after_t false true e (sym (c.is_first.ensures e spells) ∙ c.if-is_first.false) (sym (c.is_first_transform.ensures e spells) ∙ c.if-is_first_transform.true) in
+    pushes_same ((116 ∷ []) ∷ transform_form (subtags c.subtags_of-then-is_first_transform.result.now)) (extension_flat (extension_form c.args.after_u c.args.after_t e)) _ _
+    (ap (λ ss. (116 ∷ []) ∷ transform_form ss) (c.subtags_of-then-is_first_transform.ensures.subtags e spells) ∙ sym (ap extension_flat is)) c.push_transform.ensures.pushed
+
+pub returns-clause-pushed : goal.returns-clause-pushed
+returns-clause-pushed c = λ e spells.
+    let is = form_tested c.args.after_u c.args.after_t false false e (sym (c.is_first.ensures e spells) ∙ c.if-is_first.false) (sym (c.is_first_transform.ensures e spells) ∙ c.if-is_first_transform.false) in
+    pushes_same (extension_flat e) (extension_flat (extension_form c.args.after_u c.args.after_t e)) _ _ (sym (ap extension_flat is))
+    (pushes_joined (e.singleton ∷ []) e.subtags _ _ (omega arith) (pushes_same _ _ _ _ (ap (λ t. t ∷ []) (c.as_bytes.ensures ∙ sym spells.joined)) c.push_subtag.ensures.pushed))

@@ -1,0 +1,14 @@
+use Rattle.std.proofs.Common.{◌∷◌, [], ap}
+use Rattle.langtag_output.proofs.Pushed.{pushes_both, pushes_same}
+use Rattle.langtag_scan.specs.Subtags.{segments_left, subtags}
+use Rattle.langtag_keyword.specs.Form.{in_alphabet, keywords_form, unicode_form, unicode_value}
+use Rattle.langtag_keyword.specs.Keywords.{before_key, is_key}
+use Rattle.langtag_keyword.proofs.extension_form.push_unicode.Goals as goal
+
+pub returns-clause-pushed : goal.returns-clause-pushed
+returns-clause-pushed c =
+    let ss = subtags c.args.text.now in
+    pushes_both ((117 ∷ []) ∷ []) (unicode_form ss) _ _ _ c.push_subtag.ensures.pushed
+    (pushes_both (in_alphabet (before_key is_key ss)) (keywords_form is_key unicode_value ss) _ _ _
+    (pushes_same (in_alphabet (segments_left c.preceding.result)) (in_alphabet (before_key is_key ss)) _ _ (ap in_alphabet c.preceding.ensures) c.push_in_alphabet.ensures.pushed)
+    c.push_keywords.ensures.pushed)

@@ -1,0 +1,15 @@
+use Rattle.std.proofs.Common.{◌≡◌, length}
+use Rattle.langtag_scan.specs.Subtags.{subtags}
+use Rattle.langtag_keyword.specs.Keys.{opens_keyword}
+use Rattle.langtag_keyword.specs.Marks.{first_letter_index}
+use Rattle.langtag_keyword.proofs.KeywordForms.{AreMarkedSo}
+use Rattle.langtag_keyword.proofs.keyword_form.marked_firsts.Given as goal
+
+-- a key whose first letter or digit is not marked stands only in what is left
+abbrev pub invariant-loop-subtag : goal.invariant-loop-subtag
+invariant-loop-subtag l = record {
+  can_next : (goal.iterator-loop-subtag).can_next l.subtag-iterator;
+  is_finite : (goal.iterator-loop-subtag).is_finite l.subtag-iterator;
+  long : length l.marks ≡ 36;
+  so_far : AreMarkedSo first_letter_index (opens_keyword l.keys) l.marks (subtags l.text) l.subtag-iterator;
+}

@@ -1,0 +1,11 @@
+use Rattle.std.proofs.Common.{sym, ap, ◌∙◌}
+use Rattle.langtag_scan.specs.Subtags.{segments_left}
+use Rattle.langtag_keyword.specs.Form.{is_language_or_none}
+use Rattle.langtag_keyword.proofs.ExtensionForms.{language-some}
+use Rattle.langtag_keyword.proofs.transform_form.is_language_or_none.Goals as goal
+
+pub returns-in-Some : goal.returns-in-Some
+returns-in-Some c = c.is_language_id.ensures ∙ language-some c.in-Some.language.now _ (ap segments_left (sym c.in-Some.is) ∙ c.preceding.ensures)
+
+pub returns-in-None : goal.returns-in-None
+returns-in-None c = ap is_language_or_none (sym (ap segments_left c.in-None.is) ∙ c.preceding.ensures)

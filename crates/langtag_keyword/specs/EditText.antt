@@ -1,0 +1,21 @@
+-- The value in an edit of a keyword. Only contracts of private functions cite this page.
+use Rattle.std.specs.Prelude.{◌≡◌, ℕ, List, [], Option, None, unwrap_or}
+use Rattle.std.specs.Option.{option_map}
+use Rattle.langtag_scan.specs.Record.{Record}
+use Rattle.langtag_scan.specs.Subtags.{subtags}
+use Rattle.langtag_keyword.specs.declared.keyword_edit.KeywordEdit.{KeywordEdit}
+use Rattle.langtag_keyword.specs.Edit.{edited, edited_record, keyword_error}
+
+-- the subtags of the value, if there is one
+abbrev pub value_subtags : KeywordEdit → Option (List (List ℕ))
+value_subtags edit = option_map (λ value. subtags value.now) edit.value
+
+abbrev pub edited_by : KeywordEdit → List (List ℕ) → List (List ℕ)
+edited_by edit subtags_of_u = edited edit.key.now (value_subtags edit) subtags_of_u
+
+abbrev pub edited_record_by : KeywordEdit → Record → Record
+edited_record_by edit r = edited_record edit.key.now (value_subtags edit) r
+
+-- whether the key and the value may be in a keyword
+abbrev pub is_allowed : KeywordEdit → Type 0
+is_allowed edit = keyword_error edit.key.now (unwrap_or (value_subtags edit) []) ≡ None

@@ -1,0 +1,30 @@
+//! The subtags of Unicode's extensions `u` (RFC 6067) and `t` (RFC 6497): keywords, what replaces their values, how they are edited,
+//! and their canonical form (UTS #35, part 1). langtag_unicode has the same for tags.
+#![tactic(auto)]
+
+mod alias;
+mod alias_tables;
+mod alphabet;
+mod extension_form;
+mod keys;
+mod keyword_check;
+mod keyword_edit;
+mod keyword_error;
+mod keyword_form;
+mod language_id;
+mod subtags;
+mod transform_form;
+
+pub use keys::Keys;
+pub use keyword_error::KeywordError;
+
+// For langtag_unicode, langtag_locale and langtag_span.
+pub use alias::{alias_for, type_alias_for};
+pub use alphabet::{is_after, is_before_best, push_lowercase};
+pub use extension_form::{is_of, push_extensions, push_unicode, subtags_of};
+pub use keyword_check::{invalid_type, is_unicode_key};
+pub use keyword_edit::{KeywordEdit, push_edited};
+pub use keyword_form::push_keywords;
+pub use language_id::{is_among, is_unicode_language, take_region, take_script};
+pub use subtags::{before_key, is_among_first, nonempty, preceding, split_first, value_in};
+pub use transform_form::is_transform;

@@ -1,0 +1,18 @@
+use Rattle.std.proofs.Common.{drop, [], sym, ap, ◌∙◌}
+use Rattle.langtag_scan.specs.Subtags.{subtags}
+use Rattle.langtag_extension.proofs.ExtensionLookUp.{subtags_found}
+use Rattle.langtag_keyword.proofs.SubtagTexts.{subtags-after_singleton, boundary-after_singleton}
+use Rattle.langtag_unicode.proofs.extension_text.extension_text.Goals as goal
+
+pub range_from-requires : goal.range_from-requires
+range_from-requires c _ = boundary-after_singleton _ c.as_str.utf8 c.as_str.ensures.in_class
+
+pub returns-in-Some : goal.returns-in-Some
+returns-in-Some c = record {
+  part = λ r spells.
+      subtags_found _ r.extensions spells.0.extensions _ _ (c.in-Some.ensures.first_match r.extensions (record { members = spells.0.extensions; joined = sym (c.extensions.ensures.part r spells) }))
+      (λ e spelled. ap subtags (c.range_from.ensures.value ∙ ap (drop 2) c.as_str.ensures.same_text) ∙ subtags-after_singleton e _ spelled);
+  absent = λ other.
+      let none = c.in-Some.ensures.first_match [] (record { members = tt; joined = sym (c.extensions.ensures.absent other) }) in
+      absurd cc;
+}

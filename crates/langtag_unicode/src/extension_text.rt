@@ -1,0 +1,30 @@
+//! The subtags of an extension of a tag, as one text.
+ghost use Rattle.std.specs.Prelude.{[]};
+ghost use Rattle.langtag.specs.Part.{PartOf};
+ghost use Rattle.langtag.specs.Text.{lang_tag_text};
+ghost use Rattle.langtag_extension.specs.Text.{singleton_byte};
+ghost use Rattle.langtag_keyword.specs.Keywords as spec;
+ghost use Rattle.langtag_scan.specs.Subtags.{subtags};
+
+use langtag::{LangTag, Singleton};
+
+/// Returns the subtags of the first extension with a singleton, joined by hyphens, or the empty text if there is no
+/// such extension.
+pub(crate) fn extension_text<'a>(tag: LangTag<'a>, singleton: Singleton) -> &'a str
+    ensures { PartOf (lang_tag_text tag.entry) (spec.subtags_of (singleton_byte singleton)) [] (subtags result.now) }
+{
+    match tag.extensions().get(singleton) {
+        Some(extension) => &extension.as_str()[2..],
+        None => "",
+    }
+}
+
+/// Returns the subtags of the first extension `u` of a tag, joined by hyphens.
+pub(crate) fn unicode_text<'a>(tag: LangTag<'a>) -> &'a str
+    ensures { PartOf (lang_tag_text tag.entry) (spec.subtags_of 117) [] (subtags result.now) }
+{
+    match Singleton::new(b'u') {
+        Ok(singleton) => extension_text(tag, singleton),
+        Err(_) => "",
+    }
+}

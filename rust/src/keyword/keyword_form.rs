@@ -1,0 +1,106 @@
+// Made by rust/erase from crates/langtag_keyword/src/keyword_form.rt. Change that file, not this one.
+
+//! Keywords and fields with their canonical values, in the order of their keys, written to an output.
+
+use crate::keyword::alias::canonical_value;
+use crate::keyword::alphabet::push_each_lowercase;
+use crate::keyword::keys::Keys;
+use crate::keyword::subtags::value_in;
+use crate::output::Output;
+use crate::scan::{into_smallcase, Subtags};
+
+/// The bytes that a key may have, in order.
+const LETTERS_AND_DIGITS: [u8; 36] = *b"0123456789abcdefghijklmnopqrstuvwxyz";
+
+/// The number of possible keys.
+const KEY_COUNT: usize = 1296;
+
+/// Appends the keywords of a text, each once, in the order of their keys.
+///
+/// The text is read twice, and then once for each key in it. There are at most 1,296 keys.
+pub fn push_keywords(out: &mut Output<'_>, text: &str, keys: Keys) {
+    let mut marks = [false; KEY_COUNT];
+    mark_keys(&mut marks, text, keys);
+    let firsts = marked_firsts(text, keys);
+    for first in LETTERS_AND_DIGITS {
+        if !firsts[digit(first)] {
+            continue;
+        }
+        push_keywords_from(out, text, keys, &marks, first);
+    }
+}
+
+/// Appends the keywords whose keys begin with one letter or digit.
+fn push_keywords_from(
+    out: &mut Output<'_>,
+    text: &str,
+    keys: Keys,
+    marks: &[bool; KEY_COUNT],
+    first: u8,
+) {
+    for second in LETTERS_AND_DIGITS {
+        let key = [first, second];
+        if !marks[key_index(&key)] {
+            continue;
+        }
+        push_keyword(out, text, keys, &key);
+    }
+}
+
+/// Appends a key with its canonical value, if the key occurs in the text.
+#[inline]
+fn push_keyword(out: &mut Output<'_>, text: &str, keys: Keys, key: &[u8]) {
+    if let Some(value) = value_in(text, keys, key) {
+        out.push_subtag(key);
+        push_each_lowercase(out, canonical_value(keys, key, value));
+    }
+}
+
+/// Marks the keys that occur in a text.
+fn mark_keys(marks: &mut [bool; KEY_COUNT], text: &str, keys: Keys) {
+    for subtag in Subtags::new(text) {
+        let key = subtag.as_bytes();
+        if keys.has(key) {
+            marks[key_index(key)] = true;
+        }
+    }
+}
+
+/// Returns which letters and digits may begin a key in a text.
+fn marked_firsts(text: &str, keys: Keys) -> [bool; 36] {
+    let mut marks = [false; 36];
+    for subtag in Subtags::new(text) {
+        let key = subtag.as_bytes();
+        if keys.has(key) {
+            marks[first_index(key)] = true;
+        }
+    }
+    marks
+}
+
+/// Returns the index of a key's first byte among all digits and letters, ignoring case.
+#[inline]
+fn first_index(key: &[u8]) -> usize {
+    match key {
+        [first, _] => digit(*first),
+        _ => 0,
+    }
+}
+
+/// Returns the index of a key among all keys, ignoring case.
+#[inline]
+fn key_index(key: &[u8]) -> usize {
+    match key {
+        [first, second] => 36 * digit(*first) + digit(*second),
+        _ => 0,
+    }
+}
+
+/// Returns the index of a byte among all digits and letters, ignoring case.
+fn digit(byte: u8) -> usize {
+    match into_smallcase(byte) {
+        digit @ b'0'..=b'9' => usize::from(digit - b'0'),
+        letter @ b'a'..=b'z' => usize::from(letter - b'a') + 10,
+        _ => 0,
+    }
+}
