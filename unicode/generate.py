@@ -1,5 +1,5 @@
 #!/usr/bin/env python3
-"""Writes the tables and the lists of the crates langtag_unicode and langtag_locale from Unicode's CLDR. The aliases of types, of
+"""Writes the tables and the lists of the crates langtag_keyword and langtag_locale from Unicode's CLDR. The aliases of types, of
 subdivisions and of language identifiers are in data/. The aliases of regions are those of langtag_likely, in ../likely/data. Also writes CLDR's own cases, which are in
 data/ too, as the rows of ../rows/cldr.txt.
 
@@ -148,7 +148,7 @@ HEAD_OF_LISTS = """-- {what} of Unicode's CLDR {version} (the notice: unicode/LI
 use Rattle.std.specs.Prelude.{{{names}}}
 use Rattle.std.specs.List.{{flat_map}}
 use Rattle.langtag_tables.specs.Words.{{words}}
-use Rattle.langtag_unicode.specs.Alias.{{Alias, TypeAlias, aliases_of, type_aliases_of}}
+use Rattle.langtag_keyword.specs.Alias.{{Alias, TypeAlias, aliases_of, type_aliases_of}}
 """
 
 
@@ -200,8 +200,8 @@ def rule_lists(identifiers: Identifiers) -> str:
 
 def written(crates: pathlib.Path, aliases: Aliases, identifiers: Identifiers) -> dict[pathlib.Path, str]:
     """Returns the files that are made from the data: the path and the text of each."""
-    unicode, locale = crates / "langtag_unicode", crates / "langtag_locale"
-    return {unicode / "src/alias_tables.rt": tables(aliases), unicode / "specs/Aliases.antt": lists(aliases),
+    keyword, locale = crates / "langtag_keyword", crates / "langtag_locale"
+    return {keyword / "src/alias_tables.rt": tables(aliases), keyword / "specs/Aliases.antt": lists(aliases),
             locale / "src/locale_tables.rt": rule_tables(identifiers), locale / "specs/LocaleAliases.antt": rule_lists(identifiers),
             ROWS / "cldr.txt": cases.rows(DATA / cases.NAME, version())}
 

@@ -13,7 +13,7 @@ import cases
 import from_cldr
 import generate
 
-WRITTEN = ["langtag_unicode/src/alias_tables.rt", "langtag_unicode/specs/Aliases.antt",
+WRITTEN = ["langtag_keyword/src/alias_tables.rt", "langtag_keyword/specs/Aliases.antt",
            "langtag_locale/src/locale_tables.rt", "langtag_locale/specs/LocaleAliases.antt"]
 
 

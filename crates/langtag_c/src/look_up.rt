@@ -7,7 +7,7 @@ ghost use Rattle.langtag_match.specs.declared.accept_language_error.ElementPart.
 ghost use Rattle.langtag_span.specs.LookUp.{IsBadAt, IsLookedUp};
 ghost use Rattle.langtag_span.specs.Spans.{empty_at};
 
-use langtag_span::{Span, first_bad, number_of, tag_for_header};
+use langtag_span::{Span, first_bad, index_for_header, number_of};
 
 /// Looks up a tag for an Accept-Language header, and refuses a header with a malformed element. The tags are spans of a
 /// text. Returns 0 if no element is malformed: `index` is then the index of the tag, or the number of spans if look-up
@@ -34,7 +34,7 @@ pub extern "C" fn langtag_tag_for_header(
         *bad = item;
         return number_of(&part);
     }
-    *index = tag_for_header(header, bytes, tags);
+    *index = index_for_header(header, bytes, tags);
     *bad = Span {
         start: header.len(),
         len: 0,
@@ -54,5 +54,5 @@ pub extern "C" fn langtag_tag_for_header_lenient(
     ensures found { IsLookedUp header.now bytes.now tags.now result }
     ensures within { result ≤ length tags.now }
 {
-    tag_for_header(header, bytes, tags)
+    index_for_header(header, bytes, tags)
 }

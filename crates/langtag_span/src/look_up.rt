@@ -22,7 +22,7 @@ use langtag_scan::case_insensitive_eq;
 /// Returns the index of the tag that look-up finds for an Accept-Language header, or the number of spans if it finds none.
 /// Malformed elements, and spans that are not tags, are skipped.
 #[tactic(auto, using(crate::proofs::LookUps::is_looked_up, crate::proofs::LookUps::looked_up_within))]
-pub fn tag_for_header(header: &[u8], bytes: &[u8], spans: &[Span]) -> usize
+pub fn index_for_header(header: &[u8], bytes: &[u8], spans: &[Span]) -> usize
     ensures found { IsLookedUp header.now bytes.now spans.now result }
     ensures within { result ≤ length spans.now }
 {

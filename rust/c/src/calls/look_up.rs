@@ -3,7 +3,7 @@
 //! The tag that look-up finds for an Accept-Language header (RFC 9110 section 12.5.4, RFC 4647 section 3.4), without
 //! allocating.
 
-use crate::spans::{first_bad, number_of, tag_for_header, Span};
+use crate::spans::{first_bad, index_for_header, number_of, Span};
 
 /// Looks up a tag for an Accept-Language header, and refuses a header with a malformed element. The tags are spans of a
 /// text. Returns 0 if no element is malformed: `index` is then the index of the tag, or the number of spans if look-up
@@ -21,7 +21,7 @@ pub fn langtag_tag_for_header(
         *bad = item;
         return number_of(&part);
     }
-    *index = tag_for_header(header, bytes, tags);
+    *index = index_for_header(header, bytes, tags);
     *bad = Span {
         start: header.len(),
         len: 0,
@@ -34,5 +34,5 @@ pub fn langtag_tag_for_header(
 /// text, is skipped.
 #[inline]
 pub fn langtag_tag_for_header_lenient(header: &[u8], bytes: &[u8], tags: &[Span]) -> usize {
-    tag_for_header(header, bytes, tags)
+    index_for_header(header, bytes, tags)
 }

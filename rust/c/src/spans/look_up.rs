@@ -13,7 +13,7 @@ use crate::spans::spanned::{bytes_in, tag_in};
 /// Returns the index of the tag that look-up finds for an Accept-Language header, or the number of spans if it finds none.
 /// Malformed elements, and spans that are not tags, are skipped.
 #[inline]
-pub fn tag_for_header(header: &[u8], bytes: &[u8], spans: &[Span]) -> usize {
+pub fn index_for_header(header: &[u8], bytes: &[u8], spans: &[Span]) -> usize {
     heaviest_found(header, bytes, spans).unwrap_or(spans.len())
 }
 

@@ -12,9 +12,10 @@ mod span;
 mod spanned;
 mod tag;
 
+// For langtag_c.
 pub use extension_walk::{before_key, extension_subtags, next_key, value_of, KeyPlace};
 pub use items::{next_item, number_of};
-pub use look_up::{first_bad, tag_for_header};
+pub use look_up::{first_bad, index_for_header};
 pub use members::{singleton_at, variant_at};
 pub use part::part_of;
 pub use range_place::range_at;
