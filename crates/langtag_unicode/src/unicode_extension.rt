@@ -47,7 +47,6 @@ pub struct KeyValue<'a> {
 /// keyword(tag, "kn"); // Some("")
 /// keyword(tag, "nu"); // None
 /// ```
-#[tactic(auto, using(crate::proofs::WalkLaws::keyword_laws))]
 pub fn keyword<'a>(tag: LangTag<'a>, key: &str) -> Option<&'a str>
     ensures value { PartOf (lang_tag_text tag.entry) (λ r. option_map join (spec.value_of spec.is_key key.now (spec.subtags_of 117 r))) None (option_map (λ v. v.now) result) }
 
@@ -70,7 +69,6 @@ pub fn keyword<'a>(tag: LangTag<'a>, key: &str) -> Option<&'a str>
 /// walk.next().map(|keyword| (keyword.key, keyword.value)); // Some(("ca", "buddhist"))
 /// walk.next().is_none(); // true
 /// ```
-#[tactic(auto, using(crate::proofs::WalkLaws::keyword_laws))]
 pub fn keywords<'a>(tag: LangTag<'a>) -> KeywordsIter<'a>
     ensures list { PartOf (lang_tag_text tag.entry) (λ r. spec.keywords_of spec.is_key (spec.subtags_of 117 r)) [] (keywords_left result) }
     ensures listed { (k : List ℕ) (subtags : List (List ℕ)) → IsTrue (spec.is_key k)

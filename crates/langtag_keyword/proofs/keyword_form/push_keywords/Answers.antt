@@ -20,9 +20,9 @@ loop-first-preserved-then-not-firsts-digit c =
     let ss = subtags c.args.text.now in
     let of = keywords_from (opens_keyword c.args.keys) (canonical_value_of c.args.keys) ss in
     let first = get_or letters_and_digits k 0 in
-    let unmarked : get_or c.marked_firsts-firsts.result (digit (fold_byte first)) false ≡ false =
-    ap (λ at. get_or c.marked_firsts-firsts.result at false) (sym c.digit.ensures.index) ∙ c.if-not-firsts-digit.true in
-    let none : (b : ℕ) → value_of (opens_keyword c.args.keys) (first ∷ b ∷ []) ss ≡ None = λ b. c.marked_firsts-firsts.ensures (first ∷ b ∷ []) unmarked in
+    let unmarked : get_or c.mark_keys.new.firsts (digit (fold_byte first)) false ≡ false =
+    ap (λ at. get_or c.mark_keys.new.firsts at false) (sym c.digit.ensures.index) ∙ c.if-not-firsts-digit.true in
+    let none : (b : ℕ) → value_of (opens_keyword c.args.keys) (first ∷ b ∷ []) ss ≡ None = λ b. c.mark_keys.ensures.begun (first ∷ b ∷ []) unmarked in
     record {
       same_buffer = c.loop-first.invariant.same_buffer;
       so_far = λ new these.
