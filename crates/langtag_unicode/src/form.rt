@@ -6,6 +6,7 @@ ghost use Rattle.langtag_output.specs.Output.{IsCounted, Pushes};
 ghost use Rattle.langtag_output.specs.Writes.{Writes};
 ghost use Rattle.langtag_scan.specs.Record as model;
 ghost use Rattle.langtag_keyword.specs.Form as spec;
+ghost use Rattle.langtag_unicode.specs.ExtensionsForm.{IsExtensionsForm};
 ghost use Rattle.langtag_unicode.specs.FormLaws.{OrderChangesNothing};
 ghost use Rattle.langtag_keyword.specs.Keywords.{is_key};
 ghost use Rattle.langtag_keyword.specs.Transform.{is_field_key};
@@ -42,19 +43,19 @@ use std::alloc::{AllocError, Global};
 /// extensions_form(alloc, LangTag::new("en-x-true")?)?.as_str(); // "en-x-true"
 /// ```
 pub fn extensions_form(alloc: Global, tag: LangTag<'_>) -> Result<LangTagBuf, AllocError>
-    ensures form { IfOk result (λ form. spec.IsExtensionsForm (lang_tag_text tag.entry) (lang_tag_buf_text form)) }
+    ensures form { IfOk result (λ form. IsExtensionsForm (lang_tag_text tag.entry) (lang_tag_buf_text form)) }
     ensures one { IfOk result (λ form. IsOnlyForm spec.extensions_record (lang_tag_text tag.entry) (lang_tag_buf_text form)) }
-    ensures settled { IfOk result (λ form. spec.IsExtensionsForm (lang_tag_buf_text form) (lang_tag_buf_text form)) }
+    ensures settled { IfOk result (λ form. IsExtensionsForm (lang_tag_buf_text form) (lang_tag_buf_text form)) }
     ensures keywords_move { OrderChangesNothing is_key spec.unicode_form }
     ensures fields_move { OrderChangesNothing is_field_key spec.transform_form }
-    ensures alike { IfOk result (λ form. IsAlikeForm spec.IsExtensionsForm (lang_tag_text tag.entry) (lang_tag_buf_text form)) }
+    ensures alike { IfOk result (λ form. IsAlikeForm IsExtensionsForm (lang_tag_text tag.entry) (lang_tag_buf_text form)) }
 {
     Ok(tag_of(form_bytes(alloc, tag)?))
 }
 
 /// Returns the bytes of the form.
 fn form_bytes(alloc: Global, tag: LangTag<'_>) -> Result<Vec<u8>, AllocError>
-    ensures { IfOk result (λ bytes. spec.IsExtensionsForm (lang_tag_text tag.entry) bytes.items) }
+    ensures { IfOk result (λ bytes. IsExtensionsForm (lang_tag_text tag.entry) bytes.items) }
 {
     let mut bytes = vec![in alloc; 0; write_extensions_form(tag, &mut [])]?;
     write_extensions_form(tag, &mut bytes);
@@ -75,7 +76,7 @@ fn form_bytes(alloc: Global, tag: LangTag<'_>) -> Result<Vec<u8>, AllocError>
 /// ```
 #[tactic(auto, using(crate::proofs::FormSizes::form_bounded))]
 pub fn write_extensions_form(tag: LangTag<'_>, buffer: &mut [u8]) -> usize
-    ensures form { Writes (spec.IsExtensionsForm (lang_tag_text tag.entry)) buffer.old buffer.new result }
+    ensures form { Writes (IsExtensionsForm (lang_tag_text tag.entry)) buffer.old buffer.new result }
     ensures bounded { result ≤ length (lang_tag_text tag.entry) + 20 }
 {
     match tag.as_normal() {
