@@ -13,3 +13,4 @@ pub mod KeywordForms
 pub mod KeywordLaws
 pub mod KeywordTwice
 pub mod SubtagTexts
+pub mod WalkSteps

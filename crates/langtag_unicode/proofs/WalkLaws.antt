@@ -1,61 +1,16 @@
--- One step of a walk, and what a look-up and a walk have in common.
+-- What a look-up and a walk have in common.
 use Rattle.std.proofs.Common.{◌≡◌, ℕ, ◌+◌, Bool, true, false, cond, ◌&&◌, ◌==◌, not, List, [], ◌∷◌, ◌++◌, length, take, drop, Option, Some, refl, ap, sym, ◌∙◌}
 use Rattle.std.specs.List.{list_any}
 use Rattle.std.specs.Option.{option_map}
-use Rattle.std.proofs.lemmas.List.{take_more}
 use Rattle.std.proofs.lemmas.List.Folds.{list_any-append}
 use Rattle.std.proofs.lemmas.Map.Steps.{list_any_congr}
 use Rattle.langtag_scan.specs.Case.{fold_text, are_alike, Alike}
 use Rattle.langtag_scan.specs.CaseLaws.{on_alike_equiv}
 use Rattle.langtag_scan.specs.Subtags.{join}
 use Rattle.langtag_scan.proofs.CaseLaw.{is_letter-fold, is_digit-fold, length-fold}
-use Rattle.langtag.proofs.RepeatLaws.{IsAt-drop}
 use Rattle.langtag_keyword.specs.Keywords.{Keyword, before_key, value_among, value_of, is_key, is_new_key, keywords_after, keywords_of, each_once_after}
 use Rattle.langtag_keyword.specs.Transform.{is_field_key}
 use Rattle.langtag.proofs.Alike.{alike_is, are_alike-right}
-
--- ---- a step
-
--- those before the next subtag and this one are those before the one after it
-take-turn : (all : List (List ℕ)) (n : ℕ) (s : List ℕ) (rest : List (List ℕ)) → drop n all ≡ s ∷ rest → take n all ++ s ∷ [] ≡ take (n + 1) all
-take-turn all n s rest left =
-    let at = IsAt-drop all n s rest left in
-    ap (λ x. take n all ++ x ∷ []) at.member ∙ sym (take_more all n s at.below)
-
-module _ (test : List ℕ → Bool) where
-  -- a new key
-  pub keywords-new :
-      (all : List (List ℕ)) (n : ℕ) (s : List ℕ) (rest : List (List ℕ)) (value : List ℕ) → drop n all ≡ s ∷ rest → is_new_key test (take n all) s ≡ true →
-      value ≡ join (before_key test rest) →
-      keywords_after test (take n all) (s ∷ rest) ≡ record { key = s; value = value } ∷ keywords_after test (take (n + 1) all) rest
-  keywords-new all n s rest value left new is =
-      ap (λ b. cond b (record { key = s; value = join (before_key test rest) } ∷ keywords_after test (take n all ++ s ∷ []) rest) (keywords_after test (take n all ++ s ∷ []) rest)) new
-      ∙ ap (λ v. record { key = s; value = v } ∷ keywords_after test (take n all ++ s ∷ []) rest) (sym is)
-      ∙ ap (λ before. record { key = s; value = value } ∷ keywords_after test before rest) (take-turn all n s rest left)
-
-  -- another subtag
-  pub keywords-other :
-      (all : List (List ℕ)) (n : ℕ) (s : List ℕ) (rest : List (List ℕ)) → drop n all ≡ s ∷ rest → is_new_key test (take n all) s ≡ false →
-      keywords_after test (take n all) (s ∷ rest) ≡ keywords_after test (take (n + 1) all) rest
-  keywords-other all n s rest left other =
-      ap (λ b. cond b (record { key = s; value = join (before_key test rest) } ∷ keywords_after test (take n all ++ s ∷ []) rest) (keywords_after test (take n all ++ s ∷ []) rest)) other
-      ∙ ap (λ before. keywords_after test before rest) (take-turn all n s rest left)
-
--- a new attribute
-pub first-new :
-    (all : List (List ℕ)) (n : ℕ) (s : List ℕ) (rest : List (List ℕ)) → drop n all ≡ s ∷ rest → list_any (are_alike s) (take n all) ≡ false →
-    each_once_after (take n all) (s ∷ rest) ≡ s ∷ each_once_after (take (n + 1) all) rest
-first-new all n s rest left new =
-    ap (λ b. cond b (each_once_after (take n all ++ s ∷ []) rest) (s ∷ each_once_after (take n all ++ s ∷ []) rest)) new
-    ∙ ap (λ before. s ∷ each_once_after before rest) (take-turn all n s rest left)
-
--- a repeated one
-pub first-other :
-    (all : List (List ℕ)) (n : ℕ) (s : List ℕ) (rest : List (List ℕ)) → drop n all ≡ s ∷ rest → list_any (are_alike s) (take n all) ≡ true →
-    each_once_after (take n all) (s ∷ rest) ≡ each_once_after (take (n + 1) all) rest
-first-other all n s rest left old =
-    ap (λ b. cond b (each_once_after (take n all ++ s ∷ []) rest) (s ∷ each_once_after (take n all ++ s ∷ []) rest)) old
-    ∙ ap (λ before. each_once_after before rest) (take-turn all n s rest left)
 
 -- ---- the case of letters
 

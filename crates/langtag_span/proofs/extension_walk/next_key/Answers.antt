@@ -2,7 +2,7 @@ use Rattle.std.proofs.Common.{sym, ◌∙◌, arith}
 use Rattle.std.proofs.lemmas.List.{length-drop}
 use Rattle.std.proofs.lemmas.Bool.Decides.{nat_tests}
 use Rattle.langtag_keyword.specs.Keys.{opens_keyword}
-use Rattle.langtag_unicode.proofs.WalkLaws.{keywords-new, keywords-other}
+use Rattle.langtag_keyword.proofs.WalkSteps.{keywords-new, keywords-other}
 use Rattle.langtag_span.specs.Keywords.{subtags_in}
 use Rattle.langtag_span.specs.Spans.{span_text}
 use Rattle.langtag_span.proofs.SubtagSpans.{drop-next, length-subtags_in}

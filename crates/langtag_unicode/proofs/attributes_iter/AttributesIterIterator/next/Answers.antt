@@ -5,7 +5,7 @@ use Rattle.langtag_scan.specs.Subtags.{subtags}
 use Rattle.langtag.proofs.RepeatLaws.{IsAt-drop}
 use Rattle.langtag_keyword.specs.Keywords.{each_once_after}
 use Rattle.langtag_unicode.specs.Text.{attributes_left}
-use Rattle.langtag_unicode.proofs.WalkLaws.{first-new, first-other}
+use Rattle.langtag_keyword.proofs.WalkSteps.{first-new, first-other}
 use Rattle.langtag_unicode.proofs.attributes_iter.AttributesIterIterator.next.Goals as goal
 
 pub invariant_of-self : goal.invariant_of-self

@@ -4,7 +4,7 @@ use Rattle.langtag.proofs.RepeatLaws.{IsAt-drop}
 use Rattle.langtag_keyword.specs.Keys.{opens_keyword}
 use Rattle.langtag_keyword.specs.Keywords.{keywords_after}
 use Rattle.langtag_unicode.specs.Text.{keywords_left}
-use Rattle.langtag_unicode.proofs.WalkLaws.{keywords-new, keywords-other}
+use Rattle.langtag_keyword.proofs.WalkSteps.{keywords-new, keywords-other}
 use Rattle.langtag_unicode.proofs.keywords_iter.KeywordsIterIterator.next.Goals as goal
 
 pub invariant_of-self : goal.invariant_of-self
