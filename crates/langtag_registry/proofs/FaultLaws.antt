@@ -5,12 +5,8 @@ use Rattle.std.specs.Option.{option_map, option_or, option_and_then}
 use Rattle.std.proofs.lemmas.Iterator.Adapters.{position_from-zero}
 use Rattle.std.proofs.lemmas.Grind.{common_steps}
 use Rattle.langtag_scan.specs.Case.{are_alike}
-use Rattle.langtag_scan.specs.Class.{is_variant}
-use Rattle.langtag_scan.specs.Parts.{language_part, variants_part}
+use Rattle.langtag_scan.specs.Parts.{language_part}
 use Rattle.langtag_scan.specs.Record.{Record, IsWellFormed}
-use Rattle.langtag_scan.specs.Subtags.{subtags}
-use Rattle.langtag_scan.proofs.SubtagFacts.{of_variant}
-use Rattle.langtag_scan.proofs.SubtagLists.{each_subtag, subtags-joined}
 use Rattle.langtag_language.specs.Language.{SpellsLanguage}
 use Rattle.langtag.specs.Repeat.{repeat, repeat_index, repeat_index_after, are_alike_bytes}
 use Rattle.langtag.proofs.RepeatLaws.{IsAt-drop}
@@ -128,9 +124,6 @@ no_fault_of_valid r valid = grind (arith, common_steps, first_fault, variants_no
 
 pub language_spelled : (r : Record) (text : List ℕ) → IsWellFormed r → text ≡ language_part r → SpellsLanguage r.primary r.extended text
 language_spelled r text well same = record { first = well.primary; others = well.extended; few = well.few; short = well.short; joined = sym same }
-
-pub variants_listed : (r : Record) (text : List ℕ) → IsWellFormed r → text ≡ variants_part r → subtags text ≡ r.variants
-variants_listed r text well same = ap subtags same ∙ subtags-joined r.variants (each_subtag is_variant of_variant r.variants well.variants)
 
 pub first_at :
     {A : Type 0} (view : A → Told) (o p : Option A) (told_first : Option Told) → o ≡ p → option_map view o ≡ told_first → option_map view p ≡ told_first

@@ -47,7 +47,7 @@ pub(crate) fn form_of(tag: LangTag<'_>) -> Form<'_>
 }
 
 /// Returns whether all parts of a tag are in their canonical forms.
-#[tactic(auto, using(crate::proofs::CanonicalParts::parts_stay, crate::proofs::CanonicalParts::record_stays, crate::proofs::FaultLaws::language_spelled, crate::proofs::FaultLaws::variants_listed))]
+#[tactic(auto, using(crate::proofs::CanonicalParts::parts_stay, crate::proofs::CanonicalParts::record_stays, crate::proofs::FaultLaws::language_spelled, langtag::proofs::PartsFound::variants_listed))]
 fn has_canonical_parts(tag: NormalLangTag<'_>) -> bool
     ensures { EachRecord (normal_lang_tag_text tag.entry) (λ r. (result ≡ true) ↔ (canonical_record r ≡ r)) }
 {

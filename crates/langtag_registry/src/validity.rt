@@ -84,7 +84,7 @@ pub fn fault_at<'a>(tag: LangTag<'a>) -> Option<(InvalidSubtag<'a>, usize)>
 }
 
 /// Returns the first fault of a normal tag. It does not check whether the tag is grandfathered.
-#[tactic(auto, using(crate::proofs::FaultLaws::first_fault, crate::proofs::FaultLaws::language_spelled, crate::proofs::FaultLaws::variants_listed, crate::proofs::FaultLaws::first_singleton))]
+#[tactic(auto, using(crate::proofs::FaultLaws::first_fault, crate::proofs::FaultLaws::language_spelled, langtag::proofs::PartsFound::variants_listed, crate::proofs::FaultLaws::first_singleton))]
 fn find_fault_of_normal<'a>(tag: NormalLangTag<'a>) -> Option<(InvalidSubtag<'a>, usize)>
     ensures first { EachRecord (normal_lang_tag_text tag.entry) (λ r. option_map (λ fault. told fault.0) result ≡ slice_get (faults r) 0) }
     ensures index { IfSome result (λ fault. EachRecord (normal_lang_tag_text tag.entry) (λ r. fault_index r (told fault.0) ≡ Some fault.1)) }

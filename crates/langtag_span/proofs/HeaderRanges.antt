@@ -4,7 +4,7 @@ use Rattle.std.specs.List.{AllByRecursion, cons_option, onto_first, slice_get, s
 use Rattle.std.proofs.lemmas.List.Quantifiers.{position-Some}
 use Rattle.std.proofs.lemmas.List.Splits.{length-slice_split, slice_split-cons_no, slice_split-cons_yes}
 use Rattle.std.proofs.lemmas.List.Sums.{sum_by-append}
-use Rattle.std.proofs.lemmas.Option.{slice_get_read, slice_get_within}
+use Rattle.std.proofs.lemmas.Option.{slice_get_read}
 use Rattle.std.specs.Option.{IfSome}
 use Rattle.std.proofs.lemmas.Bool.Decides.{nat_tests}
 use Rattle.langtag_match.specs.AcceptLanguage.{StandsAt}
@@ -12,11 +12,8 @@ use Rattle.langtag_range.specs.Element.{Element, is_comma, items}
 use Rattle.langtag_range.specs.Wanted.{digits_behind, wanted, wanted_elements, wanted_items}
 use Rattle.langtag_match.proofs.Offsets.{item_stands, width}
 use Rattle.langtag_span.specs.RangePlaces.{IsRangeAt, has_range, range_count, spaces_before}
-use Rattle.langtag_span.specs.Spans.{empty_at}
-use Rattle.langtag_span.specs.TagsAt.{tags_at}
 use Rattle.langtag_span.specs.declared.span.Span.{Span}
 use Rattle.langtag_span.proofs.LookUps.{take_next}
-use Rattle.langtag_span.proofs.TagsAt.{are_tags_at}
 
 -- ---- an item has no comma
 

@@ -1,6 +1,6 @@
 -- The keywords of `u` and the fields of `t` (RFC 6067 section 2.1, RFC 6497 section 2.2) that are left after a walk has
 -- passed some subtags.
-use Rattle.std.specs.Prelude.{◌≤◌, ℕ, Bool, if◌then◌else◌, List, Option, None, Some, drop, length, take}
+use Rattle.std.specs.Prelude.{◌≤◌, ℕ, Bool, List, drop, length, take}
 use Rattle.std.specs.List.{AllByRecursion}
 use Rattle.langtag_scan.specs.Subtags.{subtags}
 use Rattle.langtag_keyword.specs.Keywords.{Keyword, keywords_after}

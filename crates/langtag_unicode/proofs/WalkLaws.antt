@@ -1,5 +1,5 @@
 -- What a look-up and a walk have in common.
-use Rattle.std.proofs.Common.{◌≡◌, ℕ, ◌+◌, Bool, true, false, cond, ◌&&◌, ◌==◌, not, List, [], ◌∷◌, ◌++◌, length, take, drop, Option, Some, refl, ap, sym, ◌∙◌}
+use Rattle.std.proofs.Common.{◌≡◌, ℕ, ◌+◌, Bool, true, false, cond, ◌&&◌, ◌==◌, not, List, [], ◌∷◌, ◌++◌, length, Option, Some, refl, ap, sym, ◌∙◌}
 use Rattle.std.specs.List.{list_any}
 use Rattle.std.specs.Option.{option_map}
 use Rattle.std.proofs.lemmas.List.Folds.{list_any-append}
@@ -8,7 +8,7 @@ use Rattle.langtag_scan.specs.Case.{fold_text, are_alike, Alike}
 use Rattle.langtag_scan.specs.CaseLaws.{on_alike_equiv}
 use Rattle.langtag_scan.specs.Subtags.{join}
 use Rattle.langtag_scan.proofs.CaseLaw.{is_letter-fold, is_digit-fold, length-fold}
-use Rattle.langtag_keyword.specs.Keywords.{Keyword, before_key, value_among, value_of, is_key, is_new_key, keywords_after, keywords_of, each_once_after}
+use Rattle.langtag_keyword.specs.Keywords.{Keyword, before_key, value_among, value_of, is_key, keywords_after, keywords_of}
 use Rattle.langtag_keyword.specs.Transform.{is_field_key}
 use Rattle.langtag.proofs.Alike.{alike_is, are_alike-right}
 

@@ -8,7 +8,7 @@ use Rattle.langtag_scan.specs.Tag.{IsNormal}
 use Rattle.langtag_scan.proofs.SpelledTexts.{offsets_kept}
 use Rattle.langtag_place.specs.Text.{variant_text, variants_left}
 use Rattle.langtag_span.proofs.RepeatSpans.{after, length-variants, spans_after-at, variants_end, width}
-use Rattle.langtag_registry.proofs.FaultLaws.{variants_listed}
+use Rattle.langtag.proofs.PartsFound.{variants_listed}
 use Rattle.langtag_span.specs.declared.span.Span.{Span}
 use Rattle.langtag_span.proofs.members.variant_at.Goals as goal
 
