@@ -35,8 +35,10 @@ MODULES = [
 # The modules that users name. The items of other modules are at the root, if src/lib.rs exports them.
 PUBLIC = {"crate::matching", "crate::registry", "crate::likely", "crate::choice", "crate::unicode"}
 
-# The crates whose public items users find in the module of another crate, which exports them, too.
+# The crates whose public items users find in the module of another crate. Of the first, that module exports them, although the
+# Rattle crate does not.
 SHOWN_IN = {"langtag_locale": "langtag_unicode"}
+EXPORTED_BY = {"langtag_keyword": "langtag_unicode"}
 
 
 def path_of(crate):
@@ -46,5 +48,5 @@ def path_of(crate):
 
 def public_path_of(crate):
     """Returns the path under which users find the items of a crate: `langtag::registry`, or `langtag` for items at the root."""
-    path = path_of(SHOWN_IN.get(crate, crate))
+    path = path_of((SHOWN_IN | EXPORTED_BY).get(crate, crate))
     return path.replace("crate", "langtag") if path in PUBLIC else path and "langtag"

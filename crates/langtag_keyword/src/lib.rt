@@ -26,5 +26,5 @@ pub use keyword_check::{invalid_type, is_unicode_key};
 pub use keyword_edit::{KeywordEdit, push_edited};
 pub use keyword_form::push_keywords;
 pub use language_id::{is_among, is_unicode_language, take_region, take_script};
-pub use subtags::{before_key, is_among_first, nonempty, preceding, split_first, value_in};
+pub use subtags::{before_key, is_earlier_subtag, nonempty, preceding, split_first, value_in};
 pub use transform_form::is_transform;

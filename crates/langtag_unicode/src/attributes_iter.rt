@@ -5,7 +5,7 @@ ghost use Rattle.langtag_scan.specs.Subtags.{subtags};
 ghost use Rattle.langtag_keyword.specs.Keywords as spec;
 
 use langtag::Subtags;
-use langtag_keyword::is_among_first;
+use langtag_keyword::is_earlier_subtag;
 use std::alloc::AllocError;
 
 /// The iterator that `attributes` returns: the attributes of the extension `u`, in the order of the tag, each once.
@@ -69,7 +69,7 @@ impl<'a> Iterator for AttributesIter<'a> {
 
     fn next(&mut self) -> Option<&'a str> {
         while let Some(attribute) = self.rest.next() {
-            let is_repeated = is_among_first(self.text, self.passed, attribute);
+            let is_repeated = is_earlier_subtag(self.text, self.passed, attribute);
             self.passed += 1;
             if !is_repeated {
                 return Some(attribute);

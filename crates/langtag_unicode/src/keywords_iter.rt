@@ -6,7 +6,7 @@ ghost use Rattle.langtag_keyword.specs.Keys.{opens_keyword};
 ghost use Rattle.langtag_keyword.specs.Keywords as spec;
 
 use crate::unicode_extension::KeyValue;
-use langtag_keyword::{Keys, before_key, is_among_first, nonempty, split_first};
+use langtag_keyword::{Keys, before_key, is_earlier_subtag, nonempty, split_first};
 use std::alloc::AllocError;
 
 /// An iterator over the keywords of the extension `u`, or the fields of the extension `t`, in the order of the tag.
@@ -49,7 +49,7 @@ impl<'a> KeywordsIter<'a> {
     fn is_new_key(&self, subtag: &str) -> bool
         ensures { result ≡ spec.is_new_key (opens_keyword self.now.keys) (take self.now.passed (subtags self.now.text.now)) subtag.now }
     {
-        self.keys.has(subtag.as_bytes()) && !is_among_first(self.text, self.passed, subtag)
+        self.keys.has(subtag.as_bytes()) && !is_earlier_subtag(self.text, self.passed, subtag)
     }
 }
 

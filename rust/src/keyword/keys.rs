@@ -23,7 +23,7 @@ impl Keys {
     /// Returns whether a subtag is a key of the extension.
     ///
     /// ```
-    /// use langtag::Keys;
+    /// use langtag::unicode::Keys;
     ///
     /// assert!(Keys::Transform.has(b"m0"));
     /// ```

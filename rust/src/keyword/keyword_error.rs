@@ -4,8 +4,8 @@
 
 use core::fmt;
 
-/// The error of [`write_with_keyword`](crate::write_with_keyword) and
-/// [`write_without_keyword`](crate::write_without_keyword): why a keyword was neither set nor removed.
+/// The error of [`write_with_keyword`](crate::unicode::write_with_keyword) and
+/// [`write_without_keyword`](crate::unicode::write_without_keyword): why a keyword was neither set nor removed.
 ///
 /// ```
 /// # fn main() -> Result<(), Box<dyn std::error::Error>> {

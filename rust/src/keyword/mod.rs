@@ -27,5 +27,7 @@ pub(crate) use keyword_check::{invalid_type, is_unicode_key};
 pub(crate) use keyword_edit::{push_edited, KeywordEdit};
 pub(crate) use keyword_form::push_keywords;
 pub(crate) use language_id::{is_among, is_unicode_language, take_region, take_script};
-pub(crate) use subtags::{before_key, is_among_first, nonempty, preceding, split_first, value_in};
+pub(crate) use subtags::{
+    before_key, is_earlier_subtag, nonempty, preceding, split_first, value_in,
+};
 pub(crate) use transform_form::is_transform;

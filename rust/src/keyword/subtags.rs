@@ -59,7 +59,7 @@ fn len_before_key(text: &str, keys: Keys) -> usize {
 
 /// Returns whether a subtag equals one of the first `count` subtags of a text, ignoring case.
 #[inline]
-pub fn is_among_first(text: &str, count: usize, subtag: &str) -> bool {
+pub fn is_earlier_subtag(text: &str, count: usize, subtag: &str) -> bool {
     Subtags::new(text)
         .take(count)
         .any(|earlier| case_insensitive_eq(subtag.as_bytes(), earlier.as_bytes()))

@@ -112,7 +112,7 @@ pub use private_use_lang_tag::PrivateUseLangTag;
 #[cfg(feature = "alloc")]
 pub use private_use_lang_tag::PrivateUseLangTagBuf;
 pub use refusal::{Refusal, RefusalKind};
-pub(crate) use repeats::is_among_first;
+pub use repeats::is_among_first;
 pub use typed_lang_tag::TypedLangTag;
 
 // For langtag_registry, langtag_likely, langtag_unicode, langtag_locale and langtag_c.

@@ -2,7 +2,7 @@
 
 //! An iterator over the attributes of a tag.
 
-use crate::keyword::is_among_first;
+use crate::keyword::is_earlier_subtag;
 use crate::tag::Subtags;
 
 /// The iterator that `attributes` returns: the attributes of the extension `u`, in the order of the tag, each once.
@@ -52,7 +52,7 @@ impl<'a> Iterator for AttributesIter<'a> {
 
     fn next(&mut self) -> Option<&'a str> {
         while let Some(attribute) = self.rest.next() {
-            let is_repeated = is_among_first(self.text, self.passed, attribute);
+            let is_repeated = is_earlier_subtag(self.text, self.passed, attribute);
             self.passed += 1;
             if !is_repeated {
                 return Some(attribute);

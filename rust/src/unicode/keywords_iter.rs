@@ -2,7 +2,7 @@
 
 //! An iterator over the keywords of a tag.
 
-use crate::keyword::{before_key, is_among_first, nonempty, split_first, Keys};
+use crate::keyword::{before_key, is_earlier_subtag, nonempty, split_first, Keys};
 use crate::unicode::unicode_extension::KeyValue;
 
 /// An iterator over the keywords of the extension `u`, or the fields of the extension `t`, in the order of the tag.
@@ -41,7 +41,7 @@ impl<'a> KeywordsIter<'a> {
     /// Returns whether the next subtag is a key that equals no subtag before it.
     #[inline]
     fn is_new_key(&self, subtag: &str) -> bool {
-        self.keys.has(subtag.as_bytes()) && !is_among_first(self.text, self.passed, subtag)
+        self.keys.has(subtag.as_bytes()) && !is_earlier_subtag(self.text, self.passed, subtag)
     }
 }
 
