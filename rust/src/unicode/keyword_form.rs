@@ -17,11 +17,11 @@ const KEY_COUNT: usize = 1296;
 
 /// Appends the keywords of a text, each once, in the order of their keys.
 ///
-/// The text is read twice, and then once for each key in it. There are at most 1,296 keys.
+/// The text is read once, and then once for each key in it. There are at most 1,296 keys.
 pub fn push_keywords(out: &mut Output<'_>, text: &str, keys: Keys) {
     let mut marks = [false; KEY_COUNT];
-    mark_keys(&mut marks, text, keys);
-    let firsts = marked_firsts(text, keys);
+    let mut firsts = [false; 36];
+    mark_keys(&mut marks, &mut firsts, text, keys);
     for first in LETTERS_AND_DIGITS {
         if !firsts[digit(first)] {
             continue;
@@ -56,26 +56,15 @@ fn push_keyword(out: &mut Output<'_>, text: &str, keys: Keys, key: &[u8]) {
     }
 }
 
-/// Marks the keys that occur in a text.
-fn mark_keys(marks: &mut [bool; KEY_COUNT], text: &str, keys: Keys) {
+/// Marks the keys that occur in a text, and the letters and digits that begin them.
+fn mark_keys(marks: &mut [bool; KEY_COUNT], firsts: &mut [bool; 36], text: &str, keys: Keys) {
     for subtag in Subtags::new(text) {
         let key = subtag.as_bytes();
         if keys.has(key) {
             marks[key_index(key)] = true;
+            firsts[first_index(key)] = true;
         }
     }
-}
-
-/// Returns which letters and digits may begin a key in a text.
-fn marked_firsts(text: &str, keys: Keys) -> [bool; 36] {
-    let mut marks = [false; 36];
-    for subtag in Subtags::new(text) {
-        let key = subtag.as_bytes();
-        if keys.has(key) {
-            marks[first_index(key)] = true;
-        }
-    }
-    marks
 }
 
 /// Returns the index of a key's first byte among all digits and letters, ignoring case.
