@@ -1,10 +1,9 @@
 -- The tables of language identifiers have what the lists say, and what replaces a field has its class: by computation.
-use Rattle.std.proofs.Common.{◌≡◌, ℕ, Bool, true, false, cond, List, [], ◌∷◌, ◌&&◌, map, option_map, Option, None, Some, refl, sym, ap, ◌∙◌}
-use Rattle.std.proofs.lemmas.Bool.{false≢true}
+use Rattle.std.proofs.Common.{◌≡◌, ℕ, Bool, true, false, cond, List, [], ◌∷◌, map, option_map, Option, None, Some, refl, sym, ap, ◌∙◌}
 use Rattle.std.specs.Prelude.{find}
-use Rattle.std.specs.List.{list_all, list_any}
+use Rattle.std.specs.List.{list_all}
 use Rattle.langtag.specs.FieldClasses.{is_language_field, is_region_field, is_script_field}
-use Rattle.langtag_scan.specs.Case.{are_alike, fold_byte}
+use Rattle.langtag_scan.specs.Case.{fold_byte}
 use Rattle.langtag_scan.specs.Class.{is_digit, is_letter, is_primary, is_region, is_script}
 use Rattle.langtag_scan.specs.Subtags.{segments}
 use Rattle.langtag_keyword.specs.Alias.{Alias}

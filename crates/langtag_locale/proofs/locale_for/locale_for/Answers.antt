@@ -19,6 +19,12 @@ pub returns-in-Some-preferred_tag-clause-is_locale : goal.returns-in-Some-prefer
 returns-in-Some-preferred_tag-clause-is_locale c =
     IfSome_then c.as_locale-in-Some-preferred_tag.result c.as_locale-in-Some-preferred_tag.ensures.some (λ locale is. subst IsLocale (sym is.0) is.1)
 
+pub returns-in-Some-preferred_tag-clause-form : goal.returns-in-Some-preferred_tag-clause-form
+returns-in-Some-preferred_tag-clause-form c =
+    IfSome_then c.as_locale-in-Some-preferred_tag.result c.as_locale-in-Some-preferred_tag.ensures.some
+    (λ locale is form of.
+    value_form _ _ (Some form) (c.in_default.ensures.none refl) (sym c.in-Some-preferred_tag.ensures) (subst (λ t. IsLocaleForm t (Some form)) is.0 of))
+
 pub returns-in-Some-preferred_tag-clause-bounded : goal.returns-in-Some-preferred_tag-clause-bounded
 returns-in-Some-preferred_tag-clause-bounded c =
     IfSome_then c.as_locale-in-Some-preferred_tag.result c.as_locale-in-Some-preferred_tag.ensures.some
