@@ -6,6 +6,12 @@ use Rattle.langtag_likely.proofs.RowLaws.{language_at}
 use Rattle.langtag_likely.proofs.TableRows.{language_count, languages_listed, scripts_good, regions_good}
 use Rattle.langtag_likely.proofs.rows.language_places.Goals as goal
 
+pub name_in-requires : goal.name_in-requires
+name_in-requires c = record { inside = omega (arith, c.requires, language_count); named = refl }
+
+pub name_in-requires-2 : goal.name_in-requires-2
+name_in-requires-2 c = record { inside = omega (arith, c.requires, language_count); named = refl }
+
 pub invariant_of-result : goal.invariant_of-result
 invariant_of-result c = record {
   language_class = refl;

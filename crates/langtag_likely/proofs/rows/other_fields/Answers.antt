@@ -6,6 +6,15 @@ use Rattle.langtag_likely.proofs.RowLaws.{other_at}
 use Rattle.langtag_likely.proofs.TableRows.{other_count, others_listed, languages_good, scripts_good, regions_good}
 use Rattle.langtag_likely.proofs.rows.other_fields.Goals as goal
 
+pub name_in-requires : goal.name_in-requires
+name_in-requires c = record { inside = omega (arith, c.requires, other_count); named = refl }
+
+pub name_in-requires-2 : goal.name_in-requires-2
+name_in-requires-2 c = record { inside = omega (arith, c.requires, other_count); named = refl }
+
+pub name_in-requires-3 : goal.name_in-requires-3
+name_in-requires-3 c = record { inside = omega (arith, c.requires, other_count); named = refl }
+
 pub invariant_of-result : goal.invariant_of-result
 invariant_of-result c = record {
   language_class = column_good is_language_field LANGUAGE_NAMES OTHER_LANGUAGES _ c.args.index languages_good refl (omega (arith, c.requires, other_count)) c.name_in.ensures;
