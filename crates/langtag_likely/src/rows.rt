@@ -119,6 +119,7 @@ fn other_keys() -> &'static [u32]
 }
 
 /// Returns the script and the region of the language at an index.
+#[tactic(auto, using(crate::proofs::TableRows::language_count))]
 fn language_places(index: usize) -> TagFields<'static>
     requires { index < length language_rows }
     ensures { field_texts result ≡ places_of (slice_index_or language_rows index no_row).to }
@@ -132,6 +133,7 @@ fn language_places(index: usize) -> TagFields<'static>
 
 /// Returns the right side of the row at an index. The language of the right side is empty if the left side has a
 /// language.
+#[tactic(auto, using(crate::proofs::TableRows::other_count))]
 fn other_fields(index: usize) -> TagFields<'static>
     requires { index < length other_rows }
     ensures { field_texts result ≡ (slice_index_or other_rows index no_row).to }
