@@ -1,14 +1,11 @@
 -- What loops over ranges and over tags have found, and that it is the choice.
-use Rattle.std.proofs.Common.{◌≡◌, ℕ, true, List, get_or, Option, Some, None, option_map, ap, refl, sym, subst, ◌∙◌, ◌-◌, ◌==◌, ◌≤◌, false, ◌&&◌, ◌||◌, nat_lt, arith, Bool, [], ◌∷◌, ◌⊎◌, ◌+◌, ◌<◌, suc, length, below_more, slice_get, inl, inr, Ordering, is_lt, nat_cmp}
+use Rattle.std.proofs.Common.{◌≡◌, ℕ, true, List, get_or, Option, Some, None, option_map, ap, refl, sym, subst, ◌∙◌, ◌-◌, ◌==◌, ◌≤◌, false, ◌&&◌, ◌||◌, nat_lt, arith, Bool, [], ◌∷◌, ◌⊎◌, ◌+◌, ◌<◌, suc, length, below_more, slice_get}
 use Rattle.std.proofs.lemmas.Bool.Decides.{eqb_tells, nat_tests}
 use Rattle.std.proofs.lemmas.Bool.{and_parts, eqb-true, ltb-false, ltb-true, or_cases, cases_lt}
-use Rattle.std.proofs.lemmas.Cmp.{nat_list_cmp_total}
 use Rattle.std.proofs.lemmas.Grind.{common_steps}
 use Rattle.std.proofs.lemmas.Option.{get_or_from_slice_get, slice_get-get_or, slice_get_within}
-use Rattle.std.specs.Cmp.Lexicographic.{slice_cmp}
 use Rattle.std.specs.List.{list_any}
 use Rattle.std.specs.Option.{ForSome, MatchOption}
-use Rattle.std.specs.Ordering.{is_gt, ordering_reverse}
 use Rattle.langtag_range.specs.Element.{Element}
 use Rattle.langtag_range.specs.Listed.{basic_text}
 use Rattle.langtag_choice.specs.Best.{IsAtMost, IsChoice, IsMatchOf, Pair, rank, rank_of_pair, serves, reach, service, is_excluded, is_refused, longest}
@@ -31,18 +28,6 @@ pub settled :
     (nat_lt c.rank.lack (1000 - element.weight) || ((c.rank.lack == (1000 - element.weight)) && nat_lt c.rank.place place)) ≡ true → IsAtMost (rank_of c) (rank place element index tag)
 unfolding rank
 settled c place element index tag serves before = grind (arith, common_steps, or_cases, ltb-true, and_parts, eqb-true, nat_tests, ltb-false, eqb_tells)
-
-pub at_most_before : (a b : List ℕ) → is_lt (slice_cmp nat_cmp a b) ≡ true → IsAtMost a b
-at_most_before a b before = by_order (slice_cmp nat_cmp a b) before
-  where
-    by_order : (o : Ordering) → is_lt o ≡ true → is_gt o ≡ false
-    by_order o before = grind arith
-
-pub at_most_turned : (a b : List ℕ) → is_lt (slice_cmp nat_cmp a b) ≡ false → IsAtMost b a
-at_most_turned a b after = ap is_gt (nat_list_cmp_total.antisymm b a) ∙ by_order (slice_cmp nat_cmp a b) after
-  where
-    by_order : (o : Ordering) → is_lt o ≡ false → is_gt (ordering_reverse o) ≡ false
-    by_order o after = grind arith
 
 -- a tag that is far, and that look-up does not find, does not serve
 pub cannot_serve : (element : Element) (tag : List ℕ) → 50 ≤ distance_of_texts element.range tag → kept element.range tag ≡ 0 → serves element tag ≡ false
@@ -155,13 +140,6 @@ pub from_of :
     (elements : List Element) (wish : Wish) (tag : List ℕ) (index : ℕ) (old new : Option Candidate) → slice_get elements wish.place ≡ Some (wish_element wish) →
     (new ≡ old) ⊎ MatchOption new ⊥ (IsOf wish tag index) → IsOldOrAt elements tag index old new
 from_of elements wish tag index old new wanted changed = grind (arith, nat_tests)
-
-pub open_from :
-    (elements : List Element) (tags : List (Option (List ℕ))) (tag : List ℕ) (index : ℕ) (old new : Option Candidate) → IsUnrefusedAt elements tags index → AreOpen elements tags old →
-    IsOldOrAt elements tag index old new → AreOpen elements tags new
-open_from elements tags tag index old new here so_far (inl same) = subst (AreOpen elements tags) (sym same) so_far
-open_from elements tags tag index old None here so_far (inr at) = tt
-open_from elements tags tag index old (Some c) here so_far (inr at) = subst (IsUnrefusedAt elements tags) (sym at.index) here
 
 -- from one step to the next
 pub from_later :

@@ -11,7 +11,7 @@ use Rattle.langtag_tables.specs.Numbers.{letter_number, places}
 use Rattle.langtag_likely.specs.declared.tables.TheConstants.{LANGUAGE_BITS, LANGUAGE_ENDS}
 use Rattle.langtag_likely.specs.LikelySubtags.{language_rows}
 use Rattle.langtag_likely.specs.Numbers.{first_index}
-use Rattle.langtag_likely.proofs.TableRows.{bits, words, from_bit, languages_listed}
+use Rattle.langtag_likely.proofs.TableRows.{bits, words, from_bit, rows_listed}
 
 -- ---- the bits of a word
 
@@ -166,10 +166,10 @@ module _ (number : ℕ) (from : 27 ≤ number) (to : number ≤ 18278) where
   at = omega (arith, from)
 
   pub no_row : from_bit number % 2 ≡ 0 → row_index number ≡ None
-  no_row none = ap row_index at ∙ unset LANGUAGE_BITS LANGUAGE_ENDS _ all_words same_ends languages_listed.bits (number - 27) inside none
+  no_row none = ap row_index at ∙ unset LANGUAGE_BITS LANGUAGE_ENDS _ all_words same_ends rows_listed.languages.bits (number - 27) inside none
 
   pub enough_ends : count_ones (from_bit number) ≤ get_or LANGUAGE_ENDS ((number - 27) / 64) 0
-  enough_ends = enough LANGUAGE_BITS LANGUAGE_ENDS _ all_words same_ends languages_listed.bits (number - 27) inside
+  enough_ends = enough LANGUAGE_BITS LANGUAGE_ENDS _ all_words same_ends rows_listed.languages.bits (number - 27) inside
 
   pub row_at : from_bit number % 2 ≡ 1 → row_index number ≡ Some (get_or LANGUAGE_ENDS ((number - 27) / 64) 0 - count_ones (from_bit number))
-  row_at one = ap row_index at ∙ found LANGUAGE_BITS LANGUAGE_ENDS _ all_words same_ends languages_listed.bits (number - 27) inside one
+  row_at one = ap row_index at ∙ found LANGUAGE_BITS LANGUAGE_ENDS _ all_words same_ends rows_listed.languages.bits (number - 27) inside one

@@ -7,7 +7,6 @@ use Rattle.langtag_scan.specs.Case.{are_alike, fold_byte, folded_number}
 use Rattle.langtag_scan.specs.Class.{is_letter, is_digit, are_letters, is_primary, is_script, is_region}
 use Rattle.langtag_tables.specs.Numbers.{letter_number, places}
 use Rattle.langtag_likely.specs.declared.tables.TheConstants as table
-use Rattle.langtag_likely.specs.declared.tables.TheConstants.{LANGUAGE_BITS}
 use Rattle.langtag.specs.FieldClasses.{is_language_field, is_script_field, is_region_field}
 use Rattle.langtag_likely.specs.Likely.{Likely, looked_up}
 use Rattle.langtag_likely.specs.LikelySubtags.{language_rows, other_rows, likely_subtags}
@@ -27,7 +26,7 @@ words list = flat_map (bits 64) list
 
 -- the word of a language from its bit on
 abbrev pub from_bit : ℕ → ℕ
-from_bit number = get_or LANGUAGE_BITS ((number - 27) / 64) 0 / 2 ^ ((number - 27) % 64)
+from_bit number = get_or table.LANGUAGE_BITS ((number - 27) / 64) 0 / 2 ^ ((number - 27) % 64)
 
 -- ---- what the rows have in common
 
@@ -86,7 +85,7 @@ pub record AreLanguages : Type 0 where
   pub scripts : map (name_at table.SCRIPT_NAMES) table.LANGUAGE_SCRIPTS ≡ map (λ row. row.to.script) language_rows
   pub regions : map (name_at table.REGION_NAMES) table.LANGUAGE_REGIONS ≡ map (λ row. row.to.region) language_rows
   -- the table of bits has exactly the numbers of the languages
-  pub bits : places 27 (words LANGUAGE_BITS) ≡ map (λ row. letter_number row.from.language) language_rows
+  pub bits : places 27 (words table.LANGUAGE_BITS) ≡ map (λ row. letter_number row.from.language) language_rows
   -- a language and no more, of two or three letters
   pub alone : list_all (λ row. are_letters row.from.language && is_alone row) language_rows ≡ true
   pub only : list_all is_alone language_rows ≡ true
@@ -121,27 +120,19 @@ rows_listed = record {
   good = refl;
 }
 
-pub languages_listed : AreLanguages
-languages_listed = rows_listed.languages
-
-pub others_listed : AreOthers
-others_listed = rows_listed.others
-
--- ---- the numbers of rows
-
 pub language_count : length language_rows ≡ length table.LANGUAGE_SCRIPTS
 language_count =
-    sym (length-map language_rows (λ row. row.to.script)) ∙ sym (ap length languages_listed.scripts) ∙ length-map table.LANGUAGE_SCRIPTS (name_at table.SCRIPT_NAMES)
+    sym (length-map language_rows (λ row. row.to.script)) ∙ sym (ap length rows_listed.languages.scripts) ∙ length-map table.LANGUAGE_SCRIPTS (name_at table.SCRIPT_NAMES)
 
 pub other_numbers : table.OTHER_KEYS ≡ map (λ row. key_number row.from) other_rows
-other_numbers = others_listed.numbers
+other_numbers = rows_listed.others.numbers
 
 pub other_key_count : length table.OTHER_KEYS ≡ length other_rows
 other_key_count = ap length other_numbers ∙ length-map other_rows (λ row. key_number row.from)
 
 pub other_count : length other_rows ≡ length table.OTHER_SCRIPTS
 other_count =
-    sym (length-map other_rows (λ row. row.to.script)) ∙ sym (ap length others_listed.scripts) ∙ length-map table.OTHER_SCRIPTS (name_at table.SCRIPT_NAMES)
+    sym (length-map other_rows (λ row. row.to.script)) ∙ sym (ap length rows_listed.others.scripts) ∙ length-map table.OTHER_SCRIPTS (name_at table.SCRIPT_NAMES)
 
 -- ---- the classes of names
 

@@ -1,4 +1,4 @@
-use Rattle.std.proofs.Common.{◌≡◌, Some, List, ℕ, inr, refl, sym, ◌∙◌}
+use Rattle.std.proofs.Common.{◌≡◌, Some, List, ℕ, refl, sym, ◌∙◌}
 use Rattle.std.proofs.lemmas.Bool.{both_ways}
 use Rattle.langtag_scan.specs.Record.{Spells}
 use Rattle.langtag_scan.specs.Tag.{IsNormal}
@@ -6,7 +6,7 @@ use Rattle.langtag.specs.Registered.{IsGrandfathered}
 use Rattle.langtag.specs.Text.{lang_tag_text, normal_lang_tag_text}
 use Rattle.langtag_registry.specs.Canonical.{IsCanonicalForm, canonical_text}
 use Rattle.langtag_registry.specs.Fields.{preferred_tag}
-use Rattle.langtag_registry.proofs.CanonicalParts.{kept_form, own_record, preferred_goes, record_form}
+use Rattle.langtag_registry.proofs.CanonicalParts.{own_record, preferred_goes, record_form}
 use Rattle.langtag_registry.proofs.form.form_of.Goals as goal
 
 whole_form : (old new : List ℕ) → preferred_tag old ≡ Some new → IsCanonicalForm old new
@@ -14,17 +14,8 @@ whole_form old new is = record { whole = λ w also. cc; kept = λ none why. absu
 
 pub returns-in-Some : goal.returns-in-Some
 returns-in-Some c =
-    let old = lang_tag_text c.args.tag in
     let is = sym (rw c.in-Some.is at c.preferred_tag.ensures) in
-    record { form = whole_form old (lang_tag_text c.in-Some.preferred) is; same = λ own. absurd (preferred_goes old (lang_tag_text c.in-Some.preferred) is own) }
-
-pub returns-in_default-as_normal : goal.returns-in_default-as_normal
-returns-in_default-as_normal c =
-    let old = lang_tag_text c.args.tag in
-    record {
-      form = kept_form old old (sym (rw c.in_default.is at c.preferred_tag.ensures)) (inr (λ normal. let no = c.in_default-as_normal.ensures.kind.1 normal in absurd cc)) refl;
-      same = λ own. refl;
-    }
+    record { form = whole_form _ (lang_tag_text c.in-Some.preferred) is; same = λ own. absurd (preferred_goes _ (lang_tag_text c.in-Some.preferred) is own) }
 
 pub returns : goal.returns
 unfolding IsNormal
