@@ -6,14 +6,9 @@ use Rattle.langtag.proofs.typed_lang_tag.TypedLangTag.kind.Goals as goal
 
 by_kind : TypedLangTagsCompareByKind
 by_kind (Normal a) (Normal b) = refl
-by_kind (Normal a) (PrivateUse b) = refl
-by_kind (Normal a) (Grandfathered b) = refl
-by_kind (PrivateUse a) (Normal b) = refl
 by_kind (PrivateUse a) (PrivateUse b) = refl
-by_kind (PrivateUse a) (Grandfathered b) = refl
-by_kind (Grandfathered a) (Normal b) = refl
-by_kind (Grandfathered a) (PrivateUse b) = refl
 by_kind (Grandfathered a) (Grandfathered b) = equal a b
+by_kind a b = refl
 
 pub returns-in-Normal-clause-compared : goal.returns-in-Normal-clause-compared
 returns-in-Normal-clause-compared c = by_kind
