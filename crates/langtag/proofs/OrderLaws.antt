@@ -4,7 +4,6 @@ use Rattle.std.proofs.Math.Facts.{Fits-of_lt}
 use Rattle.std.proofs.lemmas.Grind.{common_steps}
 use denote.Enum.Declared.{tag_of}
 use Rattle.std.specs.Hash.{usize}
-use Rattle.std.specs.declared.cmp.Ordering.{Ordering}
 use Rattle.std.specs.declared.cmp.Ordering.TheVariants.{Greater}
 use Rattle.std.proofs.lemmas.Option.{slice_get-map}
 use Rattle.langtag_scan.specs.Case.{EndsFirst, case_cmp}
@@ -35,13 +34,11 @@ tag_of-index tag = at_member (tag_of the_type) index_of GRANDFATHERED (index_of 
 pub equal : (a b : GrandfatheredLangTag) → tag_equality.eq-value.it a b ≡ (index_of a == index_of b)
 equal a b = ap (λ n. n == tag_of the_type b) (tag_of-index a) ∙ ap (λ n. index_of a == n) (tag_of-index b)
 
-abbrev answer : GrandfatheredLangTag → GrandfatheredLangTag → Ordering
-answer a b = nat_cmp (index_of a) (index_of b)
-
-ordered : (a b : GrandfatheredLangTag) → tag_order.cmp-value.it a b ≡ answer a b
+ordered : (a b : GrandfatheredLangTag) → tag_order.cmp-value.it a b ≡ nat_cmp (index_of a) (index_of b)
 ordered a b =
-    at_member (tag_order.cmp-value.it a) (answer a) GRANDFATHERED (index_of b) b (listed b)
-    (at_member (λ c. map (tag_order.cmp-value.it c) GRANDFATHERED) (λ c. map (answer c) GRANDFATHERED) GRANDFATHERED (index_of a) a (listed a) refl)
+    let row : map (tag_order.cmp-value.it a) GRANDFATHERED ≡ map (λ d. nat_cmp (index_of a) (index_of d)) GRANDFATHERED =
+    at_member (λ c. map (tag_order.cmp-value.it c) GRANDFATHERED) (λ c. map (λ d. nat_cmp (index_of c) (index_of d)) GRANDFATHERED) GRANDFATHERED (index_of a) a (listed a) refl in
+    at_member (tag_order.cmp-value.it a) (λ d. nat_cmp (index_of a) (index_of d)) GRANDFATHERED (index_of b) b (listed b) row
 
 -- and what it feeds to a hasher
 hashed : (tag : GrandfatheredLangTag) → tag_hash.hash_input-value.it tag ≡ usize (index_of tag)

@@ -1,5 +1,4 @@
-use Rattle.std.proofs.Common.{◌≡◌, ◌≤◌, ◌==◌, ◌+◌, ℕ, false, true, List, [], ◌∷◌, length, refl, ap, sym, ◌∙◌, arith, length-append}
-use Rattle.std.proofs.lemmas.Bool.{eqb-true}
+use Rattle.std.proofs.Common.{◌≡◌, ◌≤◌, ◌==◌, ◌+◌, ℕ, false, length, ap, sym, ◌∙◌, arith, length-append}
 use Rattle.std.proofs.lemmas.Bool.Decides.{nat_tests}
 use Rattle.langtag.proofs.edit.replace.Goals.{else-is_empty-via-then-is_empty+else-is_empty-2, else-is_empty-via-else-is_empty}
 use Rattle.langtag.proofs.edit.replace.Goals as goal
@@ -20,13 +19,6 @@ returns-in_err-text-clause-taken_out c nothing =
           let there = some (length hyphen) (sym c.is_empty.ensures ∙ w.if-is_empty.false) in
           absurd (omega (arith, none, there))
     ]
-
-empty : (xs : List ℕ) → true ≡ (length xs == 0) → xs ≡ []
-empty [] is = refl
-empty (x ∷ xs) is = absurd (omega (arith, eqb-true (length (x ∷ xs)) 0 (sym is)))
-
-pub returns-then-is_empty-2-clause-replaced : goal.returns-then-is_empty-2-clause-replaced
-returns-then-is_empty-2-clause-replaced c = rw (empty c.args.new.hyphen.now c.if-is_empty.ensures, empty c.args.new.part.now c.if-is_empty-2.ensures) c.replace_range.ensures.bytes
 
 pub returns-clause-replaced : goal.returns-clause-replaced
 returns-clause-replaced c = rw c.as_str.ensures.value at c.in_ok-text.ensures
