@@ -1,11 +1,10 @@
 -- The derived comparisons of the grandfathered tags, and the order of tags of which one begins the other.
-use Rattle.std.proofs.Common.{◌≡◌, ◌==◌, ℕ, List, Some, refl, sym, ap, ◌∙◌, arith, map, nat_cmp, option_map, slice_get}
+use Rattle.std.proofs.Common.{◌≡◌, ◌==◌, ℕ, List, refl, ap, ◌∙◌, arith, map, nat_cmp}
 use Rattle.std.proofs.Math.Facts.{Fits-of_lt}
 use Rattle.std.proofs.lemmas.Grind.{common_steps}
 use denote.Enum.Declared.{tag_of}
 use Rattle.std.specs.Hash.{usize}
 use Rattle.std.specs.declared.cmp.Ordering.TheVariants.{Greater}
-use Rattle.std.proofs.lemmas.Option.{slice_get-map}
 use Rattle.langtag_scan.specs.Case.{EndsFirst, case_cmp}
 use Rattle.langtag_scan.specs.Tag.{IsNormal, IsTag}
 use Rattle.langtag_scan.proofs.Ascii.{IsAscii-tag}
@@ -17,15 +16,9 @@ use Rattle.langtag.specs.contracts.grandfathered.GrandfatheredLangTagPartialEq.T
 use Rattle.langtag.specs.contracts.grandfathered.GrandfatheredLangTag.{the_type}
 use Rattle.langtag.specs.declared.grandfathered.GrandfatheredLangTag.{GrandfatheredLangTag}
 use Rattle.langtag.specs.declared.grandfathered.TheConstants.{GRANDFATHERED}
-use Rattle.langtag.proofs.RegisteredLaws.{listed}
+use Rattle.langtag.proofs.RegisteredLaws.{at_member, listed}
 use Rattle.langtag.specs.Order.{TagsCompareByIndex}
 use Rattle.langtag.specs.Registered.{index_of}
-
--- what is equal at each member of a list is equal at one
-at_member : {A B : Type 0} (f g : A → B) (xs : List A) (k : ℕ) (x : A) → slice_get xs k ≡ Some x → map f xs ≡ map g xs → f x ≡ g x
-at_member f g xs k x at same =
-    let of : option_map f (slice_get xs k) ≡ option_map g (slice_get xs k) = sym (slice_get-map f xs k) ∙ ap (λ ys. slice_get ys k) same ∙ slice_get-map g xs k in
-    cc
 
 -- what a derived comparison reads of a variant is its index
 tag_of-index : (tag : GrandfatheredLangTag) → tag_of the_type tag ≡ index_of tag
@@ -36,9 +29,8 @@ equal a b = ap (λ n. n == tag_of the_type b) (tag_of-index a) ∙ ap (λ n. ind
 
 ordered : (a b : GrandfatheredLangTag) → tag_order.cmp-value.it a b ≡ nat_cmp (index_of a) (index_of b)
 ordered a b =
-    let row : map (tag_order.cmp-value.it a) GRANDFATHERED ≡ map (λ d. nat_cmp (index_of a) (index_of d)) GRANDFATHERED =
-    at_member (λ c. map (tag_order.cmp-value.it c) GRANDFATHERED) (λ c. map (λ d. nat_cmp (index_of c) (index_of d)) GRANDFATHERED) GRANDFATHERED (index_of a) a (listed a) refl in
-    at_member (tag_order.cmp-value.it a) (λ d. nat_cmp (index_of a) (index_of d)) GRANDFATHERED (index_of b) b (listed b) row
+    at_member (tag_order.cmp-value.it a) (λ d. nat_cmp (index_of a) (index_of d)) GRANDFATHERED (index_of b) b (listed b)
+    (at_member (λ c. map (tag_order.cmp-value.it c) GRANDFATHERED) (λ c. map (λ d. nat_cmp (index_of c) (index_of d)) GRANDFATHERED) GRANDFATHERED (index_of a) a (listed a) refl)
 
 -- and what it feeds to a hasher
 hashed : (tag : GrandfatheredLangTag) → tag_hash.hash_input-value.it tag ≡ usize (index_of tag)
