@@ -1,5 +1,5 @@
 -- A part that is put into the text of a normal tag: where it stands, and what the new text is.
-use Rattle.std.proofs.Common.{◌≡◌, ℕ, ◌≤◌, List, [], length, arith, option_map}
+use Rattle.std.proofs.Common.{◌≡◌, ℕ, ◌≤◌, List, length, arith, option_map}
 use Rattle.std.specs.List.{replace_range}
 use Rattle.std.proofs.lemmas.Grind.{common_steps}
 use Rattle.langtag_scan.specs.Ends.{ends_of, HasEnds}
@@ -15,7 +15,6 @@ use Rattle.langtag_extension.proofs.Rules.{IsExtensions-from_test}
 use Rattle.langtag.specs.Edit.{SetsPart}
 use Rattle.langtag.specs.Lengths.{ends_from, lengths_of, with_length}
 use Rattle.langtag.specs.PartPlaces.{part_start, part_end, put_text}
-use Rattle.langtag.specs.Text.{part_text}
 use Rattle.langtag.specs.declared.part.Part.{Part}
 use Rattle.langtag.specs.declared.part.Part.TheVariants.{Language, Script, Region, Variants, Extensions, PrivateUse}
 use Rattle.langtag.proofs.EditLaws.{spells-edited, ends-edited, language-replaces, script-replaces, region-replaces, variants-replaces, extensions-replaces, private_use-replaces, is_script-member, is_region-member, private_use_spelled}
@@ -34,10 +33,6 @@ pub part_within : (p : Part) (text : List ℕ) (ends : Ends) → HasEnds text en
 part_within p text ends kept = grind (arith, common_steps, ends_ordered text ends kept, ends_whole text ends kept)
 
 -- ---- what the new text is
-
--- nothing is put for a part that is absent
-pub nothing_put : (p : Part) → part_text p ≡ [] → put_text p ≡ []
-nothing_put p none = grind (arith, common_steps)
 
 -- the record of the old one with the part spells it
 pub part_set :

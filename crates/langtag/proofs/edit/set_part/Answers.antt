@@ -1,9 +1,8 @@
-use Rattle.std.proofs.Common.{◌≡◌, ◌+◌, length, ap, sym, ◌∙◌, arith, length-append}
-use Rattle.std.proofs.lemmas.Bool.{false≢true}
+use Rattle.std.proofs.Common.{◌≡◌, ◌+◌, length, refl, ap, sym, ◌∙◌, arith, length-append}
 use Rattle.std.proofs.lemmas.Grind.{common_steps}
 use Rattle.langtag_scan.proofs.SpelledTexts.{ends_had, ends_whole}
 use Rattle.langtag.specs.PartPlaces.{put_text}
-use Rattle.langtag.proofs.PartLaws.{nothing_put, part_order, part_set, part_kept}
+use Rattle.langtag.proofs.PartLaws.{part_order, part_set, part_kept}
 use Rattle.langtag.proofs.edit.set_part.Goals as goal
 
 pub replace-requires-clause-order : goal.replace-requires-clause-order
@@ -24,5 +23,5 @@ returns-clause-set c = grind (arith, common_steps, part_set c.args.part, ends_ha
 pub returns-clause-kept : goal.returns-clause-kept
 returns-clause-kept c = grind (arith, common_steps, length-append, part_kept c.args.part, ends_had)
 
-pub returns-in_err-replace-clause-taken_out : goal.returns-in_err-replace-clause-taken_out
-returns-in_err-replace-clause-taken_out c none = absurd (false≢true (c.in_err-replace.ensures.taken_out (c.replacement-new.ensures.put ∙ nothing_put c.args.part none)))
+pub returns-clause-taken_out : goal.returns-clause-taken_out
+returns-clause-taken_out c none = refl
