@@ -2,7 +2,7 @@ use Rattle.std.proofs.Common.{arith, ◌≡◌, ◌+◌, ◌<◌, [], ◌∷◌,
 use Rattle.std.proofs.lemmas.Grind.{common_steps}
 use Rattle.langtag_scan.specs.declared.finding.Finding.TheVariants as finding
 use Rattle.langtag_scan.proofs.PositionLaws.{tracks_nothing, Tracks}
-use Rattle.langtag_scan.proofs.RecogniserLaws.{viable_nothing, alive_viable, next_prefix, tracks_first, tracks_next, dead_next, text_ended}
+use Rattle.langtag_scan.proofs.RecogniserLaws.{viable_nothing, alive_viable, next_prefix, tracks_first, tracks_next, dead_next, text_ended, whole_stop}
 use Rattle.langtag_scan.proofs.StateTables.{stands_nothing, stands_ending}
 use Rattle.langtag_scan.specs.Machine.{ends_at}
 use Rattle.langtag_scan.specs.Found.{IsFoundOf}
@@ -104,3 +104,28 @@ returns-in-Normal-clause-found g c =
     let ended = text_ended t c.loop-index.marks.places c.loop-index.index (Normal c.in-Normal.last) at known.tracks (sym c.in-Normal.is ∙ c.ending.ensures.ending (take c.loop-index.index t) known.stands) in
     let ends = c.ends.ensures ∙ ap (λ places. ends_at places c.len-len.result) c.set-in-Normal.ensures ∙ ap (λ n. ends_at (set c.loop-index.marks.places c.in-Normal.last n) n) c.len-len.ensures in
     subst (λ e. IsFoundOf t (finding.Normal e)) (sym ends) ended
+
+pub returns-then-len-eq0-clause-reads : goal.returns-then-len-eq0-clause-reads
+returns-then-len-eq0-clause-reads g c =
+    (0, whole_stop (g.S.ByteSource.bytes c.args.source.now) 0 (omega (arith, c.len-len.ensures, c.if-len-eq0.true)) viable_nothing, omega arith, omega arith)
+
+pub returns-in-NoTag-clause-reads : goal.returns-in-NoTag-clause-reads
+returns-in-NoTag-clause-reads g c =
+    let known = c.loop-index.invariant in
+    (c.loop-index.index, whole_stop (g.S.ByteSource.bytes c.args.source.now) c.loop-index.index (omega (arith, c.len-len.ensures, known.within)) known.viable, known.reads, known.reach)
+
+pub returns-in-PrivateUse-clause-reads : goal.returns-in-PrivateUse-clause-reads
+returns-in-PrivateUse-clause-reads g c =
+    let known = c.loop-index.invariant in
+    (c.loop-index.index, whole_stop (g.S.ByteSource.bytes c.args.source.now) c.loop-index.index (omega (arith, c.len-len.ensures, known.within)) known.viable, known.reads, known.reach)
+
+pub returns-in-Irregular-clause-reads : goal.returns-in-Irregular-clause-reads
+returns-in-Irregular-clause-reads g c =
+    let known = c.loop-index.invariant in
+    (c.loop-index.index, whole_stop (g.S.ByteSource.bytes c.args.source.now) c.loop-index.index (omega (arith, c.len-len.ensures, known.within)) known.viable, known.reads, known.reach)
+
+pub returns-in-Normal-clause-reads : goal.returns-in-Normal-clause-reads
+returns-in-Normal-clause-reads g c =
+    let known = c.loop-index.invariant in
+    (c.loop-index.index, whole_stop (g.S.ByteSource.bytes c.args.source.now) c.loop-index.index (omega (arith, c.len-len.ensures, known.within)) known.viable, known.reads, known.reach)
+-- x
