@@ -122,26 +122,19 @@ all_described = refl
 described_at : (n : ℕ) → n < 18 → are_rows_described (get_or stages n Start) ≡ true
 described_at n within = AllPass-from_list_all are_rows_described stages all_described n Start within
 
-past_language : (taken : ℕ) → are_rows_described (Language (suc (suc (suc (suc taken))))) ≡ true
-unfolding states_of
-past_language taken = refl
-
-past_extended : (taken : ℕ) → are_rows_described (Extended (suc (suc (suc (suc taken))))) ≡ true
-unfolding states_of
-past_extended taken = refl
-
 rows_described : (stage : Stage) → are_rows_described stage ≡ true
+unfolding states_of
 rows_described Start = described_at 0 (omega arith)
 rows_described (Language zero) = described_at 1 (omega arith)
 rows_described (Language (suc zero)) = described_at 2 (omega arith)
 rows_described (Language (suc (suc zero))) = described_at 3 (omega arith)
 rows_described (Language (suc (suc (suc zero)))) = described_at 4 (omega arith)
-rows_described (Language (suc (suc (suc (suc taken))))) = past_language taken
+rows_described (Language (suc (suc (suc (suc taken))))) = refl
 rows_described (Extended zero) = described_at 5 (omega arith)
 rows_described (Extended (suc zero)) = described_at 6 (omega arith)
 rows_described (Extended (suc (suc zero))) = described_at 7 (omega arith)
 rows_described (Extended (suc (suc (suc zero)))) = described_at 8 (omega arith)
-rows_described (Extended (suc (suc (suc (suc taken))))) = past_extended taken
+rows_described (Extended (suc (suc (suc (suc taken))))) = refl
 rows_described AfterScript = described_at 9 (omega arith)
 rows_described AfterRegion = described_at 10 (omega arith)
 rows_described AfterVariant = described_at 11 (omega arith)

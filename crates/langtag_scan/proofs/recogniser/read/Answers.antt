@@ -93,9 +93,8 @@ returns-in-NoTag g c =
     let t = g.S.ByteSource.bytes c.args.source.now in
     let known = c.loop-index.invariant in
     let at : c.loop-index.index ≡ length t = omega (arith, c.len-len.ensures, known.within) in
-    let is = sym c.in-NoTag.is ∙ c.ending.ensures.ending (take c.loop-index.index t) known.stands in
     record {
-      found = text_ended t c.loop-index.marks.places c.loop-index.index NoTag at known.tracks is;
+      found = text_ended t c.loop-index.marks.places c.loop-index.index NoTag at known.tracks (sym c.in-NoTag.is ∙ c.ending.ensures.ending (take c.loop-index.index t) known.stands);
       bytes = known.bytes;
       reads = (c.loop-index.index, whole_stop t c.loop-index.index at known.viable, known.reads, known.reach);
     }
@@ -105,9 +104,8 @@ returns-in-PrivateUse g c =
     let t = g.S.ByteSource.bytes c.args.source.now in
     let known = c.loop-index.invariant in
     let at : c.loop-index.index ≡ length t = omega (arith, c.len-len.ensures, known.within) in
-    let is = sym c.in-PrivateUse.is ∙ c.ending.ensures.ending (take c.loop-index.index t) known.stands in
     record {
-      found = text_ended t c.loop-index.marks.places c.loop-index.index PrivateUse at known.tracks is;
+      found = text_ended t c.loop-index.marks.places c.loop-index.index PrivateUse at known.tracks (sym c.in-PrivateUse.is ∙ c.ending.ensures.ending (take c.loop-index.index t) known.stands);
       bytes = known.bytes;
       reads = (c.loop-index.index, whole_stop t c.loop-index.index at known.viable, known.reads, known.reach);
     }
@@ -117,9 +115,8 @@ returns-in-Irregular g c =
     let t = g.S.ByteSource.bytes c.args.source.now in
     let known = c.loop-index.invariant in
     let at : c.loop-index.index ≡ length t = omega (arith, c.len-len.ensures, known.within) in
-    let is = sym c.in-Irregular.is ∙ c.ending.ensures.ending (take c.loop-index.index t) known.stands in
     record {
-      found = text_ended t c.loop-index.marks.places c.loop-index.index (Irregular c.in-Irregular.index) at known.tracks is;
+      found = text_ended t c.loop-index.marks.places c.loop-index.index (Irregular c.in-Irregular.index) at known.tracks (sym c.in-Irregular.is ∙ c.ending.ensures.ending (take c.loop-index.index t) known.stands);
       bytes = known.bytes;
       reads = (c.loop-index.index, whole_stop t c.loop-index.index at known.viable, known.reads, known.reach);
     }
