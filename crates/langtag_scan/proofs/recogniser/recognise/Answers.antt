@@ -1,13 +1,9 @@
-use Rattle.std.proofs.Common.{◌≡◌, ℕ, List, arith}
+use Rattle.std.proofs.Common.{arith}
 use Rattle.std.proofs.lemmas.Grind.{common_steps}
-use Rattle.langtag_scan.specs.Viable.{IsStop}
 use Rattle.langtag_scan.proofs.FillLaw.{viable_fill}
 use Rattle.langtag_scan.proofs.IrregularTexts.{irregular_once}
 use Rattle.langtag_scan.proofs.OneKind.{normal_no_private, normal_no_irregular, private_no_irregular}
 use Rattle.langtag_scan.proofs.recogniser.recognise.Goals as goal
-
-one_stop : (t : List ℕ) (n m : ℕ) → IsStop t n → IsStop t m → n ≡ m
-one_stop t n m first second = grind (arith, common_steps)
 
 pub returns : goal.returns
 returns g c = record {
@@ -18,6 +14,6 @@ returns g c = record {
   normal_not_irregular = normal_no_irregular;
   private_not_irregular = private_no_irregular;
   one_index = irregular_once;
-  one_stop = one_stop;
+  one_stop = λ t n m first second. grind (arith, common_steps);
   viable = viable_fill;
 }
