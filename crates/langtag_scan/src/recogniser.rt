@@ -25,6 +25,7 @@ use crate::state::{Ending, State};
 /// recognise(&mut Metered::new("zh_TW")).is_none(); // true
 /// ```
 #[inline(always)]
+#[tactic(auto, using(crate::proofs::OneKind::normal_no_private, crate::proofs::OneKind::normal_no_irregular, crate::proofs::OneKind::private_no_irregular, crate::proofs::IrregularTexts::irregular_once, crate::proofs::FillLaw::viable_fill))]
 pub fn recognise<S: ByteSource>(source: &mut S) -> Option<Found>
     requires { S.reads source.old ≤ 2 ^ 126 }
     ensures found { MatchOption result (IsTag (S.bytes source.old) → ⊥) (λ found. IsFoundOf (S.bytes source.old) (finding found)) }
@@ -48,6 +49,7 @@ pub fn recognise<S: ByteSource>(source: &mut S) -> Option<Found>
 /// Does the work of [`recognise`]. Only `recognise` states the laws, since each law of a function has to be proved at
 /// each of its returns.
 #[inline(always)]
+#[tactic(auto, using(crate::proofs::RecogniserLaws::whole_stop, crate::proofs::RecogniserLaws::viable_nothing))]
 fn read<S: ByteSource>(source: &mut S) -> Option<Found>
     requires { S.reads source.old ≤ 2 ^ 126 }
     ensures found { MatchOption result (IsTag (S.bytes source.old) → ⊥) (λ found. IsFoundOf (S.bytes source.old) (finding found)) }

@@ -39,6 +39,7 @@ pub fn viable_len_with_hyphen(bytes: &[u8]) -> usize
 
 /// Returns the index of the byte at which the recogniser stops. The source has to end with a byte that no tag contains,
 /// so that the recogniser stops.
+#[tactic(auto, using(crate::proofs::ViableLaws::stop_some))]
 fn len_before_stop<'a>(source: &mut Metered<'a>) -> usize
     requires some { 1 ≤ length (⟦<Metered<'a> as ByteSource>⟧.bytes source.old) }
     requires reads { ⟦<Metered<'a> as ByteSource>⟧.reads source.old ≡ 0 }

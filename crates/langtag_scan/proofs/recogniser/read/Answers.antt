@@ -1,5 +1,4 @@
 use Rattle.std.proofs.Common.{arith, refl, ◌≡◌, ◌+◌, ◌<◌, [], ◌∷◌, ◌++◌, length, take, get_or, set, sym, ap, subst, ◌∙◌, replicate}
-use Rattle.std.proofs.lemmas.Grind.{common_steps}
 use Rattle.langtag_scan.specs.declared.finding.Finding.TheVariants as finding
 use Rattle.langtag_scan.proofs.PositionLaws.{tracks_nothing, Tracks}
 use Rattle.langtag_scan.proofs.RecogniserLaws.{viable_nothing, alive_viable, next_prefix, tracks_first, tracks_next, dead_next, text_ended, whole_stop}
