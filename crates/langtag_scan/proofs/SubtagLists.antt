@@ -1,7 +1,8 @@
 -- Texts and the lists of subtags that stand between their hyphens: joining and splitting undo one another, and a list of
 -- members of a class is found again in its join.
-use Rattle.std.proofs.Common.{◌≡◌, ℕ, ◌<◌, ◌≤◌, ◌+◌, List, length, drop, length-drop, arith, Bool, true, false, [], ◌∷◌, ◌++◌, refl, ap, ◌∙◌, Option, Bor, MatchOption, All, IsTrue}
+use Rattle.std.proofs.Common.{◌≡◌, ℕ, ◌<◌, ◌≤◌, ◌+◌, List, length, drop, length-drop, arith, Bool, true, false, [], ◌∷◌, ◌++◌, refl, ap, ◌∙◌, Option, Bor, MatchOption, All, IsTrue, get_or, slice_range}
 use Rattle.std.proofs.lemmas.Bool.{and_parts}
+use Rattle.std.proofs.lemmas.List.{take-append-drop, drop_more}
 use Rattle.std.specs.List.{onto_first, AllByRecursion, list_all}
 use Rattle.std.proofs.lemmas.List.Splits.{slice_split-cons_yes, slice_split-cons_no, slice_split_none, slice_split_at, length-slice_split, join_with_byte-slice_split}
 use Rattle.std.proofs.lemmas.List.Elements.{All-nil, All-cons, All-head, All-tail, All-from_recursion, All-weaker}
@@ -113,6 +114,12 @@ pub length-after_first : (text : List ℕ) → length (drop 1 (subtags text)) �
 length-after_first text = omega (arith, length-drop 1 (subtags text), length-subtags text)
 
 -- ---- cuts
+
+-- at a hyphen
+pub cut_at :
+    (text before after : List ℕ) (i j : ℕ) → i + 1 ≡ j → before ≡ slice_range text 0 i → after ≡ drop j text → i < length text → get_or text i 0 ≡ 45 →
+    text ≡ before ++ 45 ∷ after
+cut_at text before after i j next is_before is_after within hyphen = grind (arith, common_steps, take-append-drop i text, drop_more text i 0)
 
 -- where a text is cut after a hyphen
 pub ruleset splits = (IsCharBoundary-after_ascii)

@@ -12,20 +12,13 @@ loop-byte-init c = record { so_far = refl; digits = omega arith }
 pub overflow_mul-number : goal.overflow_mul-number
 overflow_mul-number c =
     let below = digit_fits c.loop-byte.number c.loop-byte.byte-index 0 c.loop-byte.invariant.digits (omega arith) in
-    let inside = c.loop-byte-test.true in
-    let short = c.requires in
-    let fits = fits_64 (c.loop-byte.number * 256 + 0) (c.loop-byte.byte-index + 1) below (omega (arith, short, inside)) in
-    omega (arith, fits)
+    omega (arith, fits_64 (c.loop-byte.number * 256 + 0) (c.loop-byte.byte-index + 1) below (omega (arith, c.requires, c.loop-byte-test.true)))
 
 pub overflow_add-number : goal.overflow_add-number
 overflow_add-number c =
-    let small = c.into_smallcase.type_inv in
-    let same = c.from.ensures in
-    let below = digit_fits c.loop-byte.number c.loop-byte.byte-index c.from.result c.loop-byte.invariant.digits (omega (arith, small, same)) in
-    let inside = c.loop-byte-test.true in
-    let short = c.requires in
-    let fits = fits_64 (c.loop-byte.number * 256 + c.from.result) (c.loop-byte.byte-index + 1) below (omega (arith, short, inside)) in
-    omega (arith, fits)
+    let below =
+    digit_fits c.loop-byte.number c.loop-byte.byte-index c.from.result c.loop-byte.invariant.digits (omega (arith, c.into_smallcase.type_inv, c.from.ensures)) in
+    omega (arith, fits_64 (c.loop-byte.number * 256 + c.from.result) (c.loop-byte.byte-index + 1) below (omega (arith, c.requires, c.loop-byte-test.true)))
 
 pub loop-byte-preserved : goal.loop-byte-preserved
 unfolding folded_number

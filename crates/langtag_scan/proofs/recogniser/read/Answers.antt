@@ -1,8 +1,7 @@
-use Rattle.std.proofs.Common.{arith, ◌≡◌, ◌+◌, ◌<◌, [], ◌∷◌, ◌++◌, length, take, get_or, set, sym, ap, subst, ◌∙◌, replicate}
-use Rattle.std.proofs.lemmas.Grind.{common_steps}
+use Rattle.std.proofs.Common.{arith, refl, ◌≡◌, ◌+◌, ◌<◌, [], ◌∷◌, ◌++◌, length, take, get_or, set, sym, ap, subst, ◌∙◌, replicate}
 use Rattle.langtag_scan.specs.declared.finding.Finding.TheVariants as finding
 use Rattle.langtag_scan.proofs.PositionLaws.{tracks_nothing, Tracks}
-use Rattle.langtag_scan.proofs.RecogniserLaws.{viable_nothing, alive_viable, next_prefix, tracks_first, tracks_next, dead_next, text_ended}
+use Rattle.langtag_scan.proofs.RecogniserLaws.{viable_nothing, alive_viable, next_prefix, tracks_first, tracks_next, dead_next, text_ended, whole_stop}
 use Rattle.langtag_scan.proofs.StateTables.{stands_nothing, stands_ending}
 use Rattle.langtag_scan.specs.Machine.{ends_at}
 use Rattle.langtag_scan.specs.Found.{IsFoundOf}
@@ -51,56 +50,58 @@ loop-index-preserved g c =
       viable = alive_viable (take (i + 1) t) c.set.new.self.places tracks (ap (λ q. is_dead (position_of q)) (sym next) ∙ after.0);
     }
 
-pub returns-then-len-eq0-clause-found : goal.returns-then-len-eq0-clause-found
-returns-then-len-eq0-clause-found g c =
+pub returns-then-len-eq0 : goal.returns-then-len-eq0
+returns-then-len-eq0 g c =
     let t = g.S.ByteSource.bytes c.args.source.now in
-    text_ended t (replicate 6 0) 0 NoTag (omega (arith, c.len-len.ensures, c.if-len-eq0.true)) tracks_nothing (stands_ending [] 0 (omega arith) stands_nothing)
+    let at : 0 ≡ length t = omega (arith, c.len-len.ensures, c.if-len-eq0.true) in
+    let none = text_ended t (replicate 6 0) 0 NoTag at tracks_nothing (stands_ending [] 0 (omega arith) stands_nothing) in
+    record { found = none; bytes = refl; reads = (0, whole_stop t 0 at viable_nothing, omega arith, omega arith) }
 
-pub returns-in_err-state-clause-found : goal.returns-in_err-state-clause-found
-returns-in_err-state-clause-found g c =
+pub returns-in_err-state : goal.returns-in_err-state
+returns-in_err-state g c =
     let t = g.S.ByteSource.bytes c.args.source.now in
-    let dead = c.in_err-state.ensures [] c.start.ensures in
-    rw c.from_residual.ensures (dead_next t (replicate 6 0) 0 c.byte.result (omega (arith, c.len-len.ensures, c.if-len-eq0.false)) c.byte.ensures.value viable_nothing tracks_nothing dead).0
+    let dead = dead_next t (replicate 6 0) 0 c.byte.result (omega (arith, c.len-len.ensures, c.if-len-eq0.false)) c.byte.ensures.value viable_nothing tracks_nothing (c.in_err-state.ensures [] c.start.ensures) in
+    record { found = rw c.from_residual.ensures dead.0; bytes = c.byte.ensures.bytes; reads = (1, dead.1, omega arith, omega arith) }
 
-pub returns-in_err-state-clause-reads : goal.returns-in_err-state-clause-reads
-returns-in_err-state-clause-reads g c =
+pub returns-in_err-state-2 : goal.returns-in_err-state-2
+returns-in_err-state-2 g c =
     let t = g.S.ByteSource.bytes c.args.source.now in
-    let dead = c.in_err-state.ensures [] c.start.ensures in
-    let stop = (dead_next t (replicate 6 0) 0 c.byte.result (omega (arith, c.len-len.ensures, c.if-len-eq0.false)) c.byte.ensures.value viable_nothing tracks_nothing dead).1 in
-    (1, stop, omega arith, omega arith)
+    let i = c.loop-index.index in
+    let byte = c.byte-in-loop-index in
+    let known = c.loop-index.invariant in
+    let dead = dead_next t c.loop-index.marks.places i byte.result (omega (arith, c.len-len.ensures)) (byte.ensures.value ∙ ap (λ l. get_or l i 0) known.bytes) known.viable known.tracks (c.in_err-state-2.ensures (take i t) known.stands) in
+    record { found = rw c.from_residual-in_err-state-2.ensures dead.0; bytes = byte.ensures.bytes ∙ known.bytes; reads = (i + 1, dead.1, omega arith, omega arith) }
 
-pub returns-in_err-state-2-clause-found : goal.returns-in_err-state-2-clause-found
-returns-in_err-state-2-clause-found g c = grind (arith, common_steps, dead_next (g.S.ByteSource.bytes c.args.source.now) c.loop-index.marks.places c.loop-index.index)
-
-pub returns-in_err-state-2-clause-reads : goal.returns-in_err-state-2-clause-reads
-returns-in_err-state-2-clause-reads g c = grind (arith, common_steps, dead_next (g.S.ByteSource.bytes c.args.source.now) c.loop-index.marks.places c.loop-index.index)
-
-pub returns-in-NoTag-clause-found : goal.returns-in-NoTag-clause-found
-returns-in-NoTag-clause-found g c =
+pub returns-in-NoTag : goal.returns-in-NoTag
+returns-in-NoTag g c =
     let t = g.S.ByteSource.bytes c.args.source.now in
     let known = c.loop-index.invariant in
     let at : c.loop-index.index ≡ length t = omega (arith, c.len-len.ensures, known.within) in
-    text_ended t c.loop-index.marks.places c.loop-index.index NoTag at known.tracks (sym c.in-NoTag.is ∙ c.ending.ensures.ending (take c.loop-index.index t) known.stands)
+    let ended = text_ended t c.loop-index.marks.places c.loop-index.index NoTag at known.tracks (sym c.in-NoTag.is ∙ c.ending.ensures.ending (take c.loop-index.index t) known.stands) in
+    record { found = ended; bytes = known.bytes; reads = (c.loop-index.index, whole_stop t c.loop-index.index at known.viable, known.reads, known.reach) }
 
-pub returns-in-PrivateUse-clause-found : goal.returns-in-PrivateUse-clause-found
-returns-in-PrivateUse-clause-found g c =
+pub returns-in-PrivateUse : goal.returns-in-PrivateUse
+returns-in-PrivateUse g c =
     let t = g.S.ByteSource.bytes c.args.source.now in
     let known = c.loop-index.invariant in
     let at : c.loop-index.index ≡ length t = omega (arith, c.len-len.ensures, known.within) in
-    text_ended t c.loop-index.marks.places c.loop-index.index PrivateUse at known.tracks (sym c.in-PrivateUse.is ∙ c.ending.ensures.ending (take c.loop-index.index t) known.stands)
+    let ended = text_ended t c.loop-index.marks.places c.loop-index.index PrivateUse at known.tracks (sym c.in-PrivateUse.is ∙ c.ending.ensures.ending (take c.loop-index.index t) known.stands) in
+    record { found = ended; bytes = known.bytes; reads = (c.loop-index.index, whole_stop t c.loop-index.index at known.viable, known.reads, known.reach) }
 
-pub returns-in-Irregular-clause-found : goal.returns-in-Irregular-clause-found
-returns-in-Irregular-clause-found g c =
+pub returns-in-Irregular : goal.returns-in-Irregular
+returns-in-Irregular g c =
     let t = g.S.ByteSource.bytes c.args.source.now in
     let known = c.loop-index.invariant in
     let at : c.loop-index.index ≡ length t = omega (arith, c.len-len.ensures, known.within) in
-    text_ended t c.loop-index.marks.places c.loop-index.index (Irregular c.in-Irregular.index) at known.tracks (sym c.in-Irregular.is ∙ c.ending.ensures.ending (take c.loop-index.index t) known.stands)
+    let ended = text_ended t c.loop-index.marks.places c.loop-index.index (Irregular c.in-Irregular.index) at known.tracks (sym c.in-Irregular.is ∙ c.ending.ensures.ending (take c.loop-index.index t) known.stands) in
+    record { found = ended; bytes = known.bytes; reads = (c.loop-index.index, whole_stop t c.loop-index.index at known.viable, known.reads, known.reach) }
 
-pub returns-in-Normal-clause-found : goal.returns-in-Normal-clause-found
-returns-in-Normal-clause-found g c =
+pub returns-in-Normal : goal.returns-in-Normal
+returns-in-Normal g c =
     let t = g.S.ByteSource.bytes c.args.source.now in
     let known = c.loop-index.invariant in
     let at : c.loop-index.index ≡ length t = omega (arith, c.len-len.ensures, known.within) in
     let ended = text_ended t c.loop-index.marks.places c.loop-index.index (Normal c.in-Normal.last) at known.tracks (sym c.in-Normal.is ∙ c.ending.ensures.ending (take c.loop-index.index t) known.stands) in
     let ends = c.ends.ensures ∙ ap (λ places. ends_at places c.len-len.result) c.set-in-Normal.ensures ∙ ap (λ n. ends_at (set c.loop-index.marks.places c.in-Normal.last n) n) c.len-len.ensures in
-    subst (λ e. IsFoundOf t (finding.Normal e)) (sym ends) ended
+    let found = subst (λ e. IsFoundOf t (finding.Normal e)) (sym ends) ended in
+    record { found = found; bytes = known.bytes; reads = (c.loop-index.index, whole_stop t c.loop-index.index at known.viable, known.reads, known.reach) }
