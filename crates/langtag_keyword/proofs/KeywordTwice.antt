@@ -1,11 +1,12 @@
 -- A key that is set twice has the second value, and the tag is the one that the second call alone gives.
 use Rattle.std.proofs.Common.{◌≡◌, ℕ, ◌≤◌, Bool, true, false, cond, ◌&&◌, not, List, [], ◌∷◌, ◌++◌, length, find, Option, None, Some, unwrap_or, refl, sym, ap, ◌∙◌, arith, append-nil, append_assoc}
 use Rattle.std.proofs.lemmas.Bool.{and_parts, false≢true}
+use Rattle.std.specs.List.{flat_map}
 use Rattle.std.specs.Option.{is_some}
 use Rattle.std.proofs.lemmas.Bool.Decides.{nat_tests}
 use Rattle.langtag_extension.specs.Spelling.{find_extension}
 use Rattle.langtag_scan.specs.Case.{are_alike, fold_byte, fold_text}
-use Rattle.langtag_scan.specs.Record.{Extension, Record}
+use Rattle.langtag_scan.specs.Record.{Extension, Record, extension_flat}
 use Rattle.langtag_keyword.specs.Edit.{at_place, changed_from, edited_record, extension_of, is_place, is_place_of_u, is_this_key, keyword_error, put_keyword, with_changed_u, with_keyword, without_keyword, without_within}
 use Rattle.langtag_keyword.specs.Form.{is_before, is_of}
 use Rattle.langtag_keyword.specs.Keywords.{is_key}
@@ -89,6 +90,10 @@ some-put key k stands v (s ∷ ss) = grind (arith, nat_tests)
 
 pub extension-some : (n : ℕ) (ss : List (List ℕ)) → 1 ≤ length ss → extension_of n ss ≡ record { singleton = n; subtags = ss } ∷ []
 extension-some n ss some = grind (arith, nat_tests)
+
+-- what is put for an extension that has subtags
+pub extension-flat : (n : ℕ) (ss : List (List ℕ)) → 1 ≤ length ss → flat_map extension_flat (extension_of n ss) ≡ (n ∷ []) ∷ ss
+extension-flat n ss some = ap (flat_map extension_flat) (extension-some n ss some) ∙ append-nil ((n ∷ []) ∷ ss)
 
 pub u_is_u : (ss : List (List ℕ)) → is_of 117 (record { singleton = 117; subtags = ss }) ≡ true
 unfolding fold_byte

@@ -1,12 +1,15 @@
 -- What the tables of language identifiers make of a field or a variant has no alias of its own: by computation.
-use Rattle.std.proofs.Common.{◌≡◌, ℕ, ◌+◌, ◌*◌, ◌==◌, Bool, true, not, ◌&&◌, List, [], ◌∷◌, fold, map, refl, arith}
+use Rattle.std.proofs.Common.{◌≡◌, ℕ, ◌+◌, ◌*◌, ◌==◌, Bool, true, not, ◌&&◌, List, [], ◌∷◌, ◌++◌, fold, map, refl, arith}
 use Rattle.std.proofs.lemmas.Bool.{eq-eqb}
 use Rattle.std.proofs.lemmas.Bool.Decides.{nat_tests}
 use Rattle.std.specs.List.{list_all}
 use Rattle.std.specs.Option.{is_none, is_some}
 use Rattle.std.specs.Prelude.{◌||◌, codes}
 use Rattle.langtag_likely.specs.Aliases.{language_aliases, region_replacements}
-use Rattle.langtag_likely.specs.Likely.{Likely, likely_for}
+use Rattle.langtag_likely.specs.Likely.{Likely, are_alike_fields, language_alone, likely_for}
+use Rattle.langtag_likely.specs.Matching.{region_alone}
+use Rattle.langtag.specs.Fields.{Fields}
+use Rattle.langtag_keyword.proofs.Found.{both}
 use Rattle.langtag_scan.specs.Case.{are_alike, fold_byte, fold_text}
 use Rattle.langtag_scan.specs.CaseLaws.{are_alike-decides}
 use Rattle.langtag_scan.specs.Subtags.{segments}
@@ -14,35 +17,45 @@ use Rattle.langtag_keyword.specs.Alias.{Alias, TypeAlias, alias_for, type_alias_
 use Rattle.langtag_locale.specs.LocaleAliases as list
 use Rattle.langtag_locale.specs.LocaleForm.{has_variant}
 
+-- ---- what replaces a row has no row: fields are compared as numbers, which takes less time
+
+-- fields as a number, the same in any case
+abbrev number : Fields → ℕ
+number f = fold (λ n b. 256 * n + b) 0 (fold_text f.language ++ (fold_text f.script ++ fold_text f.region))
+
+number-alike : (a b : Fields) → are_alike_fields a b ≡ true → number a ≡ number b
+number-alike a b alike = grind (arith, nat_tests, both, are_alike-decides)
+
+-- no row is for fields with this number
+abbrev is_new : List Likely → ℕ → Bool
+is_new rows m = list_all (λ n. not (n == m)) (map (λ row. number row.from) rows)
+
+one_new : (f : Fields) (rows : List Likely) → is_new rows (number f) ≡ true → is_none (likely_for rows f) ≡ true
+one_new f [] new = refl
+one_new f (row ∷ rows) new = grind (arith, nat_tests, one_new f rows, number-alike row.from f, eq-eqb (number row.from) (number f))
+
+all_new :
+    (f : Likely → Fields) (olds rows : List Likely) → list_all (is_new olds) (map (λ row. number (f row)) rows) ≡ true →
+    list_all (λ row. is_none (likely_for olds (f row))) rows ≡ true
+all_new f olds [] new = refl
+all_new f olds (row ∷ rows) new = grind (arith, nat_tests, all_new f olds rows, one_new (f row) olds)
+
+languages_new : list_all (is_new language_aliases) (map (λ row. number (language_alone row.to)) language_aliases) ≡ true
+unfolding language_aliases fold_byte
+languages_new = refl
+
+regions_new : list_all (is_new region_replacements) (map (λ row. number (region_alone row.to)) region_replacements) ≡ true
+unfolding region_replacements fold_byte
+regions_new = refl
+
 -- ---- languages
 
 -- a language that no alias replaces
 abbrev pub is_last_language : List ℕ → Bool
 is_last_language l = is_none (likely_for language_aliases (record { language = l; script = []; region = [] }))
 
--- a text as a number, the same in any case
-abbrev number : List ℕ → ℕ
-number text = fold (λ n b. 256 * n + b) 0 (fold_text text)
-
--- none of the rows has a language with this number
-abbrev is_new : List Likely → ℕ → Bool
-is_new rows m = list_all (λ n. not (n == m)) (map (λ row. number row.from.language) rows)
-
-new_last : (l : List ℕ) (rows : List Likely) → is_new rows (number l) ≡ true → is_none (likely_for rows (record { language = l; script = []; region = [] })) ≡ true
-new_last l [] new = refl
-new_last l (row ∷ rows) new = grind (arith, nat_tests, new_last l rows, are_alike-decides row.from.language l, eq-eqb (number row.from.language) (number l))
-
--- numbers compare in less time than texts
-languages_new : list_all (is_new language_aliases) (map (λ row. number row.to.language) language_aliases) ≡ true
-unfolding language_aliases fold_byte
-languages_new = refl
-
 pub replaced_last : list_all (λ row. is_last_language row.to.language) language_aliases ≡ true
-replaced_last = each language_aliases languages_new
-  where
-    each : (rows : List Likely) → list_all (is_new language_aliases) (map (λ row. number row.to.language) rows) ≡ true → list_all (λ row. is_last_language row.to.language) rows ≡ true
-    each [] new = refl
-    each (row ∷ rows) new = grind (arith, nat_tests, each rows, new_last row.to.language language_aliases)
+replaced_last = all_new (λ row. language_alone row.to) language_aliases language_aliases languages_new
 
 pub variant_languages_last : list_all {X = TypeAlias} (λ alias. is_last_language alias.new) list.variant_languages ≡ true
 unfolding language_aliases list.variant_languages fold_byte
@@ -77,9 +90,18 @@ pub no_region_last : is_last_region [] ≡ true
 unfolding region_replacements list.region_heirs fold_byte
 no_region_last = refl
 
-pub replacements_last : list_all (λ row. is_last_region row.to.region) region_replacements ≡ true
+no_heirs : list_all (λ (row : Likely). is_none (alias_for list.region_heirs row.to.region)) region_replacements ≡ true
 unfolding region_replacements list.region_heirs fold_byte
-replacements_last = refl
+no_heirs = refl
+
+pub replacements_last : list_all (λ row. is_last_region row.to.region) region_replacements ≡ true
+replacements_last = each region_replacements (all_new (λ row. region_alone row.to) region_replacements region_replacements regions_new) no_heirs
+  where
+    each :
+        (rows : List Likely) → list_all (λ (row : Likely). is_none (likely_for region_replacements (region_alone row.to))) rows ≡ true →
+        list_all (λ (row : Likely). is_none (alias_for list.region_heirs row.to.region)) rows ≡ true → list_all (λ (row : Likely). is_last_region row.to.region) rows ≡ true
+    each [] new none = refl
+    each (row ∷ rows) new none = grind (arith, nat_tests, each rows)
 
 pub heirs_last : list_all {X = Alias} (λ alias. list_all is_last_region (segments alias.new)) list.region_heirs ≡ true
 unfolding region_replacements list.region_heirs fold_byte
