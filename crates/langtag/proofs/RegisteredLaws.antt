@@ -1,13 +1,13 @@
 -- The variants of `GrandfatheredLangTag` and `GRANDFATHERED`, beside the table of registered tags.
-use Rattle.std.proofs.Common.{◌≡◌, ℕ, ◌<◌, ◌≤◌, true, cond, ltb, List, [], length, map, get_or, slice_get, Some, None, refl, sym, ap, ◌∙◌, arith, zero-add, bytes_eq}
+use Rattle.std.proofs.Common.{◌≡◌, ℕ, ◌<◌, ◌≤◌, true, cond, ltb, List, [], length, map, get_or, slice_get, Some, None, refl, sym, ap, subst, ◌∙◌, arith, option_map, zero-add, bytes_eq}
 use Rattle.std.specs.List.{position, position_or_len, range_with_len}
 use Rattle.std.specs.Option.{option_map_or}
 use Rattle.std.proofs.lemmas.Bool.{lt-ltb, cases_lt, both_ways}
-use Rattle.std.proofs.lemmas.List.{get_or-map, length-map}
+use Rattle.std.proofs.lemmas.List.{get_or-map}
 use Rattle.std.proofs.lemmas.List.FromFn.{get_or-range_with_len}
 use Rattle.std.proofs.lemmas.List.Quantifiers.{position-Some}
 use Rattle.std.proofs.lemmas.List.Sums.{fails_before_first}
-use Rattle.std.proofs.lemmas.Option.{slice_get-get_or, slice_get_within, get_or_from_slice_get}
+use Rattle.std.proofs.lemmas.Option.{slice_get-get_or, slice_get-map, slice_get_within, get_or_from_slice_get}
 use Rattle.std.proofs.lemmas.Grind.{common_steps}
 use Rattle.langtag_scan.specs.Case.{fold_byte, fold_text, Alike, are_alike}
 use Rattle.langtag_scan.specs.CaseLaws.{are_alike-decides}
@@ -55,25 +55,6 @@ folded = map (λ entry. fold_text entry.text) grandfathered_tags
 abbrev first_index : List ℕ → ℕ
 first_index t = position_or_len (bytes_eq t) folded
 
--- each of them stands first at its own index
-first_at : map first_index folded ≡ range_with_len 0 26
-unfolding grandfathered_tags fold_byte
-first_at = refl
-
-index_from_fold : (k : ℕ) → k < 26 → first_index (fold_text (text_at k)) ≡ k
-index_from_fold k lt =
-    let within : k < length grandfathered_tags = omega (arith, length-grandfathered_tags) in
-    let here : get_or folded k [] ≡ fold_text (text_at k) = get_or-map (λ entry. fold_text entry.text) grandfathered_tags k nothing [] within ∙ ap fold_text (sym (text_at_entry k lt)) in
-    ap first_index (sym here)
-    ∙ sym (get_or-map first_index folded k [] 0 (omega (arith, within, length-map grandfathered_tags (λ entry. fold_text entry.text))))
-    ∙ ap (λ ks. get_or ks k 0) first_at
-    ∙ get_or-range_with_len 0 26 k 0 lt
-    ∙ zero-add k
-
--- no text is at two indices
-pub one_index : (j k : ℕ) (t : List ℕ) → IsGrandfatheredAt j t → IsGrandfatheredAt k t → j ≡ k
-one_index j k t h g = grind (arith, common_steps, alike_at j t h, alike_at k t g, index_from_fold j, index_from_fold k)
-
 -- ---- the variants
 
 -- the variant in `GRANDFATHERED` at an index is the one that is declared there
@@ -86,6 +67,24 @@ index_listed k d lt = grind (arith, common_steps, get_or-map index_of GRANDFATHE
 -- each variant stands in `GRANDFATHERED` at its index
 pub listed : (tag : GrandfatheredLangTag) → slice_get GRANDFATHERED (index_of tag) ≡ Some tag
 listed tag = grind (arith, common_steps)
+
+-- what is equal at each member of a list is equal at one
+pub at_member : {A B : Type 0} (f g : A → B) (xs : List A) (k : ℕ) (x : A) → slice_get xs k ≡ Some x → map f xs ≡ map g xs → f x ≡ g x
+at_member f g xs k x at same =
+    let of : option_map f (slice_get xs k) ≡ option_map g (slice_get xs k) = sym (slice_get-map f xs k) ∙ ap (λ ys. slice_get ys k) same ∙ slice_get-map g xs k in
+    cc
+
+-- each spelling stands first at its own index
+first_of : (tag : GrandfatheredLangTag) → first_index (fold_text (text_of tag)) ≡ index_of tag
+unfolding grandfathered_tags fold_byte
+first_of tag = at_member (λ t. first_index (fold_text (text_of t))) index_of GRANDFATHERED (index_of tag) tag (listed tag) refl
+
+index_from_fold : (k : ℕ) → k < 26 → first_index (fold_text (text_at k)) ≡ k
+index_from_fold k lt = subst (λ i. first_index (fold_text (text_at i)) ≡ i) (index_listed k EnGbOed lt) (first_of (get_or GRANDFATHERED k EnGbOed))
+
+-- no text is at two indices
+pub one_index : (j k : ℕ) (t : List ℕ) → IsGrandfatheredAt j t → IsGrandfatheredAt k t → j ≡ k
+one_index j k t h g = grind (arith, common_steps, alike_at j t h, alike_at k t g, index_from_fold j, index_from_fold k)
 
 -- ---- the look-up
 

@@ -1,10 +1,10 @@
--- Likely subtags that are added again change nothing, since the rows have what it takes: by computation, row by row.
+-- Likely subtags that are added again change nothing, since the rows have what it takes.
 use Rattle.std.proofs.Common.{◌≡◌, ◌==◌, ◌%◌, true, false, Bool, cond, leb, not, List, [], ◌∷◌, ℕ, Option, None, Some, is_some, refl, sym, ap, ◌∙◌, arith, ◌&&◌, ◌||◌, codes, option_map, ◌⊎◌, rules}
 use Rattle.std.proofs.lemmas.Bool.{and_parts, leb-true, eqb-true}
 use Rattle.std.specs.List.{list_all}
 use Rattle.std.specs.Option.{option_map_or}
-use Rattle.langtag_scan.specs.Case.{fold_byte, are_alike, Alike, fold_text}
-use Rattle.langtag_scan.specs.Class.{is_letter, are_letters}
+use Rattle.langtag_scan.specs.Case.{are_alike, Alike, fold_text}
+use Rattle.langtag_scan.specs.Class.{are_letters}
 use Rattle.langtag_tables.specs.Numbers.{letter_number}
 use Rattle.langtag_likely.specs.Likely.{Likely, likely_for, looked_up, or_else, are_alike_fields, or_other, filled, known, known_fields, add_likely, language_alone}
 use Rattle.langtag.specs.Fields.{Fields}
@@ -12,58 +12,9 @@ use Rattle.langtag_likely.specs.LikelySubtags.{language_rows, other_rows, likely
 use Rattle.langtag_likely.specs.Rows.{of_language}
 use Rattle.langtag_likely.proofs.AlikeFields.{alike_fields, likely_for-alike, looked_up-alike, alone_alike}
 use Rattle.langtag.proofs.Alike.{AlikeFields, alike_is}
-use Rattle.langtag_likely.proofs.LanguageBits.{from_bit, row_at}
+use Rattle.langtag_likely.proofs.LanguageBits.{row_at}
+use Rattle.langtag_likely.proofs.TableRows.{from_bit, has_bit, is_kept, is_language_row, is_other_row, is_settled, is_there, is_whole, rows_listed, stays_unknown}
 use Rattle.langtag_likely.proofs.RowLaws.{all_other, either, language_found}
-
--- ---- what the rows have in common
-
--- a text that is there
-abbrev pub is_there : List ℕ → Bool
-is_there [] = false
-is_there (b ∷ text) = true
-
--- the left side is a language and no more
-abbrev pub is_language_row : Likely → Bool
-is_language_row row = is_there row.from.language && (not (is_there row.from.script) && not (is_there row.from.region))
-
--- a text is empty, or alike the other
-abbrev pub is_kept : List ℕ → List ℕ → Bool
-is_kept from to = not (is_there from) || are_alike from to
-
--- a text is there, and does not say that it is unknown
-abbrev pub is_known : List ℕ → List ℕ → Bool
-is_known unknown text = is_there text && not (are_alike unknown text)
-
--- the right side has a script and a region, keeps the language, and its language is not `und`
-abbrev pub is_whole : Likely → Bool
-is_whole row =
-    is_known (codes "Zzzz") row.to.script
-    && (is_known (codes "ZZ") row.to.region && (not (are_alike (codes "und") row.to.language)
-    && is_kept row.from.language row.to.language))
-
--- a right side without a language keeps the left side, which has a script or a region, and leads to no language
-abbrev pub stays_unknown : Likely → Bool
-stays_unknown row =
-    (not (is_there row.from.language) && (is_there row.from.script || is_there row.from.region))
-    && ((is_kept row.from.script row.to.script && is_kept row.from.region row.to.region)
-    && option_map_or (λ v. not (is_there v.language)) (looked_up other_rows row.to) false)
-
--- the bit of a language is set in the table of those that have a row
-unfoldable pub has_bit : List ℕ → Bool
-has_bit language =
-    are_letters language
-    && (leb 27 (letter_number language) && (leb (letter_number language) 18278 && (from_bit (letter_number language) % 2 == 1)))
-
--- of another row: its language has a row of its own
-abbrev pub is_other_row : Likely → Bool
-is_other_row row = cond (is_there row.to.language) (has_bit row.to.language) (stays_unknown row)
-
-abbrev pub is_settled : Likely → Bool
-is_settled row = is_whole row && (is_language_row row || is_other_row row)
-
-pub rows_settled : list_all is_settled likely_subtags ≡ true
-unfolding likely_subtags language_rows other_rows has_bit letter_number is_letter fold_byte
-rows_settled = refl
 
 -- ---- a language whose bit is set has a row
 
@@ -322,7 +273,7 @@ added f m known is = by_row (looked_up likely_subtags f) refl is
     by_row None looked is = absurd cc
     by_row (Some to) looked is =
         let found = found_of f to looked in
-        let r = row_of likely_subtags found.key to rows_settled found.found in
+        let r = row_of likely_subtags found.key to rows_listed.settled found.found in
         let parts = and_parts (is_whole r.row) (is_language_row r.row || is_other_row r.row) r.settled in
         let whole = whole_of r.row parts.0 in
         let same : filled f to ≡ m = cc in

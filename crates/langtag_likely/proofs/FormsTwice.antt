@@ -11,7 +11,8 @@ use Rattle.langtag_likely.specs.Likely.{looked_up, or_other, filled, known, know
 use Rattle.langtag.specs.Fields.{Fields}
 use Rattle.langtag_likely.specs.LikelySubtags.{likely_subtags}
 use Rattle.langtag_likely.specs.Maximal.{fields_of, language_field, put_fields, put_language, maximal_record, minimal_record}
-use Rattle.langtag_likely.proofs.AddedTwice.{either_way, AreKnown, added, or_other_there, is_there}
+use Rattle.langtag_likely.proofs.AddedTwice.{either_way, AreKnown, added, or_other_there}
+use Rattle.langtag_likely.proofs.TableRows.{is_there}
 use Rattle.langtag_likely.proofs.AlikeFields.{alike_fields, known-alike, known_fields-alike, suffices-alike, AlikeOptions, added-alike, removed-alike, by_options}
 use Rattle.langtag.proofs.Alike.{AlikeFields}
 

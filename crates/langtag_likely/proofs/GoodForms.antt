@@ -1,10 +1,9 @@
 -- The maximal and the minimal record of a well-formed one are well-formed, and not much longer.
-use Rattle.std.proofs.Common.{◌≡◌, ℕ, ◌≤◌, true, Bool, cond, List, [], ◌∷◌, length, Option, None, Some, option_map, IfSome, IsTrue, refl, arith, rules, ◌&&◌, codes, ◌+◌, length-append}
+use Rattle.std.proofs.Common.{◌≡◌, ℕ, ◌≤◌, true, Bool, cond, List, [], ◌∷◌, length, Option, None, Some, option_map, IfSome, IsTrue, refl, arith, rules, codes, ◌+◌, length-append}
 use Rattle.std.proofs.lemmas.Bool.{and_parts}
 use Rattle.std.specs.List.{list_all, AllByRecursion}
 use Rattle.std.specs.Option.{option_map_or}
-use Rattle.langtag_scan.specs.Case.{fold_byte}
-use Rattle.langtag_scan.specs.Class.{is_letter, is_digit, is_primary, is_extended, is_script, is_region}
+use Rattle.langtag_scan.specs.Class.{is_primary, is_extended, is_script, is_region}
 use Rattle.langtag_scan.specs.Record.{Record, IsWellFormed, one_flat, spell}
 use Rattle.langtag_scan.specs.Tag.{IsNormal}
 use Rattle.langtag_scan.proofs.Disjoint.{script_four, region_short}
@@ -14,10 +13,11 @@ use Rattle.langtag_scan.proofs.SubtagFacts.{of_primary}
 use Rattle.langtag.specs.FieldClasses.{is_language_field, is_script_field, is_region_field}
 use Rattle.langtag_likely.specs.Likely.{Likely, likely_for, looked_up, or_else, filled, known_fields, add_likely, remove_likely, least, suffices, language_alone, without_script, without_region}
 use Rattle.langtag.specs.Fields.{Fields}
-use Rattle.langtag_likely.specs.LikelySubtags.{language_rows, other_rows, likely_subtags}
+use Rattle.langtag_likely.specs.LikelySubtags.{likely_subtags}
 use Rattle.langtag_likely.specs.Maximal.{fields_of, language_field, put_fields, maximal_record, minimal_record}
 use Rattle.langtag.specs.Form.{IsForm}
 use Rattle.langtag_likely.proofs.FieldClasses.{from_extended, known_good}
+use Rattle.langtag_likely.proofs.TableRows.{are_good, rows_listed}
 use Rattle.langtag.proofs.FieldClasses.{from_primary}
 
 -- ---- the fields
@@ -28,15 +28,8 @@ pub record AreGood (f : Fields) : Type 0 where
   pub script : is_script_field f.script ≡ true
   pub region : is_region_field f.region ≡ true
 
-abbrev are_good : Likely → Bool
-are_good row = is_language_field row.to.language && (is_script_field row.to.script && is_region_field row.to.region)
-
 same-good : (f g : Fields) → f ≡ g → AreGood f → AreGood g
 same-good f g same good = grind arith
-
-rows_good : list_all are_good likely_subtags ≡ true
-unfolding likely_subtags language_rows other_rows fold_byte is_primary is_script is_region is_letter is_digit
-rows_good = refl
 
 IfGood : Option Fields → Type 0
 IfGood o = (f : Fields) → o ≡ Some f → AreGood f
@@ -53,7 +46,7 @@ either_good a b ga gb = grind arith
 
 looked_up-good : (key : Fields) → IfGood (looked_up likely_subtags key)
 unfolding IfGood
-looked_up-good key = search (rules, either_good, row_good, rows_good)
+looked_up-good key = search (rules, either_good, row_good, rows_listed.good)
 
 filled-good : (f v : Fields) → AreGood f → AreGood v → AreGood (filled f v)
 filled-good f v gf gv = grind arith

@@ -1,5 +1,5 @@
 -- A bit of the table of languages tells whether a language has a row, and the bits from it on where the row stands.
-use Rattle.std.proofs.Common.{◌≡◌, ℕ, zero, suc, ◌+◌, ◌*◌, ◌-◌, ◌/◌, ◌%◌, ◌^◌, ◌<◌, ◌≤◌, true, false, ◌==◌, Bool, cond, ltb, List, [], ◌∷◌, ◌++◌, length, get_or, map, flat_map, take, Option, None, Some, count_ones, refl, ap, sym, ◌∙◌, arith}
+use Rattle.std.proofs.Common.{◌≡◌, ℕ, zero, suc, ◌+◌, ◌*◌, ◌-◌, ◌/◌, ◌%◌, ◌^◌, ◌<◌, ◌≤◌, true, false, ◌==◌, Bool, cond, ltb, List, [], ◌∷◌, ◌++◌, length, get_or, map, take, Option, None, Some, count_ones, refl, ap, sym, ◌∙◌, arith}
 use Rattle.std.specs.List.{list_all}
 use Rattle.std.specs.Int.Count.{ones_step}
 use Rattle.std.proofs.Math.Nat.{div-one, pow-succ', two-pow-succ, div-div-eq-div-mul}
@@ -7,18 +7,13 @@ use Rattle.std.proofs.Math.Seq.{take-append-add}
 use Rattle.std.proofs.lemmas.Bool.{and_parts, eq-eqb, ne_eqb, ltb-true}
 use Rattle.std.proofs.lemmas.List.{get_or_append_left, get_or-append-add, take-append-le}
 use Rattle.std.proofs.lemmas.Nat.{ones_le_self}
-use Rattle.langtag_scan.specs.Case.{fold_byte}
 use Rattle.langtag_tables.specs.Numbers.{letter_number, places}
 use Rattle.langtag_likely.specs.declared.tables.TheConstants.{LANGUAGE_BITS, LANGUAGE_ENDS}
 use Rattle.langtag_likely.specs.LikelySubtags.{language_rows}
 use Rattle.langtag_likely.specs.Numbers.{first_index}
+use Rattle.langtag_likely.proofs.TableRows.{bits, words, from_bit, rows_listed}
 
 -- ---- the bits of a word
-
--- the k lowest bits of a word, from the lowest on
-unfoldable bits : ℕ → ℕ → List Bool
-bits zero word = []
-bits (suc k) word = (word % 2 == 1) ∷ bits k (word / 2)
 
 -- how many are set
 abbrev count : List Bool → ℕ
@@ -65,9 +60,6 @@ count-split (suc k) word zero small inside = grind (arith, div-one word, count-b
 count-split (suc k) word (suc i) small inside = grind (arith, count-split k (word / 2) i (half_below k word small), count-lowest, shifted_again)
 
 -- ---- the bits of words
-
-abbrev words : List ℕ → List Bool
-words list = flat_map (bits 64) list
 
 abbrev is_word : ℕ → Bool
 is_word word = ltb word (2 ^ 64)
@@ -154,10 +146,6 @@ module _ (table last numbers : List ℕ) (all : list_all is_word table ≡ true)
 
 -- ---- the tables of languages: by computation
 
-same_numbers : places 27 (words LANGUAGE_BITS) ≡ map (λ row. letter_number row.from.language) language_rows
-unfolding bits language_rows places letter_number fold_byte
-same_numbers = refl
-
 same_ends : LANGUAGE_ENDS ≡ ends 0 LANGUAGE_BITS
 unfolding bits
 same_ends = refl
@@ -166,10 +154,6 @@ all_words : list_all is_word LANGUAGE_BITS ≡ true
 all_words = refl
 
 -- ---- the row of a language with a number
-
--- the word of a language from its bit on
-abbrev pub from_bit : ℕ → ℕ
-from_bit number = get_or LANGUAGE_BITS ((number - 27) / 64) 0 / 2 ^ ((number - 27) % 64)
 
 abbrev pub row_index : ℕ → Option ℕ
 row_index number = first_index (map (λ row. letter_number row.from.language) language_rows) number
@@ -182,10 +166,10 @@ module _ (number : ℕ) (from : 27 ≤ number) (to : number ≤ 18278) where
   at = omega (arith, from)
 
   pub no_row : from_bit number % 2 ≡ 0 → row_index number ≡ None
-  no_row none = ap row_index at ∙ unset LANGUAGE_BITS LANGUAGE_ENDS _ all_words same_ends same_numbers (number - 27) inside none
+  no_row none = ap row_index at ∙ unset LANGUAGE_BITS LANGUAGE_ENDS _ all_words same_ends rows_listed.languages.bits (number - 27) inside none
 
   pub enough_ends : count_ones (from_bit number) ≤ get_or LANGUAGE_ENDS ((number - 27) / 64) 0
-  enough_ends = enough LANGUAGE_BITS LANGUAGE_ENDS _ all_words same_ends same_numbers (number - 27) inside
+  enough_ends = enough LANGUAGE_BITS LANGUAGE_ENDS _ all_words same_ends rows_listed.languages.bits (number - 27) inside
 
   pub row_at : from_bit number % 2 ≡ 1 → row_index number ≡ Some (get_or LANGUAGE_ENDS ((number - 27) / 64) 0 - count_ones (from_bit number))
-  row_at one = ap row_index at ∙ found LANGUAGE_BITS LANGUAGE_ENDS _ all_words same_ends same_numbers (number - 27) inside one
+  row_at one = ap row_index at ∙ found LANGUAGE_BITS LANGUAGE_ENDS _ all_words same_ends rows_listed.languages.bits (number - 27) inside one

@@ -11,7 +11,7 @@ use Rattle.langtag_likely.specs.Numbers.{first_index, key_number}
 use Rattle.langtag_likely.specs.Rows.{of_language, places_of, places_for, no_row}
 use Rattle.langtag_likely.proofs.KeyNumbers.{are_plain, is_numbered, key_number-tells}
 use Rattle.langtag_likely.proofs.RowsFound.{found_by_number, likely_for-append, is_alone, long_nowhere, alone_nowhere, other_nowhere}
-use Rattle.langtag_likely.proofs.TableRows.{languages_listed, others_listed}
+use Rattle.langtag_likely.proofs.TableRows.{rows_listed}
 
 abbrev pub is_language : Likely → Bool
 is_language row = are_letters row.from.language && is_alone row
@@ -31,14 +31,14 @@ pub language_found :
     option_map (λ i. (get_or language_rows i no_row).to) o ≡ likely_for language_rows (of_language l)
 language_found l number o letters number_is is =
     ap (option_map (λ i. (get_or language_rows i no_row).to)) (is ∙ ap (first_index (map (λ row. letter_number row.from.language) language_rows)) number_is)
-    ∙ found_by_number language_number is_language (of_language l) (language-tells l letters) language_rows languages_listed.alone
+    ∙ found_by_number language_number is_language (of_language l) (language-tells l letters) language_rows rows_listed.languages.alone
 
 pub other_found :
     (key : Fields) (keys : List ℕ) (number : ℕ) (o : Option ℕ) → are_plain key ≡ true → keys ≡ map (λ row. key_number row.from) other_rows → number ≡ key_number key → o ≡ first_index keys number →
     option_map (λ i. (get_or other_rows i no_row).to) o ≡ likely_for other_rows key
 other_found key keys number o plain keys_are number_is is =
     ap (option_map (λ i. (get_or other_rows i no_row).to)) (is ∙ ap (λ list. first_index list number) keys_are ∙ ap (first_index (map (λ row. key_number row.from) other_rows)) number_is)
-    ∙ found_by_number key_number is_numbered key (λ row good. key_number-tells key row plain good) other_rows others_listed.numbered
+    ∙ found_by_number key_number is_numbered key (λ row good. key_number-tells key row plain good) other_rows rows_listed.others.numbered
 
 -- a language at an index
 pub language_at :
@@ -62,14 +62,14 @@ unfolding likely_subtags
 either key = likely_for-append language_rows other_rows key
 
 pub all_long : (key : Fields) → 3 < length key.language → likely_for likely_subtags key ≡ None
-all_long key long = grind (arith, either, long_nowhere, languages_listed.short, others_listed.short)
+all_long key long = grind (arith, either, long_nowhere, rows_listed.languages.short, rows_listed.others.short)
 
 -- a language and no more
 pub all_alone :
     (key : Fields) → 0 < length key.language → length key.script ≡ 0 → length key.region ≡ 0 →
     option_map (filled key) (places_for key.language) ≡ option_map (filled key) (likely_for likely_subtags key)
-all_alone key some no_script no_region = grind (arith, either, alone_nowhere, others_listed.other)
+all_alone key some no_script no_region = grind (arith, either, alone_nowhere, rows_listed.others.other)
 
 -- any other left side
 pub all_other : (key : Fields) → (0 < length key.language → length key.script + length key.region ≡ 0 → ⊥) → likely_for other_rows key ≡ likely_for likely_subtags key
-all_other key other = sym (either key ∙ ap (λ o. or_else o (likely_for other_rows key)) (other_nowhere language_rows key other languages_listed.only))
+all_other key other = sym (either key ∙ ap (λ o. or_else o (likely_for other_rows key)) (other_nowhere language_rows key other rows_listed.languages.only))

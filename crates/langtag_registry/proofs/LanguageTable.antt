@@ -19,17 +19,19 @@ use Rattle.langtag_tables.proofs.Letters.{letter_number-tells}
 
 -- ---- by computation
 
--- the table has exactly the numbers of the list
-same_numbers : places 27 (flat_map bits LANGUAGE_BITS) ≡ map letter_number language_subtags
-unfolding language_subtags bits places letter_number fold_byte
-same_numbers = refl
-
-all_letters : list_all are_letters language_subtags ≡ true
-unfolding language_subtags is_letter
-all_letters = refl
-
 abbrev pub is_short : List ℕ → Bool
 is_short text = leb (length text) 3
+
+record IsListed : Type 0 where
+  -- the table has exactly the numbers of the list
+  numbers : places 27 (flat_map bits LANGUAGE_BITS) ≡ map letter_number language_subtags
+  letters : list_all are_letters language_subtags ≡ true
+  short : list_all is_short language_subtags ≡ true
+
+-- one proof, so that the list is read only once
+listed : IsListed
+unfolding language_subtags bits places letter_number is_letter fold_byte
+listed = record { numbers = refl; letters = refl; short = refl }
 
 -- ---- a bit of the table
 
@@ -79,8 +81,8 @@ language_from_bit text letters from =
     let at : 27 + (letter_number text - 27) ≡ letter_number text = omega (arith, from) in
     sym (place_at 27 (letter_number text - 27) (flat_map bits LANGUAGE_BITS))
     ∙ ap (λ n. list_any (λ k. k == n) (places 27 (flat_map bits LANGUAGE_BITS))) at
-    ∙ ap (list_any (λ k. k == letter_number text)) same_numbers
-    ∙ sym (among-numbers letter_number are_letters letter_number-tells text language_subtags letters all_letters)
+    ∙ ap (list_any (λ k. k == letter_number text)) listed.numbers
+    ∙ sym (among-numbers letter_number are_letters letter_number-tells text language_subtags letters listed.letters)
 
 -- no registered language is longer than three letters
 pub long_apart : (text : List ℕ) (list : List (List ℕ)) → 3 < length text → list_all is_short list ≡ true → list_any (are_alike text) list ≡ false
@@ -89,5 +91,5 @@ long_apart text (first ∷ list) long all =
     grind (arith, common_steps, and_parts, leb-true, are_alike-decides text first, length-map text fold_byte, length-map first fold_byte, long_apart text list)
 
 pub long_language : (text : List ℕ) → 3 < length text → is_registered_language text ≡ false
-unfolding is_registered_language language_subtags
-long_language text long = long_apart text language_subtags long refl
+unfolding is_registered_language
+long_language text long = long_apart text language_subtags long listed.short

@@ -164,35 +164,18 @@ impl GrandfatheredLangTag {
         GRANDFATHERED[index]
     }
 
-    /// Returns the registered spelling, and the primary language subtag if the tag is regular.
-    fn registered(&self) -> (&'static str, Option<&'static str>) {
+    /// Returns the primary language subtag of a regular tag. An irregular tag has none.
+    fn primary(&self) -> Option<&'static str> {
         match self {
-            GrandfatheredLangTag::EnGbOed => ("en-GB-oed", None),
-            GrandfatheredLangTag::IAmi => ("i-ami", None),
-            GrandfatheredLangTag::IBnn => ("i-bnn", None),
-            GrandfatheredLangTag::IDefault => ("i-default", None),
-            GrandfatheredLangTag::IEnochian => ("i-enochian", None),
-            GrandfatheredLangTag::IHak => ("i-hak", None),
-            GrandfatheredLangTag::IKlingon => ("i-klingon", None),
-            GrandfatheredLangTag::ILux => ("i-lux", None),
-            GrandfatheredLangTag::IMingo => ("i-mingo", None),
-            GrandfatheredLangTag::INavajo => ("i-navajo", None),
-            GrandfatheredLangTag::IPwn => ("i-pwn", None),
-            GrandfatheredLangTag::ITao => ("i-tao", None),
-            GrandfatheredLangTag::ITay => ("i-tay", None),
-            GrandfatheredLangTag::ITsu => ("i-tsu", None),
-            GrandfatheredLangTag::SgnBeFr => ("sgn-BE-FR", None),
-            GrandfatheredLangTag::SgnBeNl => ("sgn-BE-NL", None),
-            GrandfatheredLangTag::SgnChDe => ("sgn-CH-DE", None),
-            GrandfatheredLangTag::ArtLojban => ("art-lojban", Some("art")),
-            GrandfatheredLangTag::CelGaulish => ("cel-gaulish", Some("cel")),
-            GrandfatheredLangTag::NoBok => ("no-bok", Some("no")),
-            GrandfatheredLangTag::NoNyn => ("no-nyn", Some("no")),
-            GrandfatheredLangTag::ZhGuoyu => ("zh-guoyu", Some("zh")),
-            GrandfatheredLangTag::ZhHakka => ("zh-hakka", Some("zh")),
-            GrandfatheredLangTag::ZhMin => ("zh-min", Some("zh")),
-            GrandfatheredLangTag::ZhMinNan => ("zh-min-nan", Some("zh")),
-            GrandfatheredLangTag::ZhXiang => ("zh-xiang", Some("zh")),
+            GrandfatheredLangTag::ArtLojban => Some("art"),
+            GrandfatheredLangTag::CelGaulish => Some("cel"),
+            GrandfatheredLangTag::NoBok | GrandfatheredLangTag::NoNyn => Some("no"),
+            GrandfatheredLangTag::ZhGuoyu
+            | GrandfatheredLangTag::ZhHakka
+            | GrandfatheredLangTag::ZhMin
+            | GrandfatheredLangTag::ZhMinNan
+            | GrandfatheredLangTag::ZhXiang => Some("zh"),
+            _ => None,
         }
     }
 
@@ -206,7 +189,7 @@ impl GrandfatheredLangTag {
     /// ```
     #[inline]
     pub fn language(&self) -> Option<Language<'static>> {
-        let language = self.registered().1?;
+        let language = self.primary()?;
         Some(Language::from_checked(language))
     }
 
@@ -217,9 +200,35 @@ impl GrandfatheredLangTag {
     ///
     /// assert_eq!(GrandfatheredLangTag::SgnBeFr.as_str(), "sgn-BE-FR");
     /// ```
-    #[inline]
     pub fn as_str(&self) -> &'static str {
-        self.registered().0
+        match self {
+            GrandfatheredLangTag::EnGbOed => "en-GB-oed",
+            GrandfatheredLangTag::IAmi => "i-ami",
+            GrandfatheredLangTag::IBnn => "i-bnn",
+            GrandfatheredLangTag::IDefault => "i-default",
+            GrandfatheredLangTag::IEnochian => "i-enochian",
+            GrandfatheredLangTag::IHak => "i-hak",
+            GrandfatheredLangTag::IKlingon => "i-klingon",
+            GrandfatheredLangTag::ILux => "i-lux",
+            GrandfatheredLangTag::IMingo => "i-mingo",
+            GrandfatheredLangTag::INavajo => "i-navajo",
+            GrandfatheredLangTag::IPwn => "i-pwn",
+            GrandfatheredLangTag::ITao => "i-tao",
+            GrandfatheredLangTag::ITay => "i-tay",
+            GrandfatheredLangTag::ITsu => "i-tsu",
+            GrandfatheredLangTag::SgnBeFr => "sgn-BE-FR",
+            GrandfatheredLangTag::SgnBeNl => "sgn-BE-NL",
+            GrandfatheredLangTag::SgnChDe => "sgn-CH-DE",
+            GrandfatheredLangTag::ArtLojban => "art-lojban",
+            GrandfatheredLangTag::CelGaulish => "cel-gaulish",
+            GrandfatheredLangTag::NoBok => "no-bok",
+            GrandfatheredLangTag::NoNyn => "no-nyn",
+            GrandfatheredLangTag::ZhGuoyu => "zh-guoyu",
+            GrandfatheredLangTag::ZhHakka => "zh-hakka",
+            GrandfatheredLangTag::ZhMin => "zh-min",
+            GrandfatheredLangTag::ZhMinNan => "zh-min-nan",
+            GrandfatheredLangTag::ZhXiang => "zh-xiang",
+        }
     }
 
     /// Returns the tag with the registered spelling.

@@ -96,8 +96,8 @@ impl NormalLangTagBuf {
         region: Option<Region<'_>>,
     ) -> Result<NormalLangTagBuf, AllocError> {
         let language = language.as_str();
-        let script = script.map_or("", |script| script.as_str());
-        let region = region.map_or("", |region| region.as_str());
+        let script = Part::Script(script).as_str();
+        let region = Part::Region(region).as_str();
         let lengths = Lengths {
             language: language.len(),
             script: length_with_hyphen(script),

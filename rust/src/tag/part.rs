@@ -110,13 +110,12 @@ impl<'a> Part<'a> {
     pub fn as_str(&self) -> &'a str {
         match self {
             Part::Language(language) => language.as_str(),
-            Part::Script(script) => script.map_or("", |script| script.as_str()),
-            Part::Region(region) => region.map_or("", |region| region.as_str()),
+            Part::Script(Some(script)) => script.as_str(),
+            Part::Region(Some(region)) => region.as_str(),
             Part::Variants(variants) => variants.as_str(),
             Part::Extensions(extensions) => extensions.as_str(),
-            Part::PrivateUse(private_use) => {
-                private_use.map_or("", |private_use| private_use.as_str())
-            }
+            Part::PrivateUse(Some(private_use)) => private_use.as_str(),
+            Part::Script(None) | Part::Region(None) | Part::PrivateUse(None) => "",
         }
     }
 

@@ -1,4 +1,4 @@
-use Rattle.std.proofs.Common.{◌≡◌, ◌≤◌, ◌==◌, ◌+◌, ℕ, false, length, ap, sym, ◌∙◌, arith, length-append}
+use Rattle.std.proofs.Common.{◌≡◌, ◌≤◌, ◌==◌, ◌+◌, ℕ, false, length, refl, ap, sym, ◌∙◌, arith, length-append}
 use Rattle.std.proofs.lemmas.Bool.Decides.{nat_tests}
 use Rattle.langtag.proofs.edit.replace.Goals.{else-is_empty-via-then-is_empty+else-is_empty-2, else-is_empty-via-else-is_empty}
 use Rattle.langtag.proofs.edit.replace.Goals as goal
@@ -19,3 +19,9 @@ returns-in_err-text-clause-taken_out c nothing =
           let there = some (length hyphen) (sym c.is_empty.ensures ∙ w.if-is_empty.false) in
           absurd (omega (arith, none, there))
     ]
+
+pub returns-clause-replaced : goal.returns-clause-replaced
+returns-clause-replaced c = rw c.as_str.ensures.value at c.in_ok-text.ensures
+
+pub returns-clause-taken_out : goal.returns-clause-taken_out
+returns-clause-taken_out c nothing = refl

@@ -1,4 +1,4 @@
-use Rattle.std.proofs.Common.{◌≡◌, ◌+◌, length, ap, sym, ◌∙◌, arith, length-append}
+use Rattle.std.proofs.Common.{◌≡◌, ◌+◌, length, refl, ap, sym, ◌∙◌, arith, length-append}
 use Rattle.std.proofs.lemmas.Grind.{common_steps}
 use Rattle.langtag_scan.proofs.SpelledTexts.{ends_had, ends_whole}
 use Rattle.langtag.specs.PartPlaces.{put_text}
@@ -22,3 +22,6 @@ returns-clause-set c = grind (arith, common_steps, part_set c.args.part, ends_ha
 
 pub returns-clause-kept : goal.returns-clause-kept
 returns-clause-kept c = grind (arith, common_steps, length-append, part_kept c.args.part, ends_had)
+
+pub returns-clause-taken_out : goal.returns-clause-taken_out
+returns-clause-taken_out c none = refl

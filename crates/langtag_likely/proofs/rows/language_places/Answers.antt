@@ -3,8 +3,14 @@ use Rattle.langtag_likely.specs.declared.tables.TheConstants.{SCRIPT_NAMES, LANG
 use Rattle.langtag.specs.FieldClasses.{is_script_field, is_region_field}
 use Rattle.langtag_likely.proofs.KeyNumbers.{column_good}
 use Rattle.langtag_likely.proofs.RowLaws.{language_at}
-use Rattle.langtag_likely.proofs.TableRows.{language_count, languages_listed, scripts_good, regions_good}
+use Rattle.langtag_likely.proofs.TableRows.{language_count, rows_listed, scripts_good, regions_good}
 use Rattle.langtag_likely.proofs.rows.language_places.Goals as goal
+
+pub name_in-requires : goal.name_in-requires
+name_in-requires c = record { inside = omega (arith, c.requires, language_count); named = refl }
+
+pub name_in-requires-2 : goal.name_in-requires-2
+name_in-requires-2 c = record { inside = omega (arith, c.requires, language_count); named = refl }
 
 pub invariant_of-result : goal.invariant_of-result
 invariant_of-result c = record {
@@ -16,4 +22,4 @@ invariant_of-result c = record {
 pub returns : goal.returns
 returns c =
     language_at c.args.index _ _ c.requires
-    (c.name_in.ensures ∙ ap (λ list. get_or list c.args.index []) languages_listed.scripts) (c.name_in-2.ensures ∙ ap (λ list. get_or list c.args.index []) languages_listed.regions)
+    (c.name_in.ensures ∙ ap (λ list. get_or list c.args.index []) rows_listed.languages.scripts) (c.name_in-2.ensures ∙ ap (λ list. get_or list c.args.index []) rows_listed.languages.regions)

@@ -3,8 +3,17 @@ use Rattle.langtag_likely.specs.declared.tables.TheConstants.{LANGUAGE_NAMES, OT
 use Rattle.langtag.specs.FieldClasses.{is_language_field, is_script_field, is_region_field}
 use Rattle.langtag_likely.proofs.KeyNumbers.{column_good}
 use Rattle.langtag_likely.proofs.RowLaws.{other_at}
-use Rattle.langtag_likely.proofs.TableRows.{other_count, others_listed, languages_good, scripts_good, regions_good}
+use Rattle.langtag_likely.proofs.TableRows.{other_count, rows_listed, languages_good, scripts_good, regions_good}
 use Rattle.langtag_likely.proofs.rows.other_fields.Goals as goal
+
+pub name_in-requires : goal.name_in-requires
+name_in-requires c = record { inside = omega (arith, c.requires, other_count); named = refl }
+
+pub name_in-requires-2 : goal.name_in-requires-2
+name_in-requires-2 c = record { inside = omega (arith, c.requires, other_count); named = refl }
+
+pub name_in-requires-3 : goal.name_in-requires-3
+name_in-requires-3 c = record { inside = omega (arith, c.requires, other_count); named = refl }
 
 pub invariant_of-result : goal.invariant_of-result
 invariant_of-result c = record {
@@ -16,5 +25,5 @@ invariant_of-result c = record {
 pub returns : goal.returns
 returns c =
     other_at c.args.index _ _ _ c.requires
-    (c.name_in.ensures ∙ ap (λ list. get_or list c.args.index []) others_listed.languages) (c.name_in-2.ensures ∙ ap (λ list. get_or list c.args.index []) others_listed.scripts)
-    (c.name_in-3.ensures ∙ ap (λ list. get_or list c.args.index []) others_listed.regions)
+    (c.name_in.ensures ∙ ap (λ list. get_or list c.args.index []) rows_listed.others.languages) (c.name_in-2.ensures ∙ ap (λ list. get_or list c.args.index []) rows_listed.others.scripts)
+    (c.name_in-3.ensures ∙ ap (λ list. get_or list c.args.index []) rows_listed.others.regions)

@@ -1,8 +1,9 @@
 use Rattle.std.proofs.Common.{None, Some, map, slice_get, sym, ap, ◌∙◌, option_and_then, option_map}
 use Rattle.std.proofs.lemmas.Iterator.Consumers.{YieldsList-from_first, nth_from_yields_List}
+use Rattle.langtag.specs.Repeat.{are_alike_bytes}
 use Rattle.langtag_extension.specs.Spelling.{extension_spelling}
 use Rattle.langtag_extension.specs.Text.{extension_text, extensions_left, singleton_byte}
-use Rattle.langtag.proofs.RepeatLaws.{singleton_at, singletons}
+use Rattle.langtag.proofs.RepeatLaws.{repeat-first, singleton_at, singletons}
 use Rattle.langtag.proofs.normal_lang_tag.NormalLangTag.repeated_singleton.Goals as goal
 
 pub returns-in_err-nth-clause-repeated : goal.returns-in_err-nth-clause-repeated
@@ -22,3 +23,12 @@ returns-clause-repeated c r spells =
     ap Some c.singleton.ensures.first_byte
     ∙ singleton_at r.extensions c.in_ok-index.index (Some (extension_text c.in_ok-nth.field-0)) (ap (option_map extension_text) (sym c.in_ok-nth.was) ∙ at)
     ∙ ap (option_and_then (slice_get (singletons r.extensions))) (c.in_ok-index.ensures.repeated r spells)
+
+pub returns-in_err-index-clause-first : goal.returns-in_err-index-clause-first
+returns-in_err-index-clause-first c = repeat-first are_alike_bytes
+
+pub returns-in_err-nth-clause-first : goal.returns-in_err-nth-clause-first
+returns-in_err-nth-clause-first c = repeat-first are_alike_bytes
+
+pub returns-clause-first : goal.returns-clause-first
+returns-clause-first c = repeat-first are_alike_bytes

@@ -1,5 +1,8 @@
-use Rattle.langtag.proofs.SetBack.{extensions_back}
+use Rattle.std.proofs.Common.{refl}
+use Rattle.langtag.specs.Edit.{with_extensions}
+use Rattle.langtag.proofs.SetBack.{same_text}
 use Rattle.langtag.proofs.normal_lang_tag_buf.NormalLangTagBuf.set_extensions.Goals as goal
 
 pub returns-clause-set_back : goal.returns-clause-set_back
-returns-clause-set_back c = extensions_back
+returns-clause-set_back c r extensions t u v spells edited set =
+    same_text r t v spells (set (with_extensions r extensions) edited r.extensions (record { members = spells.0.extensions; joined = refl }))

@@ -1,5 +1,6 @@
-use Rattle.langtag.proofs.SetBack.{script_back}
+use Rattle.langtag.specs.Edit.{with_script}
+use Rattle.langtag.proofs.SetBack.{same_text}
 use Rattle.langtag.proofs.normal_lang_tag_buf.NormalLangTagBuf.set_script.Goals as goal
 
 pub returns-clause-set_back : goal.returns-clause-set_back
-returns-clause-set_back c = script_back
+returns-clause-set_back c r script t u v spells edited set = same_text r t v spells (set (with_script r script) edited)

@@ -1,0 +1,31 @@
+use Rattle.std.proofs.Common.{◌≡◌, Some, List, ℕ, refl, sym, ◌∙◌}
+use Rattle.std.proofs.lemmas.Bool.{both_ways}
+use Rattle.langtag_scan.specs.Record.{Spells}
+use Rattle.langtag_scan.specs.Tag.{IsNormal}
+use Rattle.langtag.specs.Registered.{IsGrandfathered}
+use Rattle.langtag.specs.Text.{lang_tag_text, normal_lang_tag_text}
+use Rattle.langtag_registry.specs.Canonical.{IsCanonicalForm, canonical_text}
+use Rattle.langtag_registry.specs.Fields.{preferred_tag}
+use Rattle.langtag_registry.proofs.CanonicalParts.{own_record, preferred_goes, record_form}
+use Rattle.langtag_registry.proofs.form.form_of.Goals as goal
+
+whole_form : (old new : List ℕ) → preferred_tag old ≡ Some new → IsCanonicalForm old new
+whole_form old new is = record { whole = λ w also. cc; kept = λ none why. absurd cc; parts = λ none other r spells. absurd cc }
+
+pub returns-in-Some : goal.returns-in-Some
+returns-in-Some c =
+    let is = sym (rw c.in-Some.is at c.preferred_tag.ensures) in
+    record { form = whole_form _ (lang_tag_text c.in-Some.preferred) is; same = λ own. absurd (preferred_goes _ (lang_tag_text c.in-Some.preferred) is own) }
+
+pub returns : goal.returns
+unfolding IsNormal
+returns c =
+    let old = lang_tag_text c.args.tag in
+    let none = sym (rw c.in_default.is at c.preferred_tag.ensures) in
+    let (r, spells) = c.in-Some-as_normal.ensures.kind.0 refl in
+    let normal : Spells r (normal_lang_tag_text c.in-Some-as_normal.normal) = (spells.0, spells.1 ∙ sym c.in-Some-as_normal.ensures.same_text) in
+    let other = λ (grand : IsGrandfathered old). both_ways c.is_grandfathered.result c.if-is_grandfathered.false (c.is_grandfathered.ensures.1 grand) in
+    record {
+      form = (r, (normal, record_form old (canonical_text r) r none other spells refl));
+      same = λ own. absurd (both_ways c.has_canonical_parts.result c.if-has_canonical_parts.false ((c.has_canonical_parts.ensures r normal).1 (own_record old r spells (own.parts none other r spells))));
+    }
