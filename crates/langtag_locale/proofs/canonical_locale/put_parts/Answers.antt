@@ -3,7 +3,7 @@ use Rattle.std.specs.List.{flat_map}
 use Rattle.langtag.specs.Text.{normal_lang_tag_text}
 use Rattle.langtag_likely.specs.Texts.{field_texts}
 use Rattle.langtag_output.specs.Output.{HasText}
-use Rattle.langtag_registry.proofs.FaultLaws.{variants_listed}
+use Rattle.langtag.proofs.PartsFound.{variants_listed}
 use Rattle.langtag_output.proofs.Pushed.{pushes_both, pushes_same}
 use Rattle.langtag_scan.specs.Record.{extension_flat, private_part_flat, spell}
 use Rattle.langtag_locale.specs.LocaleForm.{extensions_in_order, identifier_form, locale_record, new_variants, record_fields}
