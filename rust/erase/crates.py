@@ -35,8 +35,8 @@ MODULES = [
 # The modules that users name. The items of other modules are at the root, if src/lib.rs exports them.
 PUBLIC = {"crate::matching", "crate::registry", "crate::likely", "crate::choice", "crate::unicode"}
 
-# The crates whose public items users find in the module of another crate. Of the first, that module exports them, although the
-# Rattle crate does not.
+# The crates whose public items users find in the module of another crate. For SHOWN_IN, the exports are added to that module. For
+# EXPORTED_BY, the other Rattle crate has them.
 SHOWN_IN = {"langtag_locale": "langtag_unicode"}
 EXPORTED_BY = {"langtag_keyword": "langtag_unicode"}
 
