@@ -2,6 +2,7 @@
 # Checks limits that no contract states, by entries of langtag_bench in the built code. It fails if
 # - a call of langtag, langtag_match or langtag_registry takes over 2.2 times the instructions for twice the text, from 20,000
 #   bytes on, and of some shapes from 100,000 bytes on, or what growth.py allows where a square is documented (growth.c);
+# - such a call takes over three times the instructions for each byte that limits.txt has;
 # - it needs more stack than .ci/stack says, or over 1 MB for 2 MB of text;
 # - it refuses memory, or answers another text, at some length to 4,200 bytes, at a step to 2 MB, for some region, script or
 #   short language, or for a prefix of some row's tag (sweep.c);
@@ -30,8 +31,23 @@ build() {
 for name in $(sed -n 's/^pub fn \([a-z_]*\).*/\1/p' "$here"/../crates/langtag_registry/src/*.rt | grep -vx 'canonical_bound\|singletons_of\|fault_at\|validate\|is_canonical\|write_canonical'); do
     grep -qw "$name" "$crate"/src/*.rt || { echo "growth: no entry calls $name of langtag_registry"; exit 1; }
 done
+
+# with PARAMETER FILE..: prints the public functions of sources that have a parameter.
+with() { cat "${@:2}" | tr '\n' ' ' | grep -oE "pub (extern \"C\" )?fn [a-z_]+(<[^>]*>)?\([^)]*$1" | sed -E 's/^[^(<]* ([a-z_]+)[(<].*/\1/' | sort -u; }
+# Each function that allocates is called by an entry, and each entry that counts refused allocations is called by memory.c and sweep.c.
+# The four functions of langtag_unicode and langtag_locale have no entry: rust/tests/each_length.rs asks them.
+library=$(ls -d "$here"/../crates/*/src | grep -v '_\(answers\|bench\|check\|examples\|lines\|show\|tests\)/src$')
+for name in $(with 'alloc: Global' $(printf '%s/*.rt ' $library)); do
+    grep -qwE "(try_)?$name" "$crate"/src/*.rt "$here/../rust/tests/each_length.rs" || { echo "growth: no entry calls $name, which allocates"; exit 1; }
+done
+for name in $(with 'refused: ' "$crate"/src/*.rt); do
+    for caller in memory sweep; do
+        grep -qw "$name" "$here/src/$caller.c" || { echo "growth: $caller.c does not call $name"; exit 1; }
+    done
+done
+
 build growth "$here/src/growth.c"
-python3 "$here/../bindings/c/growth/growth.py" "$target/growth" "$crate"/src/*.rt
+python3 "$here/../bindings/c/growth/growth.py" "$target/growth" "$here/limits.txt" "$crate"/src/*.rt
 
 build long_texts -DBYTES=1000000 "$here/src/growth.c"
 if (ulimit -s 1024 && exec "$target/long_texts"); then

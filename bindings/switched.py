@@ -13,15 +13,24 @@ TOKEN = re.compile(rf"({HIDDEN})|[{{}};]", re.DOTALL | re.MULTILINE)
 HEADS = {".rs": re.compile(r"\bfn \$?\w+"), "": re.compile(r"[()]")}
 VALUE = re.compile(r"[=,(]\s*$")
 
-# The switch in C and C++, and in the root of a Rust crate.
+# The switch in C and C++, and in the root of a Rust crate. In Rust, the variable is read before `main`, because reading it allocates,
+# and some tests count allocations.
 C = '#include <stdlib.h>\nstatic inline int planted(int fault) { return getenv("PLANTED") && atoi(getenv("PLANTED")) == fault; }\n'
 RUST = """
 extern crate std;
+static PLANTED: core::sync::atomic::AtomicU32 = core::sync::atomic::AtomicU32::new(0);
+extern "C" fn read_planted() {
+    let fault = std::env::var("PLANTED").ok().and_then(|fault| fault.parse().ok());
+    PLANTED.store(fault.unwrap_or(0), core::sync::atomic::Ordering::Relaxed);
+}
+#[used]
+#[unsafe(link_section = ".init_array")]
+static READ_PLANTED: extern "C" fn() = read_planted;
 pub fn planted(fault: u32) -> bool {
-    static PLANTED: std::sync::OnceLock<Option<u32>> = std::sync::OnceLock::new();
-    *PLANTED.get_or_init(|| std::env::var("PLANTED").ok()?.parse().ok()) == Some(fault)
+    PLANTED.load(core::sync::atomic::Ordering::Relaxed) == fault
 }
 """
+FORBIDDEN = "#![forbid(unsafe_code)]"  # in that root, where the constructor needs it
 
 
 class Change(NamedTuple):

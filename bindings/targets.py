@@ -4,8 +4,17 @@
     bindings/targets.py                   lists the targets, and says which archives exist
     bindings/targets.py archive TARGET    prints the path of its archive, which `rt lib` builds if it is missing or older
                                           than a source
+    bindings/targets.py cargo             prints the path of the archive for this machine that cargo builds
+    bindings/targets.py proved ARCHIVE    prints what proved an archive, or fails if its record does not show that
+
+`rt lib` proves the sources before it builds an archive. The record beside the archive, ARCHIVE.proved, has the checksums of the
+archive and of these sources, and the line of `rt version`. An archive whose record is missing, or has another checksum, counts as not
+proved.
 """
+from __future__ import annotations
+
 import fcntl
+import hashlib
 import pathlib
 import shutil
 import subprocess
@@ -35,13 +44,44 @@ WASM = Target("wasm64-unknown-unknown", "wasm", "")
 TARGETS = {target.name: target for target in (NATIVE, AARCH64, WASM)}
 
 
+def sources() -> list[pathlib.Path]:
+    """Returns the files that `rt lib` reads: the list of crates, and their sources, definitions and proofs."""
+    return [ROOT / "crates.txt", *sorted(path for part in ("src", "specs", "proofs") for path in ROOT.glob(f"crates/*/{part}/**/*") if path.is_file())]
+
+
+def sum_of_sources() -> str:
+    found = hashlib.sha256()
+    for path in sources():
+        found.update(f"{path.relative_to(ROOT)} {hashlib.sha256(path.read_bytes()).hexdigest()}\n".encode())
+    return found.hexdigest()
+
+
 def is_old(archive: pathlib.Path) -> bool:
-    sources = [ROOT / "crates.txt", *ROOT.glob("crates/*/src/**/*.rt")]
-    return not archive.is_file() or archive.stat().st_mtime < max(path.stat().st_mtime for path in sources)
+    return not archive.is_file() or archive.stat().st_mtime < max(path.stat().st_mtime for path in sources())
+
+
+def record_of(archive: pathlib.Path) -> pathlib.Path:
+    return archive.with_name(f"{archive.name}.proved")
+
+
+def record(archive: pathlib.Path) -> None:
+    """Writes the record of an archive that `rt lib` has just built."""
+    prover = subprocess.run(["rt", "version"], check=True, capture_output=True, text=True).stdout.splitlines()[0]
+    sum_of_archive = hashlib.sha256(archive.read_bytes()).hexdigest()
+    record_of(archive).write_text(f"archive {sum_of_archive}\nsources {sum_of_sources()}\n{prover}\n", encoding="utf-8")
+
+
+def prover_of(archive: pathlib.Path) -> str | None:
+    """Returns the line of `rt version` that proved an archive from these sources, or None if its record does not show that."""
+    if not record_of(archive).is_file():
+        return None
+    wanted = [f"archive {hashlib.sha256(archive.read_bytes()).hexdigest()}", f"sources {sum_of_sources()}"]
+    *sums, prover = record_of(archive).read_text(encoding="utf-8").splitlines()
+    return prover if sums == wanted else None
 
 
 def build(target: Target) -> None:
-    """Proves langtag_c for a target, and keeps its archive. The archive for this machine stays at its path."""
+    """Proves langtag_c for a target, and keeps its archive and record. The archive for this machine stays at its path."""
     (CRATE / "out").mkdir(exist_ok=True)
     with open(CRATE / "out/.targets", "w") as lock:
         fcntl.flock(lock, fcntl.LOCK_EX)
@@ -49,17 +89,18 @@ def build(target: Target) -> None:
         if BUILT.is_file() and target is not NATIVE:
             BUILT.replace(aside)
         try:
-            subprocess.run(["rt", "lib", "--target", target.name], cwd=CRATE, check=True, stdout=sys.stderr)
+            subprocess.run(["rt", "lib", "--jobs", "1", "--target", target.name], cwd=CRATE, check=True, stdout=sys.stderr)
             if target is not NATIVE:
                 target.archive.parent.mkdir(exist_ok=True)
                 BUILT.replace(target.archive)
+            record(target.archive)
         finally:
             if aside.is_file():
                 aside.replace(BUILT)
 
 
 def archive_of(target: Target) -> pathlib.Path:
-    if is_old(target.archive):
+    if is_old(target.archive) or not prover_of(target.archive):
         if shutil.which("rt"):
             build(target)
         elif target.archive.is_file():
@@ -69,9 +110,21 @@ def archive_of(target: Target) -> pathlib.Path:
     return target.archive
 
 
+def archives_by_cargo() -> dict[Target, pathlib.Path]:
+    """Builds the library of rust/c by cargo for this machine, and returns its archive."""
+    built = ROOT / "rust/c/target/liblangtag_c.a"
+    if subprocess.run([ROOT / "rust/c/archive", built], check=False).returncode:
+        sys.exit("there is no archive by cargo: see above")
+    return {NATIVE: built}
+
+
 def main(words: list[str]) -> None:
     if words[:1] == ["archive"] and len(words) == 2 and words[1] in TARGETS:
         print(archive_of(TARGETS[words[1]]))
+    elif words == ["cargo"]:
+        print(archives_by_cargo()[NATIVE])
+    elif words[:1] == ["proved"] and len(words) == 2:
+        print(prover_of(pathlib.Path(words[1])) or sys.exit(f"{words[1]} has no record that it was proved from these sources"))
     elif not words:
         for target in TARGETS.values():
             print(target.name, target.archive if target.archive.is_file() else "-")

@@ -22,10 +22,10 @@ import sys
 import tempfile
 from typing import Callable, NamedTuple
 
-from switched import C, RUST, Change, switched
+from switched import C, FORBIDDEN, RUST, Change, switched
 
 ROOT = pathlib.Path(__file__).resolve().parent.parent
-H, HPP, SQL = "bindings/include/langtag.h", "bindings/include/langtag.hpp", "bindings/examples/sqlite_langtag.c"
+H, HPP, SQL = "bindings/include/langtag.h", "bindings/include/langtag.hpp", "bindings/sqlite/sqlite_langtag.c"
 PY, CT, TEXTS = (f"bindings/python/langtag/{name}.py" for name in ("__init__", "_ctypes", "_texts"))
 NATIVE, JS, CALLS = "bindings/python/native/", "bindings/js/index.js", "bindings/js/calls.js"
 
@@ -88,8 +88,8 @@ FAULTS = {
               "langtag_parse(text.data(), __builtin_strlen(text.data()), &"),
         Fault(HPP, "text_.size() + given.size() + 1, ", "text_.size() + given.size(), "),
         Fault(HPP, "given..., &made[0], made.size()));", "given..., &made[0], made.size()) % 40);"),
-        Fault(HPP, "&made[0], made.size());\n        return made;",
-              "&made[0], made.size());\n        return made.substr(0, 1000);"),
+        Fault(HPP, "&made[0], made.size());\n    return made;",
+              "&made[0], made.size());\n    return made.substr(0, 1000);"),
         Fault(HPP, "return langtag_matches_extended(", "return langtag_matches_basic("),
         Fault(HPP, "return langtag_cmp(langtag_bytes(x.data()), x.size(), langtag_bytes(y.data()), y.size()) < 0;", "return x < y;"),
         Fault(HPP, "return langtag_eq(langtag_bytes(x.data()), x.size(), langtag_bytes(y.data()), y.size());", "return x == y;"),
@@ -110,12 +110,13 @@ FAULTS = {
         Fault(HPP, "push_back({cut(key), cut(value)})", "push_back({cut(value), cut(key)})"),
         Fault(HPP, "langtag_bytes(value.data()), value.size());\n    }", "langtag_bytes(value.data()), value.size() % 8);\n    }"),
         Fault(HPP, "edited(text_.size(), langtag_without_keyword", "edited(4, langtag_without_keyword"),
+        Fault(HPP, "langtag_base_len(text_.data(), text_.size())));", "text_.size()));", "table.txt"),
         Fault(HPP, "written(langtag_extensions_form)", "written(langtag_canonical)"),
         Fault(HPP, "return langtag_is_locale(text_.data(), text_.size());", "return kind_ == langtag::kind::normal;"),
         Fault(HPP, "written(langtag_locale_form)", "written(langtag_extensions_form)"),
         Fault(HPP, "if (made.empty()) return std::nullopt;\n        return made;\n    }\n\n    /* Returns the first subtag", "return made;\n    }\n\n    /* Returns the first subtag"),
         Fault(HPP, "return name.substr(modifier.start, modifier.len)", "return name.substr(modifier.len)"),
-        Fault(HPP, "best_for_header(header_, ", "best_for_header(header_.substr(0, header_.find(',')), "),
+        Fault(HPP, "ranges()) wanted.push_back(it.range)", "ranges()) if (wanted.empty()) wanted.push_back(it.range)", "lists.txt"),
     ],
     "Rust": [
         rust("text", "case_insensitive_eq(self.as_str().as_bytes(), other.as_bytes())", "self.as_str().as_bytes() == other.as_bytes()"),
@@ -136,7 +137,23 @@ FAULTS = {
         rust("keywords", "remove_keyword(self, key)", "set_keyword(self, key, \"\")", "keywords"),
         rust("invalid", "self.0 == other.0", "true"),
         rust("invalid", "$error(self.0.into())", "$error(Default::default())"),
-        rust("invalid", "RefusalKind::Subtag if subtag.is_empty()", "RefusalKind::End if subtag.is_empty()", "habits"),
+        rust("message", "RefusalKind::Subtag if subtag.is_empty()", "RefusalKind::End if subtag.is_empty()", "habits"),
+        rust("message", "for byte in chunk.invalid() {", "for byte in &chunk.invalid()[..0] {", "habits"),
+        rust("message", "const MOST: usize = 80;", "const MOST: usize = 8;", "habits"),
+        rust("message", "map_or(1, char::len_utf8)", "map_or(1, |_| 1)", "habits"),
+        rust("lists", "this => LangTag::new(this).ok();", "this => LangTag::new(&this[..2.min(this.len())]).ok();", "rows"),
+        rust("lists", "this => Some(this.as_lang_tag());", "this => None;", "rows"),
+        rust("lists", "if let Ok(range) = LanguageRange::new(first.as_ref()) {", 'if let Ok(range) = LanguageRange::new(first.as_ref()).or(LanguageRange::new("en")) {', "methods"),
+        rust("matching", "found(Ranges(ranges), tags).unwrap_or(default)", "found(Ranges(ranges), tags).unwrap_or(tags.first().unwrap_or(default))", "rows"),
+        rust("matching", "is_range(entry.tag_bytes(), range) && entry.tag().is_some()", "entry.tag_bytes() == range", "rows"),
+        rust("choice", "choice::best_among(accepted.ranges(), &tags)", "choice::best_among(&accepted.ranges()[..accepted.ranges().len().min(1)], &tags)", "rows"),
+        rust("too_short", "buffer.get(..len).ok_or(TooShort { needed: len })?", "buffer.get(..len).ok_or(TooShort { needed: buffer.len() })?", "rows"),
+        rust("methods", "range.into().matches_extended(&self)", "range.into().matches_basic(&self)", "methods"),
+        rust("methods", "self.validate().is_ok()", "self.validate().is_err()", "methods"),
+        rust("methods", "choice::distance(self, supported)", "choice::distance(supported, self)", "methods"),
+        rust("conversions", "self.get_singleton(singleton.try_into().ok()?)", "{ let exact = singleton.try_into().ok()?; self.iter().find(|it| it.singleton().unwrap() == exact.unwrap()) }", "methods"),
+        rust("conversions", "LanguageRange::from_checked(tag.as_str())", "LanguageRange::from_checked(tag.base().as_str())", "methods"),
+        rust("shown", 'Kind::Grandfathered => "grandfathered"', 'Kind::Grandfathered => "normal"', "methods"),
         rust("walks", "self.iter()", "{ let mut walk = self.iter(); walk.next(); walk }", "habits"),
         rust("oxilangtag", "Some(normal) if !read.is_grandfathered() =>", "Some(normal) =>", "oxilangtag"),
         rust("oxilangtag", "Some(&*self.tag).filter(|tag| begins_private_use(tag))", "None", "oxilangtag"),
@@ -151,6 +168,7 @@ FAULTS = {
     "Python": [
         Fault(PY, '"second-extlang", "script", "region"', '"second-extlang", "region", "script"', "table.txt"),
         Fault(PY, '_PARTS = ("language", "script", "region"', '_PARTS = ("language", "region", "script"', "edits.txt"),
+        Fault(PY, "[: _backend.base_len(self._data)]", "[: _backend.viable(self._data)]", "table.txt"),
         swapped(CT, "self._cut(self._parts.script)", "self._cut(self._parts.region)", "table.txt"),
         swapped(CT, "self._matched(_c.langtag_matches_basic", "self._matched(_c.langtag_matches_extended", "table.txt"),
         Fault(CT, "    return buffer.raw\n", "    return buffer.raw[:514]\n", "table.txt"),
@@ -179,13 +197,15 @@ FAULTS = {
         Fault(PY, "key=lambda weighted: -weighted.weight", "key=lambda weighted: weighted.weight", "negotiation.txt"),
         Fault(CT, "_c.langtag_tag_for_header_lenient", "_c.langtag_best_for_header", "negotiation.txt"),
         Fault(PY, '._data.replace(b"-*", b"") for', "._data for", "negotiation.txt"),
-        tested(PY, "return type(self).lenient, (self._header,)", 'return type(self).lenient, (b"",)', "test_langtag.Values.test_copies"),
+        tested(PY, "return type(self), (str(self),)", 'return type(self), ("",)', "test_langtag.Values.test_copies"),
         tested(PY, "if len(text) > 80 else repr(text)", "if len(text) > 80_000 else repr(text)", "test_langtag.Refusals.test_that_a_long_text_is_cut"),
         tested(PY, "raise InvalidLocale(name)", "raise ValueError(name)", "test_langtag.Refusals.test_one_family"),
         tested(PY, 'default, Tag)\n    return found', 'default, Tag)\n    return found and Tag(found)', "test_langtag.Negotiation.test_texts"),
-        tested(PY, 'else bytes_of(it) for it', 'else bytes_of(it).replace(b"-*", b"") for it', "test_langtag.Negotiation.test_extended_ranges"),
+        tested(PY, 'else bytes_of(it, "range") for it', 'else bytes_of(it, "range").replace(b"-*", b"") for it', "test_langtag.Negotiation.test_extended_ranges"),
         Fault(CT, "_joined(ranges), *more", "_joined(ranges[:1]), *more", "choices.txt"),
-        Fault(PY, "best_for_header(self._header, tags, default)", "best_for_ranges([it.range for it in self.ranges], tags, default)", "choices.txt", "best(texts"),
+        Fault(PY, "best_for_ranges([it.range for it in self._ranges], tags, default)", "best_for_ranges([it.range for it in self._ranges[:1]], tags, default)", "lists.txt"),
+        tested(PY, "return self._ranges == other._ranges", "return self._ranges[:1] == other._ranges[:1]", "test_langtag.Negotiation.test_equality"),
+        tested(PY, "range(1, min(len(data), 4) + 1)", "range(1, min(len(data), 2) + 1)", "test_langtag.Kinds.test_the_invalid_character"),
         Fault(CT, "match.range.start + match.range.len]", "match.range.start + 64]", "choices.txt"),
         Fault(PY, "BestMatch(*found[:3],", "BestMatch(0, *found[1:3],", "choices.txt"),
         tested(CT, "        if not kind:\n", "        TagBase._kept = (*getattr(TagBase, '_kept', ()), given)\n        if not kind:\n",
@@ -207,7 +227,7 @@ FAULTS = {
               "test_langtag.Values.test_lengths"),
         Fault(NATIVE + "forms.c", "made->parts = like->parts;", "", "table.txt"),
         swapped(NATIVE + "forms.c", ", langtag_maximize)", ", langtag_minimize)", "likely.txt"),
-        Fault(NATIVE + "calls.c", "reach(text, langtag_stop)", "reach(text, langtag_viable)", "table.txt"),
+        Fault(NATIVE + "calls.c", "langtag_##name(text.data, (size_t)text.len);", "langtag_##name(text.data, (size_t)text.len & 0x7fff);", "table.txt"),
         Fault(NATIVE + "choice.c", "langtag_tag_for_header_lenient", "langtag_best_for_header", "negotiation.txt"),
         Fault(NATIVE + "choice.c", "(unsigned)match->distance,", "(unsigned)match->distance % 100,", "choices.txt"),
         Fault(NATIVE + "unicode.c", "which ? langtag_next_field : langtag_next_keyword", "which ? langtag_next_keyword : langtag_next_field", "unicode.txt"),
@@ -223,9 +243,16 @@ FAULTS = {
         Fault(NATIVE + "choice.c", "count <= sizeof offered->few / sizeof *offered->few", "count <= sizeof offered->few", "test_langtag.Negotiation", ""),
         tested(NATIVE + "choice.c", "memcpy(more, offered->text, offered->len);", "", "test_langtag.Negotiation.test_best"),
         Fault(NATIVE + "choice.c", "|| !tag->text.owner) {", ") {", "test_langtag.Values", ""),
-        Fault(NATIVE + "choice.c", "length(wanted) < LONG_TEXT ? PySequence_Fast", "length(wanted) < 1 << 30 ? PySequence_Fast", "test_langtag.Threads", ""),
+        Fault(NATIVE + "choice.c", "length(wanted) >= LONG_TEXT || ", "", "test_langtag.Threads", ""),
         tested(NATIVE + "choice.c", "        LET_GO((Py_ssize_t)length(wanted));\n", "        LET_GO(0);\n", "test_langtag.Threads.test_that_others_run_during_a_choice"),
         Fault(NATIVE + "choice.c", "        TAKE_BACK();\n", "", "test_langtag.Threads", ""),
+        tested(NATIVE + "parts.c", "    LET_GO(self->text.len);\n    bool answer = properties", "    LET_GO(0);\n    bool answer = properties",
+               "test_langtag.Threads.test_that_each_call_on_a_long_text_lets_others_run"),
+        tested(NATIVE + "forms.c", "    LET_GO(self->text.len);\n    size_t wanted = form(", "    LET_GO(0);\n    size_t wanted = form(",
+               "test_langtag.Threads.test_that_each_call_on_a_long_text_lets_others_run"),
+        tested(NATIVE + "value.c", "if (!kind || self->text.owner) {", "if (!kind) {", "test_langtag.Threads.test_that_only_one_of_two_calls_of_init_succeeds"),
+        Fault(NATIVE + "forms.c", "if (wanted <= sizeof room) return tag_of(self, PyBytes_FromStringAndSize(room, (Py_ssize_t)wanted), NULL);",
+              "if (wanted <= sizeof room || wanted > 1000) return tag_of(self, PyBytes_FromStringAndSize(room, wanted < 192 ? (Py_ssize_t)wanted : 190), NULL);", "lengths.txt"),
         tested(NATIVE + "value.c", "        Py_INCREF(Py_NotImplemented);\n        return Py_NotImplemented;", "        return PyBool_FromLong(operator == Py_NE);",
               "test_langtag.Values.test_other_objects"),
         tested(NATIVE + "value.c", "    self->kind = other->kind;\n", "", "test_langtag.Values.test_a_copy_is_the_tag"),
@@ -241,7 +268,7 @@ FAULTS = {
         Fault(JS, '"second-extlang", "script", "region"', '"second-extlang", "region", "script"', "table.txt"),
         Fault(JS, 'PARTS = ["language", "script", "region"', 'PARTS = ["language", "region", "script"', "edits.txt"),
         swapped(CALLS, '"langtag_matches_basic"', '"langtag_matches_extended"', "table.txt"),
-        js(CALLS, "return askText(name, length, ...given);", "return read(at, length);", "a range, a tag or a text of a megabyte"),
+        js(CALLS, "return formOf(name, text, length);", "return close(read(at, room));", "a range, a tag or a text of a megabyte"),
         Fault(CALLS, "Math.min(length, begin + 8192)", "Math.min(length, 8192)", "table.txt"),
         Fault(JS, "if (!found.has(subtag.toLowerCase())) found", "found", "table.txt"),
         Fault(JS, 'if (key !== "" && !found.has(key)) found', 'if (key !== "") found', "unicode.txt"),
@@ -249,6 +276,7 @@ FAULTS = {
         Fault(JS, 'throw new EditError("value", value)', 'throw new EditError("key", value)', "keywords.txt"),
         Fault(CALLS, 'form("langtag_extensions_form")', 'form("langtag_canonical")', "extensions.txt"),
         Fault(CALLS, 'form("langtag_locale_form")', 'form("langtag_canonical")', "cldr.txt"),
+        Fault(CALLS, 'askOne("langtag_base_len", text)', 'askOne("langtag_viable", text)', "table.txt"),
         Fault(CALLS, 'askOne("langtag_is_locale", text)', 'askOne("langtag_kind", text)', "locale.txt"),
         Fault(JS, 'form === "" ? undefined : new', "new", "locale.txt"),
         Fault(JS, "return found && text.slice(found[0], found[0] + found[1]);", "return found && text.slice(found[1]);", "posix.txt"),
@@ -262,25 +290,37 @@ FAULTS = {
         js(CALLS, "    if (isOpen) start();", "    if (calls === undefined) start();", "calls that are cut off"),
         js(CALLS, "    if (bytes.length > most) start();\n", "", "the memory of a long text is given back"),
         js(JS, "Object.freeze(this);", "", "a tag does not change"),
-        js(JS, '"ranges")].map(textOf)', '"ranges")].slice(0, 1).map(textOf)', "likely subtags, distances and the best tag"),
+        js(JS, '"ranges")].map((range) => textOf', '"ranges")].slice(0, 1).map((range) => textOf', "likely subtags, distances and the best tag"),
         Fault(JS, "chosen(calls.bestForRanges, ", 'chosen((all, offered) => calls.bestForHeader(all.join(" "), offered), ', "choices.txt", "the tag of ranges"),
         Fault(JS, "text.slice(start, start + length) }", "text.slice(start) }", "choices.txt"),
-        Fault(CALLS, "close([index, ...numbers(count)])", "close([index, ...numbers(count).sort()])", "choices.txt"),
-        Fault(JS, "return bestForHeader(this.#header,", 'return bestForHeader(this.#header.split(",")[0],', "choices.txt", "the tag of a header that was read"),
+        Fault(CALLS, "close([index >>> 0, ...numbers(count)])", "close([index >>> 0, ...numbers(count).sort()])", "choices.txt"),
+        Fault(JS, "return bestForRanges(this.#wanted(),", "return bestForRanges(this.#wanted().slice(0, 1),", "lists.txt"),
     ],
     "SQLite": [
         swapped(SQL, "&parts->script", "&parts->region", "table.txt"),
         Fault(SQL, "(int)best - 1, text_of", "(int)best, text_of", "choices.txt"),
         Fault(SQL, '{"private_use", &parts->private_use}', '{"private_use", &parts->extensions}', "table.txt"),
+        tested(SQL, "strlen(named[k].name) == name.len && ", "", "test_statements"),
         Fault(SQL, "langtag_parse(tag.at, tag.len, &", "langtag_parse(tag.at, strlen(tag.at), &", "table.txt"),
         Fault(SQL, "at ? (size_t)sqlite3_value_bytes(value) : 0", "at ? strlen(at) : 0", "table.txt"),
+        Fault(SQL, "langtag_base_len(tag.at, tag.len)", "langtag_viable(tag.at, tag.len)", "table.txt"),
         Fault(SQL, "span.len, SQLITE_TRANSIENT", "span.len < 255 ? span.len : 255, SQLITE_TRANSIENT", "table.txt"),
         Fault(SQL, "form, form_len, sqlite3_free", "form, form_len < 512 ? form_len : 512, sqlite3_free", "table.txt"),
         tested(SQL, "form, form_len, sqlite3_free", "form, form_len, SQLITE_TRANSIENT", "test_memory"),
-        Fault(SQL, "form(tag.at, tag.len, form, form_len);\n", "form(tag.at, tag.len, form, form_len);\n    langtag_recommend(form, form_len);\n", "table.txt"),
+        Fault(SQL, "(form_len <= sizeof room) {\n", "(form_len <= sizeof room) {\n        langtag_recommend(room, form_len);\n", "table.txt"),
+        tested(SQL, "(form_len <= sizeof room) {\n", "(form_len <= 2000) {\n", "test_lengths"),
         Fault(SQL, "kind != LANGTAG_NONE && span->len > 0", "kind != LANGTAG_NONE", "table.txt"),
         Fault(SQL, "kind != LANGTAG_NONE && span->len > 0", "kind == LANGTAG_NORMAL && span->len > 0", "table.txt"),
-        Fault(SQL, "answer == LANGTAG_VALID)", "answer != LANGTAG_VALIDITY_NONE)", "table.txt"),
+        Fault(SQL, "&invalid) == LANGTAG_VALID;", "&invalid) != LANGTAG_VALIDITY_NONE;", "table.txt"),
+        tested(SQL, "if (given(context, values[0], &tag)) sqlite3", "if (given(context, values[0], &tag) && langtag_kind(tag.at, tag.len)) sqlite3", "test_check"),
+        tested(SQL, "return langtag_kind(tag, len) != LANGTAG_NONE;", "return true;", "test_statements"),
+        tested(SQL, "| SQLITE_DETERMINISTIC | SQLITE_INNOCUOUS", "| SQLITE_DETERMINISTIC", "test_statements"),
+        tested(SQL, "both, 2) != 1) return;", "both, 2) == 0) return;", "test_statements"),
+        Fault(SQL, "{0, rows->best_len}, {rows->best_len, tag.len}", "{rows->best_len, tag.len}, {0, rows->best_len}", "choices.txt"),
+        tested(SQL, "    sqlite3_free(rows->bytes);\n", "", "test_memory"),
+        tested(SQL, "    sqlite3_free(rows->header);\n", "", "test_memory"),
+        tested(SQL, "return;\n    memmove(bytes, bytes + rows->best_len, tag.len);", "return;\n    memmove(bytes, bytes + rows->best_len, tag.len < 255 ? tag.len : 255);", "test_lengths"),
+        tested(SQL, "memcmp(rows->header, header.at, header.len) == 0) return true;", "rows->header) return true;", "test_statements"),
         Fault(SQL, "if (!value.at) return langtag_without_keyword", "if (!value.len) return langtag_without_keyword", "keywords.txt"),
         Fault(SQL, "write_keyword(und, key, value, &none, 0) == 0", "write_keyword(und, value, key, &none, 0) == 0", "keywords.txt"),
         Fault(SQL, ".form = langtag_extensions_form", ".form = langtag_canonical", "extensions.txt"),
@@ -303,7 +343,7 @@ BUILD = {
     "C++": "c++ -w -std=c++17 -Ibindings/include bindings/c/test/rows.cc $LIBRARIES/liblangtag_verified.a -o test",
     "Rust": f"{CARGO} --no-run $TESTS",
     "Python's C": "bindings/python/native/compile $LIBRARIES/liblangtag_verified.a bindings/python/langtag/_native.abi3.so $PYTHON",
-    "SQLite": "cc -w -fPIC -shared -Ibindings/include bindings/examples/sqlite_langtag.c $LIBRARIES/liblangtag_verified.a"
+    "SQLite": "cc -w -fPIC -shared -Ibindings/include bindings/sqlite/sqlite_langtag.c $LIBRARIES/liblangtag_verified.a"
               " -o sqlite_langtag.so",
 }
 NEEDED = {"Rust": ["rust"]}  # of the other languages, bindings/
@@ -322,7 +362,7 @@ def command(language: str, by: str) -> str:
         return f"node --test-reporter=tap {alone} bindings/js/test/{'rows' if is_rows else 'langtag'}.test.js"
     rows = f"LANGTAG_ROWS={by if is_rows else ''}"
     if language == "SQLite":
-        return f"{rows} PYTHONPATH=bindings/python python3 bindings/examples/test_sqlite.py ./sqlite_langtag.so Sqlite.{'test_rows' if is_rows else by}"
+        return f"{rows} PYTHONPATH=bindings/python python3 bindings/sqlite/test_sqlite.py ./sqlite_langtag.so Sqlite.{'test_rows' if is_rows else by}"
     unset = "env -u LANGTAG_LIBRARY" if language == "Python's C" else ""
     return f"cd bindings/python && {rows} {unset} python3 -m unittest {'test_rows' if is_rows else by}"
 
@@ -375,7 +415,7 @@ class Copy:
             done |= here
         if self.language == "Rust":
             for file, more in ("rust/src/lib.rs", RUST), ("rust/src/bin/langtag/main.rs", "\nuse langtag::planted;\n"):
-                self.write(file, (self.folder / file).read_text() + more)
+                self.write(file, (self.folder / file).read_text().replace(FORBIDDEN, "") + more)
         return done
 
     def shell(self, words: str, switch: str = "") -> subprocess.CompletedProcess[str]:
@@ -388,8 +428,8 @@ class Copy:
         return f"does not build: {built.stdout[-2000:]}" if built.returncode != 0 else None
 
     def passes(self, by: str) -> str | None:
-        """Runs a test without a fault. Returns why it does not pass, or None."""
-        ran = self.shell(command(self.language, by))
+        """Runs a test without a fault, by the number of none. Returns why it does not pass, or None."""
+        ran = self.shell(command(self.language, by), "0")
         return f"is refused without a fault: {by}: {ran.stdout[-2000:]}" if ran.returncode != 0 else None
 
     def refuses(self, fault: Fault, switch: str = "") -> str | None:

@@ -101,6 +101,7 @@ class Likely:
         each("the right side keeps the language", lambda row: row[0] in ("", row[3]))
         alone = {row[0] for row in self.of_languages}
         each("the language of a right side is a left side", lambda row: not row[3] or row[3] in alone)
+        each("a row without a language has a script on the left side", lambda row: row[3] or row[1])
         keys = {row[:3] for row in rows}
         each("a right side without a language is its own", lambda row: row[3] or row[3:] == row[:3] or not {("", row[4], row[5]), ("", row[4], "")} & (keys - {row[:3]})
              or row[3:] in [other[3:] for other in rows if other[:3] == ("", row[4], row[5])])
@@ -154,7 +155,7 @@ def tables(likely):
     region = lambda row: likely.regions.index(row[5])
     return "\n".join([
         f"//! Unicode's CLDR {version()} in tables (the notice: likely/LICENSE-UNICODE). Written by likely/generate.py. Do not edit.\n",
-        f"/// The major version of Unicode's CLDR in this crate. The full version is {version()}.\n" f'pub const CLDR_VERSION: &str = "{major_version()}";\n',
+        f"/// The version of Unicode's CLDR in this crate.\n" f'pub const CLDR_VERSION: &str = "{version()}";\n',
         numbers("SCRIPT_KEYS", "The keys of the scripts, in rising order: each key is the number whose base-256 digits are the lowercase bytes.", 32, map(folded_number, likely.scripts)),
         names("SCRIPT_NAMES", "The same scripts as text, in the same order.", likely.scripts),
         numbers("REGION_KEYS", "The keys of the regions, in rising order: each key is the number whose base-256 digits are the lowercase bytes.", 32, map(folded_number, likely.regions)),
@@ -186,7 +187,7 @@ def alias_tables(matching):
         numbers("ALIAS_REGIONS", "The index of the region that comes with each replacement.", 8, [regions.index(row[3]) for row in matching.aliases]),
         numbers("REGION_ALIAS_KEYS", "The keys of the regions that are replaced, in rising order: each key is the number whose base-256 digits are the lowercase bytes.", 32,
                 [folded_number(row[0]) for row in matching.region_aliases]),
-        names("REGION_ALIAS_NAMES", "The region that replaces each region of `REGION_ALIAS_KEYS`.", [row[1] for row in matching.region_aliases]),
+        names("REGION_ALIAS_NAMES", "The region that replaces each region of `REGION_ALIAS_KEYS`, or the first of several.", [row[1] for row in matching.region_aliases]),
         numbers("REPLACEMENT_KEYS", "The keys, in rising order, of the regions that another region replaces, including codes of three digits.", 32,
                 [folded_number(row[0]) for row in matching.replacements]),
         names("REPLACEMENT_NAMES", "The region that replaces each region of `REPLACEMENT_KEYS`.", [row[1] for row in matching.replacements]),
@@ -229,7 +230,7 @@ def alias_lists(matching):
         "use Rattle.langtag_likely.specs.Likely.{Likely, likely_of_fields}\n",
         word_list("language_aliases", "the languages that are replaced, each with its replacement: language, script and region", "Likely", "likely_of_fields",
                   [[fields(row[0], "", "", *row[1:])] for row in matching.aliases]),
-        word_list("region_aliases", "the regions that are replaced, each with its replacement", "Likely", "likely_of_fields",
+        word_list("region_aliases", "the regions that are replaced, including codes of three digits, each with the first of its replacements", "Likely", "likely_of_fields",
                   [[fields("", "", row[0], "", "", row[1])] for row in matching.region_aliases]),
         word_list("region_replacements", "the regions that another region replaces, including codes of three digits, each with its replacement", "Likely", "likely_of_fields",
                   [[fields("", "", row[0], "", "", row[1])] for row in matching.replacements]),
@@ -295,13 +296,9 @@ def code_list(likely):
             f"-- the codes of the scripts on both sides of the rows, in alphabetical order\nunfoldable pub script_codes : List (List ℕ)\nscript_codes = words (codes \"{' '.join(likely.scripts)}\")\n")
 
 
-def major_version():
-    return version().partition(".")[0]
-
-
 def module_version():
     """Returns the Makefile's line with the version that is in the name of PostgreSQL's module."""
-    return f"# The version of CLDR in the library. Written by likely/generate.py. Do not edit.\nCLDR_VERSION = {major_version()}\n"
+    return f"# The version of CLDR in the library. Written by likely/generate.py. Do not edit.\nCLDR_VERSION = {version()}\n"
 
 
 def written(crates, likely, matching):

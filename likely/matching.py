@@ -32,13 +32,17 @@ def is_language(text):
     return len(text) in (2, 3) and text.isalpha() and text.islower()
 
 
+def is_region(text):
+    return len(text) == 2 and text.isalpha() or len(text) == 3 and text.isdigit()
+
+
 class Matching:
     """The lists of language matching, each in the order of its key."""
 
     def __init__(self, read, likely):
         self.likely = likely
         self.aliases = sorted(([row[0]] + [text.strip("-") for text in row[1:]] for row in read("language-alias.txt")), key=lambda row: letter_number(row[0]))
-        self.region_aliases = sorted((row for row in read("region-alias.txt") if len(row[0]) == 2), key=lambda row: folded_number(row[0]))
+        self.region_aliases = sorted(read("region-alias.txt"), key=lambda row: folded_number(row[0]))
         self.replacements = sorted((row for row in read("region-alias.txt") if len(row) == 2), key=lambda row: folded_number(row[0]))
         self.languages = self.both_ways(((d, s), int(n), one_way) for d, s, n, one_way in read("language-distance.txt"))
         self.languages.sort(key=self.language_key)
@@ -100,10 +104,10 @@ class Matching:
              lambda row: row[2] in ["", *self.likely.scripts] and row[3] in ["", *self.likely.regions], self.aliases)
         each("likely.txt", "no row is of a language that is replaced", lambda row: row[0] not in replaced and row[3] not in replaced, self.likely.of_languages + self.likely.others)
         once("language-alias.txt", [row[0] for row in self.aliases])
-        regions = self.region_aliases + self.replacements
-        each("region-alias.txt", "no target is an alias", lambda row: row[1] not in [other[0] for other in regions], regions)
-        each("region-alias.txt", "regions of two letters, but for the codes of three digits that are replaced",
-             lambda row: all(len(text) == 2 and text.isalpha() for text in row[len(row[0]) == 3 and row[0].isdigit():]), regions)
+        replaced = {row[0] for row in self.region_aliases}
+        each("region-alias.txt", "no target is an alias", lambda row: row[1] not in replaced, self.region_aliases)
+        each("likely.txt", "no row is of a region that is replaced", lambda row: row[2] not in replaced and row[5] not in replaced, self.likely.of_languages + self.likely.others)
+        each("region-alias.txt", "regions of two letters or three digits", lambda row: all(is_region(text) for text in row), self.region_aliases)
         once("region-alias.txt", [row[0] for row in read("region-alias.txt")])
         once("language-distance.txt", [row[:2] for row in self.languages])
         each("language-distance.txt", "a language of two or three letters", lambda row: is_language(row[0]) and is_language(row[1]), self.languages)

@@ -45,7 +45,7 @@ def lower(texts):
 
 LIKELY = {lower(row[:3]): row[3:] for row in rows("likely.txt")}
 ALIASES = {row[0]: row[1:] for row in rows("language-alias.txt")}
-REGION_ALIASES = {row[0].lower(): row[1] for row in rows("region-alias.txt") if len(row[0]) == 2}
+REGION_ALIASES = {row[0].lower(): row[1] for row in rows("region-alias.txt")}
 REPLACEMENTS = {row[0].lower(): row[1] for row in rows("region-alias.txt") if row[2:] == []}
 GROUPS = {row[0]: set(row[1:]) for row in rows("region-groups.txt")}
 SETS = {row[0]: set(row[1:]) for row in rows("region-sets.txt")}
@@ -96,14 +96,31 @@ def add_likely(fields):
     return None
 
 
+def canonical(fields):
+    """Returns the fields with a deprecated language and a deprecated region replaced. A script or a region that comes with the new
+    language is added if there is none. ZZ, which replaces 999, means that the region is unknown."""
+    language, script, region = fields
+    if language.lower() in ALIASES:
+        language, more_script, more_region = ALIASES[language.lower()]
+        script, region = script or more_script, region or more_region
+    region = REGION_ALIASES.get(region.lower(), region)
+    return language, script, "" if region == "ZZ" else region
+
+
+def add_likely_subtags(fields):
+    """Returns the fields with likely subtags, which are those of the canonical fields. Deprecated subtags stay."""
+    most = add_likely(canonical(fields))
+    return most and tuple(mine or theirs for mine, theirs in zip(fields, most))
+
+
 def remove_likely(fields):
-    most = add_likely(fields)
+    most = add_likely_subtags(fields)
     if most is None:
         return None
     language, script, region = most
     region = "" if region.lower() == "zz" else region
     for few in ((language, "", ""), (language, "", region), (language, script, "")):
-        form = add_likely(few)
+        form = add_likely_subtags(few)
         if form and lower(form) == lower(most):
             return few
     return most
@@ -116,7 +133,7 @@ def form(text, find):
 
 
 def forms(text):
-    return form(text, add_likely) + "\t" + form(text, remove_likely)
+    return form(text, add_likely_subtags) + "\t" + form(text, remove_likely)
 
 
 @functools.lru_cache(None)
@@ -127,12 +144,9 @@ def matching_form(text):
 
 
 def form_of(fields):
-    language, script, region = fields
-    language = language.lower()
-    if language in ALIASES:
-        language, more_script, more_region = ALIASES[language]
-        script, region = script or more_script, region or more_region
-    region = REGION_ALIASES.get(region.lower(), region)
+    # a region in digits stays
+    language, script, region = canonical(fields)
+    region = region if len(fields[2]) != 3 else fields[2]
     most = add_likely((language, script, region)) or (language,) + add_likely(("", script, region))[1:]
     return most[0].lower(), most[1].title(), most[2].upper()
 
@@ -310,8 +324,11 @@ def posix(name):
     script, variant = modifier_says(modifier)
     behind = behind.split("_")[0]
     script = script or (behind if re.fullmatch("[A-Za-z]{4}", behind) else tag.script)
-    variants = "-" + variant if variant else tag.variants
-    return "-".join(filter(None, (tag.language, script, tag.region))) + variants + tag.rest
+    variants, rest = tag.variants, tag.rest
+    if variants.lower() == "-posix" and rest[:3].lower() in ("", "-x-"):
+        variants, rest = "", "-u-va-posix" + rest
+    variants = "-" + variant if variant else variants
+    return "-".join(filter(None, (tag.language, script, tag.region))) + variants + rest
 
 
 def unknown_modifier(name):
@@ -372,7 +389,7 @@ def written(find):
     return lambda text: form(text, find) if is_tag(text) else "-"
 
 
-CALLS = {"maximized": written(add_likely), "minimized": written(remove_likely), "right-to-left": is_right_to_left, "posix": posix, "unknown-modifier": unknown_modifier, "suggestion": suggestion}
+CALLS = {"maximized": written(add_likely_subtags), "minimized": written(remove_likely), "right-to-left": is_right_to_left, "posix": posix, "unknown-modifier": unknown_modifier, "suggestion": suggestion}
 
 
 COLUMNS = {"forms": forms, "distance": distance, "rows": answer}

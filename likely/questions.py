@@ -3,6 +3,7 @@
 
 usage: questions.py tags|pairs|rows COUNT SEED    prints that many tags, pairs of tags, or rows as in rows/
        questions.py each prints rows for everything in the data: each side of a row, and each rule
+       questions.py aliases                        prints tags with each deprecated language and each deprecated region
 """
 import functools
 import random
@@ -17,9 +18,9 @@ from oracle import (ALIASES, GROUPS, LANGUAGE_RULES, LIKELY, REGION_ALIASES, RIG
 
 @functools.lru_cache(None)
 def names_of_fields():
-    languages = sorted({row[0] or "und" for row in LIKELY} | {"iw", "sh", "qqq", "qaaaa", "x-a", "zh-yue", "zh-min-nan", "sgn-ase"})
+    languages = sorted({row[0] or "und" for row in LIKELY} | set(ALIASES) | {"iw", "sh", "qqq", "qaaaa", "x-a", "zh-yue", "zh-min-nan", "sgn-ase"})
     scripts = sorted({row[1] for row in LIKELY} | {row[1] for row in LIKELY.values()} | {"Zzzz", "Qaaa"})
-    regions = sorted({row[2] for row in LIKELY} | {row[2] for row in LIKELY.values()} | {"ZZ", "QQ", "999"})
+    regions = sorted({row[2] for row in LIKELY} | {row[2] for row in LIKELY.values()} | set(REGION_ALIASES) | {"ZZ", "QQ", "999"})
     return languages, scripts, regions
 
 
@@ -38,7 +39,7 @@ def random_tag(rng):
 
 
 NEAR = [language for pair, _, _ in LANGUAGE_RULES for language in pair] + ["ar", "en", "es", "pt", "zh", "ja", "sr", "ko"] * 40 + list(ALIASES)
-NEAR_REGIONS = (sorted(GROUPS) + sorted(REGION_ALIASES) + ["GB", "US", "HK", "MO", "TW", "MA", "BR", "PT", "MX", "ES", "419", "ZZ", "qq"] * 6
+NEAR_REGIONS = (sorted(GROUPS) + sorted(REGION_ALIASES)[-30:] + ["004", "062", "172", "840", "999"] + ["GB", "US", "HK", "MO", "TW", "MA", "BR", "PT", "MX", "ES", "419", "ZZ", "qq"] * 6
                 + sorted(GROUPS["001"]))
 
 
@@ -113,6 +114,7 @@ def escaped_header(text):
 
 
 ODD_PLACES = ["C", "POSIX", "posix", "", "i-klingon", "x-a", "en-GB-oed", "de-1996", "ca-valencia-1996-x-a", "zh-yue-HK",
+              "en_US_POSIX", "de-1996-posix-x-a", "sr-posix-1996", "en-Posix-u-nu-latn", "zh-yue_HK_POSIX", "de-DE-POSIX-x-posix", "x-posix",
               "deu" + "-a1234567" * 28, "abcd" + "-a1234567" * 28]
 MODIFIERS = ["latin", "cyrillic", "devanagari", "valencia", "euro", "Latin", "VALENCIA", "latin@euro", "latin.UTF-8", "", "phonebook", "lati", "latinx"]
 
@@ -162,13 +164,21 @@ def each():
                 print(f"distance | {language}-{region} | {language}-{other}\ndistance | {language}-{other} | {language}-{region}")
 
 
+def aliases():
+    """Yields tags of each deprecated language and region."""
+    for name in sorted(ALIASES):
+        print(f"{name}\n{name}-Latn\n{name}-TW")
+    for region in sorted(REGION_ALIASES):
+        print(f"und-{region.upper()}\nzh-{region.upper()}\naz-{region.upper()}\nund-Armn-{region.upper()}")
+
+
 MAKERS = {"tags": random_tag, "pairs": random_pair, "rows": random_row}
 
 
 def main():
     words = sys.argv[1:]
-    if words == ["each"]:
-        return each()
+    if words in (["each"], ["aliases"]):
+        return {"each": each, "aliases": aliases}[words[0]]()
     if len(words) != 3 or words[0] not in MAKERS:
         sys.exit(__doc__)
     rng = random.Random(int(words[2]))

@@ -90,9 +90,9 @@ class Generating(unittest.TestCase):
         self.edit("right-to-left.txt", "\nHebr\n", "\nHebr\nZxyz\n")
         self.assert_refused("--accept takes newer ones")
         self.assertEqual(self.run_with("--accept"), (False, []))
-        self.assertIn('CLDR_VERSION: &str = "99"', (self.crates / "langtag_likely/src/tables.rt").read_text(encoding="utf-8"))
+        self.assertIn('CLDR_VERSION: &str = "99.1"', (self.crates / "langtag_likely/src/tables.rt").read_text(encoding="utf-8"))
         self.assertIn("CLDR 99.1", (self.crates / "langtag_likely/specs/LikelySubtags.antt").read_text(encoding="utf-8"))
-        self.assertIn("CLDR_VERSION = 99\n", generate.MODULE.read_text(encoding="utf-8"))
+        self.assertIn("CLDR_VERSION = 99.1\n", generate.MODULE.read_text(encoding="utf-8"))
         self.assertEqual(self.run_with(), (False, []))
         # lists.py reads the current data, and only these data are different
         self.assert_told("language_rows: differs", "right_to_left_scripts: differs")
@@ -124,6 +124,9 @@ class Generating(unittest.TestCase):
             ("likely.txt", "\naa - - aa Latn ET\n", "\naa - - ab Latn ET\n", "the right side keeps the language"),
             ("likely.txt", "\naa - - aa Latn ET\n", "\nabcd - - abcd Latn ET\n", "at most three letters"),
             ("likely.txt", "\n- - AD ca Latn AD\n", "\n- - AD qqq Latn AD\n", "the language of a right side is a left side"),
+            ("likely.txt", "\n- Cpmn - - Cpmn CY\n", "\n- Cpmn - - Cpmn CY\n- - QQ - Cpmn QQ\n", "a row without a language has a script on the left side"),
+            ("region-alias.txt", "\n004 AF\n", "\n004 AF\n001 AF\n", "no row is of a region that is replaced"),
+            ("region-alias.txt", "\n004 AF\n", "\n004 AFG\n", "regions of two letters or three digits"),
             ("language-alias.txt", "\ntl fil - -\n", "\ntl iw - -\n", "no target is an alias"),
             ("language-alias.txt", "\ntl fil - -\n", "\ntl fil - -\ntl id - -\n", "a left side once"),
             ("language-alias.txt", "\ntl fil - -\n", "\ntl fil Qaaa -\n", "a script and a region of the likely subtags"),

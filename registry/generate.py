@@ -1,6 +1,6 @@
 #!/usr/bin/env python3
 """Writes files from IANA's language subtag registry, which is beside this file in its original format (RFC 5646 section 3.1.1): the
-tables and lists of the crate langtag_registry, the pages of proofs that compare them, and names for Python and JavaScript.
+tables and lists of the crate langtag_registry, the pages of proofs that compare them, and the names of subtags for Python and JavaScript.
 
 usage: generate.py            writes them from the registry whose checksum is beside it
        generate.py --accept   writes them from a newer registry, and its checksum
@@ -29,8 +29,7 @@ TABLES = "crates/langtag_registry/src/tables.rt"
 LISTS = "crates/langtag_registry/specs/Subtags.antt"
 PROOFS = "crates/langtag_registry/proofs"
 MODULE = "bindings/postgresql/registry_date.mk"
-NAMES_FOR_PYTHON = "bindings/python/langtag/names.txt"
-NAMES_FOR_JAVASCRIPT = "bindings/js/names.js"
+NAMES = "bindings/names.txt"
 
 # The lists: the Types of their records.
 SUBTAGS = ["language", "extlang", "script", "region", "variant"]
@@ -195,15 +194,10 @@ def names(registry):
     return "".join(f"{text} {found[text]}\n" for text in sorted(found))
 
 
-def names_for_javascript(registry):
-    head = "/** Subtags and grandfathered tags with a description of the registry. Written by registry/generate.py. Do not edit. */\n"
-    return f"{head}export const NAMES = `\\\n{names(registry)}`;\n"
-
-
 def written(registry):
     """Returns the files that are made from a registry: the path and the text of each."""
-    for_people = {NAMES_FOR_PYTHON: names(registry), NAMES_FOR_JAVASCRIPT: names_for_javascript(registry)}
-    return {TABLES: tables(registry), LISTS: lists(registry), MODULE: module_date(registry)} | for_people | {f"{PROOFS}/{name}.antt": page() for name, page in PAGES.items()}
+    files = {TABLES: tables(registry), LISTS: lists(registry), MODULE: module_date(registry), NAMES: names(registry)}
+    return files | {f"{PROOFS}/{name}.antt": page() for name, page in PAGES.items()}
 
 
 def checksum(source):

@@ -9,14 +9,17 @@ from identifiers import BETTER, fields
 
 NAME = "localeCanonicalization.txt"
 
-HEAD = """# Unicode's cases of the canonical form of a locale identifier (UTS #35, part 1, Annex C), in CLDR's order and with its headings:
-# testData/localeIdentifiers/{name} of CLDR {version}, Copyright (c) 1991-2025 Unicode, Inc.
-# SPDX-License-Identifier: Unicode-3.0 (the notice: unicode/LICENSE-UNICODE). Written by unicode/generate.py. Do not edit.
+HEAD = """# Unicode's cases of the canonical form of a locale identifier (UTS #35, part 1, Annex C), in CLDR's order and with its headings.
+# From Unicode CLDR {version} (testData/localeIdentifiers/{name}; {source}), Copyright (c) 1991-2025 Unicode, Inc.
+# SPDX-License-Identifier: Unicode-3.0 (the notice: unicode/LICENSE-UNICODE). Written by unicode/from_cldr.py. Do not edit.
 #
-# CLDR writes `_` for the hyphen. In {count} rows the language differs from CLDR's: for Norwegian Sign Language, `sgn-NO`, CLDR has `nsi`,
-# which is Nigerian, and IANA's registry has `nsl`.
+# CLDR writes `_` for the hyphen. The language in {count} rows differs from CLDR's. For Norwegian Sign Language, `sgn-NO`, CLDR has `nsi`,
+# which is Nigerian, and IANA's registry has `nsl`. The rows are those of {better}.
 #
+#     cldr-version       the version of CLDR whose data the library has
 #     locale-form TAG    the canonical form of a Unicode locale identifier
+
+cldr-version | {version}
 """
 
 
@@ -41,12 +44,14 @@ def better(case: str, form: str) -> str:
     return form
 
 
-def rows(path: pathlib.Path, version: str) -> str:
-    lines, count = [], 0
+def rows(path: pathlib.Path, version: str, source: str) -> str:
+    """Returns the content of rows/cldr.txt, made from CLDR's file of cases."""
+    lines, differing = [], []
     for case, form in read(path):
         if form is None:
             lines.append(f"\n# {case}")
         else:
             lines.append(f"locale-form | {case} | {better(case, form)}")
-            count += better(case, form) != form
-    return HEAD.format(name=path.name, version=version, count=count) + "\n".join(lines) + "\n"
+            differing += [f"`{case}`"] if better(case, form) != form else []
+    head = HEAD.format(name=path.name, version=version, source=source, count=len(differing), better=", ".join(differing))
+    return head + "\n".join(lines) + "\n"

@@ -1,17 +1,16 @@
 #!/usr/bin/env python3
-"""Writes the files of data/ from Unicode's CLDR, in the form of Unicode's release or of Debian's package unicode-cldr-core.
+"""Writes the files of data/, and rows/cldr.txt, from Unicode's CLDR, in the form of Unicode's release or of Debian's package unicode-cldr-core.
 
 usage: from_cldr.py COMMON VERSION SOURCE   COMMON is CLDR's folder `common`, which has bcp47/, supplemental/ and testData/; VERSION is
                                             like 48.2; SOURCE says for the head of each file where it came from
 
 Aliases of types that no tag can contain are left out. So are aliases of languages and regions, which likely/from_cldr.py writes, and of
-tags that are no language identifiers. The file of cases is copied as it is.
+tags that are no language identifiers. CLDR's own cases become rows.
 """
 from __future__ import annotations
 
 import pathlib
 import re
-import shutil
 import sys
 import xml.etree.ElementTree as XML
 from collections.abc import Iterator
@@ -20,6 +19,7 @@ import cases
 from identifiers import IDENTIFIER
 
 DATA = pathlib.Path(__file__).resolve().parent / "data"
+ROWS = DATA.parent.parent / "rows"
 
 HEAD = """# {title}
 # From Unicode CLDR {version} ({files}; {source}).
@@ -66,7 +66,8 @@ def main(common: pathlib.Path, version: str, source: str) -> None:
     ):
         text = HEAD.format(title=title, version=version, files=files, source=source) + "".join(f"{row}\n" for row in sorted(set(rows)))
         (DATA / name).write_text(text, encoding="utf-8")
-    shutil.copyfile(common / "testData/localeIdentifiers" / cases.NAME, DATA / cases.NAME)
+    rows = cases.rows(common / "testData/localeIdentifiers" / cases.NAME, version, source)
+    (ROWS / "cldr.txt").write_text(rows, encoding="utf-8")
 
 
 if __name__ == "__main__":

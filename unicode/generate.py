@@ -1,12 +1,15 @@
 #!/usr/bin/env python3
 """Writes the tables and the lists of the crates langtag_keyword and langtag_locale from Unicode's CLDR. The aliases of types, of
-subdivisions and of language identifiers are in data/. The aliases of regions are those of langtag_likely, in ../likely/data. Also writes CLDR's own cases, which are in
-data/ too, as the rows of ../rows/cldr.txt.
+subdivisions and of language identifiers are in data/. The aliases of regions are those of langtag_likely, in ../likely/data.
+from_cldr.py writes data/, and CLDR's own cases as the rows of ../rows/cldr.txt. data.sha256 has the checksums of both.
 
 usage: generate.py            writes them from the data whose checksums are in data.sha256
        generate.py --accept   writes them from newer data, and their checksums
        generate.py --check    writes nothing, and names each fault: data with other checksums, or a file that
                               would be written differently
+
+IANA's registry may be ahead of CLDR: a tag has a Preferred-Value, and CLDR does not replace that tag yet. --accept writes such tags to
+ahead-of-cldr.txt, and names each tag that it adds or takes out.
 
 Data that break a premise of the crate are refused: the row that breaks it is named, nothing is written, and the status is 1.
 """
@@ -17,7 +20,6 @@ import pathlib
 import re
 import sys
 
-import cases
 from identifiers import Identifiers
 
 HERE = pathlib.Path(__file__).resolve().parent
@@ -27,6 +29,8 @@ CRATES = HERE.parent / "crates"
 ROWS = HERE.parent / "rows"
 LIKELY = HERE.parent / "likely/data"
 REGISTRY = HERE.parent / "registry/language-subtag-registry"
+# The tags and subtags of the registry whose Preferred-Value CLDR does not have yet.
+AHEAD = HERE / "ahead-of-cldr.txt"
 
 SUBTAG = re.compile(r"[a-z0-9]{3,8}")
 KEYS = {"u": re.compile(r"[a-z0-9][a-z]"), "t": re.compile(r"[a-z][0-9]")}
@@ -45,18 +49,22 @@ def read(name: str) -> list[list[str]]:
 
 
 def version() -> str:
-    """Returns the version of CLDR, which the head of each data file names. The file of cases is Unicode's own, without a version."""
-    paths = [*(path for path in DATA.glob("*.txt") if path.name != cases.NAME), LIKELY / "language-alias.txt", LIKELY / "region-alias.txt"]
+    """Returns the version of CLDR, which the head of each data file names."""
+    paths = [*DATA.glob("*.txt"), ROWS / "cldr.txt", LIKELY / "language-alias.txt", LIKELY / "region-alias.txt"]
     found = {str(path): re.search(r"^# .*Unicode CLDR ([0-9.]+) ", path.read_text(encoding="utf-8"), re.M) for path in paths}
     versions = {name: said[1] if said else "none" for name, said in found.items()}
     if len(set(versions.values())) != 1 or "none" in versions.values():
         sys.exit(f"the heads of the data do not name one version of CLDR: {versions}")
-    return next(iter(versions.values()))
+    found = next(iter(versions.values()))
+    if f"\ncldr-version | {found}\n" not in (ROWS / "cldr.txt").read_text(encoding="utf-8"):
+        sys.exit("cldr.txt: the row cldr-version has the version of the data")
+    return found
 
 
 def checksums() -> str:
     """Returns the lines of sha256sum, with which `sha256sum -c` in data/ can check the files, too."""
-    return "".join(f"{hashlib.sha256(path.read_bytes()).hexdigest()}  {path.name}\n" for path in sorted(DATA.glob("*.txt")))
+    files = {path.name: path for path in sorted(DATA.glob("*.txt"))} | {"../../rows/cldr.txt": ROWS / "cldr.txt"}
+    return "".join(f"{hashlib.sha256(path.read_bytes()).hexdigest()}  {name}\n" for name, path in files.items())
 
 
 def whole_subdivision(code: str) -> str:
@@ -198,12 +206,25 @@ def rule_lists(identifiers: Identifiers) -> str:
     ])
 
 
+def ahead(identifiers: Identifiers) -> str:
+    """Returns the content of ahead-of-cldr.txt."""
+    rows = "".join(f"{old} {new}\n" for old, new in sorted(identifiers.ahead_of_cldr()))
+    return ("# The tags and subtags of IANA's registry with a Preferred-Value, each with that value, that CLDR does not replace yet. `und-`\n"
+            f"# is before a region or a variant. Written by unicode/generate.py --accept. Do not edit.\n{rows}")
+
+
+def changes_ahead(identifiers: Identifiers) -> list[str]:
+    """Returns a line for each tag that ahead-of-cldr.txt lacks, and for each tag that CLDR has replaced since."""
+    standing, found = {tuple(row) for row in read_rows(AHEAD)}, set(identifiers.ahead_of_cldr())
+    return [f"{AHEAD.name}: CLDR does not replace {old} yet, whose Preferred-Value is {new}" for old, new in sorted(found - standing)] + [
+        f"{AHEAD.name}: CLDR has followed the registry, or the registry has changed: {old} {new}" for old, new in sorted(standing - found)]
+
+
 def written(crates: pathlib.Path, aliases: Aliases, identifiers: Identifiers) -> dict[pathlib.Path, str]:
     """Returns the files that are made from the data: the path and the text of each."""
     keyword, locale = crates / "langtag_keyword", crates / "langtag_locale"
     return {keyword / "src/alias_tables.rt": tables(aliases), keyword / "specs/Aliases.antt": lists(aliases),
-            locale / "src/locale_tables.rt": rule_tables(identifiers), locale / "specs/LocaleAliases.antt": rule_lists(identifiers),
-            ROWS / "cldr.txt": cases.rows(DATA / cases.NAME, version())}
+            locale / "src/locale_tables.rt": rule_tables(identifiers), locale / "specs/LocaleAliases.antt": rule_lists(identifiers)}
 
 
 def main(words: list[str], crates: pathlib.Path) -> bool:
@@ -212,11 +233,11 @@ def main(words: list[str], crates: pathlib.Path) -> bool:
         sys.exit(__doc__)
     aliases, rows = Aliases(), identifiers()
     is_known = CHECKSUMS.is_file() and checksums() == CHECKSUMS.read_text(encoding="utf-8")
-    told = []
-    if not is_known:
+    told = changes_ahead(rows)
+    if not is_known and not accept:
         told.append(f"the data are not those of {CHECKSUMS.name}")
-        if not check and not accept:
-            sys.exit(f"{told[0]}; --accept takes newer ones")
+    if told and not check and not accept:
+        sys.exit("\n".join(told) + "; --accept takes newer ones")
     for path, text in written(crates, aliases, rows).items():
         if check and (not path.is_file() or path.read_text(encoding="utf-8") != text):
             told.append(f"{path.name} would be written otherwise")
@@ -224,7 +245,8 @@ def main(words: list[str], crates: pathlib.Path) -> bool:
             path.write_text(text, encoding="utf-8")
     if accept:
         CHECKSUMS.write_text(checksums(), encoding="utf-8")
-    if check and told:
+        AHEAD.write_text(ahead(rows), encoding="utf-8")
+    if told:
         print("\n".join(told))
     return check and bool(told)
 

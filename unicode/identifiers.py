@@ -81,10 +81,24 @@ class Identifiers:
         each("CLDR has the row that IANA's registry betters", lambda row: self.rows.get(row[0]) == row[1], BETTER)
         self.test_registry()
 
+    def differing(self) -> list[tuple[str, str]]:
+        """Returns the tags and subtags of the registry that do not have the form of their Preferred-Value, each with that value."""
+        return [(old, new) for old, new in self.registry if fields(old) and fields(new) and self.form(fields(old)) != self.form(fields(new))]
+
+    def is_replaced(self, tag: str) -> bool:
+        """Returns whether the form of a language identifier is another identifier."""
+        *parts, variants = fields(tag)
+        return self.form(fields(tag)) != (*parts, sorted(variants))
+
+    def ahead_of_cldr(self) -> list[tuple[str, str]]:
+        """Returns the tags and subtags of the registry with a Preferred-Value that CLDR does not replace yet, each with that value."""
+        return [(old, new) for old, new in self.differing() if not self.is_replaced(old)]
+
     def test_registry(self) -> None:
-        """Tests that a canonical form (RFC 5646 section 4.5) has the form of its tag, so that the forms of both are one."""
-        for old, new in self.registry:
-            if fields(old) and fields(new) and self.form(fields(old)) != self.form(fields(new)):
+        """Tests that a canonical form (RFC 5646 section 4.5) has the form of its tag, so that the forms of both are one. CLDR follows
+        the registry later, so a tag that CLDR does not replace at all is no contradiction."""
+        for old, new in self.differing():
+            if self.is_replaced(old):
                 sys.exit(f"language-alias.txt: the form of a tag of the registry is the form of its Preferred-Value: {old} {new}")
 
     def form(self, identifier):

@@ -9,10 +9,10 @@ import tempfile
 import unittest
 from unittest import mock
 
-import cases
 import from_cldr
 import generate
 
+CASES = "testData/localeIdentifiers/localeCanonicalization.txt"
 WRITTEN = ["langtag_keyword/src/alias_tables.rt", "langtag_keyword/specs/Aliases.antt",
            "langtag_locale/src/locale_tables.rt", "langtag_locale/specs/LocaleAliases.antt"]
 
@@ -31,7 +31,10 @@ class Generating(unittest.TestCase):
             shutil.copy(generate.CRATES / name, self.crates / name)
         (self.folder / "rows").mkdir()
         shutil.copy(generate.ROWS / "cldr.txt", self.folder / "rows")
-        for name, path in (("DATA", "data"), ("CHECKSUMS", "data.sha256"), ("LIKELY", "likely"), ("ROWS", "rows")):
+        shutil.copy(generate.AHEAD, self.folder)
+        shutil.copy(generate.REGISTRY, self.folder / "registry")
+        for name, path in (("DATA", "data"), ("CHECKSUMS", "data.sha256"), ("LIKELY", "likely"), ("ROWS", "rows"),
+                           ("AHEAD", "ahead-of-cldr.txt"), ("REGISTRY", "registry")):
             patch = mock.patch.object(generate, name, self.folder / path)
             self.addCleanup(patch.stop)
             patch.start()
@@ -81,11 +84,37 @@ class Generating(unittest.TestCase):
                          [f"locale-form | {row}" for row in ("sgn-NO | nsl", "sgn-578 | nsl", "sgn-Adlm-578-fonipa | nsl-Adlm-fonipa", "sgn-Adlm-NO-fonipa | nsl-Adlm-fonipa")])
         self.assertNotIn("| nsi", rows)
         path.write_text(rows.replace("| jbo\n", "| en\n"), encoding="utf-8")
-        self.assertEqual(self.run_with("--check"), (True, ["cldr.txt would be written otherwise"]))
-        self.edit(cases.NAME, "art_lojban\t;\tjbo", "art_lojban\t;\ten")
         self.assertEqual(self.run_with("--check"), (True, ["the data are not those of data.sha256"]))
-        self.edit(cases.NAME, "art_lojban\t;\ten", "art_lojban_x_a\t;\ten")
-        with self.assertRaisesRegex(SystemExit, "two language identifiers: art_lojban_x_a"):
+        path.write_text(rows.replace(f"cldr-version | {generate.version()}\n", "cldr-version | 48\n"), encoding="utf-8")
+        with self.assertRaisesRegex(SystemExit, "cldr.txt: the row cldr-version has the version of the data"):
+            self.run_with("--check")
+
+    def test_a_registry_ahead_of_cldr(self):
+        """Records that IANA could add before CLDR has their aliases: a language, a region and a variant, each with a Preferred-Value."""
+        records = "%%\nType: language\nSubtag: zzy\nPreferred-Value: de\n%%\nType: region\nSubtag: ZO\nPreferred-Value: DE\n" \
+                  "%%\nType: variant\nSubtag: oldform\nPreferred-Value: newform\n"
+        rows = ["und-oldform whose Preferred-Value is und-newform", "und-zo whose Preferred-Value is und-de", "zzy whose Preferred-Value is de"]
+        adds = [f"ahead-of-cldr.txt: CLDR does not replace {row}".replace(" whose", " yet, whose") for row in rows]
+        standing = generate.REGISTRY.read_text(encoding="utf-8")
+        generate.REGISTRY.write_text(standing + records, encoding="utf-8")
+        self.assertEqual(self.run_with("--check"), (True, adds))
+        with self.assertRaisesRegex(SystemExit, "CLDR does not replace zzy yet, whose Preferred-Value is de; --accept takes newer ones"):
+            self.run_with()
+        self.assertEqual(self.run_with("--accept"), (False, adds))
+        self.assertIn("\nund-oldform und-newform\nund-zo und-de\nzzy de\n", generate.AHEAD.read_text(encoding="utf-8"))
+        self.assertEqual(self.run_with("--check"), (False, []))
+        self.assertEqual(self.run_with(), (False, []))
+        # CLDR follows with the region, and then the line of the region has to go.
+        path = generate.LIKELY / "region-alias.txt"
+        path.write_text(path.read_text(encoding="utf-8") + "ZO DE\n", encoding="utf-8")
+        follows = ["ahead-of-cldr.txt: CLDR has followed the registry, or the registry has changed: und-zo und-de"]
+        self.assertEqual(self.run_with("--check"), (True, follows))
+        self.assertEqual(self.run_with("--accept"), (False, follows))
+        self.assertNotIn("und-zo", generate.AHEAD.read_text(encoding="utf-8"))
+        self.assertEqual(self.run_with("--check"), (False, []))
+        # CLDR replaces the region by another one than the registry: a contradiction.
+        path.write_text(path.read_text(encoding="utf-8").replace("ZO DE\n", "ZO FR\n"), encoding="utf-8")
+        with self.assertRaisesRegex(SystemExit, "the form of a tag of the registry is the form of its Preferred-Value: und-zo und-de"):
             self.run_with("--accept")
 
     def test_two_versions(self):
@@ -138,14 +167,17 @@ class Generating(unittest.TestCase):
             ("supplemental/supplementalMetadata.xml", '<s><subdivisionAlias type="fi01" replacement="AX" reason="overlong"/>'
              '<languageAlias type="sgn_BR" replacement="bzs"/><languageAlias type="zh_min_nan" replacement="nan"/><languageAlias type="iw" replacement="he"/>'
              '<scriptAlias type="Qaai" replacement="Zinh"/><variantAlias type="heploc" replacement="alalc97"/></s>'),
-            ("testData/localeIdentifiers/localeCanonicalization.txt", "# About the cases.\n######\n\n# explicit\n\nsgn_NO\t;\tnsi\n"),
+            (CASES, "# About the cases.\n######\n\n# explicit\n\nsgn_NO\t;\tnsi\n"),
         ):
             (common / name).parent.mkdir(parents=True, exist_ok=True)
             (common / name).write_text(text, encoding="utf-8")
-        with mock.patch.object(from_cldr, "DATA", generate.DATA):
+        with mock.patch.object(from_cldr, "DATA", generate.DATA), mock.patch.object(from_cldr, "ROWS", generate.ROWS):
             from_cldr.main(common, "99.1", "a test")
+            (common / CASES).write_text("# About the cases.\n######\nart_lojban_x_a\t;\ten\n", encoding="utf-8")
+            with self.assertRaisesRegex(SystemExit, "two language identifiers: art_lojban_x_a"):
+                from_cldr.main(common, "99.1", "a test")
         self.assertEqual(generate.version(), "99.1")
-        self.assertEqual(list(cases.read(generate.DATA / cases.NAME)), [("explicit", None), ("sgn-NO", "nsi")])
+        self.assertIn("\ncldr-version | 99.1\n\n# explicit\nlocale-form | sgn-NO | nsl\n", (generate.ROWS / "cldr.txt").read_text(encoding="utf-8"))
         self.assertEqual(generate.read("type-alias.txt"), [["t", "m0", "names", "prprname"], ["u", "ca", "islamicc", "islamic-civil"]])
         self.assertEqual(generate.Aliases().subdivisions, [("fi01", "axzzzz")])
         self.assertEqual(generate.read("language-alias.txt"), [["sgn-BR", "bzs"], ["und-Qaai", "und-Zinh"], ["und-heploc", "und-alalc97"]])

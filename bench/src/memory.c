@@ -1,7 +1,7 @@
 /*
- * Refuses each allocation of calls of langtag, langtag_match and langtag_registry in turn, and counts them. A call has to report a
- * failed allocation exactly if one was refused, and a setter or a copy may allocate only once. The memory of a header has to be
- * bounded by the number of its elements. Linked with --wrap for malloc, realloc and free, which the library's heap calls.
+ * Refuses each allocation of the calls that allocate in turn, and counts them. A call has to report a failed allocation if and only
+ * if one was refused, and a setter or a copy may allocate only once. The memory of a header has to be bounded by the number of its
+ * elements. Linked with --wrap for malloc, realloc and free, which the library's heap calls.
  */
 #include "memory.h"
 #include <stdio.h>

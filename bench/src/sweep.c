@@ -155,6 +155,8 @@ static const struct {
     {"recommended", langtag_bench_recommended, {"X-AA", "-A", ""}, {"x-aa", "-a", ""}},
     {"recommended", langtag_bench_recommended, {"MN-cYRL-mn", "-1ABC", "-X-a"}, {"mn-Cyrl-MN", "-1abc", "-x-a"}},
     {"recommended", langtag_bench_recommended, {"DE-LATN-DE", "-A-BB", ""}, {"de-Latn-DE", "-a-bb", ""}},
+    {"from_posix", langtag_bench_from_posix, {"de_DE.", "a", ""}, {"de-DE", "", ""}},
+    {"from_posix", langtag_bench_from_posix, {"sr_RS.UTF-8", ".a", "@latin"}, {"sr-Latn-RS", "", ""}},
     {"displayed", langtag_bench_displayed, {"X", "-A", ""}, {"x", "-a", ""}},
     {"displayed", langtag_bench_displayed, {"X-AA", "-A", ""}, {"x-aa", "-a", ""}},
     {"displayed", langtag_bench_displayed, {"MN-cYRL-mn", "-1ABC", "-X-a"}, {"mn-Cyrl-MN", "-1abc", "-x-a"}},
@@ -166,6 +168,18 @@ static void sweep_texts(const char *name, write_call *call, const struct shape *
         size_t wanted_len = write_shape(wanted, other, times);
         check(name, len, is_wanted(call(text, len, written, sizeof written, &refused), wanted_len));
     }
+}
+
+/* The language and the territory of a POSIX name have at most 255 bytes. Longer names have no tag. */
+static void sweep_names(void) {
+    static const struct shape names[] = {{"de_x", "_a", ""}, {"de_x_aa", "_a", ""}, {"de_x", "_a", ".UTF-8"}, {"de_x_aa", "_a", "@latin"}};
+    for (size_t row = 0; row < LENGTH(names); row++)
+        for (size_t times = 1; times < 200; times++) {
+            size_t len = write_shape(text, &names[row], times), place = len - strlen(names[row].tail);
+            const struct shape tag = {row == 3 ? "de-Latn-x-aa" : row == 1 ? "de-x-aa" : "de-x", "-a", ""};
+            size_t wanted_len = place > 255 ? 0 : write_shape(wanted, &tag, times);
+            check("from_posix", len, is_wanted(langtag_bench_from_posix(text, len, written, sizeof written, &refused), wanted_len));
+        }
 }
 
 /* Headers, and the number of their ranges: a first number, and a number for each further piece. Malformed elements are skipped. */
@@ -215,6 +229,7 @@ static void check_short(size_t len) {
     check("extlang_form", len, langtag_bench_extlang_form(text, len, written, sizeof written, &refused) > 0);
     check("maximized", len, langtag_bench_maximized(text, len, written, sizeof written, &refused) > 0);
     check("minimized", len, langtag_bench_minimized(text, len, written, sizeof written, &refused) > 0);
+    check("from_posix", len, langtag_bench_from_posix(text, len, written, sizeof written, &refused) > 0);
 }
 
 /* A tag in its recommended case, and in lowercase. */
@@ -256,6 +271,7 @@ int main(int count, char **arguments) {
     for (size_t row = 0; row < LENGTH(headers); row++)
         sweep_headers(&headers[row].header, headers[row].first, headers[row].each, headers[row].is_bad);
     sweep_tags_for_headers();
+    sweep_names();
     sweep_subtags();
     printf("sweep: %zu calls, %zu faults\n", calls, faults);
     return faults != 0;

@@ -1,18 +1,11 @@
-# The archive is the one that is named. Otherwise the toolchain builds it, if it is missing or older than its sources.
-archive=${LANGTAG_ARCHIVE:-$root/crates/langtag_c/out/liblangtag_c.a}
-
-is_old() {
-    [ ! -f "$archive" ] || [ -n "$(find "$root"/crates/*/src "$root/crates.txt" -newer "$archive" -print -quit)" ]
-}
-
-if [ -z "${LANGTAG_ARCHIVE:-}" ] && is_old; then
-    if has rt; then
-        echo "building the archive by 'rt lib' in crates/langtag_c"
-        (cd "$root/crates/langtag_c" && rt lib) >"$work/log" 2>&1 || { tail -20 "$work/log"; rm -f "$archive"; }
-    elif [ -f "$archive" ]; then
-        not_run "building the archive" "there is no rt; a source is NEWER than $archive, which is checked as it is"
-    fi
+# The archive is the one that is named. Otherwise the toolchain builds it, if it is missing or older than its sources. Without the
+# toolchain, cargo builds one from the same sources, which is not proved.
+archive=${LANGTAG_ARCHIVE:-}
+if [ -z "$archive" ]; then
+    if has rt; then wanted="archive x86_64-unknown-linux-gnu"; else wanted=cargo; fi
+    archive=$(python3 "$here/targets.py" $wanted 2>"$work/log") ||
+        { tail -20 "$work/log"; give_up "there is no archive: see above, or name one by LANGTAG_ARCHIVE"; }
 fi
-if [ ! -f "$archive" ]; then
-    give_up "there is no $archive: build it by 'rt lib' in crates/langtag_c, or name it by LANGTAG_ARCHIVE"
-fi
+[ -f "$archive" ] || give_up "there is no $archive"
+prover=$(python3 "$here/targets.py" proved "$archive" 2>/dev/null) || prover=
+echo "the archive is $archive, $([ -n "$prover" ] && echo "proved by $prover" || echo "which has no record that it is proved")"

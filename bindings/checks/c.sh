@@ -3,11 +3,13 @@ with_make() { make -s -C c ARCHIVE="$archive" "$@"; }
 
 check "C: tests, static and shared, under sanitizers and valgrind" with_make check BUILD="$work/c"
 if has valgrind && echo '#include <valgrind/callgrind.h>' | cc -E - >/dev/null 2>&1; then
-    check "C: twice the text takes at most 2.2 times the instructions" with_make growth BUILD="$work/c"
+    check "C: twice the text takes at most 2.2 times the instructions, and no call three times those of growth/limits.txt" with_make growth BUILD="$work/c"
 else
     not_run "C: valgrind" "it is not there, or its headers are not"
 fi
-if has objdump && [ -x "$root/.ci/stack" ]; then
+if ar t "$archive" | grep -q '^langtag_verified'; then
+    not_run "C: the stack" "cargo built the archive, and the header's figures are those of the proved one"
+elif has objdump && [ -x "$root/.ci/stack" ]; then
     check "C: no function takes more of the stack than the header says" \
         python3 "$root/.ci/stack" "$archive" --header include/langtag.h
 else
@@ -57,3 +59,27 @@ as_the_likely_oracle() {
     "$likely/oracle.py" rows --compare "$work/told_of_likely" <"$work/asked"
 }
 check "C: 100,000 rows of likely subtags and choices, by a plain reading of the data" as_the_likely_oracle
+
+# Compares C's answers about the extensions u and t, and about Unicode locale identifiers, with those of unicode/oracle.py.
+as_the_unicode_oracle() {
+    local oracle=$root/unicode/oracle.py
+    { "$oracle" each && "$oracle" random 30000 "$FUZZ_SEED"; } >"$work/asked" || return 1
+    "$work/c/test" --answer "$work/rows/calls.txt" <"$work/asked" >"$work/told_of_unicode" || return 1
+    "$oracle" rows --compare "$work/told_of_unicode" <"$work/asked"
+}
+check "C: 48,000 rows of extensions and Unicode locale identifiers, by a plain reading of the data" as_the_unicode_oracle
+
+# Compares the maximal forms of deprecated tags, by way of their locale forms, with those of Intl.
+as_intl() {
+    local likely=$root/likely version
+    version=$(sed -n 's/^CLDR_VERSION = \([0-9]*\).*/\1/p' postgresql/cldr_version.mk)
+    "$likely/questions.py" aliases >"$work/aliases" || return 1
+    sed 's/^/locale-form | /' "$work/aliases" | "$work/c/test" --answer "$work/rows/calls.txt" | sed 's/.* | /maximized | /' |
+        "$work/c/test" --answer "$work/rows/calls.txt" | sed 's/.* | //' >"$work/told_of_aliases" || return 1
+    node "$likely/intl.mjs" "$work/told_of_aliases" "$version" <"$work/aliases"
+}
+if has node; then
+    check "C: the maximal forms of 2,600 deprecated tags, by Intl" as_intl
+else
+    not_run "C: the maximal forms by Intl" "there is no node"
+fi

@@ -30,8 +30,8 @@ wanted_counts() { env -i PATH="$PATH" PYTHONPATH="$PYTHONPATH" LANGTAG_LIBRARY="
 check "the example counts a million rows by pandas, where it is there, as without" count_tags
 
 sqlite_extension() {
-    cc $strict -fPIC -shared -I"$work/usr/include" examples/sqlite_langtag.c "$work/usr/lib/liblangtag_verified.a" \
-        -o "$work/built/sqlite_langtag.so"
+    make -s -C sqlite CFLAGS="$strict" LANGTAG_ARCHIVE="$work/usr/lib/liblangtag_verified.a" LANGTAG_INCLUDE="$work/usr/include" || return 1
+    ! nm -D --defined-only sqlite/sqlite_langtag.so | grep ' T langtag_' && mv sqlite/sqlite_langtag.so "$work/built"
 }
 if ! has sqlite3; then
     not_run "SQLite: the extension" "there is no sqlite3"
@@ -39,6 +39,6 @@ elif ! echo '#include <sqlite3ext.h>' | cc -E - >/dev/null 2>&1; then
     not_run "SQLite: the extension" "the headers of SQLite are not installed"
 else
     check "SQLite: the extension builds" sqlite_extension
-    check "SQLite: the rows, and what only SQL has" python3 examples/test_sqlite.py "$work/built/sqlite_langtag.so"
+    check "SQLite: the rows, and what only SQL has" python3 sqlite/test_sqlite.py "$work/built/sqlite_langtag.so"
 fi
 unset PYTHONPATH

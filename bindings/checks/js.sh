@@ -1,17 +1,26 @@
 # Checks the JavaScript package and its page, in Node and in headless Chromium.
 wasm_archive=${LANGTAG_WASM_ARCHIVE:-$(python3 "$here/targets.py" archive wasm64-unknown-unknown 2>"$work/log")}
-if [ -z "$wasm_archive" ]; then
-    not_run "JavaScript: everything" "there is no archive for WebAssembly: $(tail -1 "$work/log")"
-    return 0
+# why_without_archive: prints why the module cannot be made from an archive.
+why_without_archive() {
+    if [ -z "$wasm_archive" ]; then
+        echo "there is no archive for WebAssembly: $(tail -1 "$work/log")"
+    elif ! has wasm-opt; then
+        echo "there is no wasm-opt (in Debian: apt-get install binaryen)"
+    elif ! has rt && [ -z "${LANGTAG_WASM_MODULE:-}" ]; then
+        echo "there is no rt, which links the module, and LANGTAG_WASM_MODULE names none"
+    fi
+}
+without_archive=$(why_without_archive)
+# Without the archive, everything runs over the module that cargo builds.
+js_build() { if [ -z "$without_archive" ]; then js/build "$wasm_archive"; else "$here/js/build" --cargo "$PWD/js"; fi; }
+if [ -n "$without_archive" ]; then
+    if ! js_build >"$work/log" 2>&1; then
+        not_run "JavaScript: everything" "$without_archive; $(tail -1 "$work/log")"
+        return 0
+    fi
+    not_run "JavaScript: the proved module" "$without_archive"
 fi
-if ! has wasm-opt; then
-    not_run "JavaScript: everything" "there is no wasm-opt (in Debian: apt-get install binaryen)"
-    return 0
-elif ! has rt && [ -z "${LANGTAG_WASM_MODULE:-}" ]; then
-    not_run "JavaScript: everything" "there is no rt, which links the module, and LANGTAG_WASM_MODULE names none"
-    return 0
-fi
-js_built() { js/build "$wasm_archive" && cp js/module.js "$work/module.js" && js/build "$wasm_archive" && cmp js/module.js "$work/module.js"; }
+js_built() { js_build && cp js/module.js "$work/module.js" && js_build && cmp js/module.js "$work/module.js"; }
 check "JavaScript: the module and the page, twice the same" js_built
 # wasm_without_imports FILE: the module imports nothing, and exports what the header declares.
 wasm_symbols() {
@@ -28,12 +37,14 @@ if ! node_is_new; then
     not_run "JavaScript: tests" "there is no Node of version 20 or later"
     return 0
 fi
-echo "Node $(node --version), $(wasm-opt --version)"
+echo "Node $(node --version)$(has wasm-opt && echo ", $(wasm-opt --version)")"
 check "JavaScript: no import, and the functions of the header" wasm_symbols
 js_tests() { (cd js && LANGTAG_ANSWERS=$work/answers node --test --test-reporter=spec test/rows.test.js test/langtag.test.js test/examples.test.js); }
 check "JavaScript: tests, the example, the rows, and C's answers to random calls" js_tests
 js_wide() { (cd js && node --experimental-wasm-memory64 test/lowering.js "$work/calls"); }
-if node --experimental-wasm-memory64 -e '' 2>/dev/null; then
+if [ ! -e js/langtag64.wasm ]; then
+    not_run "JavaScript: the module of 64-bit addresses" "cargo builds none"
+elif node --experimental-wasm-memory64 -e '' 2>/dev/null; then
     check "JavaScript: the module of 32-bit addresses answers as that of 64" js_wide
 else
     not_run "JavaScript: the module of 64-bit addresses" "this Node does not take it"

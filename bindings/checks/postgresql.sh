@@ -61,6 +61,18 @@ postgresql_first() {
     psql -X -q -At postgres <"$work/first.sql" 2>&1 | grep -v '^LINE\|^ *^$\|^DETAIL' | diff - "$work/first.wanted"
 }
 postgresql_regress() { make -s -C "$pg_folder/first" installcheck PG_CONFIG="$pg_config" || { cat "$pg_folder/first/regression.diffs"; return 1; }; }
+# What SQL says of the library in the extension, and what it has to say of the archive that was given.
+postgresql_says() { psql -X -q -At -c "CREATE EXTENSION IF NOT EXISTS langtag; SELECT langtag_proved(), langtag_version()" postgres; }
+postgresql_proved() { postgresql_says | grep "^$([ -n "$prover" ] && echo t || echo f)|langtag $(sed -n 's/.*LANGTAG_VERSION "\(.*\)"/\1/p' include/langtag.h) "; }
+
+# Installs from the clone of checks/clone.sh, by cargo. The second `make install` is that of root, who may have no cargo.
+postgresql_clone() {
+    local clone=$work/clone without
+    without=$(mktemp -d -p "$work") && printf '#!/bin/sh\nexit 3\n' >"$without/cargo" && chmod +x "$without/cargo" || return 1
+    env -u LANGTAG_ARCHIVE -u LANGTAG_INCLUDE -u CARGO_TARGET_DIR make -s -C "$clone/bindings/postgresql" PG_CONFIG="$pg_config" || return 1
+    env -u LANGTAG_ARCHIVE -u LANGTAG_INCLUDE PATH="$without:$PATH" make -s -C "$clone/bindings/postgresql" install PG_CONFIG="$pg_config" DESTDIR="$pg_folder/server" &&
+        postgresql_says | grep '^f|langtag '
+}
 postgresql_later() { later "$here/postgresql" "$here/include" "$work/lib/liblangtag_c.a"; }
 in_postgresql() { cd postgresql/test && python3 "$@"; }
 postgresql_wrong() {
@@ -89,11 +101,14 @@ else
         not_run "PostgreSQL: shards" "there is no postgres_fdw"
     fi
     check "PostgreSQL: a release with another registry installs" postgresql_later
+    check "PostgreSQL: an owner gets no rights by the scripts of the extension" in_postgresql test_privileges.py
     if [ -f "$("$pg_config" --sharedir)/extension/amcheck.control" ]; then
         check "PostgreSQL: the update to another registry" in_postgresql test_update.py
     else
         not_run "PostgreSQL: the update to another registry" "there is no amcheck"
     fi
+    check "PostgreSQL: SQL says whether the library is proved" postgresql_proved
+    if [ -d "$work/clone" ]; then check "PostgreSQL: a clone installs by cargo" postgresql_clone; else not_run "PostgreSQL: a clone" "there is no cargo"; fi
     check "PostgreSQL: planted faults are found by make installcheck" postgresql_wrong
 fi
 end_all

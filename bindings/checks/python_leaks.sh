@@ -11,11 +11,14 @@ leaks_of() {
 }
 lost='s/^    Py_DECREF(given.owner);$//'
 unfreed='s/^    if (offered->text != offered->little) PyMem_Free(offered->text);$//'
+unreleased='s/^    Py_XDECREF(pair);$//'
 
 by_references() { leaks_of references -DPy_DEBUG "$header" $debug leaks.py; }
+# The sources of the module, as valgrind names them.
+sources=$(cd "$here/python/native" && printf '%s|' *.c)
 by_blocks() {
     PYTHONMALLOC=malloc leaks_of valgrind -g "$header" valgrind --leak-check=full --show-leak-kinds=definite --log-file=valgrind.log \
-        "$real" leaks.py 3 && ! grep -E '\((text|value|parts|forms|range|calls|likely|choice|module)\.c:' "$work/leaks-valgrind/valgrind.log"
+        "$real" leaks.py 3 && ! grep -E "\\((${sources%|}):" "$work/leaks-valgrind/valgrind.log"
 }
 by_sanitizers() {
     local runtime
@@ -45,6 +48,7 @@ fi
 if has valgrind; then
     check "Python: no block is kept, by valgrind" by_blocks
     check "Python: a block that is not freed is seen" seen "$unfreed" "choice\.c" by_blocks
+    check "Python: a keyword that is not released is seen" seen "$unreleased" "unicode\.c" by_blocks
 else
     not_run "Python: blocks" "there is no valgrind"
 fi

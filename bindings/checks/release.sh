@@ -1,23 +1,43 @@
 # Installs each package that `bindings/release` makes in an empty folder, by a process that cannot see the repository, and runs its
 # first program. Two runs of `bindings/release` have to make the same bytes.
-if ! has rt && [ -z "${RT_VERSION:-}" ]; then RT_VERSION="not known: there was no rt"; fi
 
 releases() {
     (cd "$root" && cp --parents $(sed -n '/^LICENCES = /s/[^"]*"\([^"]*\)"[^"]*/\1 /gp' "$here/release") "$work") || return 1
-    cp -r "$root/docs" "$work" && (cd "$root" && cp -r --parents crates/*/src "$work") || return 1
+    cp -r "$root/docs" "$work" || return 1
+    tar -C "$root" -c --exclude=out --exclude=must-fail crates crates.txt | tar -x -C "$work" || return 1
     export COMMIT=$(git -C "$root" rev-parse HEAD 2>/dev/null || echo "not known")
     local targets=()
     if [ -n "${aarch64_archive:-}" ]; then targets+=(--target "aarch64-unknown-linux-gnu=$aarch64_archive"); fi
     if [ -n "${wasm_archive:-}" ]; then targets+=(--target "wasm64-unknown-unknown=$wasm_archive"); fi
     ./release "$archive" "${targets[@]}" >"$work/sums" && mv dist "$work/dist" || return 1
     ./release "$archive" "${targets[@]}" | diff "$work/sums" - || return 1
-    proves langtag-verified-*-x86_64-elf.tar.gz "$archive" x86_64-unknown-linux-gnu && (cd "$work/dist" && tar -xzOf langtag-verified-*.crate --wildcards '*/PROVED.txt') | grep -x 'commit .*' && ! tar -tzf "$work"/dist/*.crate | grep -E '\.(a|so)$|build\.rs'
+    proves liblangtag-verified-*-x86_64-elf.tar.gz "$archive" x86_64-unknown-linux-gnu && (cd "$work/dist" && tar -xzOf langtag-verified-*.crate --wildcards '*/PROVED.txt') | grep -x 'commit .*' && ! tar -tzf "$work"/dist/*.crate | grep -E '\.(a|so)$|build\.rs'
 }
-# proves FILE ARCHIVE TARGET: PROVED.txt of a release has to have the checksum of the archive, and its target.
+# proves FILE ARCHIVE TARGET: PROVED.txt of a release has to have the checksum of the archive, its target, and what proved it. If the
+# archive has no record that it is proved, PROVED.txt has to say so, and the name of the file, too.
 proves() {
-    (cd "$work/dist" && tar -xzOf $1 --wildcards '*/PROVED.txt') | grep -A1 "^$(sha256sum <"$2" | cut -c1-64)  liblangtag_c.a$" | grep -x "target $3"
+    local said=$work/proved-txt prover
+    prover=$(python3 "$here/targets.py" proved "$2" 2>/dev/null) || prover=
+    (cd "$work/dist" && tar -xzOf $1 --wildcards '*/PROVED.txt') >"$said" || return 1
+    grep -A1 -x "target $3" "$said" | grep -x "$(sha256sum <"$2" | cut -c1-64)  liblangtag_c.a" || return 1
+    if [ -n "$prover" ]; then
+        grep -x "proved by $prover" "$said" && ! (cd "$work/dist" && ls $1 | grep -F +cargo)
+    else
+        grep -x "not proved" "$said" && ! grep -q "logic" "$said" && (cd "$work/dist" && ls $1 | grep -F +cargo)
+    fi
 }
 check "release: two runs give the same bytes, with the archive's sum" releases
+
+# An archive whose record is wrong counts as not proved: one other byte in the archive, or in a source.
+only_by_record() {
+    cp "$archive" "$work/forged.a" && printf 'archive %s\nsources %s\nrattle-kit\n' "$(sha256sum <"$archive" | cut -c1-64)" \
+        "$(python3 -c 'import targets; print(targets.sum_of_sources())')" >"$work/forged.a.proved" || return 1
+    python3 targets.py proved "$work/forged.a" | grep -x rattle-kit || return 1
+    printf '\n' >>"$work/crates/langtag_scan/specs/Tag.antt" && ! python3 targets.py proved "$work/forged.a" || return 1
+    cp "$root/crates/langtag_scan/specs/Tag.antt" "$work/crates/langtag_scan/specs" && python3 targets.py proved "$work/forged.a" || return 1
+    printf ' ' >>"$work/forged.a" && ! python3 targets.py proved "$work/forged.a"
+}
+check "release: only the record of these sources shows that an archive is proved" only_by_record
 
 # The name has the processor, so that the tarballs for both processors can be unpacked in one folder.
 own_folders() {
@@ -31,7 +51,7 @@ check "release: each tarball for C unpacks to a folder of its own name" own_fold
 # Each package has to have the README of its language. So does the metadata of the wheel, which Python reads.
 readmes() {
     local pair
-    for pair in c:langtag-verified-*-x86_64-elf.tar.gz python:langtag_verified-*.tar.gz \
+    for pair in c:liblangtag-verified-*-x86_64-elf.tar.gz python:langtag_verified-*.tar.gz \
         postgresql:langtag-postgresql-*.tar.gz js:langtag-verified-*.tgz; do
         python3 readmes.py ${pair%%:*} >"$work/readme.md" || return 1
         (cd "$work/dist" && if ls ${pair#*:}; then tar -xzOf ${pair#*:} --wildcards --no-wildcards-match-slash '*/README.md' | cmp - "$work/readme.md"; fi) || return 1
@@ -46,7 +66,7 @@ check "release: each package has a README" readmes
 
 # Checks what only the tarball has: the archive under the name in the page, and the examples.
 by_itself() {
-    away 'tar -xzf ../dist/*-x86_64-elf.tar.gz; cd langtag-verified-*; rm ../parts.*
+    away 'tar -xzf ../dist/*-x86_64-elf.tar.gz; cd liblangtag-verified-*; rm ../parts.*
         cc examples/negotiate.c -Iinclude lib/liblangtag_verified.a -o negotiate
         c++ -std=c++17 examples/subtitles.cc -Iinclude lib/liblangtag_verified.a -o subtitles
         c++ -std=c++17 examples/parts.cc -Iinclude lib/liblangtag_verified.a -o parts; ./parts zh-Hant-TW >cc
@@ -60,7 +80,7 @@ away() {
     folder=$(mktemp -d -p "$work") && cp examples/parts.* "$root/rust/examples/parts.rs" "$folder" || return 1
     $hide bash -c 'set -e; cd "$1"; hide=$2 root=$3 copy=$4; shift 4
         if [ -n "$hide" ]; then mount -t tmpfs none "$root"; mount -t tmpfs none "$copy"; fi
-        unset LANGTAG_LIBRARY LANGTAG_ANSWERS PKG_CONFIG_PATH; eval "$1"' away \
+        unset LANGTAG_ARCHIVE LANGTAG_LIBRARY LANGTAG_ANSWERS PKG_CONFIG_PATH; eval "$1"' away \
         "$folder" "$hide" "$root" "$work/bindings" "$1" | diff - <(wanted)
 }
 by_pkg_config() {
@@ -75,7 +95,7 @@ by_cmake() {
             "add_executable(parts parts.c)" \
             "target_link_libraries(parts langtag_verified::langtag_verified)" "add_executable(still parts.c)" \
             "target_link_libraries(still langtag_verified::static)" >CMakeLists.txt
-        cmake -S . -B b -DCMAKE_PREFIX_PATH="$(echo $PWD/langtag-verified-*)" >log && cmake --build b >>log || cat log
+        cmake -S . -B b -DCMAKE_PREFIX_PATH="$(echo $PWD/liblangtag-verified-*)" >log && cmake --build b >>log || cat log
         b/still zh-Hant-TW | cmp - <(b/parts zh-Hant-TW); b/parts zh-Hant-TW'
 }
 check "release: C by the tarball's own archive and examples" by_itself
@@ -84,7 +104,7 @@ if has cmake; then check "release: C by find_package" by_cmake; else not_run "re
 
 # The first program for Windows, with mingw and wine. Its lines end in CR LF.
 windows_released() {
-    away 'export WINEDEBUG=-all WINEPREFIX=$PWD/prefix; python3 -m zipfile -e ../dist/*-windows.zip .; cd langtag-verified-*-windows
+    away 'export WINEDEBUG=-all WINEPREFIX=$PWD/prefix; python3 -m zipfile -e ../dist/*-windows.zip .; cd liblangtag-verified-*-windows
         x86_64-w64-mingw32-gcc ../parts.c -Iinclude lib/liblangtag.dll.a -o bin/parts.exe; '"$wine"' bin/parts.exe zh-Hant-TW | tr -d "\r"'
 }
 if [ -n "${wine:-}" ]; then check "release: C by the DLL for Windows" windows_released; else not_run "release: the DLL for Windows" "there is no mingw, or no wine64"; fi
@@ -95,11 +115,17 @@ crate() {
         cp -r ../../with-serde/.cargo .cargo; export CARGO_TARGET_DIR=$PWD/target CARGO_HOME=$PWD/cargo-home
         cargo add -q --offline --path ../langtag-verified-*/ '"$1"'; cargo run -q --offline zh-Hant-TW'
 }
+# Its own tests, with all features.
+crate_tests() {
+    away 'tar -xzf ../dist/*.crate; cd langtag-verified-*; cp -r ../../with-serde/.cargo .cargo; export CARGO_TARGET_DIR=$PWD/target CARGO_HOME=$PWD/cargo-home
+        cargo test -q --offline --all-features >log 2>&1 || { cat log; exit 1; }; cargo run -q --offline --example parts zh-Hant-TW'
+}
 if [ -d "$work/with-serde" ]; then
+    check "release: the tests of the Rust crate, with all features" crate_tests
     check "release: the Rust crate" crate ""
     check "release: the Rust crate with serde" crate "--features serde"
 else
-    not_run "release: the Rust crate" "there is no cargo, or no serde in $registry"
+    not_run "release: the Rust crate and its tests" "there is no cargo, or no serde in $registry"
 fi
 
 # python_package PYTHON COMMANDS: the environment of a Python is made once, and copied for each package.
@@ -115,7 +141,7 @@ is_native() {
         v/bin/python -c "import langtag; assert langtag._backend.__name__ == \"langtag._native\"";'
 }
 sdist_released() {
-    python_package "$1" "\"$1\" -m pip wheel -q --no-build-isolation --no-deps --no-index -w w ../dist/langtag_verified-*.tar.gz;
+    python_package "$1" "\"$1\" -m pip wheel -q --no-deps --no-index -w w ../dist/langtag_verified-*.tar.gz;
         v/bin/python -m pip install -q --no-index w/*.whl;"
 }
 for python in python3 python3.9 python3.12 python3.13; do
@@ -128,7 +154,7 @@ for python in python3 python3.9 python3.12 python3.13; do
     fi
 done
 for python in python3 /usr/bin/python3; do
-    if "$python" -c 'import setuptools, wheel, pip, venv, ensurepip' >/dev/null 2>&1; then
+    if "$python" -c 'import pip, venv, ensurepip' >/dev/null 2>&1; then
         check "release: the sdist" sdist_released "$python"
         break
     fi
@@ -136,7 +162,7 @@ done
 
 # For aarch64: the tarball, the wheel as pip unpacks it for that platform, and the archive in the crate.
 released_aarch64() {
-    away 'tar -xzf ../dist/*-aarch64-elf.tar.gz; lib=$(echo $PWD/langtag-verified-*/lib)
+    away 'tar -xzf ../dist/*-aarch64-elf.tar.gz; lib=$(echo $PWD/liblangtag-verified-*/lib)
         aarch64-linux-gnu-gcc parts.c -I$lib/../include $lib/liblangtag_verified.a -o parts
         $under_qemu parts zh-Hant-TW >static; aarch64-linux-gnu-gcc parts.c -I$lib/../include -L$lib -llangtag_verified -o parts
         $under_qemu -E LD_LIBRARY_PATH=$lib:$qemu_root/lib parts zh-Hant-TW | tee shared; cmp static shared'

@@ -32,12 +32,12 @@ literals_elsewhere() {
 literals() {
     (cd "$rust_crate" && cargo build -q --features oxilangtag --example literals) || return 1
     local programs=("$CARGO_TARGET_DIR/debug/examples/literals")
-    if [ -d "$registry/oxilangtag-0.1.3" ]; then literals_elsewhere && programs+=("$CARGO_TARGET_DIR/debug/literals") || return 1; fi
+    if ls -d "$registry"/oxilangtag-0.1.* >/dev/null 2>&1; then literals_elsewhere && programs+=("$CARGO_TARGET_DIR/debug/literals") || return 1; fi
     python3 "$rust_crate/examples/test_literals.py" "${programs[@]}"
 }
 check "Rust: the store of RDF's literals over the names of oxilangtag" literals
-[ -d "$registry/oxilangtag-0.1.3" ] || not_run "Rust: the same over oxilangtag" "its source is not in $registry"
-if [ -d "$registry/oxilangtag-0.1.3" ] && [ -d "$registry/language-tags-0.3.2" ]; then
+ls -d "$registry"/oxilangtag-0.1.* >/dev/null 2>&1 || not_run "Rust: the same over oxilangtag" "its source is not in $registry"
+if ls -d "$registry"/oxilangtag-0.1.[36] "$registry/language-tags-0.3.2" >/dev/null 2>&1; then
     check "Rust: the tests of oxilangtag and language-tags, but for those that are named" "$rust_crate/peers/run"
 else
     not_run "Rust: the tests of oxilangtag and language-tags" "their sources are not in $registry"
@@ -48,7 +48,6 @@ with_serde() {
     local folder=$work/with-serde
     mkdir "$folder" && cp -r "$rust_crate/src" "$rust_crate/tests" "$rust_crate/examples" "$folder" || return 1
     sed 's/^#: \?//' "$rust_crate/Cargo.toml" >"$folder/Cargo.toml" || return 1
-    printf '%s\n' '[dev-dependencies]' 'serde = { version = "1", features = ["derive"] }' 'serde_json = "1"' >>"$folder/Cargo.toml"
     mkdir "$folder/.cargo" && printf '%s\n' '[source.crates-io]' 'replace-with = "folder"' '[source.folder]' "directory = \"$registry\"" >"$folder/.cargo/config.toml"
     export RUSTFLAGS=-Dwarnings
     cd "$folder" && cargo test -q --features serde,oxilangtag --test serde || return 1

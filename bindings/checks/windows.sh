@@ -6,6 +6,17 @@ if ! has $mingw-gcc; then
     return 0
 fi
 
+# ld would put the addresses of a table that a DLL does not have into the code.
+windows_refused() {
+    "$root/rust/c/archive" "$work/by_cargo.a" || return 1
+    ! windows/build "$work/by_cargo.a" "$work/refused" 2>"$work/refused.why" && grep 'R_X86_64_GOTPCREL' "$work/refused.why"
+}
+if has cargo; then check "Windows: an archive that a DLL cannot have is refused" windows_refused; fi
+if ar t "$archive" | grep -q '^langtag_verified'; then
+    not_run "Windows: the DLL" "cargo built the archive"
+    return 0
+fi
+
 windows_built() {
     windows/build "$archive" "$work/windows" && windows/build "$archive" "$work/windows-again" && diff -r "$work/windows" "$work/windows-again" || return 1
     $mingw-objdump -p "$work/windows/langtag.dll" | sed -n 's/.*\(langtag_[a-z_]*\)$/\1/p' | sort -u >"$work/windows.shown"
@@ -15,7 +26,7 @@ check "Windows: the DLL builds, the same bytes each time, and exports the functi
 
 # A function that uses a page of stack or more has a wrapper that touches each page first.
 windows_stack() {
-    $mingw-objdump -d --no-show-raw-insn "$work/windows/langtag.dll" >"$work/windows.code" && grep -q 'mov *\$0x1[0-9a-f]\{4\},%eax' "$work/windows.code" || return 1
+    $mingw-objdump -d --no-show-raw-insn "$work/windows/langtag.dll" >"$work/windows.code" && grep -q 'mov *\$0x4[0-9a-f]\{3\},%eax' "$work/windows.code" || return 1
     python3 - "$root/.ci/stack" <<'END'
 import importlib.machinery, importlib.util, sys
 sys.path.insert(0, "windows")

@@ -116,6 +116,16 @@ struct key_value {
 /* A temporary string. Functions that keep a view have a deleted overload for it. */
 template <class Allocator> using temporary_string = const std::basic_string<char, std::char_traits<char>, Allocator> &&;
 
+/* Returns the text that a call writes for a text. The call writes into a buffer on the stack, and again if the buffer was too short. */
+inline std::string written_by(std::size_t (*write)(const char *, std::size_t, char *, std::size_t), std::string_view text) {
+    char room[128];
+    const std::size_t len = write(langtag_bytes(text.data()), text.size(), room, sizeof room);
+    if (len <= sizeof room) return std::string(room, len);
+    std::string made(len, '\0');
+    write(text.data(), text.size(), &made[0], made.size());
+    return made;
+}
+
 /* A language tag (RFC 5646 section 2.1), as a view of its text. */
 class tag {
 public:
@@ -205,6 +215,10 @@ public:
         return edited(text_.size(), langtag_without_keyword, langtag_bytes(key.data()), key.size());
     }
 
+    /* Returns the tag without extensions and private use: de-CH for de-CH-u-co-phonebk-x-a. A private-use tag and an irregular tag are
+     * returned unchanged. */
+    tag base() const noexcept { return *parse(text_.substr(0, langtag_base_len(text_.data(), text_.size()))); }
+
     /* Returns the tag with its extensions u and t in canonical form (UTS #35, part 1, Annex C). */
     std::string extensions_form() const { return written(langtag_extensions_form); }
 
@@ -231,7 +245,8 @@ public:
     /* Returns the canonical form (RFC 5646 section 4.5), by the registry of registry_date: iw becomes he. */
     std::string canonical() const { return written(langtag_canonical); }
 
-    /* Return the tag with its likely subtags (UTS #35), and without them: zh-TW becomes zh-Hant-TW, and zh-Hant-TW becomes zh-TW. */
+    /* Return the tag with its likely subtags (UTS #35), and without them: zh-TW becomes zh-Hant-TW, and zh-Hant-TW becomes zh-TW.
+     * Deprecated subtags stay: iw becomes iw-Hebr-IL. */
     std::string maximized() const { return written(langtag_maximize); }
     std::string minimized() const { return written(langtag_minimize); }
 
@@ -249,14 +264,10 @@ private:
     tag(std::string_view text, langtag::kind kind, const langtag_parts &parts) noexcept
         : text_(text), kind_(kind), parts_(parts) {}
 
-    std::string written(std::size_t (*write)(const char *, std::size_t, char *, std::size_t)) const {
-        char none;
-        std::string made(write(text_.data(), text_.size(), &none, 0), '\0');
-        write(text_.data(), text_.size(), &made[0], made.size());
-        return made;
-    }
+    std::string written(std::size_t (*write)(const char *, std::size_t, char *, std::size_t)) const { return written_by(write, text_); }
 
-    /* Returns the text that a call writes, in at most this many bytes, or std::nullopt if it writes none. */
+    /* Returns the text that a call writes, in at most `room` bytes, or std::nullopt if it writes none. It is proved that no result of
+     * these calls is longer (clause `bounded` of langtag_with_part, langtag_with_keyword and langtag_without_keyword). */
     template <class Write, class... Given> std::optional<std::string> edited(std::size_t room, Write write, Given... given) const {
         std::string made(room, '\0');
         made.resize(write(text_.data(), text_.size(), given..., &made[0], made.size()));
@@ -535,18 +546,31 @@ struct refusal {
     std::string message() const {
         switch (kind) {
         case refusal_kind::subtag: return subtag.empty() ? "empty subtag" : "unexpected subtag '" + std::string(subtag) + "'";
-        case refusal_kind::byte: return "invalid character '" + first(subtag.substr(offset - start)) + "': expected a letter, a digit or a hyphen";
+        case refusal_kind::byte: return "invalid character '" + shown(subtag.substr(offset - start)) + "': expected a letter, a digit or a hyphen";
         case refusal_kind::end: return "unexpected end: expected a subtag";
         }
         return {};
     }
 
 private:
-    /* Returns the first character of a text in UTF-8. */
-    static std::string first(std::string_view text) {
-        std::size_t end = 1;
-        while (end < text.size() && (static_cast<unsigned char>(text[end]) & 0xC0) == 0x80) end++;
-        return std::string(text.substr(0, end));
+    /* Returns the first character of a text in UTF-8, or the first byte in hexadecimal if no character begins there: \xff. */
+    static std::string shown(std::string_view text) {
+        const std::size_t len = character_len(text);
+        if (len > 0) return std::string(text.substr(0, len));
+        const char *const digits = "0123456789abcdef";
+        const auto byte = static_cast<unsigned char>(text[0]);
+        return {'\\', 'x', digits[byte / 16], digits[byte % 16]};
+    }
+
+    /* Returns the number of bytes of the first character of a text in UTF-8 (RFC 3629 section 4), or 0 if no character begins there. */
+    static std::size_t character_len(std::string_view text) {
+        const auto byte = [text](std::size_t at) { return at < text.size() ? static_cast<unsigned char>(text[at]) : 0u; };
+        const unsigned lead = byte(0);
+        const std::size_t len = lead < 0x80 ? 1 : lead < 0xC2 ? 0 : lead < 0xE0 ? 2 : lead < 0xF0 ? 3 : lead < 0xF5 ? 4 : 0;
+        const unsigned least = lead == 0xE0 ? 0xA0 : lead == 0xF0 ? 0x90 : 0x80, most = lead == 0xED ? 0x9F : lead == 0xF4 ? 0x8F : 0xBF;
+        for (std::size_t at = 1; at < len; at++)
+            if (byte(at) < (at == 1 ? least : 0x80u) || byte(at) > (at == 1 ? most : 0xBFu)) return 0;
+        return len;
     }
 };
 
@@ -731,9 +755,12 @@ public:
         return listed_tags(tags).chosen(langtag_tag_for_header_lenient, header_);
     }
 
-    /* Returns what best_for_header returns for the header. */
+    /* Returns the best tag for the ranges by language distance, as best_for_ranges does. Malformed elements and ranges of weight 0 are
+     * not among the ranges, so de-CH;q=0 does not exclude de-CH here, although best_for_header excludes it. */
     template <class Tags = texts, std::enable_if_t<stays<Tags>, int> = 0> std::optional<tag> best(Tags &&tags) const {
-        return best_for_header(header_, std::forward<Tags>(tags));
+        std::vector<range> wanted;
+        for (const weighted_range &it : ranges()) wanted.push_back(it.range);
+        return best_for_ranges(wanted, std::forward<Tags>(tags));
     }
 
 private:
@@ -753,13 +780,11 @@ inline std::uint32_t distance(const tag &desired, const tag &supported) noexcept
     return langtag_distance(a.data(), a.size(), b.data(), b.size());
 }
 
-/* Returns the tag for a POSIX locale name: pt_BR.UTF-8 becomes pt-BR. Returns std::nullopt if there is none, such as for the
+/* Returns the tag for a POSIX locale name: pt_BR.UTF-8 becomes pt-BR, and en_US_POSIX becomes en-US-u-va-posix. Returns std::nullopt if there is none, such as for the
  * locales C and POSIX. */
 inline std::optional<std::string> from_posix(std::string_view name) {
-    char none;
-    std::string made(langtag_from_posix(langtag_bytes(name.data()), name.size(), &none, 0), '\0');
+    std::string made = written_by(langtag_from_posix, name);
     if (made.empty()) return std::nullopt;
-    langtag_from_posix(name.data(), name.size(), &made[0], made.size());
     return made;
 }
 
@@ -771,8 +796,13 @@ inline std::optional<std::string_view> unknown_modifier(std::string_view name) n
 }
 template <class Allocator> std::optional<std::string_view> unknown_modifier(temporary_string<Allocator>) = delete;
 
-/* Returns the major version of Unicode's CLDR from which likely subtags and distances come, such as 48 for CLDR 48.2. */
-inline std::uint32_t cldr_version() noexcept { return langtag_cldr_version(); }
+/* Returns the version of Unicode's CLDR from which likely subtags, distances and aliases come, such as 48.2. */
+inline std::string cldr_version() {
+    char none;
+    std::string version(langtag_cldr_version(&none, 0), '\0');
+    langtag_cldr_version(&version[0], version.size());
+    return version;
+}
 
 /* Writes the text of a tag to a stream. */
 template <class Traits, class Tag, std::enable_if_t<is_tag<Tag>, int> = 0>

@@ -7,29 +7,43 @@
  * shrink. The same happens after a call that did not return, for example because JavaScript's stack overflowed: the instance's own
  * stack pointer was not restored then.
  *
+ * The proved module takes sizes and addresses of 64 bits, which are BigInt in JavaScript. The module that cargo builds takes sizes of 32
+ * bits, which are numbers. IS_WIDE says which of them module.js has, and only `size` and WORD depend on it.
+ *
  * A code unit that is not ASCII becomes the byte 0xFF, which no tag, range or header contains. So an offset in bytes is also an
  * offset in the string, and a lone surrogate is refused like every other character that is not ASCII.
  */
-import { MODULE } from "./module.js";
+import { IS_WIDE, MODULE, PROVED } from "./module.js";
 
 const PAGE = 65536;
 const KEPT = 1 << 20; // the bytes that the block may keep between calls
-const OUT_BYTES = 128; // the room for what a call writes besides texts: at most langtag_parts, which has 96 bytes
+const WORD = IS_WIDE ? 8 : 4; // the bytes of a size
+const OUT_BYTES = 16 * WORD; // the room for what a call writes besides texts: at most langtag_parts, which has 12 sizes
 
-const compiled = new WebAssembly.Module(Uint8Array.from(atob(MODULE), (character) => character.charCodeAt(0)));
+/** Returns a size or an address as the module takes it. */
+const size = IS_WIDE ? BigInt : (number) => number;
+
+/** Returns the bytes of a text in base64. A loop takes a twentieth of the time of Uint8Array.from with a function. */
+function decoded(text) {
+    const characters = atob(text), made = new Uint8Array(characters.length);
+    for (let index = 0; index < made.length; index++) made[index] = characters.charCodeAt(index);
+    return made;
+}
+
+const compiled = new WebAssembly.Module(decoded(MODULE));
 
 let calls, memory, bytes, view, most;
 let isOpen = true; // whether a call has begun and not ended; true at first, so that the first call makes the instance
 let out, texts; // the addresses of what a call writes and of its texts, as numbers
-let outAddress, textsAddress; // the same addresses as BigInt, which the module takes
+let outAddress, textsAddress; // the same addresses, as the module takes them
 
 function start() {
     calls = new WebAssembly.Instance(compiled).exports;
     memory = calls.memory;
     out = (Number(calls.__heap_base.value) + 15) & -16;
     texts = out + OUT_BYTES;
-    outAddress = BigInt(out);
-    textsAddress = BigInt(texts);
+    outAddress = size(out);
+    textsAddress = size(texts);
     look();
     most = Math.max(bytes.length, texts + KEPT);
     isOpen = false;
@@ -40,11 +54,11 @@ function look() {
     view = new DataView(memory.buffer);
 }
 
-/** Begins a call whose texts have `size` bytes. */
-function open(size) {
+/** Begins a call whose texts have a number of bytes. */
+function open(length) {
     if (isOpen) start();
     isOpen = true;
-    const missing = texts + size - bytes.length;
+    const missing = texts + length - bytes.length;
     if (missing > 0) {
         memory.grow(Math.ceil(missing / PAGE));
         look();
@@ -68,44 +82,53 @@ function write(text, at) {
 /** Returns ASCII bytes as a string. */
 function read(at, length) {
     let text = "";
+    if (length <= 32) { // a loop is quicker for most tags
+        for (let index = at; index < at + length; index++) text += String.fromCharCode(bytes[index]);
+        return text;
+    }
     for (let begin = 0; begin < length; begin += 8192) {
         text += String.fromCharCode.apply(null, bytes.subarray(at + begin, at + Math.min(length, begin + 8192)));
     }
     return text;
 }
 
-/** Returns the number at an index of what a call wrote: an offset or a length of 64 bits, whose upper 32 bits are 0. */
-const written = (index) => view.getUint32(out + 8 * index, true);
+/** Returns the number at an index of what a call wrote: an offset or a length. If it has 64 bits, the upper 32 bits are 0. */
+const written = (index) => view.getUint32(out + WORD * index, true);
 const numbers = (count) => Array.from({ length: count }, (_, index) => written(index));
 
+function writeSize(at, number) {
+    view.setUint32(at, number, true);
+    if (IS_WIDE) view.setUint32(at + 4, 0, true);
+}
+
 function writeSpan(at, start, length) {
-    view.setBigUint64(at, BigInt(start), true);
-    view.setBigUint64(at + 8, BigInt(length), true);
+    writeSize(at, start);
+    writeSize(at + WORD, length);
 }
 
 function askOne(name, text) {
     open(text.length);
     write(text, texts);
-    return close(calls[name](textsAddress, BigInt(text.length)));
+    return close(calls[name](textsAddress, size(text.length)));
 }
 
 function askTwo(name, one, other) {
     open(one.length + other.length);
     write(one, texts);
     write(other, texts + one.length);
-    return close(calls[name](textsAddress, BigInt(one.length), BigInt(texts + one.length), BigInt(other.length)));
+    return close(calls[name](textsAddress, size(one.length), size(texts + one.length), size(other.length)));
 }
 
 /** Begins a call with texts and numbers. Returns the arguments, among which each text is an address and a length, and the address
  * of a room after the texts. */
 function openWith(given, room) {
-    open(given.reduce((size, it) => size + (it.length ?? 0), room));
+    open(given.reduce((sum, it) => sum + (it.length ?? 0), room));
     let at = texts;
     const passed = given.flatMap((it) => {
         if (typeof it === "number") return it;
         write(it, at);
         at += it.length;
-        return [BigInt(at - it.length), BigInt(it.length)];
+        return [size(at - it.length), size(it.length)];
     });
     return [passed, at];
 }
@@ -113,7 +136,7 @@ function openWith(given, room) {
 /** Returns the new text that a call writes for texts and numbers, or "" if it writes none. */
 function askText(name, room, ...given) {
     const [passed, at] = openWith(given, room);
-    const length = Number(calls[name](...passed, BigInt(at), BigInt(room)));
+    const length = Number(calls[name](...passed, size(at), size(room))) >>> 0;
     if (length > room) {
         close();
         return askText(name, length, ...given);
@@ -121,26 +144,49 @@ function askText(name, room, ...given) {
     return close(read(at, length));
 }
 
-/** Returns a call that writes the new text of a text. The room is enough for most texts, and always for the Unicode forms. */
-const form = (name) => (text) => askText(name, text.length + 32, text);
+/** Returns a call that writes the new text of a text. The room is enough for most texts. */
+const form = (name) => (text) => formOf(name, text, text.length + 32);
 
-/** Returns the result of a call, and the first numbers that it writes. The offsets are those of the places to which it writes. */
-function askNumbers(name, given, count, ...offsets) {
-    const [passed] = openWith(given, 0);
-    const answer = calls[name](...passed, ...offsets.map((offset) => BigInt(out + offset)));
+function formOf(name, text, room) {
+    open(text.length + room);
+    write(text, texts);
+    const at = texts + text.length;
+    const length = Number(calls[name](textsAddress, size(text.length), size(at), size(room))) >>> 0;
+    if (length > room) {
+        close();
+        return formOf(name, text, length);
+    }
+    return close(read(at, length));
+}
+
+/** Returns the result of a call for one text, and the first numbers that it writes. */
+function askNumbers(name, text, count) {
+    open(text.length);
+    write(text, texts);
+    const answer = calls[name](textsAddress, size(text.length), outAddress);
     return close([answer, ...numbers(count)]);
 }
 
 /** Returns the offset and length of the span that a call writes, or undefined if the call returns false. */
-function askSpan(name, ...given) {
-    const [isThere, ...span] = askNumbers(name, given, 2, 0);
-    return isThere ? span : undefined;
+function askSpan(name, text) {
+    open(text.length);
+    write(text, texts);
+    return close(calls[name](textsAddress, size(text.length), outAddress) ? [written(0), written(1)] : undefined);
+}
+
+/** Returns the offset and length of the value of a key, or undefined if the key is absent. */
+function askValue(name, text, key) {
+    open(text.length + key.length);
+    write(text, texts);
+    write(key, texts + text.length);
+    const isThere = calls[name](textsAddress, size(text.length), size(texts + text.length), size(key.length), outAddress);
+    return close(isThere ? [written(0), written(1)] : undefined);
 }
 
 function changed(name, text) {
     open(text.length);
     write(text, texts);
-    calls[name](textsAddress, BigInt(text.length));
+    calls[name](textsAddress, size(text.length));
     return close(read(texts, text.length));
 }
 
@@ -149,7 +195,7 @@ export function parse(text) {
     const length = text.length;
     open(length);
     write(text, texts);
-    const kind = calls.langtag_parse(textsAddress, BigInt(length), outAddress);
+    const kind = calls.langtag_parse(textsAddress, size(length), outAddress);
     if (kind === 0) return close(undefined);
     const spans = [
         written(0), written(1), written(2), written(3), written(4), written(5),
@@ -159,8 +205,9 @@ export function parse(text) {
 }
 
 export const kind = (text) => askOne("langtag_kind", text);
-export const viable = (text) => Number(askOne("langtag_viable", text));
-export const stop = (text) => Number(askOne("langtag_stop", text));
+export const viable = (text) => Number(askOne("langtag_viable", text)) >>> 0;
+export const stop = (text) => Number(askOne("langtag_stop", text)) >>> 0;
+export const baseLength = (text) => Number(askOne("langtag_base_len", text)) >>> 0;
 export const isCanonical = (text) => askOne("langtag_is_canonical", text) !== 0;
 export const isLocale = (text) => askOne("langtag_is_locale", text) !== 0;
 export const grandfathered = (text) => askOne("langtag_grandfathered", text);
@@ -186,26 +233,40 @@ export const isRightToLeft = (text) => askOne("langtag_is_right_to_left", text) 
 export function hash(text) {
     open(text.length);
     write(text, texts);
-    return close(BigInt.asUintN(64, calls.langtag_hash(0xcbf29ce484222325n, textsAddress, BigInt(text.length))));
-}
-
-function askNothing(name) {
-    open(0);
-    return close(calls[name]());
+    return close(BigInt.asUintN(64, calls.langtag_hash(0xcbf29ce484222325n, textsAddress, size(text.length))));
 }
 
 /** Returns the date of the registry as a number, such as 20250131. */
-export const registryDate = () => askNothing("langtag_registry_date");
-export const cldrVersion = () => askNothing("langtag_cldr_version");
+export function registryDate() {
+    open(0);
+    return close(calls.langtag_registry_date());
+}
+
+export const isProved = PROVED;
+
+/** Returns the version of CLDR, such as "48.2". */
+export const cldrVersion = () => askText("langtag_cldr_version", 8);
 
 /** Returns why a text is not a tag, as a number, the offset and length of the wrong subtag, and the offset to point at. */
-export const refused = (text) => askNumbers("langtag_refused", [text], 3, 0, 16);
+export function refused(text) {
+    open(text.length);
+    write(text, texts);
+    const answer = calls.langtag_refused(textsAddress, size(text.length), outAddress, size(out + 2 * WORD));
+    return close([answer, written(0), written(1), written(2)]);
+}
+
 /** Returns what is wrong with a tag, as a number, and the offset and length of the invalid subtag. */
-export const validity = (text) => askNumbers("langtag_validity", [text], 2, 0);
+export function validity(text) {
+    open(text.length);
+    write(text, texts);
+    const answer = calls.langtag_validity(textsAddress, size(text.length), outAddress);
+    return close([answer, written(0), written(1)]);
+}
+
 /** Returns the code that is meant by an invalid subtag, or "" if there is none. `fault` is the number that validity returned. */
 export const suggestion = (fault, subtag) => askText("langtag_suggestion", 3, fault, subtag);
 /** Returns the offset and length of the repeated variant, and of the repeated singleton. */
-export const repeats = (text) => askNumbers("langtag_repeats", [text], 4, 0).slice(1);
+export const repeats = (text) => askNumbers("langtag_repeats", text, 4).slice(1);
 
 /** Returns the tag with the part of a number set to a text, or "" if the text is not such a part. */
 export const withPart = (tag, part, text) => askText("langtag_with_part", tag.length + text.length + 1, tag, part, text);
@@ -218,8 +279,8 @@ export function withKeyword(tag, key, value) {
 }
 
 /** Return the offset and length of the value of a key, or undefined if the key is absent. */
-export const keyword = (text, key) => askSpan("langtag_keyword", text, key);
-export const field = (text, key) => askSpan("langtag_field", text, key);
+export const keyword = (text, key) => askValue("langtag_keyword", text, key);
+export const field = (text, key) => askValue("langtag_field", text, key);
 
 /** Return the offset and length of what comes before the keys, or undefined if there is none. */
 export const attributes = (text) => askSpan("langtag_attributes", text);
@@ -229,8 +290,8 @@ export const transform = (text) => askSpan("langtag_transform", text);
 function pairsOf(name, text) {
     open(text.length);
     write(text, texts);
-    view.setBigUint64(out, 0n, true); // the number of subtags that were passed
-    const length = BigInt(text.length), key = BigInt(out + 16), value = BigInt(out + 32);
+    writeSize(out, 0); // the number of subtags that were passed
+    const length = size(text.length), key = size(out + 2 * WORD), value = size(out + 4 * WORD);
     const pairs = [];
     while (calls[name](textsAddress, length, outAddress, key, value)) pairs.push([written(2), written(3), written(4), written(5)]);
     return close(pairs);
@@ -245,7 +306,7 @@ export function fallbackEnds(range) {
     write(range, texts);
     writeSpan(out, 0, range.length); // each call shortens this span
     const ends = [range.length];
-    while (calls.langtag_next_fallback(textsAddress, BigInt(range.length), outAddress)) ends.push(written(1));
+    while (calls.langtag_next_fallback(textsAddress, size(range.length), outAddress)) ends.push(written(1));
     return close(ends);
 }
 
@@ -254,42 +315,50 @@ export function accepted(header) {
     open(header.length);
     write(header, texts);
     writeSpan(out, 0, header.length);
-    const length = BigInt(header.length), range = BigInt(out + 16), weight = BigInt(out + 32);
+    const length = size(header.length), range = size(out + 2 * WORD), weight = size(out + 4 * WORD);
     const elements = [];
     for (;;) {
         const answer = calls.langtag_next_accepted(textsAddress, length, outAddress, range, weight);
         if (answer === 0) return close(elements);
-        elements.push([answer, written(2), written(3), view.getUint32(out + 32, true)]);
+        elements.push([answer, written(2), written(3), written(4)]);
     }
 }
 
-/** Writes the spans of texts that are joined in one text, and returns the address and the number of the spans. */
-function writeSpans(list, at) {
+const lengthOf = (list) => list.reduce((sum, text) => sum + text.length, 0);
+
+/** Writes texts one after another, and their spans, and returns the arguments for them: the address and length of the joined text, and the
+ * address and number of the spans. */
+function writeList(list, at, length, spans) {
     let start = 0;
-    for (const [index, text] of list.entries()) {
-        writeSpan(at + 16 * index, start, text.length);
-        start += text.length;
+    for (let index = 0; index < list.length; index++) {
+        write(list[index], at + start);
+        writeSpan(spans + 2 * WORD * index, start, list[index].length);
+        start += list[index].length;
     }
-    return [BigInt(at), BigInt(list.length)];
+    return [size(at), size(length), size(spans), size(list.length)];
 }
 
-/** Returns the index of the tag that a call chooses for a header, or for the ranges in a text; the number of tags if it chooses
- * none. After it come the first numbers that the call writes. */
-function chosen(name, text, tags, ranges, count = 0) {
-    const joined = tags.join("");
-    const at = (text.length + joined.length + 7) & -8;
-    open(at + 16 * (tags.length + (ranges ?? []).length));
-    write(text, texts);
-    write(joined, texts + text.length);
-    const offered = [BigInt(texts + text.length), BigInt(joined.length), ...writeSpans(tags, texts + at)];
-    const wanted = ranges === undefined ? [] : writeSpans(ranges, texts + at + 16 * tags.length);
-    const found = count > 0 ? [outAddress] : [];
-    const index = Number(calls[name](textsAddress, BigInt(text.length), ...wanted, ...offered, ...found));
-    return close([index, ...numbers(count)]);
+/** Returns the index of the tag that a call chooses for a header, or the number of tags if it chooses none. After it come the first
+ * numbers that the call writes. */
+function chosen(name, header, tags, count = 0) {
+    const length = lengthOf(tags), spans = (header.length + length + 7) & -8;
+    open(spans + 2 * WORD * tags.length);
+    write(header, texts);
+    const offered = writeList(tags, texts + header.length, length, texts + spans);
+    const index = Number(calls[name](textsAddress, size(header.length), ...offered, ...(count > 0 ? [outAddress] : [])));
+    return close([index >>> 0, ...numbers(count)]);
+}
+
+/** Returns the index of the tag that is best for a list of ranges, or the number of tags if none is suitable. */
+export function bestForRanges(ranges, tags) {
+    const wantedLength = lengthOf(ranges), length = lengthOf(tags), spans = (wantedLength + length + 7) & -8;
+    open(spans + 2 * WORD * (ranges.length + tags.length));
+    const wanted = writeList(ranges, texts, wantedLength, texts + spans);
+    const offered = writeList(tags, texts + wantedLength, length, texts + spans + 2 * WORD * ranges.length);
+    return close(Number(calls.langtag_best_for_ranges(...wanted, ...offered)) >>> 0);
 }
 
 export const bestForHeader = (header, tags) => chosen("langtag_best_for_header", header, tags)[0];
 /** Returns the index of the best tag, the offset and length of its range in the header, and the distance. */
-export const matchForHeader = (header, tags) => chosen("langtag_match_for_header", header, tags, undefined, 3);
-export const bestForRanges = (ranges, tags) => chosen("langtag_best_for_ranges", ranges.join(""), tags, ranges)[0];
+export const matchForHeader = (header, tags) => chosen("langtag_match_for_header", header, tags, 3);
 export const tagForHeader = (header, tags) => chosen("langtag_tag_for_header_lenient", header, tags)[0];

@@ -25,8 +25,14 @@ export const GRANDFATHERED: readonly string[];
 /** The date of the IANA registry inside this library, in a form like "2025-01-31". */
 export const REGISTRY_DATE: string;
 
-/** The major version of Unicode's CLDR from which likely subtags and distances come, such as 48 for CLDR 48.2. */
-export const CLDR_VERSION: number;
+/** The version of Unicode's CLDR from which likely subtags, distances and aliases come, such as "48.2". */
+export const CLDR_VERSION: string;
+
+/**
+ * Whether the WebAssembly module was linked from the archive that Rattle's prover built after it had proved the sources. It is false if cargo
+ * built the module from the same sources.
+ */
+export const PROVED: boolean;
 
 /** The kinds of tags (RFC 5646 section 2.1). Regular grandfathered tags, such as zh-min-nan, are normal. */
 export type Kind = "normal" | "private-use" | "irregular";
@@ -139,7 +145,10 @@ export class LanguageTag {
     get isCanonical(): boolean;
     /** Returns the canonical form (RFC 5646 section 4.5) by the registry of REGISTRY_DATE: iw becomes he, zh-yue becomes yue. */
     canonical(): LanguageTag;
-    /** Returns the tag with its likely subtags (UTS #35), by CLDR_VERSION: zh-TW becomes zh-Hant-TW. */
+    /**
+     * Returns the tag with its likely subtags (UTS #35), by CLDR_VERSION: zh-TW becomes zh-Hant-TW. Deprecated subtags stay, and get the
+     * likely subtags of their replacements: iw becomes iw-Hebr-IL. To replace them, call localeForm first.
+     */
     maximize(): LanguageTag;
     /** Returns the tag without its likely subtags (UTS #35), by CLDR_VERSION: zh-Hant-TW becomes zh-TW. */
     minimize(): LanguageTag;
@@ -148,6 +157,8 @@ export class LanguageTag {
      * de-u-ca-roc-nu-thai. Each key stands once, with its first value. The rest of the tag stays.
      */
     extensionsForm(): LanguageTag;
+    /** The tag without extensions and private use, as baseName of Intl.Locale: de-CH for de-CH-u-co-phonebk. It keeps its case. */
+    get base(): LanguageTag;
     /** Whether the tag is a Unicode locale identifier (UTS #35), as Intl requires: false for zh-yue, i-klingon and x-a. */
     get isLocale(): boolean;
     /**
@@ -170,6 +181,10 @@ export class LanguageTag {
     equals(other: Text): boolean;
     toString(): string;
     toJSON(): string;
+    /** 1, because Intl takes an object as a list of locales: `new Intl.NumberFormat(tag)` formats for the tag. */
+    get length(): 1;
+    /** The text of the tag, as the only locale of that list. */
+    get 0(): string;
 }
 
 /** A language range, basic or extended (RFC 4647 section 2): de-CH, *, *-CH, de-*-DE. JSON.stringify writes its text. */
@@ -186,9 +201,15 @@ export class LanguageRange {
     get isBasic(): boolean;
     /** Iterates over the ranges that a look-up tries (section 3.4), from this range to the shortest: zh-Hant-CN, zh-Hant, zh. */
     fallbacks(): IterableIterator<LanguageRange>;
-    /** Returns whether this range matches a tag by basic filtering (section 3.3.1): de-DE matches de-DE-1996, but not de-Latn-DE. */
+    /**
+     * Returns whether this range matches a tag by basic filtering (section 3.3.1): de-DE matches de-DE-1996, but not de-Latn-DE. It does not
+     * match a string that is not a tag.
+     */
     matchesBasic(tag: Text): boolean;
-    /** Returns whether this range matches a tag by extended filtering (section 3.3.2): de-DE matches de-Latn-DE. */
+    /**
+     * Returns whether this range matches a tag by extended filtering (section 3.3.2): de-DE matches de-Latn-DE. It does not match a string
+     * that is not a tag.
+     */
     matchesExtended(tag: Text): boolean;
     /** Returns whether this range equals another range or a text, ignoring case. */
     equals(other: Text): boolean;
@@ -209,12 +230,17 @@ export class AcceptLanguage {
     static parse(header: Header): AcceptLanguage;
     /** Parses a header, and skips malformed elements. */
     static lenient(header: Header): AcceptLanguage;
-    /** The ranges by falling weight, without ranges of weight 0. */
+    /** The ranges by descending weight, without ranges of weight 0. */
     readonly ranges: readonly WeightedRange[];
-    /** Returns the tag that the ranges find by look-up, the greatest weight first, or the last argument. */
-    lookUp<Tag extends Text, Otherwise = undefined>(tags: Iterable<Tag>, otherwise?: Otherwise): Tag | Otherwise;
-    /** Returns the best tag by language distance, as bestForHeader does. Malformed elements of the header are read leniently. */
-    best<Tag extends Text, Otherwise = undefined>(tags: Iterable<Tag>, otherwise?: Otherwise): Tag | Otherwise;
+    /** Returns the tag that the ranges find by lookup, the greatest weight first, or the last argument. */
+    lookUp<Tag extends Text>(tags: Iterable<Tag>): Tag | undefined;
+    lookUp<Tag extends Text, Otherwise>(tags: Iterable<Tag>, otherwise: Otherwise): Tag | Otherwise;
+    /**
+     * Returns the best tag for the ranges by language distance, as bestForRanges does, or the last argument. Malformed elements and ranges
+     * of weight 0 are not among the ranges, so de-CH;q=0 does not exclude de-CH here, although bestForHeader excludes it.
+     */
+    best<Tag extends Text>(tags: Iterable<Tag>): Tag | undefined;
+    best<Tag extends Text, Otherwise>(tags: Iterable<Tag>, otherwise: Otherwise): Tag | Otherwise;
 }
 
 /**
@@ -223,19 +249,16 @@ export class AcceptLanguage {
  *
  *     lookUp(["nl", "ZH-hant-CN"], ["en", "zh-Hant", "zh"]); // "zh-Hant"
  */
-export function lookUp<Tag extends Text, Otherwise = undefined>(
-    ranges: Iterable<Text>, tags: Iterable<Tag>, otherwise?: Otherwise,
-): Tag | Otherwise;
+export function lookUp<Tag extends Text>(ranges: Iterable<Text>, tags: Iterable<Tag>): Tag | undefined;
+export function lookUp<Tag extends Text, Otherwise>(ranges: Iterable<Text>, tags: Iterable<Tag>, otherwise: Otherwise): Tag | Otherwise;
 
 /** Returns the tag that a header finds by look-up, or the last argument; throws AcceptLanguageError if an element is malformed. */
-export function tagForHeader<Tag extends Text, Otherwise = undefined>(
-    header: Header, tags: Iterable<Tag>, otherwise?: Otherwise,
-): Tag | Otherwise;
+export function tagForHeader<Tag extends Text>(header: Header, tags: Iterable<Tag>): Tag | undefined;
+export function tagForHeader<Tag extends Text, Otherwise>(header: Header, tags: Iterable<Tag>, otherwise: Otherwise): Tag | Otherwise;
 
 /** Returns the tag that a header finds by look-up, or the last argument. Malformed elements are skipped. */
-export function tagForHeaderLenient<Tag extends Text, Otherwise = undefined>(
-    header: Header, tags: Iterable<Tag>, otherwise?: Otherwise,
-): Tag | Otherwise;
+export function tagForHeaderLenient<Tag extends Text>(header: Header, tags: Iterable<Tag>): Tag | undefined;
+export function tagForHeaderLenient<Tag extends Text, Otherwise>(header: Header, tags: Iterable<Tag>, otherwise: Otherwise): Tag | Otherwise;
 
 /**
  * Returns the distance from the tag that a reader desires to a supported tag (UTS #35, Language Matching), by CLDR_VERSION. It is at most
@@ -257,13 +280,12 @@ export function unknownModifier(name: string): string | undefined;
 
 /**
  * Returns the best tag for a header by language distance, or the last argument if none is suitable. Malformed elements are read
- * leniently: de_CH is read as de-CH. Time is proportional to the length of the header times the length of the tags.
+ * leniently: de_CH is read as de-CH. Time is at most proportional to the length of the header times the length of the tags.
  *
  *     bestForHeader("gsw", ["fr", "de-CH"], "fr"); // "de-CH"
  */
-export function bestForHeader<Tag extends Text, Otherwise = undefined>(
-    header: Header, tags: Iterable<Tag>, otherwise?: Otherwise,
-): Tag | Otherwise;
+export function bestForHeader<Tag extends Text>(header: Header, tags: Iterable<Tag>): Tag | undefined;
+export function bestForHeader<Tag extends Text, Otherwise>(header: Header, tags: Iterable<Tag>, otherwise: Otherwise): Tag | Otherwise;
 
 /** The best tag for a header: what `matchForHeader` returns. */
 export interface BestMatch<Tag> {
@@ -286,14 +308,13 @@ export interface BestMatch<Tag> {
 export function matchForHeader<Tag extends Text>(header: Header, tags: Iterable<Tag>): BestMatch<Tag> | undefined;
 
 /**
- * Returns the best tag for a list of ranges, the most wanted first, such as `navigator.languages`. An extended range is read without its
+ * Returns the best tag for a list of ranges in order of preference, such as `navigator.languages`. An extended range is read without its
  * *. A text that is not a range, such as de;q=0, is skipped.
  *
  *     bestForRanges(["fi", "zh_TW", "en"], ["en", "zh-Hans", "zh-Hant"]); // "zh-Hant"
  */
-export function bestForRanges<Tag extends Text, Otherwise = undefined>(
-    ranges: Iterable<Text>, tags: Iterable<Tag>, otherwise?: Otherwise,
-): Tag | Otherwise;
+export function bestForRanges<Tag extends Text>(ranges: Iterable<Text>, tags: Iterable<Tag>): Tag | undefined;
+export function bestForRanges<Tag extends Text, Otherwise>(ranges: Iterable<Text>, tags: Iterable<Tag>, otherwise: Otherwise): Tag | Otherwise;
 
 /**
  * Returns an English name of a tag, made of the registry's descriptions of its subtags: "Portuguese (Brazil)" for pt-BR. The languages of

@@ -14,8 +14,10 @@ export const GRANDFATHERED = Object.freeze([
 
 export const REGISTRY_DATE = String(calls.registryDate()).replace(/(....)(..)(..)/, "$1-$2-$3");
 
-/** The major version of Unicode's CLDR from which likely subtags and distances come, such as 48 for CLDR 48.2. */
+/** The version of Unicode's CLDR from which likely subtags, distances and aliases come, such as "48.2". */
 export const CLDR_VERSION = calls.cldrVersion();
+
+export const PROVED = calls.isProved;
 
 const KINDS = [undefined, "normal", "private-use", "irregular"];
 const PARTS = ["language", "script", "region", "variants", "extensions", "privateUse"];
@@ -26,23 +28,26 @@ const FAULTS = [
 /** Returns a text as a message shows it: escaped, and only its beginning if it is long. */
 const quoted = (text) => JSON.stringify(text.length > 80 ? `${text.slice(0, 80)}…` : text);
 
+/** Returns the type of a value as an error message names it. */
+const typeName = (value) => (value === null ? "null" : typeof value);
+
 /** Returns a string itself, or the text of an object, such as a tag, also of another copy of this module or made by
  * structuredClone. */
-function textOf(value) {
+function textOf(value, expected = "a string or a LanguageTag") {
     const text = typeof value === "object" && value !== null ? value.text : value;
     if (typeof text === "string") return text;
-    throw new TypeError(`a text or a tag is wanted, and this is ${value === null ? "null" : `of type ${typeof value}`}`);
+    throw new TypeError(`expected ${expected}, got ${typeName(value)}`);
 }
 
 /** Returns a list of tags or ranges. A single string is refused, since its letters would be read as the elements. */
 function several(values, what) {
-    if (typeof values === "string") throw new TypeError(`a list of ${what} is wanted, and this is of type string`);
+    if (typeof values?.[Symbol.iterator] !== "function" || typeof values === "string") throw new TypeError(`expected a list of ${what}, got ${typeName(values)}`);
     return values;
 }
 
 /** Returns the text of a header. A request without the header, for which Node has undefined and fetch has null, gives the empty
  * text. */
-const headerText = (header) => textOf(header ?? "");
+const headerText = (header) => textOf(header ?? "", "a string");
 
 /** The base of the errors, which copies the given properties, such as the refused text. */
 class Refusal extends RangeError {
@@ -108,7 +113,7 @@ class InvalidSubtag {
 function partText(value) {
     if (value === null) return "";
     if (typeof value === "string") return value;
-    if (typeof value !== "object") throw new TypeError(`a part is a text or has several, and this is of type ${typeof value}`);
+    if (typeof value !== "object") throw new TypeError(`expected a string, a list or null for a part, got ${typeName(value)}`);
     const members = Symbol.iterator in value ? [...value] : Object.entries(value);
     if (members.length === 0) return "";
     const texts = members.map((member) => {
@@ -121,11 +126,11 @@ function partText(value) {
 
 /** Returns the keys and values of keywords as a list of pairs, without the keys whose value is undefined. */
 function keywordPairs(value) {
-    if (typeof value !== "object" || value === null) throw new TypeError("keywords are a Map, or an object with a value for each key");
+    if (typeof value !== "object" || value === null) throw new TypeError(`expected a Map or an object of keywords, got ${typeName(value)}`);
     const pairs = [...(Symbol.iterator in value ? value : Object.entries(value))];
     for (const pair of pairs) {
         const isPair = Array.isArray(pair) && [pair[0], pair[1] ?? ""].every((text) => typeof text === "string");
-        if (!isPair) throw new TypeError("a keyword has a text as its key, and a text or null as its value");
+        if (!isPair) throw new TypeError("expected a string as the key of a keyword, and a string or null as its value");
     }
     return pairs.filter(([, text]) => text !== undefined);
 }
@@ -153,7 +158,7 @@ export class LanguageTag {
     }
 
     static from(parts) {
-        if (parts.language === undefined) throw new TypeError("a tag has a language, and none is given");
+        if (parts.language === undefined) throw new TypeError("expected a language, got undefined");
         return new LanguageTag("und").with(parts);
     }
 
@@ -314,6 +319,10 @@ export class LanguageTag {
         return new LanguageTag(calls.extensionsForm(this.text));
     }
 
+    get base() {
+        return new LanguageTag(this.#at(0, calls.baseLength(this.text)));
+    }
+
     get isLocale() {
         return calls.isLocale(this.text);
     }
@@ -365,6 +374,15 @@ export class LanguageTag {
     toJSON() {
         return this.text;
     }
+
+    // Intl reads an object as a list of locales, and the list that a tag is contains only the tag.
+    get length() {
+        return 1;
+    }
+
+    get 0() {
+        return this.text;
+    }
 }
 
 const tagOf = (value) => (value instanceof LanguageTag ? value : new LanguageTag(value));
@@ -373,7 +391,7 @@ export class LanguageRange {
     #isBasic;
 
     constructor(value) {
-        const text = textOf(value);
+        const text = textOf(value, "a string, a LanguageRange or a LanguageTag");
         const kind = calls.rangeKind(text);
         if (kind === 0) throw new InvalidRange(text);
         this.text = text;
@@ -398,11 +416,11 @@ export class LanguageRange {
     }
 
     matchesBasic(tag) {
-        return calls.matchesBasic(this.text, tagOf(tag).text);
+        return calls.matchesBasic(this.text, textOf(tag));
     }
 
     matchesExtended(tag) {
-        return calls.matchesExtended(this.text, tagOf(tag).text);
+        return calls.matchesExtended(this.text, textOf(tag));
     }
 
     equals(other) {
@@ -435,11 +453,8 @@ export function lookUp(ranges, tags, otherwise) {
 const BAD_PARTS = [, , "language range", "weight"];
 
 export class AcceptLanguage {
-    #header;
-
     constructor(header, isLenient = false) {
         const text = headerText(header);
-        this.#header = text;
         const ranges = [];
         for (const [answer, offset, length, weight] of calls.accepted(text)) {
             if (answer > 1 && !isLenient) {
@@ -448,7 +463,8 @@ export class AcceptLanguage {
             }
             if (weight > 0) ranges.push({ range: new LanguageRange(text.slice(offset, offset + length)), weight });
         }
-        this.ranges = ranges.sort((one, other) => other.weight - one.weight);
+        this.ranges = Object.freeze(ranges.sort((one, other) => other.weight - one.weight));
+        Object.freeze(this);
     }
 
     static parse(header) {
@@ -459,12 +475,16 @@ export class AcceptLanguage {
         return new AcceptLanguage(header, true);
     }
 
+    #wanted() {
+        return this.ranges.map(({ range }) => range);
+    }
+
     lookUp(tags, otherwise) {
-        return chosen(calls.tagForHeader, this.#header, tags, otherwise);
+        return lookUp(this.#wanted(), tags, otherwise);
     }
 
     best(tags, otherwise) {
-        return bestForHeader(this.#header, tags, otherwise);
+        return bestForRanges(this.#wanted(), tags, otherwise);
     }
 }
 
@@ -504,7 +524,7 @@ export function stopLength(text) {
 }
 
 export function bestForRanges(ranges, tags, otherwise) {
-    return chosen(calls.bestForRanges, [...several(ranges, "ranges")].map(textOf), tags, otherwise);
+    return chosen(calls.bestForRanges, [...several(ranges, "ranges")].map((range) => textOf(range, "a string, a LanguageRange or a LanguageTag")), tags, otherwise);
 }
 
 let names; // the keys are subtags in the recommended case, and grandfathered tags; filled by the first call of describe

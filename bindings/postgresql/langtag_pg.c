@@ -34,6 +34,9 @@
 #include "utils/builtins.h"
 #include "utils/lsyscache.h"
 #include "utils/sortsupport.h"
+#if PG_VERSION_NUM >= 160000
+#include "varatt.h"
+#endif
 
 PG_MODULE_MAGIC;
 
@@ -290,6 +293,12 @@ PART(pg_langtag_script, script)
 PART(pg_langtag_region, region)
 PART(pg_langtag_private_use, private_use)
 
+PG_FUNCTION_INFO_V1(pg_langtag_base);
+Datum pg_langtag_base(PG_FUNCTION_ARGS) {
+    struct varlena *tag = PG_GETARG_VARLENA_PP(0);
+    PG_RETURN_POINTER(value_of(BYTES(tag), langtag_base_len(BYTES(tag), LEN(tag))));
+}
+
 /* Returns the primary subtag, and sets `rest` to the extended subtags after it. */
 static langtag_span primary_of(struct varlena *tag, langtag_span *rest) {
     langtag_parts parts;
@@ -322,9 +331,11 @@ static Datum list(FunctionCallInfo fcinfo, struct varlena *tag, langtag_span res
     Oid type = get_element_type(get_func_rettype(fcinfo->flinfo->fn_oid));
     ArrayBuildState *found = NULL;
     langtag_span one;
-    while (next(BYTES(tag), LEN(tag), &rest, &one))
+    while (next(BYTES(tag), LEN(tag), &rest, &one)) {
+        CHECK_FOR_INTERRUPTS();
         found = accumArrayResult(found, PointerGetDatum(value_of(BYTES(tag) + one.start, one.len)), false, type,
                                  CurrentMemoryContext);
+    }
     if (found == NULL) PG_RETURN_ARRAYTYPE_P(construct_empty_array(type));
     return makeArrayResult(found, CurrentMemoryContext);
 }
@@ -358,7 +369,8 @@ Datum pg_langtag_keywords(PG_FUNCTION_ARGS) {
     size_t passed = 0, count = 0;
     langtag_span span[2];
     int sizes[2], lower[2] = {1, 1};
-    while (langtag_next_keyword(BYTES(tag), LEN(tag), &passed, &span[0], &span[1])) {
+    while (langtag_next_keyword(BYTES(tag), LEN(tag), &passed, &span[0], &span[1])) { /* each call reads the tag from its start */
+        CHECK_FOR_INTERRUPTS();
         for (int k = 0; k < 2; k++)
             found = accumArrayResult(found, PointerGetDatum(cstring_to_text_with_len(BYTES(tag) + span[k].start, (int)span[k].len)),
                                      false, TEXTOID, CurrentMemoryContext);
@@ -388,6 +400,7 @@ Datum pg_langtag_tag_kind(PG_FUNCTION_ARGS) {
     PG_RETURN_DATUM(known[kind]);
 }
 
+/* The room is always enough: it is proved that no result is longer (`bounded` of langtag_with_part). */
 static Datum with_part(FunctionCallInfo fcinfo, uint32 part, const char *name) {
     struct varlena *tag = PG_GETARG_VARLENA_PP(0), *changed;
     text *given = PG_GETARG_TEXT_PP(1);
@@ -436,7 +449,8 @@ static void refuse_keyword(struct varlena *tag, text *key, text *value) {
                     errdetail("%s", why)));
 }
 
-/* Sets a keyword, or removes it if the value is NULL. A tag or a key that is NULL gives NULL. */
+/* Sets a keyword, or removes it if the value is NULL. A tag or a key that is NULL gives NULL. The room is always enough: it is proved
+ * that no result is longer (`bounded` of langtag_with_keyword and langtag_without_keyword). */
 PG_FUNCTION_INFO_V1(pg_langtag_set_keyword);
 Datum pg_langtag_set_keyword(PG_FUNCTION_ARGS) {
     struct varlena *tag, *changed;
@@ -563,8 +577,29 @@ Datum pg_langtag_is_right_to_left(PG_FUNCTION_ARGS) {
     PG_RETURN_BOOL(langtag_is_right_to_left(BYTES(tag), LEN(tag)));
 }
 
+/* Returns the version of CLDR as a string of C. */
+static char *cldr_version(void) {
+    char none;
+    size_t len = langtag_cldr_version(&none, 0); /* no pointer may be NULL */
+    char *version = palloc0(len + 1);
+    langtag_cldr_version(version, len);
+    return version;
+}
+
+/* Returns the line that the program `langtag` prints for --version. */
+PG_FUNCTION_INFO_V1(pg_langtag_version);
+Datum pg_langtag_version(PG_FUNCTION_ARGS) {
+    uint32 date = langtag_registry_date();
+    PG_RETURN_TEXT_P(cstring_to_text(psprintf("langtag %s (IANA's registry of %04u-%02u-%02u, CLDR %s)", LANGTAG_VERSION, date / 10000,
+                                              date / 100 % 100, date % 100, cldr_version())));
+}
+
+/* Returns whether the archive in this module is the proved one. */
+PG_FUNCTION_INFO_V1(pg_langtag_proved);
+Datum pg_langtag_proved(PG_FUNCTION_ARGS) { PG_RETURN_BOOL(LANGTAG_PROVED); }
+
 PG_FUNCTION_INFO_V1(pg_langtag_cldr_version);
-Datum pg_langtag_cldr_version(PG_FUNCTION_ARGS) { PG_RETURN_INT32((int32)langtag_cldr_version()); }
+Datum pg_langtag_cldr_version(PG_FUNCTION_ARGS) { PG_RETURN_TEXT_P(cstring_to_text(cldr_version())); }
 
 PG_FUNCTION_INFO_V1(pg_langtag_registry_date);
 Datum pg_langtag_registry_date(PG_FUNCTION_ARGS) {
@@ -696,6 +731,7 @@ static struct varlena **tags_of(ArrayType *array, int *count, int **places) {
     *count = 0;
     for (int k = 0; k < all; k++) {
         struct varlena *tag = nulls[k] ? NULL : PG_DETOAST_DATUM_PACKED(values[k]);
+        CHECK_FOR_INTERRUPTS();
         if (tag == NULL) continue;
         if (ARR_ELEMTYPE(array) == TEXTOID) check_tag(BYTES(tag), LEN(tag));
         if (places != NULL) (*places)[*count] = k;

@@ -101,7 +101,8 @@ def compare():
 
 def match():
     Range("de-*").matches_extended(Tag("de-CH")), Range("de").matches_basic("de-CH"), list(Range("de-AT-x-a").fallbacks())
-    for wrong in ("de_", 5, Range("de"), Tag.__new__(Tag)):
+    Range("de").matches_basic("de_")
+    for wrong in (5, Range("de"), Tag.__new__(Tag)):
         refused(Range("de").matches_basic, wrong)
     Range("*").is_basic
 

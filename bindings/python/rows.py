@@ -61,6 +61,11 @@ def read(path: pathlib.Path) -> Iterator[Row]:
         yield Row(f"{path.name}:{at + 1}", text, words[0], [unescape(word) for word in words[1:end]], wanted)
 
 
+def escaped(text: str) -> str:
+    """Returns a text as the rows have it: bytes beyond ASCII as \\xNN."""
+    return "".join(it if it < "\x80" else "".join(f"\\x{byte:02x}" for byte in it.encode("utf-8", "surrogatepass")) for it in text)
+
+
 class Asker:
     """Runs the rows in a language: `answers` has the language's answer to a call with its arguments, or None if it has no such
     call, and `adapted` changes a row's answer to the form of the language."""
@@ -92,7 +97,8 @@ class Asker:
     def answer(self, row: Row) -> str | None:
         """Returns the language's answer, or the test that failed."""
         try:
-            return self.answers[row.call](*row.arguments) if row.call in self.answers else None
+            found = self.answers[row.call](*row.arguments) if row.call in self.answers else None
+            return None if found is None else escaped(found)
         except Exception as error:
             at = traceback.extract_tb(error.__traceback__)[-1]
             return f"{type(error).__name__} {error}, line {at.lineno}: {at.line}"

@@ -155,8 +155,9 @@ def answer_range(text):
 
 
 def answer_match(range, tag):
-    range, tag = made(Range, range), made(Tag, tag)
-    how = (range.matches_basic(tag), range.matches_extended(tag)) if range and tag else (False, False)
+    range, text, tag = made(Range, range), tag, made(Tag, tag)
+    how = (range.matches_basic(text), range.matches_extended(text)) if range else (False, False)
+    assert not (range and tag) or (range.matches_basic(tag), range.matches_extended(tag)) == how
     return {(True, True): "both", (True, False): "basic", (False, True): "extended", (False, False): "neither"}[how]
 
 
@@ -275,6 +276,18 @@ def answer_refused(text):
     return f"none {len(text)} 0 {len(text)}"
 
 
+def answer_character(text):
+    """Returns the character or the byte that the message shows, for the text as a str, too."""
+    said = []
+    for given in {text, text.decode("utf-8", "ignore").encode() == text and text.decode()} - {False}:
+        try:
+            Tag(given)
+        except InvalidTag as error:
+            said.append(re.search(r"invalid character '(.*)': expected a letter, a digit or a hyphen$", str(error))[1])
+    assert len(set(said)) == 1
+    return said[0]
+
+
 def answer_distance(desired, supported):
     desired, supported = made(Tag, desired), made(Tag, supported)
     return "-" if desired is None or supported is None else str(langtag.distance(desired, supported))
@@ -301,8 +314,14 @@ def answer_best(header, tags):
     texts = tags.decode().split()
     found = langtag.best_for_header(header, texts, DEFAULT)
     assert langtag.best_for_header(header, map(Tag, texts), DEFAULT) == (found if found == DEFAULT else Tag(found))
-    assert langtag.AcceptLanguage.lenient(header).best(texts, DEFAULT) == found
     assert b";" in header or langtag.best_for_ranges(header.split(b","), texts, DEFAULT) == found
+    return found
+
+
+def answer_best_accepted(header, tags):
+    accepted, texts = AcceptLanguage.lenient(header), tags.decode().split()
+    found = accepted.best(texts, DEFAULT)
+    assert AcceptLanguage(str(accepted)) == accepted and accepted.best(map(Tag, texts), DEFAULT) == (found if found == DEFAULT else Tag(found))
     return found
 
 
@@ -347,12 +366,15 @@ def answer_best_match(header, tags):
 
 ANSWERS = {
     "with-keyword": answer_with_keyword, "extensions-form": answer_extensions_form,
+    "base": lambda text: str(Tag(text).base),
     "is-locale": lambda text: "yes" if Tag(text).is_locale else "no", "locale-form": answer_locale_form,
+    "cldr-version": lambda: langtag.CLDR_VERSION,
     "keyword": answer_keyword, "keywords": answer_keywords, "transform": answer_transform,
     "attributes": lambda text: " ".join(Tag(text).attributes) or "-",
-    "refused": answer_refused, "distance": answer_distance, "right-to-left": answer_direction, "posix": answer_posix,
+    "refused": answer_refused, "character": answer_character, "byte": answer_character, "distance": answer_distance, "right-to-left": answer_direction, "posix": answer_posix,
     "unknown-modifier": answer_unknown_modifier, "best": answer_best,
     "best-ranges": answer_best_ranges,
+    "best-accepted": answer_best_accepted,
     "best-match": answer_best_match,
     "maximized": lambda text: likely(text, Tag.maximized), "minimized": lambda text: likely(text, Tag.minimized),
     "tag": answer_tag, "scan": answer_scan, "recommended": answer_recommended, "validity": answer_validity, "suggestion": answer_suggestion,
@@ -361,8 +383,8 @@ ANSWERS = {
     "order": answer_order, "header": answer_header, "ranges": answer_ranges, "edit": answer_edit,
 }
 FLOORS = {"table.txt": 360, "texts.txt": 710, "negotiation.txt": 102, "edits.txt": 125, "likely.txt": 250,
-          "refused.txt": 60, "distance.txt": 140, "direction.txt": 325, "posix.txt": 150, "choices.txt": 285, "lists.txt": 15,
-          "unicode.txt": 400, "keywords.txt": 380, "extensions.txt": 630, "locale.txt": 780, "cldr.txt": 1770}
+          "refused.txt": 80, "distance.txt": 140, "direction.txt": 325, "posix.txt": 150, "choices.txt": 285, "lists.txt": 28, "lengths.txt": 180,
+          "unicode.txt": 400, "keywords.txt": 380, "extensions.txt": 630, "locale.txt": 780, "cldr.txt": 1774}
 
 
 class Rows(unittest.TestCase):

@@ -10,15 +10,15 @@ langtag_sysv_. These files are written to FOLDER:
     names          for objcopy: the names of the code
 """
 import pathlib
+import re
 import sys
 
-HERE = pathlib.Path(__file__).resolve().parent
-sys.path.insert(0, str(HERE.parent))
-from check_declarations import of_header  # noqa: E402
+HEADER = pathlib.Path(__file__).resolve().parent.parent / "include/langtag.h"
+DECLARATION = r"^(?:LANGTAG_PURE )?(\w+) (langtag_\w+)\(([^)]*)\);"
 
 # Windows gives a thread one page of its stack after another, so code that uses more than a page has to touch each page in order.
 # The code of these functions does not, so their wrappers do it first. Other functions use less than a page, which .ci/stack tests.
-DEEP = {name: 96 * 1024 for name in ("langtag_repeats", "langtag_is_locale", "langtag_locale_form")}
+DEEP = {name: 16 * 1024 for name in ("langtag_repeats", "langtag_is_locale", "langtag_locale_form")}
 
 HEAD = """\
 /* Written by wrappers.py. */
@@ -39,20 +39,19 @@ __attribute__((noinline)) static void probe_{name}(void) {{
 """
 
 
-def wrapper(name, function):
-    taken = ", ".join(f"{kind}{'' if kind.endswith('*') else ' '}{parameter}" for kind, parameter in function.parameters) or "void"
-    given = ", ".join(parameter for _, parameter in function.parameters)
+def wrapper(result, name, taken):
+    given = "" if taken == "void" else ", ".join(re.findall(r"\w+(?=,|$)", taken))
     inner = name.replace("langtag_", "langtag_sysv_", 1)
     probe = f"probe_{name}(); " if name in DEEP else ""
-    answers = "" if function.result == "void" else "return "
+    answers = "" if result == "void" else "return "
     head = PROBE.format(name=name, size=DEEP[name]) if name in DEEP else ""
-    return (f"{head}\nSYSV {function.result} {inner}({taken});\n"
-            f"{function.result} {name}({taken}) {{ {probe}{answers}{inner}({given}); }}\n")
+    return f"{head}\nSYSV {result} {inner}({taken});\n{result} {name}({taken}) {{ {probe}{answers}{inner}({given}); }}\n"
 
 
 def main(folder):
-    functions = of_header(HERE.parent.parent).functions
-    (folder / "wrappers.c").write_text(HEAD + "".join(wrapper(name, function) for name, function in functions.items()))
+    declared = re.findall(DECLARATION, HEADER.read_text(encoding="utf-8"), flags=re.M)
+    functions = [name for _, name, _ in declared]
+    (folder / "wrappers.c").write_text(HEAD + "".join(wrapper(*function) for function in declared))
     (folder / "langtag.def").write_text("LIBRARY langtag.dll\nEXPORTS\n" + "".join(f"    {name}\n" for name in functions))
     names = [(name, name.replace("langtag_", "langtag_sysv_", 1)) for name in functions]
     names += [(name, f"langtag_sysv_{name}") for name in ("memcpy", "memmove", "memset")]

@@ -1,20 +1,22 @@
-"""Compares the Rust modules below rust/src with the Rattle sources that they are made from.
+"""Compares the Rust modules below rust/src/erased with the Rattle sources that they are made from.
 
     python3 rust/checker           fails if a difference is of no kind in kinds.txt, or if counts.txt has another count for its kind
     python3 rust/checker --count   writes counts.txt again; read the changes before you commit it
 
 It shares no code with rust/erase. It removes ghost code from a source only by the grammar, and compares the rest with the Rust file
-as it is compiled, word by word. Comments and layout are not compared.
+as it is compiled, word by word, and then the comments. Layout is not compared. A folder or a file below rust/src that it does not know
+is a fault.
 """
 import collections
 import pathlib
 import sys
 
+from comments import compare_comments
 from compare import Difference, compare
-from forms import CRATES, ELSEWHERE, SHOWING, with_errors, with_nested_chains, with_paths
+from forms import BY_HAND, CRATES, ELSEWHERE, MADE, SHOWING, path_of, with_errors, with_nested_chains, with_paths
 from ghosts import without_ghosts
 from kinds import HERE, LIMIT, read_kinds
-from marks import without_imports, without_marks
+from marks import without_derives, without_imports, without_marks
 from words import without_layout, words_of
 
 RUST = HERE.parent
@@ -29,9 +31,10 @@ class Checker:
 
     def pairs(self):
         """Yields each source with the file that is made from it, and reports files without a partner."""
+        self.faults += unknown_folders(self.modules)
         for crate, module in CRATES.items():
             names = {"mod" if path.stem == "lib" else path.stem for path in (self.sources / crate / "src").iterdir()}
-            folder = self.modules / ELSEWHERE.get(crate, "") / module
+            folder = self.modules / ELSEWHERE.get(crate, MADE) / module
             for path in folder.iterdir():
                 if path.suffix != ".rs" or path.stem not in names:
                     self.faults.append(f"{path.relative_to(self.modules)}: no source has this file")
@@ -46,13 +49,14 @@ class Checker:
             if not path.read_text(encoding="utf-8").startswith(f"// Made by rust/erase from crates/{crate}/src/{source.name}."):
                 raise Difference("its first line does not name its source")
             self.compare(crate, source, path, counts)
+            compare_comments(source.read_text(encoding="utf-8"), path.read_text(encoding="utf-8"))
         except (Difference, ValueError, IndexError, OSError) as fault:
             self.faults.append(f"{file}: {fault}")
 
     def compare(self, crate, source, path, counts):
         old = without_ghosts(words_of(source.read_text(encoding="utf-8")), self.ghosts)
         old = with_nested_chains(with_errors(with_paths(old, crate, counts), counts), counts)
-        new = without_marks(words_of(path.read_text(encoding="utf-8")), counts)
+        new = without_derives(without_marks(words_of(path.read_text(encoding="utf-8")), counts), old, counts)
         old, imported = without_imports(old)
         if source.name == "lib.rt" and crate in SHOWING:
             shown = self.shown_by(SHOWING[crate])
@@ -71,7 +75,7 @@ class Checker:
         """Returns what the lib.rt of a crate exports to users, by its path in the single Rust crate."""
         text, _, _ = (self.sources / crate / "src/lib.rt").read_text(encoding="utf-8").partition("\n// For ")
         _, exports = without_imports(words_of(text))
-        return {f"pub use crate::{CRATES[crate]}::{name.rpartition('::')[2]}" for name in exports if name.startswith("pub use ")}
+        return {f"pub use {path_of(crate)}::{name.rpartition('::')[2]}" for name in exports if name.startswith("pub use ")}
 
     def run(self, only=None):
         """Checks all files, or one."""
@@ -82,6 +86,16 @@ class Checker:
 
     def told(self):
         return "".join(f"{file}: {line_of(counts)}\n" for file, counts in sorted(self.counts.items()))
+
+
+def unknown_folders(modules):
+    """Names the folders that have code, but are neither made by rust/erase nor on the list of folders that are written by hand."""
+    folders = {modules / ELSEWHERE.get(crate, MADE) / module for crate, module in CRATES.items()}
+    known = {folder.resolve() for folder in folders} | {(modules / folder).resolve() for folder in BY_HAND}
+    for place in (modules, modules / "../c/src"):
+        for path in sorted(place.rglob("*")):
+            if path.is_dir() and path.resolve() not in known:
+                yield f"{path.relative_to(modules.parent)}: no source has this folder"
 
 
 def line_of(counts):

@@ -25,12 +25,19 @@ CRATES = {
     "langtag_span": "spans",
     "langtag_c": "calls",
 }
-# The crates whose modules are not below src. The C library has these modules and those below src.
+# Where the modules are that are made from crates, and the crates whose modules are elsewhere. The C library has these modules and those below src.
+MADE = "erased"
 ELSEWHERE = {"langtag_span": "../c/src", "langtag_c": "../c/src"}
+# The folders with other files: the program, and the list of the modules.
+BY_HAND = ["bin", "bin/langtag", "erased"]
 # The modules that also export what another crate exports.
 SHOWING = {"langtag_unicode": "langtag_locale"}
 # The error whose message ends with a suggestion, which is written by hand.
 SUGGESTING = "InvalidSubtag"
+# The errors whose message ends with the refused text, which src/message.rs writes: all whose parameter is a text. That of
+# InvalidLangTag also says why.
+REFUSED = {"InvalidLangTag": "write_tag"}
+NO_TEXT = "InvalidSingleton"
 IMPLS = """impl{generics} fmt::Display for {type} {{ fn fmt(&self, f: &mut fmt::Formatter<'_>) -> fmt::Result {{ {body} }} }}
 impl{bound} core::error::Error for {type} {{}}"""
 
@@ -42,11 +49,15 @@ def with_paths(words, crate, counts):
         is_first = starts(words, at + 1, ":", ":") and words[at - 1] != ":"
         other = crate if word == "crate" else word
         if is_first and other in CRATES:
-            out += words_of(f"crate::{CRATES[other]}")
+            out += words_of(path_of(other))
         else:
             out.append("core" if is_first and word == "std" else word)
         counts["path"] += out[-1] != word
     return out
+
+
+def path_of(crate):
+    return f"crate::{CRATES[crate]}" if crate in ELSEWHERE else f"crate::{MADE}::{CRATES[crate]}"
 
 
 def with_errors(words, counts):
@@ -85,6 +96,9 @@ def with_impls(item):
     lifetime = parameter.startswith("'")
     type_ = f"{name}<'_>" if lifetime else f"{name}<{parameter}>" if parameter else name
     generics, bound = ("", "") if lifetime or not parameter else (f"<{parameter}>", f"<{parameter}: fmt::Debug>")
+    if generics and name != NO_TEXT:
+        body += f"?; crate::message::{REFUSED.get(name, 'write_text')}(f, self.0.as_ref())"
+        generics, bound = f"<{parameter}: AsRef<[u8]>>", f"<{parameter}: fmt::Debug + AsRef<[u8]>>"
     return plain + words_of(IMPLS.format(generics=generics, bound=bound, type=type_, body=body))
 
 

@@ -2,6 +2,9 @@
 from words import OPENED_BY, group_end, starts, words_of
 
 INLINE = words_of("#[inline]")
+USED = words_of("#[must_use]")
+GROWING = words_of("#[non_exhaustive]")
+DERIVED = {"Clone", "Copy", "PartialEq", "Eq", "Hash"}
 FEATURE = words_of('#[cfg(feature = "alloc")]')
 BEFORE_ITEMS = ("pub", "fn", "struct", "enum", "impl", "use", "mod", "const", "type", "trait", "static", "by_text", "#", "unsafe")
 
@@ -13,6 +16,15 @@ def without_marks(words, counts):
         if starts(words, at, *INLINE) and is_function(words, at + len(INLINE)):
             counts["inline"] += 1
             at += len(INLINE)
+        elif starts(words, at, *USED) and is_function(words, at + len(USED)):
+            counts["must use"] += 1
+            at += len(USED)
+        elif starts(words, at, *GROWING) and starts(words, at + len(GROWING), "pub") and words[at + len(GROWING) + 1] in ("struct", "enum"):
+            counts["non-exhaustive"] += 1
+            at += len(GROWING)
+        elif starts(words, at, "const", "fn"):
+            counts["const"] += 1
+            at += 1
         elif starts(words, at, *FEATURE) and words[at + len(FEATURE)] in BEFORE_ITEMS and all(opened):
             counts["feature"] += 1
             at += len(FEATURE)
@@ -26,7 +38,30 @@ def without_marks(words, counts):
     return kept
 
 
+def without_derives(new, old, counts):
+    """Removes the names that the derives of a module have, and those of the source have not, if they are copies and comparisons."""
+    of_source = dict(derives(old))
+    gone = set()
+    for item, places in derives(new):
+        known = {old[at] for at in of_source.get(item, ())}
+        added = [at for at in places if new[at] not in known and new[at] in DERIVED]
+        counts["derive"] += bool(added)
+        gone |= {at for place in added for at in (place - 1, place)}
+    return [word for at, word in enumerate(new) if at not in gone]
+
+
+def derives(words):
+    """Yields each type that has a derive, and where the names of that derive are."""
+    for at in range(len(words)):
+        if starts(words, at, "#", "[", "derive"):
+            end = group_end(words, at + 1)
+            item = next(place for place in range(end, len(words)) if words[place] in ("struct", "enum"))
+            yield words[item + 1], [place for place in range(at + 4, end - 2) if words[place] != ","]
+
+
 def is_function(words, at):
+    while starts(words, at, *INLINE) or starts(words, at, *USED):
+        at += len(INLINE)
     while words[at] in ("pub", "const", "unsafe", "(", "crate", ")"):
         at += 1
     return words[at] == "fn"

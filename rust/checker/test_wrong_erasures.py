@@ -13,30 +13,41 @@ HERE = pathlib.Path(__file__).resolve().parent
 sys.path.insert(0, str(HERE))
 
 WRONG = {
-    "a literal is another": ("scan/class.rs", "bytes.len() == 4", "bytes.len() == 5"),
-    "an operator is turned": ("scan/viable.rs", "source.reach() - 1", "source.reach() + 1"),
-    "a comparison is turned": ("tag/normal_lang_tag.rs", "if before == end {", "if before != end {"),
-    "a condition is lost": ("place/script.rs", "if !is_script(text.as_bytes()) {\n            return Err(InvalidScript(text));\n        }\n", ""),
-    "a clause swallows the body": ("tag/kind.rs", "matches!(self, Kind::Normal)", ""),
-    "two parts change places": ("tag/normal_lang_tag.rs", "self.part(self.ends.language, self.ends.script)", "self.part(self.ends.script, self.ends.language)"),
-    "a field is lost": ("tag/part.rs", "    pub hyphen: &'static str,\n", ""),
-    "a `?` is lost": ("tag/text_of_parts.rs", "whole.try_push_str(language)?;", "let _ = whole.try_push_str(language);"),
-    "allocation ends the program": ("place/region.rs", "try_string(self.as_str())?", "String::from(self.as_str())"),
-    "a growth is not asked for": ("tag/text_of_parts.rs", "whole.try_push_str(", "whole.push_str("),
-    "from_checked is public": ("place/script.rs", "pub(crate) fn from_checked", "pub fn from_checked"),
-    "a message is another": ("place/variant.rs", '"invalid variant"', '"invalid variants"'),
-    "a message has another variant": ("registry/invalid_subtag.rs", "InvalidSubtag::Script(value)", "InvalidSubtag::Region(value)"),
-    "a type is compared by derives": ("tag/lang_tag.rs", "by_text!(LangTag<'_>);", ""),
-    "a derive is lost": ("place/script.rs", "PartialOrd, Ord, Hash)]\npub struct Script<", "PartialOrd, Ord)]\npub struct Script<"),
-    "a name is imported from elsewhere": ("place/script.rs", "use crate::scan::{is_script,", "use crate::scan::{is_region as is_script,"),
-    "a chain of conditions has an else": ("extension/singleton.rs", "return Ok(singleton);\n            }\n", "return Ok(singleton);\n            } else { return Ok(Singleton { byte: 0 }); }\n"),
-    "a feature turns an item off": ("scan/class.rs", "#[inline]\npub fn is_script", '#[cfg(feature = "alloc")]\n#[inline]\npub fn is_script'),
-    "a feature is turned": ("place/script.rs", '#[cfg(feature = "alloc")]\nimpl ScriptBuf', '#[cfg(not(feature = "alloc"))]\nimpl ScriptBuf'),
-    "a feature stands before a statement": ("place/script.rs", "        if !is_script", '        #[cfg(feature = "alloc")]\n        if !is_script'),
-    "an item is added": ("tag/kind.rs", "impl Kind {", "impl Drop for Held {\n    fn drop(&mut self) {}\n}\n\nimpl Kind {"),
-    "a file has another source": ("place/script.rs", "langtag_place/src/script.rt", "langtag_place/src/region.rt"),
+    "a literal is another": ("erased/scan/class.rs", "bytes.len() == 4", "bytes.len() == 5"),
+    "an operator is turned": ("erased/scan/viable.rs", "source.reach() - 1", "source.reach() + 1"),
+    "a comparison is turned": ("erased/tag/normal_lang_tag.rs", "if before == end {", "if before != end {"),
+    "a condition is lost": ("erased/place/script.rs", "if !is_script(text.as_bytes()) {\n            return Err(InvalidScript(text));\n        }\n", ""),
+    "a clause swallows the body": ("erased/tag/kind.rs", "matches!(self, Kind::Normal)", ""),
+    "two parts change places": ("erased/tag/normal_lang_tag.rs", "self.part(self.ends.language, self.ends.script)", "self.part(self.ends.script, self.ends.language)"),
+    "a field is lost": ("erased/tag/part.rs", "    pub hyphen: &'static str,\n", ""),
+    "a `?` is lost": ("erased/tag/text_of_parts.rs", "whole.try_push_str(language)?;", "let _ = whole.try_push_str(language);"),
+    "allocation ends the program": ("erased/place/region.rs", "try_string(self.as_str())?", "String::from(self.as_str())"),
+    "a growth is not asked for": ("erased/tag/text_of_parts.rs", "whole.try_push_str(", "whole.push_str("),
+    "from_checked is public": ("erased/place/script.rs", "pub(crate) fn from_checked", "pub fn from_checked"),
+    "a message is another": ("erased/place/variant.rs", '"invalid variant"', '"invalid variants"'),
+    "a message has another variant": ("erased/registry/invalid_subtag.rs", "InvalidSubtag::Script(value)", "InvalidSubtag::Region(value)"),
+    "a type is compared by derives": ("erased/tag/lang_tag.rs", "by_text!(LangTag<'_>);", ""),
+    "a derive is lost": ("erased/place/script.rs", "PartialOrd, Ord, Hash)]\npub struct Script<", "PartialOrd, Ord)]\npub struct Script<"),
+    "a name is imported from elsewhere": ("erased/place/script.rs", "use crate::erased::scan::{is_script,", "use crate::erased::scan::{is_region as is_script,"),
+    "a chain of conditions has an else": ("erased/extension/singleton.rs", "return Ok(singleton);\n            }\n", "return Ok(singleton);\n            } else { return Ok(Singleton { byte: 0 }); }\n"),
+    "a feature turns an item off": ("erased/scan/class.rs", "#[inline]\n#[must_use]\npub fn is_script", '#[cfg(feature = "alloc")]\n#[inline]\n#[must_use]\npub fn is_script'),
+    "a feature is turned": ("erased/place/script.rs", '#[cfg(feature = "alloc")]\nimpl ScriptBuf', '#[cfg(not(feature = "alloc"))]\nimpl ScriptBuf'),
+    "a feature stands before a statement": ("erased/place/script.rs", "        if !is_script", '        #[cfg(feature = "alloc")]\n        if !is_script'),
+    "an item is added": ("erased/tag/kind.rs", "impl Kind {", "impl Drop for Held {\n    fn drop(&mut self) {}\n}\n\nimpl Kind {"),
+    "a file has another source": ("erased/place/script.rs", "langtag_place/src/script.rt", "langtag_place/src/region.rt"),
     "a call for C answers otherwise": ("../c/src/calls/compare.rs", "Ordering::Less => -1", "Ordering::Less => 1"),
-    "bytes that are no tag are empty": ("tag/lang_tag.rs", "return Err(InvalidLangTag(bytes));\n        };\n        Ok", "return Ok(LangTag::EMPTY);\n        };\n        Ok"),
+    "bytes that are no tag are empty": ("erased/tag/lang_tag.rs", "return Err(InvalidLangTag(bytes));\n        };\n        Ok", "return Ok(LangTag::EMPTY);\n        };\n        Ok"),
+    "an example is lost": ("erased/place/script.rs", 'assert!(Script::new("Latn").is_ok());\n', "\n"),
+    "an example is not run": ("erased/place/script.rs", "/// ```\n", "/// ```ignore\n"),
+    "an example is no example": ("erased/tag/kind.rs", "/// ```\n", "/// ~~~\n"),
+    "a comment says otherwise": ("erased/place/script.rs", "/// Returns", "/// Never returns"),
+    "a comment is lost": ("erased/tag/kind.rs", "    /// Returns", "    // Returns"),
+    "a comment is added": ("erased/scan/class.rs", "#[inline]\n#[must_use]\npub fn is_script", "// Any four bytes.\n#[inline]\n#[must_use]\npub fn is_script"),
+    "a link leads elsewhere": ("erased/scan/recogniser.rs", "rfc5646#section-2.1", "rfc5646#section-2.2"),
+    "a comment in a comment hides code": ("erased/scan/class.rs", "#[inline]\n#[must_use]\npub fn is_script", "/* /* */\n#[inline]\n#[must_use]\npub fn is_script"),
+    "a folder is added": ("extra/mod.rs", None, "pub fn script(text: &str) -> crate::Script<'_> {\n    crate::Script::from_checked(text)\n}\n"),
+    "a folder is added to the C library": ("../c/src/extra/mod.rs", None, "pub fn extra() {}\n"),
+    "a file is added": ("erased/place/extra.rs", None, "pub fn extra() {}\n"),
 }
 
 
@@ -49,6 +60,8 @@ def checker_module():
 
 def is_refused(checker, folder, file, old, new):
     path = folder / file
+    if old is None:
+        return is_addition_refused(checker, folder, path, new)
     text = path.read_text(encoding="utf-8")
     if text.count(old) < 1:
         raise SystemExit(f"wrong erasures: {file} has no `{old}`")
@@ -57,6 +70,18 @@ def is_refused(checker, folder, file, old, new):
     path.write_text(text, encoding="utf-8")
     listed = (HERE / "counts.txt").read_text(encoding="utf-8").splitlines(keepends=True)
     return bool(run.faults) or run.told() not in listed
+
+
+def is_addition_refused(checker, folder, path, new):
+    """Returns whether a new file is refused."""
+    new_folder = not path.parent.exists()
+    path.parent.mkdir(exist_ok=True)
+    path.write_text(new, encoding="utf-8")
+    run = checker.Checker(modules=folder).run(only=path)
+    path.unlink()
+    if new_folder:
+        path.parent.rmdir()
+    return bool(run.faults)
 
 
 def main():

@@ -1,6 +1,6 @@
 """Removes the contracts from the Rattle sources. The rest is the Rust crate.
 
-    python3 rust/erase           writes the modules below rust/src
+    python3 rust/erase           writes the modules below rust/src/erased
     python3 rust/erase --check   prints how the modules differ from what it would write
 """
 import filecmp
@@ -10,6 +10,7 @@ import subprocess
 import sys
 import tempfile
 
+from attributes import add_attributes, rename_calls
 from crates import MODULES, SHOWN_IN
 from docs import erase_docs
 from errors import erase_derives
@@ -32,7 +33,10 @@ def erase(source, module):
     erase_derives(code)
     erase_allocators(code)
     erase_forms(code)
+    rename_calls(code)
     mark_inlined(code)
+    if module.crate not in ("langtag_span", "langtag_c"):
+        add_attributes(code, source)
     erase_paths(code, module)
     erase_imports(code)
     add_imports(code)

@@ -10,35 +10,49 @@ class Module(NamedTuple):
 
 # Each crate comes after the crates on which it depends. Another Rust crate would get its own lines, with its own folders.
 MODULES = [
-    Module("langtag_scan", "src/scan", "crate::scan"),
-    Module("langtag_case", "src/case", "crate::case"),
-    Module("langtag_tables", "src/tables", "crate::tables"),
-    Module("langtag_output", "src/output", "crate::output"),
-    Module("langtag_language", "src/language", "crate::language"),
-    Module("langtag_place", "src/place", "crate::place"),
-    Module("langtag_extension", "src/extension", "crate::extension"),
-    Module("langtag_private", "src/private", "crate::private"),
-    Module("langtag", "src/tag", "crate::tag"),
-    Module("langtag_range", "src/range", "crate::range"),
-    Module("langtag_match", "src/matching", "crate::matching"),
-    Module("langtag_registry", "src/registry", "crate::registry"),
-    Module("langtag_likely", "src/likely", "crate::likely"),
-    Module("langtag_choice", "src/choice", "crate::choice"),
-    Module("langtag_keyword", "src/keyword", "crate::keyword"),
-    Module("langtag_unicode", "src/unicode", "crate::unicode"),
-    Module("langtag_locale", "src/locale", "crate::locale"),
+    Module("langtag_scan", "src/erased/scan", "crate::erased::scan"),
+    Module("langtag_case", "src/erased/case", "crate::erased::case"),
+    Module("langtag_tables", "src/erased/tables", "crate::erased::tables"),
+    Module("langtag_output", "src/erased/output", "crate::erased::output"),
+    Module("langtag_language", "src/erased/language", "crate::erased::language"),
+    Module("langtag_place", "src/erased/place", "crate::erased::place"),
+    Module("langtag_extension", "src/erased/extension", "crate::erased::extension"),
+    Module("langtag_private", "src/erased/private", "crate::erased::private"),
+    Module("langtag", "src/erased/tag", "crate::erased::tag"),
+    Module("langtag_range", "src/erased/range", "crate::erased::range"),
+    Module("langtag_match", "src/erased/matching", "crate::erased::matching"),
+    Module("langtag_registry", "src/erased/registry", "crate::erased::registry"),
+    Module("langtag_likely", "src/erased/likely", "crate::erased::likely"),
+    Module("langtag_choice", "src/erased/choice", "crate::erased::choice"),
+    Module("langtag_keyword", "src/erased/keyword", "crate::erased::keyword"),
+    Module("langtag_unicode", "src/erased/unicode", "crate::erased::unicode"),
+    Module("langtag_locale", "src/erased/locale", "crate::erased::locale"),
     # The C library is a separate crate, rust/c, which also has the modules above.
     Module("langtag_span", "c/src/spans", "crate::spans"),
     Module("langtag_c", "c/src/calls", "crate::calls"),
 ]
 
-# The modules that users name. The items of other modules are at the root, if src/lib.rs exports them.
-PUBLIC = {"crate::matching", "crate::registry", "crate::likely", "crate::choice", "crate::unicode"}
+# The modules whose items users find in a module of the same name. The items of other modules are at the root, if src/lib.rs exports
+# them.
+PUBLIC = {"scan", "matching", "registry", "likely", "choice", "unicode"}
 
 # The crates whose public items users find in the module of another crate. For SHOWN_IN, the exports are added to that module. For
 # EXPORTED_BY, the other Rattle crate has them.
 SHOWN_IN = {"langtag_locale": "langtag_unicode"}
-EXPORTED_BY = {"langtag_keyword": "langtag_unicode"}
+EXPORTED_BY = {"langtag_keyword": "langtag_unicode", "langtag_case": "langtag_scan"}
+
+
+# The functions that users call in another form: for example, `langtag::registry::canonical` takes more types than the proved
+# function, and returns a tag instead of a Result. And the items that users do not have. An example that uses one of them names it in
+# the module `erased`.
+REPLACED = set("""
+    look_up tag_for_header canonical extlang_form write_canonical maximized minimized write_maximized write_minimized
+    write_from_posix extensions_form write_extensions_form locale_form write_locale_form write_with_keyword write_without_keyword
+""".split())
+HIDDEN = set("""
+    put_part is_among_first Part Replacement Keys element_at is_empty_element listed_range locale_place split_wanted weight_of
+    fault_at suggested_language suggested_region
+""".split())
 
 
 def path_of(crate):
@@ -49,4 +63,5 @@ def path_of(crate):
 def public_path_of(crate):
     """Returns the path under which users find the items of a crate: `langtag::registry`, or `langtag` for items at the root."""
     path = path_of((SHOWN_IN | EXPORTED_BY).get(crate, crate))
-    return path.replace("crate", "langtag") if path in PUBLIC else path and "langtag"
+    name = path and path.rpartition("::")[2]
+    return f"langtag::{name}" if name in PUBLIC else path and "langtag"

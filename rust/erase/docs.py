@@ -2,7 +2,8 @@
 import re
 import textwrap
 
-from crates import MODULES, public_path_of
+from attributes import RENAMED
+from crates import HIDDEN, REPLACED, path_of, public_path_of
 
 TEXT = r"""b?"(?:[^"\\]|\\.)*"|b?'(?:[^'\\]|\\.)+'"""
 IN_PARENTHESES = r"\((?:[^()]|\((?:[^()]|\([^()]*\))*\))*\)"
@@ -11,21 +12,44 @@ ASSERTED = re.compile(rf"(?P<code>(?!let ).*\S);\s+// (?P<value>{VALUE})(?:[:,.;
 
 
 def erase_docs(code, module):
-    for token in code.tokens:
+    for place, token in enumerate(code.tokens):
         if "///" in token.before or "//!" in token.before:
-            before = with_examples(with_claims(with_names(token.before, module), module))
-            token.before = with_links(before) if token.text in ("pub", "#") and "//!" not in before else before
+            before = with_names(token.before, module)
+            if "try_to_owned" not in [it.text for it in code.tokens[place : place + 12]]:
+                before = with_usual_calls(before)
+            before = with_examples(with_claims(before, module))
+            token.before = narrowed(with_links(before) if token.text in ("pub", "#") and "//!" not in before else before)
+
+
+PATH = re.compile(r"(\]\(|\]: |)\b(crate|langtag\w*)::(\w+|(?=\{))")
 
 
 def with_names(text, module):
     """Changes paths to the paths that users of the crate write, and removes the allocator from calls."""
-    text = re.sub(r"(\]\(|\]: |)\b(crate|langtag\w*)::(?=[\w{])", lambda it: it[1] + name_of(it[2], module, it[1]) + "::", text)
-    return re.sub(r"(?<=[(\s])alloc, |, alloc\b(?=\))|(?<=\()alloc(?=\))", "", text)
+    pieces = re.split(r"(?m)^(\s*//[/!] ?```.*\n)", text)
+    for at in range(0, len(pieces), 2):
+        is_replaced = at % 4 == 2 and (REPLACED | HIDDEN) & set(re.findall(r"(?<![.\w])\w+", pieces[at]))
+        path = hidden_path_of if is_replaced else public_path_of
+        pieces[at] = PATH.sub(lambda it: it[1] + name_of(it[2], module, it[1], hidden_path_of if it[3] in HIDDEN else path) + "::" + it[3], pieces[at])
+    text = re.sub(r"(?<=[(\s])alloc, |, alloc\b(?=\))|(?<=\()alloc(?=\))", "", "".join(pieces))
+    return re.sub(rf"\b({'|'.join(RENAMED)})\b(?=\(|`)", lambda it: RENAMED[it[0]], text)
 
 
-def name_of(word, module, is_link):
-    path = public_path_of(module.crate if word == "crate" else word) or word
+def with_usual_calls(text):
+    """Changes calls in examples to those that Rust programs use, which do not return an error if allocation fails."""
+    text = text.replace(".try_to_owned()?", ".to_owned()")
+    return re.sub(r"String::from_str\(((?:[^()\"]|\"[^\"]*\")*)\)\?", r"\1.to_string()", text)
+
+
+def name_of(word, module, is_link, path_of):
+    path = path_of(module.crate if word == "crate" else word) or word
     return path.replace("langtag", "crate") if is_link else path
+
+
+def hidden_path_of(crate):
+    """Returns the path of a crate's module, under which the items are that users call in another form."""
+    path = path_of(crate)
+    return path and path.replace("crate", "langtag", 1)
 
 
 # A claim in a sentence, such as ": `Script::new("Lat")?.as_str()` is `"Lat"`.", of a public type.
@@ -47,10 +71,32 @@ def with_claims(before, module):
     if not claims:
         return before
     names = sorted({name for code, value in claims for name in re.findall(r"\b([A-Z]\w*)(?=::|\()", f"{code} {value}") if name not in ("Ok", "Err", "Some")})
-    use = f"use {public_path_of(module.crate)}::{names[0] if len(names) == 1 else '{' + ', '.join(names) + '}'};"
+    path = hidden_path_of(module.crate) if HIDDEN & set(names) else public_path_of(module.crate)
+    use = f"use {path}::{names[0] if len(names) == 1 else '{' + ', '.join(names) + '}'};"
     example = ["```", use, "", *(f"{code}{'.is_ok(); // true' if value == 'Ok' else f'; // {value}'}" for code, value in claims), "```"]
     new = "\n\n".join(text).split("\n") + [""] + example
     return "\n".join(lines[:first] + [f"{mark} {line}".rstrip() for line in new] + lines[last + 1 :])
+
+
+WIDTH = 100
+PROSE = re.compile(r"(\s*//[/!]) (?!.* \| |---)([^\s`|#\[>*+-].*|`[^`].*|\[(?!.*\]: ).*)")
+
+
+def narrowed(before):
+    """Wraps the prose of doc comments again, so that no line is wider than Rust's usual width."""
+    out, paragraph, is_code = [], [], False
+    for line in [*before.split("\n"), ""]:
+        found = None if is_code else PROSE.fullmatch(line)
+        if found and (not paragraph or paragraph[0][0] == found[1]):
+            paragraph.append(found.groups())
+            continue
+        if paragraph:
+            mark, text = paragraph[0][0], " ".join(text for _, text in paragraph)
+            out += [f"{mark} {it}" for it in wrapped(text, WIDTH - len(mark) - 1)]
+            paragraph = []
+        is_code ^= bool(re.match(r"\s*//[/!] ?```", line))
+        out.append(line)
+    return "\n".join(out[:-1])
 
 
 def wrapped(text, width):
@@ -106,7 +152,7 @@ def doc_test(lines, mark):
     """Returns the lines of an example in a `main` that returns a Result. A value in a comment after an expression becomes an
     assertion."""
     lines = [re.sub(r"assert(_eq|_ne|)!\(rt; ", r"assert\1!(", line) for line in lines]
-    lines = [asserted(line) for line in lines]
+    lines = [part for line in lines for part in broken(asserted(line))]
     if any(can_fail(line) for line in lines):
         return [mark + "# fn main() -> Result<(), Box<dyn std::error::Error>> {", *lines, mark + "# Ok(())", mark + "# }"]
     return lines
@@ -125,6 +171,21 @@ def asserted(line):
         return line
     rest = f" // {found['rest']}" if found["rest"] else ""
     return mark + assertion(found["code"], found["value"]) + rest
+
+
+def broken(line):
+    """Returns the lines of an assertion: the two values on lines of their own if they do not fit on one."""
+    found = re.fullmatch(r"(\s*//[/!] )assert_eq!\((.*)\);(| // .*)", line)
+    if len(line) <= WIDTH or not found:
+        return [line]
+    mark, code, comment = found.groups()
+    depth, at = 0, 0
+    for piece in re.finditer(TEXT + r"|.", code):
+        depth += (piece[0] in "([{") - (piece[0] in ")]}")
+        if depth == 0 and piece[0] == ",":
+            at = piece.start()
+            break
+    return [f"{mark}assert_eq!({comment}", f"{mark}    {code[:at]},", f"{mark}    {code[at + 1 :].strip()}", f"{mark});"]
 
 
 def assertion(code, value):

@@ -10,6 +10,10 @@ SHOWN = {"Caseless"}
 # The errors whose message ends with a suggestion, which src/suggestion.rs writes.
 SUGGESTING = {"InvalidSubtag"}
 
+# The errors for a refused text, whose message ends with that text (src/message.rs), and the one that also says where it is wrong.
+REFUSING, LOCATING = "Invalid", "InvalidLangTag"
+WITHOUT_TEXT = {"InvalidSingleton"}  # it may contain a byte or a character
+
 DISPLAY = """
 
 impl{bound} fmt::Display for {type} {{
@@ -61,6 +65,9 @@ def write_error_impls(code, place):
     if item.name in SUGGESTING:
         body = f"{body}?; self.write_suggestion(f)"
     bounds = (f"<{item.parameter}>", f"<{item.parameter}: fmt::Debug>") if item.parameter else ("", "")
+    if item.parameter and item.name.startswith(REFUSING) and item.name not in WITHOUT_TEXT:
+        body += f"?; crate::message::{'write_tag' if item.name == LOCATING else 'write_text'}(f, self.0.as_ref())"
+        bounds = (f"<{item.parameter}: AsRef<[u8]>>", f"<{item.parameter}: fmt::Debug + AsRef<[u8]>>")
     code.add_behind(item.end, DISPLAY.format(bound=bounds[0], debug=bounds[1], type=item.type, body=body))
 
 

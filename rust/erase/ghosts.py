@@ -43,11 +43,20 @@ def restrict(code, place):
         place -= 1
     name, is_public = code[place + 1], code[place - 1] == "pub"
     if name in BROKEN:
-        add_doc(code.tokens[place - is_public], BROKEN[name])
+        add_doc(code.tokens[before_attributes(code, place - is_public)], BROKEN[name])
     elif is_public and is_method(code, place):
         code.replace(place - 1, place, "pub(crate)")
     elif is_public:
         yield name
+
+
+def before_attributes(code, place):
+    """Returns where an item begins, with its attributes."""
+    while code[place - 1] == "]":
+        place -= 1
+        while code[place] != "#":
+            place -= 1
+    return place
 
 
 def add_doc(token, sentence):

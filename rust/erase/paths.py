@@ -5,14 +5,15 @@ from crates import path_of
 
 # The names that Rust's core does not have, or has without an import.
 GONE = {"AllocError", "Global", "Model", "TryFrom", "AsStr", "Error"}
-SHIM = {"AllocError", "AsStr", "try_string", "try_string_with_capacity", "try_vec"}
+SHIM = {"AllocError", "AsStr", "pad_ascii", "try_string", "try_string_with_capacity", "try_vec"}
+BY_HAND = ("crate", ":", ":", "message")  # a path that the eraser wrote
 TRAITS = {"TryText": {"try_push_str", "try_replace_range"}, "TryItems": {"try_push", "try_sort_by_key"}}
 
 
 def erase_paths(code, module):
     place = 0
     while place < len(code):
-        if code.at(place + 1, ":", ":") and code[place - 1] != ":":
+        if code.at(place + 1, ":", ":") and code[place - 1] != ":" and not code.at(place, *BY_HAND):
             new = module.path if code[place] == "crate" else "core" if code[place] == "std" else path_of(code[place])
             if new and new != code[place]:
                 place = code.replace(place, place + 1, new)
@@ -62,7 +63,6 @@ def add_imports(code):
     words = code.words()
     names = {name for name in SHIM if name in words} | {name for name, methods in TRAITS.items() if methods & words}
     new = [f"use crate::shim::{{{', '.join(sorted(names))}}};\n"] if names else []
-    new += ["use core::fmt::Write as _;\n"] if code.find(".write_char(") >= 0 else []
     new += [f"use alloc::{name.lower()}::{name};\n" for name in ("String", "Vec") if name in words]
     if "fmt" in words and code.find("core::fmt;") < 0:
         new += ["use core::fmt;\n"]

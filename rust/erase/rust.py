@@ -8,7 +8,15 @@ FORMS = [
     ('#[unsafe(no_mangle)] pub extern "C" fn', "pub fn"),
     ("fn fmt<W: fmt::Write>", "fn fmt"),
     ("fmt::Formatter<W>", "fmt::Formatter<'_>"),
+    # With a width, such as `{:>8}`, all values are padded as a `str` is.
     ("f.write_str(self.as_str())", "f.pad(self.as_str())"),
+    ("f.write_str(self.text)", "f.pad(self.text)"),
+    ("f.write_str(match self {$arms})", "f.pad(match self {$arms})"),
+    ("f.write_char(self.byte as char)", "f.pad((self.byte as char).encode_utf8(&mut [0; 4]))"),
+    (
+        "for byte in RecommendedBytes::new(bytes) { f.write_char(char::from(byte))?; } Ok(())",
+        "pad_ascii(f, bytes.len(), RecommendedBytes::new(bytes))",
+    ),
     (
         "let ascii = unsafe { str::from_utf8_unchecked(bytes) };",
         "let Ok(ascii) = core::str::from_utf8(bytes) else { return Err(InvalidLangTag(bytes)); };",

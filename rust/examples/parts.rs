@@ -6,7 +6,7 @@ fn main() {
     let tag = match LangTag::new(&text) {
         Ok(tag) => tag,
         Err(error) => {
-            eprintln!("{error}: {}", error.reason());
+            eprintln!("{error}");
             std::process::exit(1);
         }
     };

@@ -4,17 +4,17 @@ use core::cmp::Ordering;
 use core::fmt;
 use core::hash::{Hash, Hasher};
 
+use crate::erased::tag::*;
 use crate::matching::LanguageRange;
 #[cfg(feature = "alloc")]
 use crate::matching::LanguageRangeBuf;
-use crate::*;
 
-/// A text without the case of its ASCII letters. Use it to look up a text in a map with tags, parts or ranges as keys, without
-/// allocating.
+/// A text without the case of its ASCII letters. Use it to look up a text in a map with tags, parts
+/// or ranges as keys, without allocating.
 ///
 /// Each text, borrowed or owned, and each tag implements this trait. A map whose keys are
-/// [`LangTagBuf`](crate::LangTagBuf) cannot be searched with a `&LangTag`, because no key contains a `LangTag` to
-/// borrow. Nor can it be searched with a `&str`, which is hashed with its case.
+/// [`LangTagBuf`](crate::LangTagBuf) cannot be searched with a `&LangTag`, because no key contains
+/// a `LangTag` to borrow. Nor can it be searched with a `&str`, which is hashed with its case.
 ///
 /// ```
 /// # #[cfg(feature = "alloc")] {

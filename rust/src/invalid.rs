@@ -1,8 +1,9 @@
 //! The errors for refused texts: they can be compared, converted to own their text, and explained.
 use core::fmt;
 
+use crate::erased::tag::*;
 use crate::matching::InvalidLanguageRange;
-use crate::*;
+use crate::message::Reason;
 
 /// Implements the traits of the errors that contain only the refused text.
 macro_rules! compared {
@@ -22,6 +23,12 @@ macro_rules! compared {
         }
 
         impl<T: Eq> Eq for $error<T> {}
+
+        impl<T: core::hash::Hash> core::hash::Hash for $error<T> {
+            fn hash<H: core::hash::Hasher>(&self, state: &mut H) {
+                self.0.hash(state);
+            }
+        }
     )+};
 }
 
@@ -31,13 +38,15 @@ macro_rules! errors {
 
         #[cfg(feature = "alloc")]
         impl $error<&str> {
-            /// Returns the same error with a copy of the text, so that it does not borrow the input.
+            /// Returns the same error with a copy of the text, so that it does not borrow the
+            /// input.
             ///
             /// ```
             /// # use langtag::{matching::*, *};
             #[doc = concat!("let error = ", stringify!($name), "::new(\"_\").unwrap_err();")]
             /// assert_eq!(error.into_owned().0, "_");
             /// ```
+            #[must_use]
             pub fn into_owned(self) -> $error<alloc::string::String> {
                 $error(self.0.into())
             }
@@ -56,7 +65,8 @@ compared!(InvalidSingleton, InvalidGrandfatheredTag);
 for_text_types!(errors);
 
 impl<T: AsRef<str>> InvalidLangTag<T> {
-    /// Returns where the text is wrong. It is `None` only if a program made the error from a text that is a tag.
+    /// Returns where the text is wrong. It is `None` only if a program made the error from a text
+    /// that is a tag.
     ///
     /// ```
     /// use langtag::{LangTag, RefusalKind};
@@ -66,11 +76,13 @@ impl<T: AsRef<str>> InvalidLangTag<T> {
     /// assert_eq!(refusal.kind, RefusalKind::Subtag);
     /// assert_eq!(&error.0[refusal.start..refusal.end], "DE");
     /// ```
+    #[must_use]
     pub fn refusal(&self) -> Option<Refusal> {
         Refusal::of(self.0.as_ref().as_bytes())
     }
 
-    /// Returns the reason in words, as a value that can be displayed.
+    /// Returns the reason in words, as a value that can be displayed. The message of the error ends
+    /// with it.
     ///
     /// ```
     /// use langtag::LangTag;
@@ -79,30 +91,6 @@ impl<T: AsRef<str>> InvalidLangTag<T> {
     /// assert_eq!(error.reason().to_string(), "unexpected subtag `DE`");
     /// ```
     pub fn reason(&self) -> impl fmt::Display + '_ {
-        Reason(self.0.as_ref())
-    }
-}
-
-/// Why a text is not a tag.
-struct Reason<'a>(&'a str);
-
-impl fmt::Display for Reason<'_> {
-    fn fmt(&self, f: &mut fmt::Formatter<'_>) -> fmt::Result {
-        let Some(refusal) = Refusal::of(self.0.as_bytes()) else {
-            return f.write_str("it is a tag");
-        };
-        let subtag = &self.0[refusal.start..refusal.end];
-        match refusal.kind {
-            RefusalKind::Subtag if subtag.is_empty() => f.write_str("empty subtag"),
-            RefusalKind::Subtag => write!(f, "unexpected subtag `{subtag}`"),
-            RefusalKind::Byte => {
-                let wrong = &self.0[refusal.offset..].chars().next().unwrap_or_default();
-                write!(
-                    f,
-                    "invalid character `{wrong}`: expected a letter, a digit or a hyphen"
-                )
-            }
-            RefusalKind::End => f.write_str("unexpected end: expected a subtag"),
-        }
+        Reason(self.0.as_ref().as_bytes())
     }
 }

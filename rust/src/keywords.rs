@@ -3,13 +3,14 @@ use crate::unicode::{remove_keyword, set_keyword, SetKeywordError};
 use crate::LangTagBuf;
 
 impl LangTagBuf {
-    /// Sets the value of a key of the extension `u`, as [`unicode::set_keyword`](crate::unicode::set_keyword) does: with
-    /// `buddhist` for `ca`, `th-TH` becomes `th-TH-u-ca-buddhist`.
+    /// Sets the value of a key of the extension `u`, as
+    /// [`unicode::set_keyword`](crate::unicode::set_keyword) does: with `buddhist` for `ca`,
+    /// `th-TH` becomes `th-TH-u-ca-buddhist`.
     ///
     /// # Errors
     ///
-    /// Returns an error if the key or the value cannot be in a keyword, if the tag is not a normal tag, or if allocation fails.
-    /// The tag is then unchanged.
+    /// Returns an error if the key or the value cannot be in a keyword, if the tag is not a normal
+    /// tag, or if allocation fails. The tag is then unchanged.
     ///
     /// ```
     /// use langtag::LangTagBuf;
@@ -24,13 +25,14 @@ impl LangTagBuf {
         set_keyword(self, key, value)
     }
 
-    /// Removes a key of the extension `u`, as [`unicode::remove_keyword`](crate::unicode::remove_keyword) does: without `ca`,
+    /// Removes a key of the extension `u`, as
+    /// [`unicode::remove_keyword`](crate::unicode::remove_keyword) does: without `ca`,
     /// `th-TH-u-ca-buddhist` becomes `th-TH`.
     ///
     /// # Errors
     ///
-    /// Returns an error if the key cannot be in a keyword, if the tag is not a normal tag, or if allocation fails. The tag is
-    /// then unchanged.
+    /// Returns an error if the key cannot be in a keyword, if the tag is not a normal tag, or if
+    /// allocation fails. The tag is then unchanged.
     ///
     /// ```
     /// use langtag::LangTagBuf;

@@ -1,7 +1,13 @@
-//! The methods of each borrowed type, on its owned form: `owned.script()` is `owned.as_lang_tag().script()`.
+//! The methods of each borrowed type, on its owned form: `owned.script()` is
+//! `owned.as_lang_tag().script()`.
+#[allow(unused_imports)]
+use crate::erased::tag::*;
 #[allow(unused_imports)] // only links name LanguageRange
 use crate::matching::{Fallbacks, LanguageRange, LanguageRangeBuf};
-use crate::*;
+#[cfg(feature = "data")]
+use crate::registry::InvalidSubtag;
+#[cfg(feature = "data")]
+use crate::unicode::{AttributesIter, KeywordsIter, Transformation};
 
 macro_rules! lent {
     ($($owned:ident: $name:ident by $lend:ident { $($call:ident($($argument:ident: $type:ty)?) -> $result:ty;)+ })+) => {$(
@@ -35,7 +41,7 @@ lent! {
     }
     ExtensionsBuf: Extensions by as_extensions {
         iter() -> ExtensionsIter<'_>;
-        get(singleton: Singleton) -> Option<Extension<'_>>;
+        get(singleton: impl TryInto<Singleton>) -> Option<Extension<'_>>;
         iter_extension(singleton: Singleton) -> ExtensionIter<'_>;
     }
     PrivateUseBuf: PrivateUse by as_private_use {
@@ -50,6 +56,7 @@ lent! {
         variants() -> Variants<'_>;
         extensions() -> Extensions<'_>;
         private_use() -> Option<PrivateUse<'_>>;
+        base() -> NormalLangTag<'_>;
         private_use_subtags() -> PrivateUseIter<'_>;
         subtags() -> Subtags<'_>;
         repeated_variant() -> Option<Variant<'_>>;
@@ -72,15 +79,58 @@ lent! {
         variants() -> Variants<'_>;
         extensions() -> Extensions<'_>;
         private_use() -> Option<PrivateUse<'_>>;
+        base() -> LangTag<'_>;
         private_use_subtags() -> PrivateUseIter<'_>;
         subtags() -> Subtags<'_>;
         in_recommended_case() -> InRecommendedCase<'_>;
         is_in_recommended_case() -> bool;
+        to_recommended_case() -> LangTagBuf;
     }
     LanguageRangeBuf: LanguageRange by as_language_range {
         is_basic() -> bool;
         matches_basic(tag: &LangTag<'_>) -> bool;
         matches_extended(tag: &LangTag<'_>) -> bool;
         fallbacks() -> Fallbacks<'_>;
+    }
+}
+
+#[cfg(feature = "data")]
+lent! {
+    LangTagBuf: LangTag by as_lang_tag {
+        is_valid() -> bool;
+        validate() -> Result<(), InvalidSubtag<'_>>;
+        canonical() -> LangTagBuf;
+        extlang_form() -> LangTagBuf;
+        maximized() -> LangTagBuf;
+        minimized() -> LangTagBuf;
+        extensions_form() -> LangTagBuf;
+        locale_form() -> Option<LangTagBuf>;
+        keywords() -> KeywordsIter<'_>;
+        attributes() -> AttributesIter<'_>;
+        transform() -> Option<Transformation<'_>>;
+        is_right_to_left() -> bool;
+    }
+}
+
+#[cfg(feature = "data")]
+impl LangTagBuf {
+    /// Returns what [`LangTag::keyword`] returns.
+    #[must_use]
+    pub fn keyword(&self, key: &str) -> Option<&str> {
+        self.as_lang_tag().keyword(key)
+    }
+
+    /// Returns what [`LangTag::distance`] returns.
+    #[must_use]
+    pub fn distance<'t>(&self, supported: impl Into<LangTag<'t>>) -> u8 {
+        self.as_lang_tag().distance(supported)
+    }
+}
+
+impl LangTagBuf {
+    /// Returns what [`LangTag::matches`] returns.
+    #[must_use]
+    pub fn matches<'r>(&self, range: impl Into<LanguageRange<'r>>) -> bool {
+        self.as_lang_tag().matches(range)
     }
 }

@@ -29,6 +29,12 @@ impl From<alloc::collections::TryReserveError> for AllocError {
     }
 }
 
+/// Returns the result, or aborts if allocation failed, as Rust's own calls do.
+#[inline]
+pub(crate) fn or_abort<T>(made: Result<T, AllocError>) -> T {
+    made.unwrap_or_else(|_| alloc::alloc::handle_alloc_error(core::alloc::Layout::new::<T>()))
+}
+
 /// Copies a text.
 pub(crate) fn try_string(text: &str) -> Result<String, AllocError> {
     let mut owned = try_string_with_capacity(text.len())?;
@@ -83,7 +89,8 @@ impl TryText for String {
 pub(crate) trait TryItems<T> {
     fn try_push(&mut self, item: T) -> Result<(), AllocError>;
 
-    /// Sorts by a key, and keeps the order of items with equal keys. Rust's own `sort_by_key` aborts if allocation fails.
+    /// Sorts by a key, and keeps the order of items with equal keys. Rust's own `sort_by_key`
+    /// aborts if allocation fails.
     fn try_sort_by_key<K: Ord>(&mut self, key: impl FnMut(&T) -> K) -> Result<(), AllocError>;
 }
 

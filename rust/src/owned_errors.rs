@@ -3,16 +3,19 @@ use alloc::string::String;
 use core::error::Error;
 use core::fmt;
 
+use crate::erased::tag::*;
+#[cfg(feature = "data")]
 use crate::likely::PosixError;
 use crate::matching::{AcceptLanguageError, ElementPart};
+use crate::memory::AllocError;
+#[cfg(feature = "data")]
 use crate::registry::InvalidSubtag;
-use crate::*;
 
-/// The error of [`validate`](registry::validate), which owns its subtag.
+/// The error of [`validate`](crate::registry::validate), which owns its subtag.
 ///
 /// ```
-/// use langtag::registry::{validate, InvalidSubtag};
-/// use langtag::{InvalidLangTag, InvalidSubtagBuf, LangTag};
+/// use langtag::registry::{validate, InvalidSubtag, InvalidSubtagBuf};
+/// use langtag::{InvalidLangTag, LangTag};
 ///
 /// fn read(text: String) -> Result<(), Box<dyn std::error::Error>> {
 ///     let tag = LangTag::new(&text).map_err(InvalidLangTag::into_owned)?;
@@ -22,7 +25,9 @@ use crate::*;
 /// assert_eq!(error.to_string(), "language qt is not registered");
 /// assert!(matches!(error.downcast_ref(), Some(InvalidSubtagBuf::Language(language)) if *language == "qt"));
 /// ```
+#[cfg(feature = "data")]
 #[derive(Clone, Debug, PartialEq, Eq, Hash)]
+#[non_exhaustive]
 pub enum InvalidSubtagBuf {
     /// A language that is not registered.
     Language(PrimaryLanguageBuf),
@@ -42,6 +47,7 @@ pub enum InvalidSubtagBuf {
     RepeatedSingleton(Singleton),
 }
 
+#[cfg(feature = "data")]
 impl InvalidSubtagBuf {
     /// Returns the borrowed form.
     ///
@@ -52,6 +58,7 @@ impl InvalidSubtagBuf {
     /// let error = validate(LangTag::new("qt-FR").unwrap()).unwrap_err().into_owned();
     /// assert!(matches!(error.as_invalid_subtag(), InvalidSubtag::Language(language) if language == "qt"));
     /// ```
+    #[must_use]
     pub fn as_invalid_subtag(&self) -> InvalidSubtag<'_> {
         match self {
             InvalidSubtagBuf::Language(subtag) => {
@@ -76,13 +83,16 @@ impl InvalidSubtagBuf {
     }
 
     /// Returns the registered code that is probably meant, as [`InvalidSubtag::suggestion`] does.
+    #[must_use]
     pub fn suggestion(&self) -> Option<&'static str> {
         self.as_invalid_subtag().suggestion()
     }
 }
 
+#[cfg(feature = "data")]
 impl InvalidSubtag<'_> {
     /// Returns the same error with a copy of the subtag, so that it does not borrow the tag.
+    #[must_use]
     pub fn into_owned(self) -> InvalidSubtagBuf {
         match self {
             InvalidSubtag::Language(subtag) => InvalidSubtagBuf::Language(subtag.into()),
@@ -101,17 +111,18 @@ impl InvalidSubtag<'_> {
     }
 }
 
+#[cfg(feature = "data")]
 impl fmt::Display for InvalidSubtagBuf {
     fn fmt(&self, f: &mut fmt::Formatter<'_>) -> fmt::Result {
         self.as_invalid_subtag().fmt(f)
     }
 }
 
-/// The error of [`AcceptLanguage::new`](matching::AcceptLanguage::new), which owns the header.
+/// The error of [`AcceptLanguage::new`](crate::matching::AcceptLanguage::new), which owns the
+/// header.
 ///
 /// ```
-/// use langtag::matching::{AcceptLanguage, AcceptLanguageError};
-/// use langtag::AcceptLanguageErrorBuf;
+/// use langtag::matching::{AcceptLanguage, AcceptLanguageError, AcceptLanguageErrorBuf};
 ///
 /// fn count(header: String) -> Result<usize, AcceptLanguageErrorBuf> {
 ///     let accepted = AcceptLanguage::new(&header).map_err(AcceptLanguageError::into_owned)?;
@@ -120,7 +131,8 @@ impl fmt::Display for InvalidSubtagBuf {
 /// assert_eq!(count("de, fr;q=0.5".into()).ok(), Some(2));
 /// assert_eq!(count("de, fr_FR".into()).unwrap_err().to_string(), "element 1 has a bad language range");
 /// ```
-#[derive(Debug)]
+#[derive(Clone, Debug, PartialEq, Eq)]
+#[non_exhaustive]
 pub enum AcceptLanguageErrorBuf {
     /// A malformed element, as in [`AcceptLanguageError::BadElement`].
     BadElement {
@@ -139,6 +151,7 @@ pub enum AcceptLanguageErrorBuf {
 
 impl AcceptLanguageError<'_> {
     /// Returns the same error with a copy of the header, so that it does not borrow the input.
+    #[must_use]
     pub fn into_owned(self) -> AcceptLanguageErrorBuf {
         match self {
             AcceptLanguageError::BadElement {
@@ -168,11 +181,11 @@ impl fmt::Display for AcceptLanguageErrorBuf {
     }
 }
 
-/// The error of [`from_posix`](likely::from_posix), which owns the name.
+/// The error of [`from_posix`](crate::likely::from_posix), which owns the name.
 ///
 /// ```
-/// use langtag::likely::{from_posix, PosixError};
-/// use langtag::{LangTagBuf, PosixErrorBuf};
+/// use langtag::likely::{from_posix, PosixError, PosixErrorBuf};
+/// use langtag::LangTagBuf;
 ///
 /// fn read(name: String) -> Result<LangTagBuf, PosixErrorBuf> {
 ///     from_posix(&name).map_err(PosixError::into_owned)
@@ -180,7 +193,9 @@ impl fmt::Display for AcceptLanguageErrorBuf {
 /// assert_eq!(read("pt_BR.UTF-8".into()).unwrap(), "pt-BR");
 /// assert_eq!(read("C".into()), Err(PosixErrorBuf::NoTag("C".into())));
 /// ```
+#[cfg(feature = "data")]
 #[derive(Clone, Debug, PartialEq, Eq)]
+#[non_exhaustive]
 pub enum PosixErrorBuf {
     /// The name gives no tag.
     NoTag(String),
@@ -188,8 +203,10 @@ pub enum PosixErrorBuf {
     Memory(AllocError),
 }
 
+#[cfg(feature = "data")]
 impl PosixError<'_> {
     /// Returns the same error with a copy of the name, so that it does not borrow the input.
+    #[must_use]
     pub fn into_owned(self) -> PosixErrorBuf {
         match self {
             PosixError::NoTag(name) => PosixErrorBuf::NoTag(name.into()),
@@ -198,6 +215,7 @@ impl PosixError<'_> {
     }
 }
 
+#[cfg(feature = "data")]
 impl fmt::Display for PosixErrorBuf {
     fn fmt(&self, f: &mut fmt::Formatter<'_>) -> fmt::Result {
         match self {
@@ -208,9 +226,11 @@ impl fmt::Display for PosixErrorBuf {
 }
 
 macro_rules! errors {
-    ($($borrowed:ident: $owned:ident;)+) => {$(
+    ($($(#[$feature:meta])? $borrowed:ident: $owned:ident;)+) => {$(
+        $(#[$feature])?
         impl Error for $owned {}
 
+        $(#[$feature])?
         impl From<$borrowed<'_>> for $owned {
             fn from(error: $borrowed<'_>) -> Self {
                 error.into_owned()
@@ -220,7 +240,7 @@ macro_rules! errors {
 }
 
 errors! {
-    InvalidSubtag: InvalidSubtagBuf;
+    #[cfg(feature = "data")] InvalidSubtag: InvalidSubtagBuf;
     AcceptLanguageError: AcceptLanguageErrorBuf;
-    PosixError: PosixErrorBuf;
+    #[cfg(feature = "data")] PosixError: PosixErrorBuf;
 }

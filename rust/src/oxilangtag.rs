@@ -1,9 +1,11 @@
-//! The names of the crate oxilangtag 0.1, for programs that are written for it: `use langtag::oxilangtag::LanguageTag`
-//! in place of `use oxilangtag::LanguageTag`. It accepts what [`LangTag`] accepts.
+//! The names of the crate oxilangtag 0.1, for programs that are written for it:
+//! `use langtag::oxilangtag::LanguageTag` in place of `use oxilangtag::LanguageTag`. It accepts
+//! what [`LangTag`] accepts.
 //!
-//! In three respects, [`LanguageTag`] is like oxilangtag, and unlike the other types of this crate. A tag is compared,
-//! ordered and hashed as its text, with its case, so a map with tags as keys can be searched with a `str`. None of the
-//! 26 grandfathered tags has parts. [`private_use`](LanguageTag::private_use) of a private-use tag is its whole text.
+//! In three respects, [`LanguageTag`] is like oxilangtag, and unlike the other types of this crate.
+//! A tag is compared, ordered and hashed as its text, with its case, so a map with tags as keys can
+//! be searched with a `str`. None of the 26 grandfathered tags has parts.
+//! [`private_use`](LanguageTag::private_use) of a private-use tag is its whole text.
 //!
 //! ```
 //! use langtag::oxilangtag::LanguageTag;
@@ -132,7 +134,8 @@ impl<T: Deref<Target = str>> LanguageTag<T> {
         Subtags::new(self.extended_language().unwrap_or(""))
     }
 
-    /// Returns the primary and the extended languages, such as `zh-cmn`, or the whole text of a tag without parts.
+    /// Returns the primary and the extended languages, such as `zh-cmn`, or the whole text of a tag
+    /// without parts.
     ///
     /// ```
     /// use langtag::oxilangtag::LanguageTag;
@@ -257,8 +260,8 @@ impl<T: Deref<Target = str>> LanguageTag<T> {
         Subtags::new(self.private_use().map_or("", |part| &part[2..]))
     }
 
-    /// Returns the tag with its parts, if it has parts. If the `Deref` of a text returns a different text each time,
-    /// the parts may be wrong, or a call may panic.
+    /// Returns the tag with its parts, if it has parts. If the `Deref` of a text returns a
+    /// different text each time, the parts may be wrong, or a call may panic.
     fn normal(&self) -> Option<NormalLangTag<'_>> {
         Some(NormalLangTag::with_ends(&self.tag, self.ends?))
     }
@@ -289,7 +292,8 @@ impl LanguageTag<String> {
     }
 }
 
-/// The error for a text that is not a tag. Its message says how many bytes of the text can begin a tag.
+/// The error for a text that is not a tag. Its message says how many bytes of the text can begin a
+/// tag.
 ///
 /// ```
 /// use langtag::oxilangtag::LanguageTag;
@@ -305,7 +309,7 @@ pub struct LanguageTagParseError {
 impl LanguageTagParseError {
     fn of(text: &str) -> Self {
         LanguageTagParseError {
-            viable_len: crate::viable_len(text.as_bytes()),
+            viable_len: crate::erased::scan::viable_len(text.as_bytes()),
         }
     }
 }

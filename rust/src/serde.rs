@@ -1,15 +1,17 @@
-//! Tags, their parts and ranges as strings of serde: `Serialize` and `Deserialize`, in lists, options and as keys of
-//! maps. The borrowed types are deserialized from a string that is borrowed from the input.
+//! Tags, their parts and ranges as strings of serde: `Serialize` and `Deserialize`, in lists,
+//! options and as keys of maps. The borrowed types are deserialized from a string that is borrowed
+//! from the input.
 //!
-//! This module needs `cfg(feature = "serde")`. The manifest of a release declares that feature and its dependency.
+//! This module needs `cfg(feature = "serde")`. The manifest of a release declares that feature and
+//! its dependency.
 use alloc::string::String;
 use core::fmt;
 
 use ::serde::de::{Deserialize, Deserializer, Error, Unexpected, Visitor};
 use ::serde::ser::{Serialize, Serializer};
 
+use crate::erased::tag::*;
 use crate::matching::{LanguageRange, LanguageRangeBuf};
-use crate::*;
 
 macro_rules! strings {
     ($($name:ident, $owned:ident, $error:ident, $lend:ident, $what:literal;)+) => {$(

@@ -24,14 +24,38 @@ impl AsStr for alloc::string::String {
     }
 }
 
+/// Writes ASCII bytes as [`Formatter::pad`](core::fmt::Formatter::pad) writes a string: at most as
+/// many bytes as the precision, filled up to the width. `len` is the number of bytes.
+pub(crate) fn pad_ascii(
+    f: &mut core::fmt::Formatter<'_>,
+    len: usize,
+    bytes: impl Iterator<Item = u8>,
+) -> core::fmt::Result {
+    use core::fmt::Write as _;
+
+    let len = f.precision().map_or(len, |most| most.min(len));
+    let room = f.width().unwrap_or(0).saturating_sub(len);
+    let before = match f.align() {
+        Some(core::fmt::Alignment::Right) => room,
+        Some(core::fmt::Alignment::Center) => room / 2,
+        _ => 0,
+    };
+    let fill = f.fill();
+    let mut padded = core::iter::repeat_n(fill, before)
+        .chain(bytes.take(len).map(char::from))
+        .chain(core::iter::repeat_n(fill, room - before));
+    padded.try_for_each(|character| f.write_char(character))
+}
+
 /// The text of a tag or a part has the same debug output as any other text.
-impl<T: core::fmt::Debug> core::fmt::Debug for crate::scan::Caseless<T> {
+impl<T: core::fmt::Debug> core::fmt::Debug for crate::erased::scan::Caseless<T> {
     fn fmt(&self, f: &mut core::fmt::Formatter<'_>) -> core::fmt::Result {
         self.0.fmt(f)
     }
 }
 
-/// Implements comparison, order, hash and debug output of a type by its field `text`, and nothing else.
+/// Implements comparison, order, hash and debug output of a type by its field `text`, and nothing
+/// else.
 macro_rules! by_text {
     ($tag:ty) => {
         impl PartialEq for $tag {

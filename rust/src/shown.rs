@@ -1,7 +1,8 @@
-//! `Debug` of the types that a recogniser reads and returns.
+//! `Debug` of the types that a recogniser reads and returns, and `Display` of the kinds of tags.
 use core::fmt;
 
-use crate::{ByteSource, Found, Metered};
+use crate::erased::scan::{ByteSource, Found, Metered};
+use crate::Kind;
 
 impl fmt::Debug for Found {
     fn fmt(&self, f: &mut fmt::Formatter<'_>) -> fmt::Result {
@@ -23,5 +24,24 @@ impl fmt::Debug for Metered<'_> {
             .field("reads", &self.reads())
             .field("reach", &self.reach())
             .finish()
+    }
+}
+
+/// Displays the kind in RFC 5646's words.
+///
+/// ```
+/// use langtag::{Kind, LangTag};
+///
+/// assert_eq!(LangTag::new("de-CH")?.kind().to_string(), "normal");
+/// assert_eq!(Kind::PrivateUse.to_string(), "private use");
+/// # Ok::<(), Box<dyn std::error::Error>>(())
+/// ```
+impl fmt::Display for Kind {
+    fn fmt(&self, f: &mut fmt::Formatter<'_>) -> fmt::Result {
+        f.pad(match self {
+            Kind::Normal => "normal",
+            Kind::PrivateUse => "private use",
+            Kind::Grandfathered => "grandfathered",
+        })
     }
 }

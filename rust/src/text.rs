@@ -1,12 +1,13 @@
-//! What Rust programs expect of a type over a text: views of the text, conversions and comparisons. Macros implement
-//! them for the fifteen types of a tag and its parts, and for language ranges.
+//! What Rust programs expect of a type over a text: views of the text, conversions and comparisons.
+//! Macros implement them for the fifteen types of a tag and its parts, and for language ranges.
 //!
-//! `==` with a text ignores the case of ASCII letters, as `==` of two tags does. `Borrow<str>` is not implemented,
-//! since a `str` is hashed with its case. A map is searched with [`CaselessText`](crate::CaselessText).
+//! `==` with a text ignores the case of ASCII letters, as `==` of two tags does. `Borrow<str>` is
+//! not implemented, since a `str` is hashed with its case. A map is searched with
+//! [`CaselessText`](crate::CaselessText).
 use core::ops::Deref;
 
+use crate::erased::tag::*;
 use crate::matching::{InvalidLanguageRange, LanguageRange};
-use crate::*;
 
 macro_rules! borrowed {
     ($($name:ident, $owned:ident, $error:ident, $lend:ident, $what:literal;)+) => {$(
@@ -140,23 +141,16 @@ impl From<Singleton> for char {
 
 #[cfg(feature = "alloc")]
 mod owned {
-    use alloc::alloc::handle_alloc_error;
     use alloc::borrow::Cow;
     use alloc::string::String;
     use alloc::vec::Vec;
-    use core::alloc::Layout;
     use core::cmp::Ordering;
     use core::ops::Deref;
     use core::str::FromStr;
 
+    use crate::erased::tag::*;
     use crate::matching::{InvalidLanguageRange, LanguageRange, LanguageRangeBuf};
-    use crate::*;
-
-    /// Returns the result, or aborts if allocation failed, as `String` does.
-    #[inline]
-    fn or_end<T>(made: Result<T, AllocError>, text: &str) -> T {
-        made.unwrap_or_else(|_| handle_alloc_error(Layout::for_value(text)))
-    }
+    use crate::memory::or_abort;
 
     macro_rules! owned {
         ($($name:ident, $owned:ident, $error:ident, $lend:ident, $what:literal;)+) => {$(
@@ -166,7 +160,7 @@ mod owned {
                 #[doc = concat!("This is not a method of the trait `ToOwned`, whose `to_owned` returns another `", stringify!($name), "`, as for every type that is `Clone`.")]
                 #[inline]
                 pub fn to_owned(&self) -> $owned {
-                    or_end(self.try_to_owned(), self.as_str())
+                    or_abort(self.try_to_owned())
                 }
             }
 

@@ -1,5 +1,5 @@
-//! The list of the types over a text: the borrowed type, the owned type, the error, the call that borrows, and a
-//! description.
+//! The list of the types over a text: the borrowed type, the owned type, the error, the call that
+//! borrows, and a description.
 
 /// Passes this list to another macro, and that macro writes items for each type.
 macro_rules! for_text_types {

@@ -53,7 +53,7 @@ fn texts_that_are_no_ranges() {
     }
     assert_eq!(
         LanguageRange::new("de_").unwrap_err().to_string(),
-        "invalid language range"
+        "invalid language range `de_`"
     );
 }
 
@@ -62,12 +62,15 @@ fn where_a_text_goes_wrong() {
     let error = LangTag::new("i-no").unwrap_err();
     assert_eq!(
         (
-            viable_len(error.0.as_bytes()),
+            langtag::scan::viable_len(error.0.as_bytes()),
             error.refusal().unwrap().kind
         ),
         (3, RefusalKind::Subtag)
     );
-    assert_eq!(error.to_string(), "invalid language tag");
+    assert_eq!(
+        error.to_string(),
+        "invalid language tag `i-no`: unexpected subtag `no`"
+    );
     for (text, words) in [
         (
             "zh_Hant",
@@ -84,6 +87,39 @@ fn where_a_text_goes_wrong() {
         assert_eq!(LangTag::new(text).unwrap_err().reason().to_string(), words);
     }
     assert_eq!(InvalidLangTag("de").reason().to_string(), "it is a tag");
+}
+
+/// The message of an error has at most 80 characters of the text, with escapes, for each type of text.
+#[test]
+fn messages_have_the_text() {
+    let said = [
+        LangTag::new("de-\u{7}`é").unwrap_err().to_string(),
+        LangTag::from_bytes("de-\u{7}`é".as_bytes())
+            .unwrap_err()
+            .to_string(),
+    ];
+    let wanted = r"invalid language tag `de-\u{7}\`é`: invalid character `\u{7}`: expected a letter, a digit or a hyphen";
+    assert_eq!(said, [wanted, wanted]);
+    assert_eq!(
+        LangTag::from_bytes(b"de-\xff\xc3").unwrap_err().to_string(),
+        r"invalid language tag `de-\xff\xc3`: invalid character `\xff`: expected a letter, a digit or a hyphen"
+    );
+    let long = "abcdefgh-".repeat(20);
+    assert_eq!(
+        LangTag::new(&long).unwrap_err().to_string(),
+        format!(
+            "invalid language tag `{}...`: unexpected end: expected a subtag",
+            &long[..80]
+        )
+    );
+    assert_eq!(
+        Script::new("Latin").unwrap_err().to_string(),
+        "invalid script `Latin`"
+    );
+    assert_eq!(
+        Singleton::try_from('x').unwrap_err().to_string(),
+        "invalid extension identifier"
+    );
 }
 
 #[test]
@@ -259,17 +295,16 @@ fn fallbacks_are_ranges() {
     }
 }
 
+#[cfg(feature = "data")]
 #[test]
 fn constants_and_functions_for_a_buffer() {
     use langtag::registry::{canonical_bound, write_canonical, FILE_DATE};
     let mut buffer = [b'~'; 64];
     let [tag] = tags(["ja-heploc"]);
-    assert_eq!(write_canonical(tag, &mut buffer[..9]), 10);
+    let error = write_canonical(tag, &mut buffer[..9]).unwrap_err();
+    assert_eq!(error.needed(), 10);
     assert_eq!(buffer, [b'~'; 64]);
-    assert_eq!(
-        (write_canonical(tag, &mut buffer), &buffer[..10]),
-        (10, &b"ja-alalc97"[..])
-    );
+    assert_eq!(write_canonical(tag, &mut buffer), Ok("ja-alalc97"));
     assert!(canonical_bound(9) >= 10);
     assert!(
         FILE_DATE >= "2005-10-16",

@@ -1,13 +1,13 @@
 //! Repeats each call that allocates. The first time, its first request for memory is refused, then its second, and so
 //! on until no request is refused. The call must return an error for each refusal, and change nothing.
-#![cfg(feature = "alloc")]
+#![cfg(all(feature = "alloc", feature = "data"))]
 use std::alloc::{GlobalAlloc, Layout, System};
 use std::cell::Cell;
 
-use langtag::likely::{from_posix, maximized, minimized, PosixError};
+use langtag::likely::{from_posix, try_maximized, try_minimized, PosixError};
 use langtag::matching::{tag_for_header, AcceptLanguage, AcceptLanguageError, LanguageRange};
-use langtag::registry::{canonical, extlang_form};
-use langtag::unicode::{extensions_form, locale_form, SetKeywordError};
+use langtag::registry::{try_canonical, try_extlang_form};
+use langtag::unicode::{try_extensions_form, try_locale_form, SetKeywordError};
 use langtag::*;
 
 thread_local! {
@@ -40,18 +40,18 @@ unsafe impl GlobalAlloc for Refusing {
         if Refusing::refuses() {
             return std::ptr::null_mut();
         }
-        System.alloc(layout)
+        unsafe { System.alloc(layout) }
     }
 
     unsafe fn dealloc(&self, at: *mut u8, layout: Layout) {
-        System.dealloc(at, layout)
+        unsafe { System.dealloc(at, layout) }
     }
 
     unsafe fn realloc(&self, at: *mut u8, layout: Layout, size: usize) -> *mut u8 {
         if Refusing::refuses() {
             return std::ptr::null_mut();
         }
-        System.realloc(at, layout, size)
+        unsafe { System.realloc(at, layout, size) }
     }
 }
 
@@ -105,14 +105,14 @@ fn tags_in_another_form() {
         "zh",
     ] {
         let tag = LangTag::new(text).unwrap();
-        refuse_each("canonical", || is_memory(canonical(tag)));
-        refuse_each("extlang_form", || is_memory(extlang_form(tag)));
-        refuse_each("maximized", || is_memory(maximized(tag)));
-        refuse_each("minimized", || is_memory(minimized(tag)));
-        refuse_each("form of extensions", || is_memory(extensions_form(tag)));
+        refuse_each("canonical", || is_memory(try_canonical(tag)));
+        refuse_each("extlang_form", || is_memory(try_extlang_form(tag)));
+        refuse_each("maximized", || is_memory(try_maximized(tag)));
+        refuse_each("minimized", || is_memory(try_minimized(tag)));
+        refuse_each("form of extensions", || is_memory(try_extensions_form(tag)));
         // A tag without a form, such as x-a, requests no memory.
-        if locale_form(tag).unwrap().is_some() {
-            refuse_each("form as a locale", || is_memory(locale_form(tag)));
+        if try_locale_form(tag).unwrap().is_some() {
+            refuse_each("form as a locale", || is_memory(try_locale_form(tag)));
         }
         refuse_each("recommended case", || {
             is_memory(tag.try_to_recommended_case())
@@ -133,7 +133,7 @@ fn tags_from_parts_and_names() {
         Region::new("TW").ok(),
     );
     refuse_each("from_parts", || {
-        is_memory(NormalLangTagBuf::from_parts(language, script, region))
+        is_memory(NormalLangTagBuf::try_from_parts(language, script, region))
     });
     refuse_each("from_posix", || {
         matches!(from_posix("de_CH.UTF-8@euro"), Err(PosixError::Memory(_)))
@@ -151,11 +151,11 @@ fn headers() {
         )
     });
     refuse_each("AcceptLanguage::lenient", || {
-        is_memory(AcceptLanguage::lenient(header))
+        is_memory(AcceptLanguage::try_lenient(header))
     });
     refuse_each("tag_for_header", || {
         matches!(
-            tag_for_header(header, &[tag], tag),
+            tag_for_header(header, &[tag], &tag),
             Err(AcceptLanguageError::Memory(_))
         )
     });

@@ -1,11 +1,12 @@
 //! Tags that own their text, and errors that outlive the refused text.
-#![cfg(feature = "alloc")]
+#![cfg(all(feature = "alloc", feature = "data"))]
 use std::borrow::Cow;
 use std::collections::{BTreeMap, HashMap};
 use std::error::Error;
 
+use langtag::likely::PosixErrorBuf;
 use langtag::matching::*;
-use langtag::registry::{canonical, validate};
+use langtag::registry::{canonical, validate, InvalidSubtagBuf};
 use langtag::*;
 
 fn owned(text: &str) -> LangTagBuf {
@@ -197,7 +198,7 @@ fn are_edited() -> Result<(), Box<dyn Error>> {
         Err(EditError::NotNormal)
     );
     let (language, script) = (Language::new("zh-yue")?, Script::new("Hant")?);
-    let made = NormalLangTagBuf::from_parts(language, Some(script), Some(Region::new("HK")?))?;
+    let made = NormalLangTagBuf::from_parts(language, Some(script), Some(Region::new("HK")?));
     assert_eq!(made, NormalLangTag::new("zh-yue-Hant-HK")?);
     Ok(())
 }
@@ -225,7 +226,7 @@ fn errors_outlive_their_text() {
         let tag = LangTag::new(tag).map_err(InvalidLangTag::into_owned)?;
         LanguageRange::new(range).map_err(InvalidLanguageRange::into_owned)?;
         validate(tag).map_err(|invalid| invalid.to_string())?;
-        canonical(tag)?;
+        let _ = canonical(tag);
         Ok(())
     }
     fn read_range(range: &str) -> Result<bool, InvalidLanguageRange<String>> {
@@ -236,8 +237,11 @@ fn errors_outlive_their_text() {
             .unwrap_err()
             .to_string()
     };
-    assert_eq!(error("en-", "*"), "invalid language tag");
-    assert_eq!(error("de", "d*"), "invalid language range");
+    assert_eq!(
+        error("en-", "*"),
+        "invalid language tag `en-`: unexpected end: expected a subtag"
+    );
+    assert_eq!(error("de", "d*"), "invalid language range `d*`");
     assert_eq!(error("qt", "*"), "language qt is not registered");
     assert_eq!(
         error("en-UK", "*"),
@@ -354,7 +358,7 @@ fn callers() {
 #[test]
 fn headers() {
     let tags = ["en", "de-CH", "fr"].map(|text| LangTag::new(text).unwrap());
-    let accepted = AcceptLanguage::lenient("FR;q=0.5, d!, de, *;q=0, nl;q=0.25").unwrap();
+    let accepted = AcceptLanguage::lenient("FR;q=0.5, d!, de, *;q=0, nl;q=0.25");
     let read: Vec<_> = accepted
         .ranges()
         .iter()
@@ -380,9 +384,8 @@ fn long_headers() {
         "a-".repeat(500_000) + "b",
         "de-CH,".repeat(170_000),
     ] {
-        AcceptLanguage::lenient(&header)
-            .unwrap()
-            .look_up(&tags, tags[0]);
+        let found = AcceptLanguage::lenient(&header).look_up(&tags, tags[0]);
+        assert!(tags.contains(&found));
     }
     assert!(begun.elapsed().as_secs() < 30, "{:?}", begun.elapsed());
 }

@@ -1,5 +1,5 @@
 //! The program `langtag`.
-#![cfg(feature = "alloc")]
+#![cfg(all(feature = "alloc", feature = "data"))]
 use std::io::Write;
 use std::path::Path;
 use std::process::{Command, Output, Stdio};

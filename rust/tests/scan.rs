@@ -2,7 +2,7 @@
 use std::cmp::Ordering;
 use std::hash::Hasher;
 
-use langtag::{
+use langtag::scan::{
     case_insensitive_cmp, case_insensitive_hash, into_smallcase, recognise, recognise_normal,
     ByteSource, Ends, Metered,
 };

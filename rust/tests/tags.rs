@@ -1,6 +1,6 @@
 //! Tags of every kind, borrowed and owned: how they are displayed, stored, compared (RFC 5646 section 2.1.1) and
 //! converted.
-#![cfg(feature = "alloc")]
+#![cfg(all(feature = "alloc", feature = "data"))]
 use std::cmp::Ordering;
 use std::collections::{BTreeSet, HashMap, HashSet};
 
@@ -174,8 +174,7 @@ fn a_tag_is_made_of_its_parts() {
                 Language::new(language).unwrap(),
                 Script::new(script).ok(),
                 Region::new(region).ok(),
-            )
-            .unwrap();
+            );
             let text = format!("{language}{end}");
             assert_eq!(made.as_str(), text);
             assert_eq!(made.as_normal_lang_tag().ends(), normal(&text).ends());
@@ -306,7 +305,7 @@ fn valid_tag(text: &str) -> Result<LangTag<'_>, Refused<'_>> {
 fn the_refusal_of_a_caller_tells_the_fault() {
     for (text, wanted) in [
         ("de-CH-1996", "valid"),
-        ("de--CH", "invalid language tag"),
+        ("de--CH", "invalid language tag `de--CH`: empty subtag"),
         ("Qt-FQ", "language Qt is not registered"),
     ] {
         let told = match valid_tag(text) {

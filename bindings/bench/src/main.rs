@@ -115,7 +115,7 @@ fn entry_langtag_distance(text: &str) -> usize {
 #[inline(never)]
 fn entry_to_canonical(text: &str) -> usize {
     let tag = langtag::LangTag::new(text);
-    tag.map_or(0, |tag| black_box(langtag::registry::canonical(tag)).map_or(0, |form| form.len()))
+    tag.map_or(0, |tag| black_box(langtag::registry::canonical(tag)).len())
 }
 
 /// Parses a tag, and returns whether it is its own canonical form.

@@ -197,9 +197,10 @@ static size_t check_room(slice text, write_form *write, char *form, pages out) {
     memset(filled, 0x5a, sizeof filled);
     char *buffer = place(out, filled, room, below(2));
     SAME(write(text.at, text.len, buffer, room) == len && len <= 2 * ROOM);
-    size_t written = len <= room ? len : 0;
+    bool fits = len <= room, unspecified = write == langtag_extensions_form || write == langtag_locale_form;
+    size_t written = fits ? len : unspecified ? room : 0;
     SAME(memcmp(buffer + written, filled, room - written) == 0);
-    SAME(write(text.at, text.len, form, 2 * ROOM) == len && memcmp(form, buffer, written) == 0);
+    SAME(write(text.at, text.len, form, 2 * ROOM) == len && (!fits || memcmp(form, buffer, len) == 0));
     return len;
 }
 
@@ -230,7 +231,7 @@ static void check_extensions_form(slice text, pages out) {
     char form[2 * ROOM], again[2 * ROOM];
     size_t len = check_room(text, langtag_extensions_form, form, out);
     tag old = read_tag(text), new = read_tag((slice){form, len});
-    SAME(new.kind == old.kind && (len == 0) == (old.kind == 0) && len <= text.len + 20);
+    SAME(new.kind == old.kind && (len == 0) == (old.kind == 0));
     for (int k = 0; k < 6; k++) SAME(k == 4 || has_same_bytes(new.parts[k], old.parts[k]));
     SAME(langtag_extensions_form(form, len, again, sizeof again) == len && memcmp(form, again, len) == 0);
 }
@@ -243,7 +244,7 @@ static void check_locale(slice text, pages out) {
     tag old = read_tag(text), new = read_tag((slice){form, len});
     bool is_locale = langtag_is_locale(text.at, text.len);
     SAME(!is_locale || (old.kind == 1 && len > 0 && split(old.parts[0]).count == 1));
-    SAME(len == 0 || ((old.kind == 1 || old.kind == 3) && len <= text.len + 32));
+    SAME(len == 0 || old.kind == 1 || old.kind == 3);
     if (len == 0) return;
     langtag_repeated repeated;
     SAME(new.kind == 1 && langtag_is_locale(form, len) && langtag_repeats(form, len, &repeated) == 0);

@@ -1,4 +1,5 @@
 /* Measures how the instructions of each function of the C library grow with its text. */
+#include "../functions.h"
 #include "growth.h"
 #include <langtag.h>
 
@@ -22,13 +23,12 @@ static size_t best_among(const char *header) {
     return langtag_best_for_header(header, strlen(header), text, len, tags, count);
 }
 
+#define OF_ONE(name) FUNCTION(name, result = (uint64_t)langtag_##name(text, len))
+LANGTAG_OF_ONE(OF_ONE)
+#define OF_TWO(name) FUNCTION(name, result = (uint64_t)langtag_##name(text, len, other, len))
+LANGTAG_OF_TWO(OF_TWO)
 FUNCTION(parse, result = langtag_parse(text, len, &parts))
-FUNCTION(kind, result = langtag_kind(text, len))
-FUNCTION(viable, result = langtag_viable(text, len))
-FUNCTION(stop, result = langtag_stop(text, len))
 FUNCTION(refused, result = langtag_refused(text, len, &found, &offset))
-FUNCTION(eq, result = langtag_eq(text, len, other, len))
-FUNCTION(cmp, result = (uint64_t)langtag_cmp(text, len, other, len))
 FUNCTION(hash, result = langtag_hash(LANGTAG_HASH, text, len))
 FUNCTION(fold, langtag_fold(other, len))
 FUNCTION(recommend, langtag_recommend(other, len))
@@ -51,8 +51,6 @@ FUNCTION(canonical, result = langtag_canonical(text, len, buffer, sizeof buffer)
 FUNCTION(registry_date, result = langtag_registry_date())
 FUNCTION(maximize, result = langtag_maximize(text, len, buffer, sizeof buffer))
 FUNCTION(minimize, result = langtag_minimize(text, len, buffer, sizeof buffer))
-FUNCTION(is_right_to_left, result = langtag_is_right_to_left(text, len))
-FUNCTION(distance, result = langtag_distance(text, len, other, len))
 FUNCTION(best_for_header, found = (langtag_span){0, len};
          result = langtag_best_for_header(text, len, "de-DE", 5, &(langtag_span){0, 5}, 1) +
                   langtag_best_for_header("de", 2, text, len, &found, 1))
@@ -66,12 +64,7 @@ FUNCTION(tag_for_header_lenient, found = (langtag_span){0, len};
                   langtag_tag_for_header_lenient("de", 2, text, len, &found, 1))
 FUNCTION(from_posix, result = langtag_from_posix(text, len, buffer, sizeof buffer))
 FUNCTION(unknown_modifier, result = langtag_unknown_modifier(text, len, &found))
-FUNCTION(cldr_version, result = langtag_cldr_version())
-FUNCTION(is_canonical, result = langtag_is_canonical(text, len))
-FUNCTION(grandfathered, result = langtag_grandfathered(text, len))
-FUNCTION(range_kind, result = langtag_range_kind(text, len))
-FUNCTION(matches_basic, result = langtag_matches_basic(text, len, other, len))
-FUNCTION(matches_extended, result = langtag_matches_extended(text, len, other, len))
+FUNCTION(cldr_version, result = langtag_cldr_version(buffer, sizeof buffer))
 FUNCTION(next_fallback, rest = (langtag_span){0, len};
          while (langtag_next_fallback(text, len, &rest)) result = rest.len)
 FUNCTION(next_accepted, rest = (langtag_span){0, len};
@@ -83,62 +76,12 @@ FUNCTION(with_keyword, result = langtag_with_keyword(text, len, "zz", 2, "bbb", 
                                 langtag_with_keyword("de", 2, "zz", 2, text + 3, len - 3, buffer, sizeof buffer))
 FUNCTION(without_keyword, result = langtag_without_keyword(text, len, "zz", 2, buffer, sizeof buffer))
 FUNCTION(extensions_form, result = langtag_extensions_form(text, len, buffer, sizeof buffer))
-FUNCTION(is_locale, result = langtag_is_locale(text, len))
 
 /* The call sorts the variants in quadratic time. Under callgrind it would take minutes for thousands of them. */
 FUNCTION(locale_form, langtag_parse(text, len, &parts);
          if (parts.variants.len < 10000) result = langtag_locale_form(text, len, buffer, sizeof buffer))
 
-static const struct function functions[] = {
-    {"parse", parse},
-    {"kind", kind},
-    {"viable", viable},
-    {"stop", stop},
-    {"refused", refused},
-    {"eq", eq},
-    {"cmp", cmp},
-    {"hash", hash},
-    {"fold", fold},
-    {"recommend", recommend},
-    {"next_subtag", next_subtag},
-    {"next_extension", next_extension},
-    {"keyword", keyword},
-    {"next_keyword", next_keyword},
-    {"attributes", attributes},
-    {"transform", transform},
-    {"field", field},
-    {"next_field", next_field},
-    {"repeats", repeats},
-    {"validity", validity},
-    {"suggestion", suggestion},
-    {"canonical", canonical},
-    {"registry_date", registry_date},
-    {"maximize", maximize},
-    {"minimize", minimize},
-    {"is_right_to_left", is_right_to_left},
-    {"distance", distance},
-    {"best_for_header", best_for_header},
-    {"match_for_header", match_for_header},
-    {"best_for_ranges", best_for_ranges},
-    {"best_of_tags", best_of_tags},
-    {"tag_for_header", tag_for_header},
-    {"tag_for_header_lenient", tag_for_header_lenient},
-    {"from_posix", from_posix},
-    {"unknown_modifier", unknown_modifier},
-    {"cldr_version", cldr_version},
-    {"is_canonical", is_canonical},
-    {"grandfathered", grandfathered},
-    {"range_kind", range_kind},
-    {"matches_basic", matches_basic},
-    {"matches_extended", matches_extended},
-    {"next_fallback", next_fallback},
-    {"next_accepted", next_accepted},
-    {"with_part", with_part},
-    {"with_keyword", with_keyword},
-    {"without_keyword", without_keyword},
-    {"extensions_form", extensions_form},
-    {"is_locale", is_locale},
-    {"locale_form", locale_form},
-};
+#define ENTRY(name) {#name, name},
+static const struct function functions[] = {LANGTAG_FUNCTIONS(ENTRY){"best_of_tags", best_of_tags}};
 
 int main(void) { return count(functions, sizeof functions / sizeof *functions); }

@@ -1,7 +1,7 @@
 /*
  * Measures how the instructions of functions grow with their text. Under callgrind, which counts instructions, each function is
  * called with texts of n and of 2n bytes, of each shape. growth.py runs the program and compares the counts. n is 20,000, or
- * 100,000 if more than 8192 variants or ranges are needed, or 2,000 or 4,000 if the function is known to be quadratic.
+ * 100,000 if many thousands of variants or ranges are needed, or 2,000 or 4,000 if the function is known to be quadratic.
  */
 #include <stdint.h>
 #include <stdio.h>
@@ -83,10 +83,10 @@ static int count(const struct function *functions, size_t number) {
         for (size_t times = 1; times <= 2; times++) {
             len = write_shape(written, shape, times * (shapes[shape].bytes ? shapes[shape].bytes : (size_t)BYTES));
             for (size_t function = 0; function < number; function++) {
-                char label[64];
+                char label[80];
                 memcpy(text, written, len);
                 memcpy(other, written, len);
-                snprintf(label, sizeof label, "%s %s %d", functions[function].name, shapes[shape].name, (int)times);
+                snprintf(label, sizeof label, "%s %s %d %zu", functions[function].name, shapes[shape].name, (int)times, len);
                 CALLGRIND_ZERO_STATS;
                 functions[function].call();
                 CALLGRIND_DUMP_STATS_AT(label);

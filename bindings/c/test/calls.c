@@ -141,13 +141,14 @@ static void put_form(text *to, text a, write_form *write) {
     size_t rooms[] = {len + 8, len, len > 0 ? len - 1 : 0};
     if (len == 0) put_word(to, " -");
     for (int k = 0; k < 3; k++) {
-        size_t room = rooms[k], at = len <= room ? len : 0;
+        bool fits = len <= rooms[k], unspecified = write == langtag_extensions_form || write == langtag_locale_form;
+        size_t room = rooms[k], at = fits ? len : unspecified ? room : 0;
         char *buffer = malloc(room ? room : 1);
         if (!buffer) abort();
         memset(buffer, '~', room);
         if (write(a.at, a.len, buffer, room) != len) put_word(to, " whose length changes with the room");
-        if (at > 0 && k == 0) put_bytes(to, buffer, len);
-        if (at > 0 && memcmp(to->at + 1, buffer, len) != 0) put_word(to, " that changes with the room");
+        if (fits && len > 0 && k == 0) put_bytes(to, buffer, len);
+        if (fits && len > 0 && memcmp(to->at + 1, buffer, len) != 0) put_word(to, " that changes with the room");
         for (; at < room; at++)
             if (buffer[at] != '~') put_word(to, " and a byte after it");
         free(buffer);
@@ -167,8 +168,24 @@ static void answer_minimized(text *to, const text *arguments) { put_form(to, arg
 
 static void answer_extensions_form(text *to, const text *arguments) { put_form(to, arguments[0], langtag_extensions_form); }
 
+static void answer_base(text *to, const text *arguments) {
+    size_t len = langtag_base_len(arguments[0].at, arguments[0].len);
+    if (len > 0) put_bytes(to, arguments[0].at, len);
+    else put_word(to, " -");
+}
+
 static void answer_is_locale(text *to, const text *arguments) {
     put_word(to, langtag_is_locale(arguments[0].at, arguments[0].len) ? " yes" : " no");
+}
+
+static size_t write_version(const char *bytes, size_t len, char *buffer, size_t buffer_len) {
+    (void)bytes, (void)len;
+    return langtag_cldr_version(buffer, buffer_len);
+}
+
+static void answer_cldr_version(text *to, const text *arguments) {
+    (void)arguments;
+    put_form(to, (text){NULL, 0, 0}, write_version);
 }
 
 /* The form, which has to be a Unicode locale identifier. Each such identifier has a form. */
@@ -186,7 +203,7 @@ static void answer_unknown_modifier(text *to, const text *arguments) {
     text name = arguments[0];
     langtag_span modifier = {1, 2};
     if (langtag_unknown_modifier(name.at, name.len, &modifier)) {
-        put_word(to, " "), put(to, name.at + modifier.start, modifier.len);
+        put_bytes(to, name.at + modifier.start, modifier.len);
         if (name.at[modifier.start - 1] != '@' || modifier.start + modifier.len != name.len) put_word(to, " in another place");
         return;
     }
@@ -326,12 +343,13 @@ static void answer_edit(text *to, const text *arguments) {
     put_edited(to, tag, part, given);
 }
 
-enum { MOST_TAGS = 64 };
+enum { MOST_TAGS = 1024 };
 
 /* The tags of a text as spans of it, and one more span that reaches beyond the text. */
 static size_t find_tags(text words, langtag_span *tags) {
     size_t count = 0;
-    for (size_t at = 0; at < words.len && count < MOST_TAGS - 1;) {
+    for (size_t at = 0; at < words.len;) {
+        if (count == MOST_TAGS - 1) abort();
         const char *blank = memchr(words.at + at, ' ', words.len - at);
         size_t end = blank ? (size_t)(blank - words.at) : words.len;
         if (end > at) tags[count++] = (langtag_span){at, end - at};
@@ -544,7 +562,9 @@ call calls[] = {
     {"best-match", answer_best_match, 0, 0},
     {"with-keyword", answer_with_keyword, 0, 0},
     {"extensions-form", answer_extensions_form, 0, 0},
+    {"base", answer_base, 0, 0},
     {"is-locale", answer_is_locale, 0, 0},
     {"locale-form", answer_locale_form, 0, 0},
+    {"cldr-version", answer_cldr_version, 0, 0},
     {NULL, NULL, 0, 0},
 };

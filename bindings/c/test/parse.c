@@ -42,11 +42,10 @@ static void written_always(void) {
     }
 }
 
-/* Calls that return a number and take no text. */
+/* The date of the registry. */
 static void versions(void) {
     uint32_t date = langtag_registry_date();
     CHECK(date / 10000 > 2000 && date / 100 % 100 - 1 < 12 && date % 100 - 1 < 31);
-    CHECK(langtag_cldr_version() > 40 && langtag_cldr_version() < 1000);
 }
 
 void test_parse(void) {

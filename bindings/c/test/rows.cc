@@ -155,6 +155,17 @@ static std::string escaped(const std::string &text) {
     return out;
 }
 
+/* Returns a text with each byte beyond ASCII as the rows have it. */
+static std::string beyond_ascii(const std::string &text) {
+    std::string out;
+    char digits[8];
+    for (const char byte : text) {
+        std::snprintf(digits, sizeof digits, "\\x%02x", static_cast<unsigned>(static_cast<unsigned char>(byte)));
+        out += static_cast<unsigned char>(byte) < 0x80 ? std::string(1, byte) : digits;
+    }
+    return out;
+}
+
 static std::string recommended_of(const strings &asked) { return escaped(langtag::recommended(asked[0])); }
 
 static std::string range_of(const strings &asked) {
@@ -278,6 +289,11 @@ static std::string extensions_form_of(const strings &asked) {
     return one ? one->extensions_form() : "-";
 }
 
+static std::string base_of(const strings &asked) {
+    const auto one = tag::parse(asked[0]);
+    return one ? std::string(one->base().text()) : "-";
+}
+
 static std::string is_locale_of(const strings &asked) {
     const auto one = tag::parse(asked[0]);
     return one && one->is_locale() ? "yes" : "no";
@@ -290,6 +306,8 @@ static std::string locale_form_of(const strings &asked) {
     return !form ? "-" : form->empty() ? "''" : *form;
 }
 
+static std::string cldr_version_of(const strings &) { return langtag::cldr_version(); }
+
 static std::string refused_of(const strings &asked) {
     const auto found = langtag::refused(asked[0]);
     const std::size_t len = asked[0].size();
@@ -300,6 +318,14 @@ static std::string refused_of(const strings &asked) {
     const auto start = static_cast<std::size_t>(found->subtag.data() - asked[0].data());
     return kind + std::to_string(start) + ' ' + std::to_string(found->subtag.size()) + ' ' +
            std::to_string(found->offset);
+}
+
+/* Returns the character or the byte that the message shows. */
+static std::string character_of(const strings &asked) {
+    const auto found = langtag::refused(asked[0]);
+    const std::string message = found ? found->message() : "", begin = "invalid character '", end = "': expected a letter, a digit or a hyphen";
+    if (message.size() < begin.size() + end.size() || message.find(begin) != 0) return message;
+    return beyond_ascii(message.substr(begin.size(), message.size() - begin.size() - end.size()));
 }
 
 static std::string maximized_of(const strings &asked) {
@@ -325,17 +351,24 @@ static std::string distance_of(const strings &asked) {
 static std::string posix_of(const strings &asked) { return langtag::from_posix(asked[0]).value_or("-"); }
 
 static std::string unknown_modifier_of(const strings &asked) {
-    return std::string(langtag::unknown_modifier(asked[0]).value_or("-"));
+    return beyond_ascii(std::string(langtag::unknown_modifier(asked[0]).value_or("-")));
 }
 
 static std::string best_of(const strings &asked) {
     const strings texts = split(asked[1], " ");
     const auto best = langtag::best_for_header(asked[0], tags_of(texts));
-    if (langtag::best_for_header(asked[0], texts) != best || langtag::accept_language(asked[0]).best(texts) != best)
+    if (langtag::best_for_header(asked[0], texts) != best)
         return "another of texts";
     if (asked[0].find(';') == std::string::npos && langtag::best_for_ranges(split(asked[0], ","), texts) != best)
         return "another of ranges";
     return found_or_default(best);
+}
+
+static std::string best_of_accepted(const strings &asked) {
+    const strings texts = split(asked[1], " ");
+    const langtag::accept_language accepted(asked[0]);
+    if (accepted.best(tags_of(texts)) != accepted.best(texts)) return "another of texts";
+    return found_or_default(accepted.best(texts));
 }
 
 static std::string best_of_ranges(const strings &asked) {
@@ -416,6 +449,8 @@ static const std::map<std::string, answer> calls = {
     {"header", header_of},
     {"ranges", ranges_of},
     {"refused", refused_of},
+    {"character", character_of},
+    {"byte", character_of},
     {"maximized", maximized_of},
     {"minimized", minimized_of},
     {"right-to-left", right_to_left_of},
@@ -424,6 +459,7 @@ static const std::map<std::string, answer> calls = {
     {"unknown-modifier", unknown_modifier_of},
     {"best", best_of},
     {"best-ranges", best_of_ranges},
+    {"best-accepted", best_of_accepted},
     {"keyword", keyword_of},
     {"keywords", keywords_of},
     {"attributes", attributes_of},
@@ -431,8 +467,10 @@ static const std::map<std::string, answer> calls = {
     {"best-match", best_match_of},
     {"with-keyword", with_keyword_of},
     {"extensions-form", extensions_form_of},
+    {"base", base_of},
     {"is-locale", is_locale_of},
     {"locale-form", locale_form_of},
+    {"cldr-version", cldr_version_of},
 };
 
 /* Returns a line in which each {N:piece} is expanded. */

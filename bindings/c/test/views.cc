@@ -168,7 +168,7 @@ static void check_likely() {
     CHECK(langtag::from_posix("sr_RS@latin") == "sr-Latn-RS" && !langtag::from_posix("C") && !langtag::from_posix({}));
     const std::string name = "de_DE.UTF-8@Foo";
     CHECK(langtag::unknown_modifier(name)->data() == name.data() + 12 && !langtag::unknown_modifier("sr_RS@latin") && !langtag::unknown_modifier({}));
-    CHECK(langtag::cldr_version() == langtag_cldr_version());
+    CHECK(langtag::cldr_version().size() == langtag_cldr_version(nullptr, 0));
 }
 
 /* Lists that contain tags. Texts that are not tags are skipped. */

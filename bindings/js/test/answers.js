@@ -1,6 +1,6 @@
 /* Returns the package's answer to a row, in the form of the rows. It runs in Node and in a web page. */
 import {
-    AcceptLanguage, AcceptLanguageError, bestForHeader, bestForRanges, distance, EditError, GRANDFATHERED, InvalidRange, InvalidTag, matchForHeader,
+    AcceptLanguage, AcceptLanguageError, bestForHeader, bestForRanges, CLDR_VERSION, distance, EditError, GRANDFATHERED, InvalidRange, InvalidTag, matchForHeader,
     LanguageRange, LanguageTag, lookUp, stopLength, tagForHeader, tagForHeaderLenient, unknownModifier, viableLength,
 } from "../index.js";
 import * as calls from "../calls.js";
@@ -127,7 +127,8 @@ function answerScan(text) {
 
 function answerMatch(rangeText, tagText) {
     const range = made(LanguageRange, rangeText), tag = made(LanguageTag, tagText);
-    const how = range && tag ? [range.matchesBasic(tag), range.matchesExtended(tag)] : [false, false];
+    const how = range ? [range.matchesBasic(tagText), range.matchesExtended(tagText)] : [false, false];
+    assert(!range || !tag || (range.matchesBasic(tag) === how[0] && range.matchesExtended(tag) === how[1]), "a tag matches as its text does");
     return { "true,true": "both", "true,false": "basic", "false,true": "extended", "false,false": "neither" }[how.join()];
 }
 
@@ -176,6 +177,33 @@ function answerRefused(text) {
     return `${["none", "subtag", "byte", "end"][answer]} ${start} ${length} ${offset}`;
 }
 
+/** Returns the text whose bytes in UTF-8 a row has, or undefined if they are not UTF-8. */
+function decoded(bytes) {
+    try {
+        return new TextDecoder("utf-8", { fatal: true }).decode(Uint8Array.from(bytes, (byte) => byte.charCodeAt(0)));
+    } catch {
+        return undefined;
+    }
+}
+
+/** Returns a text as the rows have it: its bytes beyond ASCII as \xNN. */
+const escaped = (text) => [...new TextEncoder().encode(text)].map((byte) => (byte < 0x80 ? String.fromCharCode(byte) : `\\x${byte.toString(16)}`)).join("");
+
+/** Returns the character that the reason of an error shows. */
+function answerCharacter(bytes) {
+    const text = decoded(bytes);
+    try {
+        return text === undefined ? undefined : String(LanguageTag.parse(text));
+    } catch (error) {
+        return escaped(error.reason.match(/^invalid character "(.*)": expected a letter, a digit or a hyphen$/su)[1]);
+    }
+}
+
+function answerUnknownModifier(bytes) {
+    const name = decoded(bytes);
+    return name === undefined ? undefined : escaped(unknownModifier(name) ?? "-");
+}
+
 function answerDistance(desired, supported) {
     const [one, other] = [made(LanguageTag, desired), made(LanguageTag, supported)];
     return one && other ? String(distance(one, other)) : "-";
@@ -185,8 +213,14 @@ function answerBest(header, list) {
     const texts = list.split(" ").filter(Boolean);
     const found = bestForHeader(header, texts, DEFAULT);
     assert(String(bestForHeader(header, texts.map((text) => LanguageTag.parse(text)), DEFAULT)) === found, "the tag of tags");
-    assert(AcceptLanguage.lenient(header).best(texts, DEFAULT) === found, "the tag of a header that was read");
     assert(header.includes(";") || bestForRanges(header.split(","), texts, DEFAULT) === found, "the tag of ranges");
+    return found;
+}
+
+function answerBestAccepted(header, list) {
+    const accepted = AcceptLanguage.lenient(header), texts = list.split(" ").filter(Boolean);
+    const found = accepted.best(texts, DEFAULT);
+    assert(String(accepted.best(texts.map((text) => LanguageTag.parse(text)), DEFAULT)) === found, "the tag of tags");
     return found;
 }
 
@@ -285,8 +319,10 @@ function answerTransform(text) {
 export const answers = {
     "with-keyword": answerWithKeyword,
     "extensions-form": answerExtensionsForm,
+    base: (text) => LanguageTag.parse(text).base.text,
     "is-locale": (text) => (LanguageTag.parse(text).isLocale ? "yes" : "no"),
     "locale-form": answerLocaleForm,
+    "cldr-version": () => CLDR_VERSION,
     keyword: (text, key) => orEmpty(LanguageTag.parse(text).keyword(key) ?? "-"),
     keywords: answerKeywords,
     attributes: (text) => LanguageTag.parse(text).attributes.join(" ") || "-",
@@ -306,12 +342,14 @@ export const answers = {
     match: answerMatch,
     order: answerOrder,
     refused: answerRefused,
+    character: answerCharacter,
     posix: (name) => LanguageTag.fromPosix(name)?.text ?? "-",
-    "unknown-modifier": (name) => unknownModifier(name) ?? "-",
+    "unknown-modifier": answerUnknownModifier,
     "right-to-left": (text) => ({ true: "yes", false: "no", undefined: "-" })[made(LanguageTag, text)?.isRightToLeft],
     distance: answerDistance,
     best: answerBest,
     "best-ranges": answerBestRanges,
+    "best-accepted": answerBestAccepted,
     "best-match": answerBestMatch,
     maximized: (text) => made(LanguageTag, text)?.maximize().toString() ?? "-",
     minimized: (text) => made(LanguageTag, text)?.minimize().toString() ?? "-",
@@ -320,4 +358,4 @@ export const answers = {
     edit: answerEdit,
 };
 
-export const FLOORS = { "table.txt": 360, "texts.txt": 710, "negotiation.txt": 102, "edits.txt": 125, "likely.txt": 200, "posix.txt": 150, "direction.txt": 300, "distance.txt": 130, "choices.txt": 275, "lists.txt": 15, "refused.txt": 60, "unicode.txt": 400, "keywords.txt": 380, "extensions.txt": 630, "locale.txt": 750, "cldr.txt": 1773 };
+export const FLOORS = { "table.txt": 360, "texts.txt": 710, "negotiation.txt": 102, "edits.txt": 125, "likely.txt": 200, "posix.txt": 150, "direction.txt": 300, "distance.txt": 130, "choices.txt": 275, "lists.txt": 28, "lengths.txt": 180, "refused.txt": 67, "unicode.txt": 400, "keywords.txt": 380, "extensions.txt": 630, "locale.txt": 750, "cldr.txt": 1774 };

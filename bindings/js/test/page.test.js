@@ -57,7 +57,7 @@ test("a tag's parts, by name and section", { skip }, async () => {
 test("validity and forms", { skip }, async () => {
     await type("tag", "IW-latn-il");
     assert.deepEqual(await forms(), { Name: "Hebrew (Latin, Israel)", Kind: "normal", Validity: "valid", "Recommended case": "iw-Latn-IL", "Canonical form": "he-latn-il",
-        "Unicode form": "he-Latn-IL", "With canonical extensions": "IW-latn-il", "With likely subtags": "IW-latn-il", "Without them": "IW-latn-il", Written: "from left to right" });
+        "Unicode form": "he-Latn-IL", "With canonical extensions": "IW-latn-il", "With likely subtags": "IW-latn-il", "Without them": "IW-latn", Written: "from left to right" });
     await type("tag", "zh-hant-TW");
     assert.deepEqual([(await forms())["With likely subtags"], (await forms())["Without them"]], ["zh-hant-TW", "zh-TW"]);
     await type("tag", "de-1996-1996");

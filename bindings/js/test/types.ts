@@ -19,6 +19,8 @@ const absent = [
     tagForHeader(undefined, ["de"], "en"), tagForHeaderLenient(null, ["de"], "en"), AcceptLanguage.parse(undefined).best(["de"], "en"),
     AcceptLanguage.lenient(null).lookUp(["de"], "en"),
 ];
+const fallback: string | undefined = request.headers["accept-language"];
+const either: "de" | string | undefined = bestForHeader("fi", ["de"] as const, fallback);
 const weights: number[] = AcceptLanguage.lenient("fr").ranges.map(({ weight }) => weight);
 const sorted: string[] = ["zh", "de"].sort(LanguageTag.compare);
 const kinds: "normal" | "private-use" | "irregular" = tag.kind;
@@ -28,7 +30,7 @@ try {
     if (error instanceof InvalidTag) console.log(error.text, error.offset, error.viable, error.message);
     if (error instanceof EditError) console.log(error.part === "script" || error.part === "key");
 }
-console.log(script, subtags, form, identifier, fault, found, none, best, absent, weights, sorted, kinds, REGISTRY_DATE.length, tag.fnv1a() > 0n, tag.equals("ZH"));
+console.log(script, subtags, form, identifier, fault, found, none, best, absent, weights, sorted, kinds, either, REGISTRY_DATE.length, tag.fnv1a() > 0n, tag.equals("ZH"));
 
 // @ts-expect-error a number is not a text
 LanguageTag.parse(5);
@@ -44,3 +46,24 @@ tag.text = "de";
 const named: LanguageTag = tag.localeForm();
 // @ts-expect-error a script may be absent
 const certain: string = tag.script;
+
+// Without the last argument, a choice may return undefined.
+// @ts-expect-error no tag may be suitable
+const chosenForHeader: string = bestForHeader("fi", ["de"]);
+// @ts-expect-error no tag may be suitable
+const chosenForRanges: string = bestForRanges(["fi"], ["de"]);
+// @ts-expect-error no tag may be found
+const foundForHeader: string = tagForHeader("fi", ["de"]);
+// @ts-expect-error no tag may be found
+const foundLeniently: string = tagForHeaderLenient("fi", ["de"]);
+// @ts-expect-error no tag may be found
+const foundForRanges: string = lookUp(["fi"], ["de"]);
+// @ts-expect-error no tag may be suitable
+const chosenForAccepted: string = AcceptLanguage.parse("fi").best(["de"]);
+// @ts-expect-error no tag may be found
+const foundForAccepted: string = AcceptLanguage.parse("fi").lookUp(["de"]);
+function language(header: string | undefined): string {
+    // @ts-expect-error no tag may be suitable
+    return bestForHeader(header, ["de", "en"]);
+}
+language(undefined);

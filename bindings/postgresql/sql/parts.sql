@@ -27,3 +27,12 @@ SELECT set_keyword('x-a', 'c1', NULL);
 SELECT set_keyword('de-u-ca-roc', 'ca', 'ああ');
 SELECT set_keyword('x-a', 'ca', 'roc');
 SELECT set_keyword('i-klingon', 'ca', NULL);
+-- Long lists are whole.
+SELECT n, cardinality(variants(t)) AS variants, (variants(t))[n] AS last, cardinality(extensions(t)) AS extensions, (extensions(t))[n] AS last, cardinality(keywords(k)) AS keywords, (keywords(k))[n][2] AS last
+FROM unnest('{300,1000}'::int[]) AS n, (VALUES ('abcdefghijklmnopqrstuvwxyz0123456789')) AS a(letters), LATERAL (SELECT ('de-' || string_agg('v' || lpad(i::text, 7, '0'), '-' ORDER BY i) || string_agg('-a-' || lpad(i::text, 4, '0'), '' ORDER BY i))::langtag AS t,
+    ('de-u' || string_agg('-' || substr(letters, 1 + i / 36, 1) || substr(letters, 1 + i % 36, 1) || '-v' || lpad(i::text, 4, '0'), '' ORDER BY i))::langtag AS k
+    FROM generate_series(1, n) AS i) s;
+SELECT keyword(t, 'ca'), set_keyword(t, 'ca', NULL) = set_private_use('de-u-attr', private_use(t)::text) AS removed, length(set_script(t, 'latn')::text) - length(t::text) AS longer
+FROM (SELECT ('de-u-attr-ca-roc-x-' || repeat('abcdefgh-', 500) || 'a')::langtag AS t) s;
+-- Without extensions and private use.
+SELECT t, base(t), base(t) = t AS same FROM unnest('{de-CH-1996-u-co-phonebk-x-mine,ZH-hant,x-a,i-klingon,en-x-y}'::langtag[]) AS t;

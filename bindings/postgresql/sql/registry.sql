@@ -7,6 +7,8 @@ SELECT t, suggestion(t), pg_typeof(suggestion(t)) FROM unnest('{ger-at,en-UK,en-
 SELECT t, canonical(t) FROM (SELECT ('ja-Latn-hepburn-' || repeat('heploc-', 20) || 'heploc')::langtag AS t) s;
 SELECT is_valid(('de-x-' || repeat('abcdefgh-', 120000) || 'a')::langtag);
 SELECT langtag_registry_date() ~ '^\d{4}-\d\d-\d\d$' AS dated;
+-- The versions in one line, and whether the library is the proved archive, which depends on how it was built.
+SELECT replace(replace(langtag_version(), langtag_registry_date(), 'DATE'), ', CLDR ' || langtag_cldr_version() || ')', ', CLDR)') ~ '^langtag \d+\.\d+\.\d+\S* \(IANA''s registry of DATE, CLDR\)$' AS versions, langtag_proved() IS NOT NULL AS known;
 -- The name of the module with these functions has that date and CLDR's version, and the module has no other functions.
 SELECT proname, probin = '$libdir/langtag-' || langtag_registry_date() || '-cldr' || langtag_cldr_version() AS dated FROM pg_proc WHERE probin ~ 'langtag-' ORDER BY 1;
 -- A generated column that uses the registry, and an index on it
@@ -45,16 +47,23 @@ SELECT match_for_header('{en,NULL,DE}', 'fi, de_AT;q=0.3'), (match_for_header(AR
 SELECT match_for_header('{de}', repeat('a', 9000));
 SELECT best_for_header('{de}', repeat('a', 9000));
 SELECT best_for_header(array_agg(CASE k WHEN 3 THEN 'de-CH' WHEN 200 THEN 'fr' ELSE 'x-a' END::langtag ORDER BY k), 'de-CH, fr;q=0.5') FROM generate_series(1, 200) AS k;
--- A call with many tags, or with long tags, ends soon after it is cancelled.
+-- Any of 300 tags is chosen, and its index is that in the array.
+SELECT n, count(*) FILTER (WHERE best_for_header(tags, 'de-CH, fr;q=0.5') = 'de-CH' AND tag_for_header_lenient(tags, 'de-CH, fr;q=0.5') = 'de-CH'
+    AND best_for_header(tags::text[], 'de-CH, fr;q=0.5') = 'de-CH' AND match_for_header(tags, 'de-CH, fr;q=0.5') = ROW(place, 'de-CH'::langtag, 0, 'de-CH'::text)) AS found
+FROM unnest('{300,1000}'::int[]) AS n, LATERAL (SELECT place, (SELECT array_agg(CASE k WHEN place THEN 'de-CH' WHEN 9 THEN 'fr' ELSE 'x-a' END::langtag ORDER BY k) FROM generate_series(1, n) AS k) AS tags
+    FROM unnest(ARRAY[1, 64, 65, 255, 256, 257, n]) AS place) s GROUP BY n ORDER BY n;
+-- A call with many tags, with long tags, or with many keywords ends soon after it is cancelled.
 CREATE FUNCTION ends_soon(query text) RETURNS boolean LANGUAGE plpgsql AS $$ DECLARE begun timestamptz := clock_timestamp(); BEGIN
     EXECUTE query; RETURN clock_timestamp() < begun + '3 s'; EXCEPTION WHEN query_canceled THEN RETURN clock_timestamp() < begun + '3 s'; END $$;
+CREATE TABLE many_keywords AS SELECT ('de-u-' || string_agg(chr(97 + k / 36 % 26) || substr('0123456789abcdefghijklmnopqrstuvwxyz', 1 + k % 36, 1) || '-abc', '-'))::langtag AS tag FROM generate_series(1, 400000) AS k;
 SET statement_timeout = '500ms';
 SELECT ends_soon($$SELECT best_for_header(array_agg(('zh-x-' || k)::langtag), repeat('no,', 2700)) FROM generate_series(1, 16000) AS k$$);
 SELECT ends_soon($$SELECT best_for_header((SELECT array_agg(('zh-x-' || repeat('abcdefgh-', 9000) || lpad(k::text, 3, '0'))::langtag) FROM generate_series(1, 64) AS k),
     string_agg('zh;q=.' || lpad(k::text, 3, '0'), ',' ORDER BY k)) FROM generate_series(1, 740) AS k$$);
 SELECT ends_soon($$SELECT tag_for_header_lenient(array_agg(('x-' || k)::langtag), repeat('aa-', 60000) || 'de') FROM generate_series(1, 30000) AS k$$);
+SELECT ends_soon($$SELECT keywords(tag) FROM many_keywords$$);
 RESET statement_timeout;
-DROP FUNCTION ends_soon;
+DROP FUNCTION ends_soon; DROP TABLE many_keywords;
 -- A dropped extension leaves nothing behind.
 DROP EXTENSION langtag CASCADE;
 SELECT count(*) FROM pg_proc WHERE proname ~ 'langtag';

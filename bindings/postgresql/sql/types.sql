@@ -32,6 +32,11 @@ SELECT 'de*'::langtag_part;
 SELECT is_langtag('de-CH'), is_langtag('de_CH'), is_langtag(''), is_langtag(NULL), langtag_viable('de_CH'), langtag_viable('de-CH');
 -- The binary form is the text's bytes.
 SELECT encode(langtag_send('zh-HANT'), 'escape'), encode(langtag_range_send('*-CH'), 'escape'), encode(langtag_part_send('CH'), 'escape');
+-- It is whole, also where it is long, and a value that is read again is the same.
+SELECT n, octet_length(langtag_send(tag)) = n AND convert_from(langtag_send(tag), 'UTF8') = tag::text AS tag, octet_length(langtag_range_send(range)) = n AS range,
+    octet_length(langtag_part_send(part)) = n AS part
+FROM unnest('{200,300,2000,4506,100000}'::int[]) AS n, LATERAL (SELECT left('de-x-' || repeat('abcdefgh-', n / 9), n - 2) || '-a' AS t) s,
+    LATERAL (SELECT t::langtag AS tag, t::langtag_range AS range, t::langtag_part AS part) v;
 -- Casts: to text by assignment, from text only explicitly.
 CREATE TABLE casts (a text, b varchar(10), c langtag);
 INSERT INTO casts SELECT t, t, t FROM (VALUES ('DE-ch'::langtag)) AS v(t);
@@ -56,11 +61,12 @@ SELECT a.tag = b.tag FROM long a, (SELECT 'x-a'::langtag AS tag) b;
 -- An index has a limit on the length of a value, as for any type.
 CREATE INDEX ON long (tag);
 DROP TABLE long;
--- The functions that are not IMMUTABLE STRICT PARALLEL SAFE, the functions that are LEAKPROOF, and that no type has a collation
+-- The functions that are not IMMUTABLE STRICT PARALLEL SAFE, all functions that are LEAKPROOF, and that no type has a collation
 SELECT proname FROM pg_proc JOIN pg_depend ON objid = pg_proc.oid AND deptype = 'e' JOIN pg_extension e ON refobjid = e.oid
 WHERE extname = 'langtag' AND prokind = 'f' AND pg_depend.classid = 'pg_proc'::regclass AND NOT (provolatile = 'i' AND proparallel = 's' AND proisstrict)
 ORDER BY 1;
-SELECT string_agg(proname, ' ' ORDER BY proname) FROM pg_proc WHERE proleakproof AND proname ~ '^langtag';
+SELECT string_agg(proname, ' ' ORDER BY proname) FROM pg_proc JOIN pg_depend ON objid = pg_proc.oid AND deptype = 'e' JOIN pg_extension e ON refobjid = e.oid
+WHERE extname = 'langtag' AND pg_depend.classid = 'pg_proc'::regclass AND proleakproof;
 SELECT typname, typcollation FROM pg_type WHERE typname ~ '^langtag' ORDER BY 1;
 SELECT procost, string_agg(proname, ' ' ORDER BY proname) FROM pg_proc JOIN pg_depend ON objid = pg_proc.oid AND deptype = 'e' JOIN pg_extension e ON refobjid = e.oid
 WHERE extname = 'langtag' AND prokind = 'f' AND procost > 1 GROUP BY 1 ORDER BY 1;

@@ -58,13 +58,14 @@ end_all() {
     [ -z "${pg_folder:-}" ] || rm -rf "$pg_folder"
 }
 
-# later HERE INCLUDE ARCHIVE: installs a release 0.2.0 beside the first release. In it the registry replaces de by xx, and CLDR's
+# later HERE INCLUDE ARCHIVE: installs a release 99.0 beside the first release. In it the registry replaces de by xx, and CLDR's
 # likely region of fr is BE.
 later() {
-    local at=$pg_folder/server
+    local at=$pg_folder/server dated=langtag-2031-01-01-cldr99.1 version
+    version=$(sed -n 's/.*LANGTAG_VERSION "\(.*\)"/\1/p' "$2/langtag.h")
     cc -O2 -fPIC -c -I"$2" "$1/test/later_registry.c" -o "$pg_folder/later_registry.o" || return 1
     cc -O2 -fPIC -shared -I"$2" -I"$("$pg_config" --includedir-server)" -Dlangtag_canonical=later_canonical \
         -Dlangtag_registry_date=later_registry_date -Dlangtag_maximize=later_maximize -Dlangtag_cldr_version=later_cldr_version "$1/langtag_pg.c" "$pg_folder/later_registry.o" "$3" \
-        -Wl,--exclude-libs,ALL -Wl,-Bsymbolic -o "$at$("$pg_config" --pkglibdir)/langtag-2031-01-01-cldr99.so" || return 1
-    sed 's/@MODULE@/langtag-2031-01-01-cldr99/' "$1/update.sql.in" >"$at$("$pg_config" --sharedir)/extension/langtag--0.1.0--0.2.0.sql"
+        -Wl,--exclude-libs,ALL -Wl,-Bsymbolic -o "$at$("$pg_config" --pkglibdir)/$dated.so" || return 1
+    sed "s/@MODULE@/$dated/" "$1/update.sql.in" >"$at$("$pg_config" --sharedir)/extension/langtag--$version--99.0.sql"
 }

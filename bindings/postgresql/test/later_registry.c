@@ -6,7 +6,7 @@
 size_t later_canonical(const char *bytes, size_t len, char *buffer, size_t buffer_len);
 uint32_t later_registry_date(void);
 size_t later_maximize(const char *bytes, size_t len, char *buffer, size_t buffer_len);
-uint32_t later_cldr_version(void);
+size_t later_cldr_version(char *buffer, size_t buffer_len);
 
 size_t later_canonical(const char *bytes, size_t len, char *buffer, size_t buffer_len) {
     size_t form_len = langtag_canonical(bytes, len, buffer, buffer_len);
@@ -22,4 +22,7 @@ size_t later_maximize(const char *bytes, size_t len, char *buffer, size_t buffer
     return form_len;
 }
 
-uint32_t later_cldr_version(void) { return 99; }
+size_t later_cldr_version(char *buffer, size_t buffer_len) {
+    if (buffer_len >= 4) memcpy(buffer, "99.1", 4);
+    return 4;
+}

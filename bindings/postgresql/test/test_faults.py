@@ -57,6 +57,16 @@ class Faults(unittest.TestCase):
             self.assertIn("22P02", self.binary(database, "langtag_range", b"de_CH")[1])
             self.assertIn("22P02", self.binary(database, "langtag_part", b"de_CH")[1])
 
+    def test_copy_binary_of_long_values(self):
+        """COPY in the binary format writes and reads each value whole."""
+        server.lines("DROP TABLE IF EXISTS long_values; CREATE TABLE long_values (tag langtag, range langtag_range, part langtag_part); INSERT INTO long_values "
+                     "SELECT t::langtag, t::langtag_range, t::langtag_part FROM (SELECT 'de-x-' || repeat('abcdefgh-', n / 9) || 'a' AS t FROM "
+                     "unnest('{200,300,2000,4506,100000}'::int[]) AS n) s; CREATE TABLE again (LIKE long_values)", "faults")
+        with tempfile.NamedTemporaryFile() as file:
+            server.lines(f"\\copy long_values TO '{file.name}' (FORMAT binary)\n\\copy again FROM '{file.name}' (FORMAT binary)", "faults")
+        self.says("SELECT count(*), sum(length(a.tag::text)) FROM long_values a JOIN again b ON a.tag = b.tag AND a.range::text = b.range::text AND "
+                  "a.part = b.part; DROP TABLE long_values, again", "5|107022")
+
     def test_encodings(self):
         for encoding in ("LATIN1", "WIN1252", "EUC_JP", "SQL_ASCII", "MULE_INTERNAL"):
             server.fresh("encoded", encoding=encoding)

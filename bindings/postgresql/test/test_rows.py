@@ -128,8 +128,10 @@ QUERIES = {
     "unknown-modifier": lambda name: f"SELECT unknown_modifier({text(name)})",
     "best": best, "best-match": best_match, "header": header, "ranges": ranges, "edit": edit,
     "with-keyword": with_keyword, "extensions-form": lambda tag: f"SELECT extensions_form({text(tag)}::langtag)::text",
+    "base": lambda tag: f"SELECT base({text(tag)}::langtag)::text",
     "is-locale": lambda tag: f"SELECT CASE WHEN is_locale({text(tag)}::langtag) THEN 'yes' ELSE 'no' END",
     "locale-form": lambda tag: f"SELECT locale_form({text(tag)}::langtag)::text",
+    "cldr-version": lambda: "SELECT langtag_cldr_version()",
 }
 NO_TAG = "22P02"
 HOW = {"t t": "both", "t f": "basic", "f t": "extended", "f f": "neither", NO_TAG: "neither"}
@@ -147,7 +149,7 @@ ANSWERS = {
     "order": lambda said: {"-1": "before", "0": "equal", "1": "after"}.get(said, said),
     "edit": lambda said: {"22023": "refused", "22023 no parts": "no parts"}.get(said, said.lower()),
     "with-keyword": lambda said: said.removeprefix("22023 ").lower(),
-    "extensions-form": str.lower, "locale-form": str.lower,
+    "extensions-form": str.lower, "locale-form": str.lower, "base": str.lower,
 }
 
 
@@ -171,7 +173,7 @@ def adapted(row):
         return "before" if a != b and b.startswith(a) else "after" if a != b and a.startswith(b) else wanted
     if row.call == "header":
         return row.text.split(" | ")[-1].lower()
-    return wanted.lower() if row.call in ("canonical", "posix", "maximized", "minimized", "edit", "ranges", "best", "best-match", "keyword", "keywords", "with-keyword", "extensions-form", "locale-form") else wanted
+    return wanted.lower() if row.call in ("canonical", "posix", "maximized", "minimized", "edit", "ranges", "best", "best-match", "keyword", "keywords", "with-keyword", "extensions-form", "locale-form", "base") else wanted
 
 
 def query(row):
@@ -214,6 +216,9 @@ class Rows(unittest.TestCase):
     def test_table(self):
         self.ask("table.txt", 300)
 
+    def test_lengths(self):
+        self.ask("lengths.txt", 140)
+
     def test_texts(self):
         self.ask("texts.txt", 500)
 
@@ -248,7 +253,7 @@ class Rows(unittest.TestCase):
         self.ask("locale.txt", 780)
 
     def test_cases_of_cldr(self):
-        self.ask("cldr.txt", 1770)
+        self.ask("cldr.txt", 1774)
 
 
 class Registry(unittest.TestCase):

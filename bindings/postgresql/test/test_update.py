@@ -38,14 +38,14 @@ CREATE OPERATOR FAMILY in_order USING btree; CREATE OPERATOR CLASS in_order FOR 
 CREATE UNIQUE INDEX o_order ON o (tag in_order); CREATE TABLE o_key (tag langtag REFERENCES o (tag));
 """
 WARNINGS = [
-    "check anew: constraint t_tag_check on table t", "check anew: constraint valid_check of the domain valid",
-    "move rows between the partitions of parted", "REFRESH MATERIALIZED VIEW m", "REFRESH MATERIALIZED VIEW through", "REFRESH MATERIALIZED VIEW above",
-    "REINDEX INDEX t_by_function", "REINDEX INDEX t_canonical", "REINDEX INDEX t_maximal", "REINDEX INDEX t_valid", "UPDATE t SET tag = tag, for form",
-    "check anew: constraint o_tag_check on table o", "check anew: constraint same_check of the domain same",
-    "check anew: constraint o_key_tag_fkey on table o_key",
-    "move rows between the partitions of o_parted", "move rows between the partitions of o_spread", "REFRESH MATERIALIZED VIEW o_forms",
-    "REFRESH MATERIALIZED VIEW o_through", "REINDEX INDEX o_class", "REINDEX INDEX o_form", "REINDEX INDEX o_order", "REINDEX INDEX o_same",
-    "UPDATE o SET tag = tag, for form",
+    "check anew: constraint t_tag_check on table public.t", "check anew: constraint valid_check of the domain public.valid",
+    "move rows between the partitions of public.parted", "REFRESH MATERIALIZED VIEW public.m", "REFRESH MATERIALIZED VIEW public.through", "REFRESH MATERIALIZED VIEW public.above",
+    "REINDEX INDEX public.t_by_function", "REINDEX INDEX public.t_canonical", "REINDEX INDEX public.t_maximal", "REINDEX INDEX public.t_valid", "UPDATE public.t SET tag = tag, for form",
+    "check anew: constraint o_tag_check on table public.o", "check anew: constraint same_check of the domain public.same",
+    "check anew: constraint o_key_tag_fkey on table public.o_key",
+    "move rows between the partitions of public.o_parted", "move rows between the partitions of public.o_spread", "REFRESH MATERIALIZED VIEW public.o_forms",
+    "REFRESH MATERIALIZED VIEW public.o_through", "REINDEX INDEX public.o_class", "REINDEX INDEX public.o_form", "REINDEX INDEX public.o_order", "REINDEX INDEX public.o_same",
+    "UPDATE public.o SET tag = tag, for form",
 ]
 # Rows that a scan finds, and an old index does not.
 LOST = ["@@@ tag = 'xx'", "tag === 'xx'"]
@@ -63,13 +63,13 @@ class Update(unittest.TestCase):
         server.lines(TABLES + OPERATORS, "updated")
         self.says("SELECT canonical('de'), langtag_registry_date() > '2025'", "de|t")
         # In one session in which the old module was loaded before.
-        said, complaint = server.run("SELECT canonical('de'); ALTER EXTENSION langtag UPDATE TO '0.2.0'; SELECT "
+        said, complaint = server.run("SELECT canonical('de'); ALTER EXTENSION langtag UPDATE TO '99.0'; SELECT "
                                      "canonical('de'), langtag_registry_date(), langtag_cldr_version(), maximized('fr'), is_valid('de'), 'DE'::langtag", "updated")
-        self.assertEqual(said, ["de", "xx|2031-01-01|99|fr-Latn-BE|t|de"])
+        self.assertEqual(said, ["de", "xx|2031-01-01|99.1|fr-Latn-BE|t|de"])
         warned = sorted(line.split("WARNING:  ")[1] for line in complaint.splitlines() if "WARNING:" in line)
         self.assertEqual(warned, sorted(f"values by the older data: {what}" for what in WARNINGS))
         views = re.findall("MATERIALIZED VIEW (.*)", complaint)
-        self.assertLess(views.index("m"), views.index("above"))
+        self.assertLess(views.index("public.m"), views.index("public.above"))
         # The index on canonical(tag) is old. The generated column is old too, but its index agrees with it.
         self.says(BY_INDEX + "SELECT tag FROM t WHERE canonical(tag) = 'xx'")
         self.says(BY_SCAN + "SELECT tag FROM t WHERE canonical(tag) = 'xx'", "de")

@@ -6,11 +6,12 @@ import ctypes
 import functools
 from typing import Any, Callable, Iterable, Iterator
 
-from ._library import BestMatch, Parts, Repeated, Span, opened
-from ._texts import Text, bytes_of
+from ._declarations import FUNCTIONS, BestMatch, Parts, Repeated, Span
+from ._library import opened
+from ._texts import Text, bytes_of, unchangeable, uninitialized, wrong_type
 
 _c = opened()
-registry_date, cldr_version = _c.langtag_registry_date, _c.langtag_cldr_version
+registry_date = _c.langtag_registry_date
 
 
 def _ask(call: Callable[..., Any], text: Text, *more: Any) -> Any:
@@ -18,8 +19,9 @@ def _ask(call: Callable[..., Any], text: Text, *more: Any) -> Any:
     return call(data, len(data), *more)
 
 
-kind, viable, stop, is_right_to_left = (
-    functools.partial(_ask, call) for call in (_c.langtag_kind, _c.langtag_viable, _c.langtag_stop, _c.langtag_is_right_to_left))
+# The functions of one text that only return a value, by their names in langtag.h.
+globals().update({name[len("langtag_") :]: functools.partial(_ask, getattr(_c, name))
+                  for name, (_, *parameters) in FUNCTIONS.items() if parameters == [ctypes.c_char_p, ctypes.c_size_t]})
 
 
 def refused(text: Text) -> tuple[int, int, int, int]:
@@ -41,6 +43,12 @@ def _changed(change: Callable[..., None], data: bytes) -> bytes:
     buffer = ctypes.create_string_buffer(data, len(data))
     change(buffer, len(data))
     return buffer.raw
+
+
+def cldr_version() -> str:
+    buffer = ctypes.create_string_buffer(_c.langtag_cldr_version(ctypes.create_string_buffer(0), 0))
+    _c.langtag_cldr_version(buffer, len(buffer))
+    return str(buffer.raw, "ascii")
 
 
 def suggestion(fault: int, subtag: Text) -> str | None:
@@ -82,8 +90,16 @@ def _joined(texts: list[bytes]) -> tuple[bytes, int, Any, int]:
     return b"".join(texts), start, spans, len(texts)
 
 
+def _tag(value: Any, tag_class: Any) -> Any:
+    if isinstance(value, TagBase):
+        return value
+    if not isinstance(value, (str, bytes)):
+        wrong_type(value, "tag")
+    return tag_class(value)
+
+
 def _index(choose: Callable[..., int], wanted: tuple[Any, ...], listed: list[Any], tag_class: Any, *out: Any) -> int:
-    return choose(*wanted, *_joined([(it if isinstance(it, TagBase) else tag_class(it))._data for it in listed]), *out)
+    return choose(*wanted, *_joined([_tag(it, tag_class)._data for it in listed]), *out)
 
 
 def _chosen(choose: Callable[..., int], wanted: tuple[Any, ...], tags: Iterable[Any], default: Any, tag_class: Any) -> Any:
@@ -124,16 +140,24 @@ class _Value:
     __slots__ = ("_text", "_kind", "_parts", "__weakref__")
     _base: Any
     _error: Any
-    _data = property(lambda self: self._text)
 
     def __init__(self, text: Any):
-        if hasattr(self, "_data"):
-            raise AttributeError(f"a {self._base.__name__} does not change")
-        given, parts = text._data if isinstance(text, self._base) else text, Parts()
-        kind = _ask(_c.langtag_range_kind, given) if isinstance(self, RangeBase) else _ask(_c.langtag_parse, given, parts)
+        if hasattr(self, "_text"):
+            unchangeable(self._base.__name__)
+        is_range = isinstance(self, RangeBase)
+        is_value = isinstance(text, (TagBase, RangeBase) if is_range else TagBase)
+        data, parts = text._data if is_value else bytes_of(text, "range" if is_range else "tag"), Parts()
+        kind = _ask(_c.langtag_range_kind, data) if is_range else _ask(_c.langtag_parse, data, parts)
         if not kind:
-            raise self._error(given)
-        self._text, self._kind, self._parts = bytes_of(given), kind, parts
+            raise self._error(text)
+        self._text, self._kind, self._parts = data, kind, parts
+
+    _data = property(lambda self: self._text)
+
+    def __getattr__(self, name: str) -> Any:
+        if name in _Value.__slots__:
+            uninitialized(self)
+        return object.__getattribute__(self, name)  # raises Python's own error
 
     def _ask(self, call: Callable[..., Any], *more: Any) -> Any:
         return call(self._data, len(self._data), *more)
@@ -249,14 +273,11 @@ class TagBase(_Value):
 
 class RangeBase(_Value):
     __slots__ = ()
-    _tag: Any
     is_basic = property(lambda self: self._kind == 1)
 
     def _matched(self, call: Callable[..., bool], tag: Any) -> bool:
-        tag = self._tag(tag) if isinstance(tag, (str, bytes)) else tag
-        if not isinstance(tag, self._tag):
-            raise TypeError(f"a range matches a Tag or a text, and not {type(tag).__name__}")
-        return bool(self._ask(call, tag._data, len(tag._data)))
+        data = tag._data if isinstance(tag, TagBase) else bytes_of(tag, "tag")
+        return bool(self._ask(call, data, len(data)))
 
     def matches_basic(self, tag: Any) -> bool:
         return self._matched(_c.langtag_matches_basic, tag)

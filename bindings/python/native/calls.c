@@ -1,26 +1,24 @@
 /* The functions of the module. */
+#include "functions.h"
 #include "native.h"
 
-static PyObject *kind(PyObject *module, PyObject *from) {
-    (void)module;
-    Text text;
-    if (lt_text(from, &text)) return NULL;
-    LET_GO(text.len);
-    uint32_t found = langtag_kind(text.data, (size_t)text.len);
-    TAKE_BACK();
-    Py_DECREF(text.owner);
-    return PyLong_FromUnsignedLong(found);
-}
+/* Returns a number or truth value of C as an object. */
+#define OBJECT(value) \
+    _Generic(value, bool: PyBool_FromLong, uint32_t: PyLong_FromUnsignedLong, size_t: PyLong_FromSize_t)(value)
 
-static PyObject *reach(PyObject *from, size_t (*how)(const char *, size_t)) {
-    Text text;
-    if (lt_text(from, &text)) return NULL;
-    LET_GO(text.len);
-    size_t found = how(text.data, (size_t)text.len);
-    TAKE_BACK();
-    Py_DECREF(text.owner);
-    return PyLong_FromSize_t(found);
-}
+/* A function of one text that only returns a value, by its name in langtag.h. */
+#define OF_ONE(name)                                                                        \
+    static PyObject *name(PyObject *module, PyObject *from) {                               \
+        (void)module;                                                                       \
+        Text text;                                                                          \
+        if (lt_text(from, &text)) return NULL;                                              \
+        LET_GO(text.len);                                                                   \
+        __typeof__(langtag_##name("", 0)) found = langtag_##name(text.data, (size_t)text.len); \
+        TAKE_BACK();                                                                        \
+        Py_DECREF(text.owner);                                                              \
+        return OBJECT(found);                                                               \
+    }
+LANGTAG_OF_ONE(OF_ONE)
 
 /* Returns why a text is not a tag: (answer of the call, start, length, offset). */
 static PyObject *refused(PyObject *module, PyObject *from) {
@@ -34,16 +32,6 @@ static PyObject *refused(PyObject *module, PyObject *from) {
     TAKE_BACK();
     Py_DECREF(text.owner);
     return Py_BuildValue("Innn", (unsigned)answer, (Py_ssize_t)subtag.start, (Py_ssize_t)subtag.len, (Py_ssize_t)offset);
-}
-
-static PyObject *viable(PyObject *module, PyObject *text) {
-    (void)module;
-    return reach(text, langtag_viable);
-}
-
-static PyObject *stop(PyObject *module, PyObject *text) {
-    (void)module;
-    return reach(text, langtag_stop);
 }
 
 /* Returns the end of a range, and the ends of its fallbacks. */
@@ -91,21 +79,25 @@ static PyObject *registry_date(PyObject *module, PyObject *unused) {
 static PyObject *cldr_version(PyObject *module, PyObject *unused) {
     (void)module;
     (void)unused;
-    return PyLong_FromUnsignedLong(langtag_cldr_version());
+    char version[32];
+    size_t len = langtag_cldr_version(version, sizeof version);
+    if (len > sizeof version) {
+        PyErr_SetString(PyExc_ImportError, "the version of CLDR has more than 32 bytes");
+        return NULL;
+    }
+    return lt_str(version, len);
 }
 
+#define ENTRY(name) {#name, name, METH_O, NULL},
 PyMethodDef lt_functions[] = {
-    {"kind", kind, METH_O, NULL},
-    {"viable", viable, METH_O, NULL},
+    LANGTAG_OF_ONE(ENTRY)
     {"refused", refused, METH_O, NULL},
-    {"stop", stop, METH_O, NULL},
     {"fallback_ends", fallback_ends, METH_O, NULL},
     {"elements", elements, METH_O, NULL},
     {"registry_date", registry_date, METH_NOARGS, NULL},
     {"cldr_version", cldr_version, METH_NOARGS, NULL},
     {"tag_for_header", lt_tag_for_header, METH_VARARGS, NULL},
     {"distance", lt_distance, METH_VARARGS, NULL},
-    {"is_right_to_left", lt_is_right_to_left, METH_O, NULL},
     {"suggestion", lt_suggestion, METH_VARARGS, NULL},
     {"from_posix", lt_from_posix, METH_O, NULL},
     {"unknown_modifier", lt_unknown_modifier, METH_O, NULL},

@@ -67,7 +67,7 @@ static int add_item(Offered *offered, PyObject *item, PyObject *type) {
     Value *tag = (Value *)item;
     if (Py_TYPE(item) != offered->known || !tag->text.owner) {
         if (PyUnicode_Check(item) || PyBytes_Check(item)) return add_text(offered, item, type);
-        if (!lt_as_tag(item, "a tag is a Tag or a text, and not %S")) return -1;
+        if (!lt_as_tag(item)) return -1;
         offered->known = Py_TYPE(item);
     }
     return add(offered, &tag->text);
@@ -117,7 +117,9 @@ static int choose_index(const Wanted *wanted, PyObject *listed, PyObject *type, 
 
 /* Returns the caller's own list, or a copy if the text is long: other threads run during such a call, and may change the list. */
 static PyObject *listed_for(const Wanted *wanted, PyObject *all) {
-    return length(wanted) < LONG_TEXT ? PySequence_Fast(all, "the tags are not iterable") : PySequence_Tuple(all);
+    if (length(wanted) >= LONG_TEXT || !(PyList_Check(all) || PyTuple_Check(all))) return PySequence_Tuple(all);
+    Py_INCREF(all);
+    return all;
 }
 
 /* Returns the item of `all` that is chosen, or `otherwise`. */

@@ -16,15 +16,6 @@ PyObject *lt_distance(PyObject *module, PyObject *arguments) {
     return PyLong_FromUnsignedLong(far);
 }
 
-PyObject *lt_is_right_to_left(PyObject *module, PyObject *from) {
-    (void)module;
-    Text text;
-    if (lt_text(from, &text)) return NULL;
-    bool answer = langtag_is_right_to_left(text.data, (size_t)text.len);
-    Py_DECREF(text.owner);
-    return PyBool_FromLong(answer);
-}
-
 /* Returns the code that is meant by an invalid subtag, or None if there is none. The first argument is the number of the fault. */
 PyObject *lt_suggestion(PyObject *module, PyObject *arguments) {
     (void)module;

@@ -37,6 +37,10 @@ typedef struct {
 
 /* Reads the bytes of a str or bytes object. Returns 0, or -1 with an exception. The caller has to release the owner. */
 int lt_text(PyObject *from, Text *text);
+int lt_text_of(PyObject *from, Text *text, const char *expected); /* `expected` is "text", "tag" or "range", for the error */
+
+/* Raises an error by a function of langtag._texts, which has the words of the errors. `expected` is its second argument, or NULL. */
+void lt_raise(const char *function, PyObject *value, const char *expected);
 
 PyObject *lt_str(const char *data, size_t len);
 PyObject *lt_none(void);
@@ -49,7 +53,8 @@ PyObject *lt_new(PyTypeObject *type, PyObject *arguments, PyObject *named);
 PyObject *lt_changed(const Value *self, void (*change)(char *, size_t)); /* a changed copy of the text, as bytes */
 int lt_init(PyObject *self, PyObject *arguments, PyObject *named, int is_tag);
 int lt_tag_init(PyObject *self, PyObject *arguments, PyObject *named);
-Value *lt_as_tag(PyObject *object, const char *message); /* NULL, and an exception with the message, if it is not a Tag */
+Value *lt_as_tag(PyObject *object); /* NULL with an exception if it is not a Tag */
+bool lt_is_tag(PyObject *object);
 void lt_refuse(PyObject *class, PyObject *from); /* raises the exception of the class of tags for a text that is not a tag */
 
 /* A call that chooses among tags for a header, such as langtag_best_for_header. */
@@ -62,7 +67,6 @@ extern PyGetSetDef lt_tag_members[], lt_range_members[];
 extern PyMethodDef lt_tag_methods[], lt_range_methods[], lt_functions[];
 PyObject *lt_tag_for_header(PyObject *module, PyObject *arguments);
 PyObject *lt_distance(PyObject *module, PyObject *arguments);
-PyObject *lt_is_right_to_left(PyObject *module, PyObject *from);
 PyObject *lt_suggestion(PyObject *module, PyObject *arguments);
 PyObject *lt_from_posix(PyObject *module, PyObject *from);
 PyObject *lt_unknown_modifier(PyObject *module, PyObject *from);

@@ -165,7 +165,7 @@ PyMethodDef lt_tag_methods[] = {
     {"maximized", lt_maximized, METH_NOARGS,
      "maximized($self, /)\n--\n\n"
      "Returns the tag with its likely subtags (UTS #35, part 1), by CLDR_VERSION: zh-TW becomes zh-Hant-TW. Deprecated subtags\n"
-     "stay; call canonical() first to replace them."},
+     "stay, and get the likely subtags of their replacements: iw becomes iw-Hebr-IL. To replace them, call locale_form() first."},
     {"minimized", lt_minimized, METH_NOARGS,
      "minimized($self, /)\n--\n\n"
      "Returns the tag without its likely subtags (UTS #35, part 1): zh-Hant-TW becomes zh-TW."},

@@ -15,25 +15,16 @@ static PyObject *matches_text(const Value *self, const char *data, Py_ssize_t le
     return PyBool_FromLong(answer);
 }
 
-/* Raises the exception of the class `_tag` for a text that is not a tag. */
-static PyObject *refuse(const Value *self, PyObject *from) {
-    PyObject *class = PyObject_GetAttrString((PyObject *)self, "_tag");
-    if (class) lt_refuse(class, from);
-    Py_XDECREF(class);
-    return NULL;
-}
-
 static PyObject *matches(PyObject *object, PyObject *other, Match *match) {
     Value *self = (Value *)object;
     if (lt_lacks(self)) return NULL;
     if (!PyUnicode_Check(other) && !PyBytes_Check(other)) {
-        Value *tag = lt_as_tag(other, "a range matches a Tag or a text, and not %S");
+        Value *tag = lt_as_tag(other);
         return tag ? matches_text(self, tag->text.data, tag->text.len, match) : NULL;
     }
     Text text;
     if (lt_text(other, &text)) return NULL;
-    bool is_tag = langtag_kind(text.data, (size_t)text.len) != LANGTAG_NONE;
-    PyObject *answer = is_tag ? matches_text(self, text.data, text.len, match) : refuse(self, other);
+    PyObject *answer = matches_text(self, text.data, text.len, match);
     Py_DECREF(text.owner);
     return answer;
 }
@@ -46,12 +37,12 @@ PyMethodDef lt_range_methods[] = {
     {"__format__", lt_format, METH_O, NULL},
     {"matches_basic", matches_basic, METH_O,
      "matches_basic($self, tag, /)\n--\n\n"
-     "Returns whether it matches a tag by basic filtering (section 3.3.1): de-DE matches de-DE-1996, but not de-Latn-DE. Raises\n"
-     "InvalidTag if a text is not a tag."},
+     "Returns whether it matches a tag by basic filtering (section 3.3.1): de-DE matches de-DE-1996, but not de-Latn-DE. It does\n"
+     "not match a text that is not a tag."},
     {"matches_extended", matches_extended, METH_O,
      "matches_extended($self, tag, /)\n--\n\n"
-     "Returns whether it matches a tag by extended filtering (section 3.3.2): de-DE matches de-Latn-DE. Raises InvalidTag if a\n"
-     "text is not a tag."},
+     "Returns whether it matches a tag by extended filtering (section 3.3.2): de-DE matches de-Latn-DE. It does not match a text\n"
+     "that is not a tag."},
     {NULL, NULL, 0, NULL}};
 
 PyGetSetDef lt_range_members[] = {

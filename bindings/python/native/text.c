@@ -2,7 +2,7 @@
 
 /* Returns the real bytes, even if a subclass of str or bytes has its own encode or length. A lone surrogate becomes bytes that no
  * tag contains. */
-static PyObject *owned(PyObject *from) {
+static PyObject *owned(PyObject *from, const char *expected) {
     if (PyUnicode_Check(from)) {
         PyObject *made = PyUnicode_AsUTF8String(from);
         if (made || !PyErr_ExceptionMatches(PyExc_UnicodeEncodeError)) return made;
@@ -18,15 +18,15 @@ static PyObject *owned(PyObject *from) {
         Py_ssize_t len;
         return PyBytes_AsStringAndSize(from, &data, &len) ? NULL : PyBytes_FromStringAndSize(data, len);
     }
-    PyObject *name = lt_type_name(from);
-    if (name) PyErr_Format(PyExc_TypeError, "a text is str or bytes, and not %S", name);
-    Py_XDECREF(name);
+    lt_raise("wrong_type", from, expected);
     return NULL;
 }
 
-int lt_text(PyObject *from, Text *text) {
+int lt_text(PyObject *from, Text *text) { return lt_text_of(from, text, "text"); }
+
+int lt_text_of(PyObject *from, Text *text, const char *expected) {
     char *data;
-    text->owner = owned(from);
+    text->owner = owned(from, expected);
     if (!text->owner) return -1;
     if (PyBytes_AsStringAndSize(text->owner, &data, &text->len)) {
         Py_CLEAR(text->owner);
@@ -34,6 +34,17 @@ int lt_text(PyObject *from, Text *text) {
     }
     text->data = data;
     return 0;
+}
+
+void lt_raise(const char *function, PyObject *value, const char *expected) {
+    PyObject *texts = PyImport_ImportModule("langtag._texts"), *call = texts ? PyObject_GetAttrString(texts, function) : NULL;
+    PyObject *word = call && expected ? lt_str(expected, strlen(expected)) : NULL;
+    PyObject *made = call ? PyObject_CallFunctionObjArgs(call, value, word, NULL) : NULL;
+    if (made) PyErr_SetString(PyExc_SystemError, "langtag: no error was raised");
+    Py_XDECREF(made);
+    Py_XDECREF(word);
+    Py_XDECREF(call);
+    Py_XDECREF(texts);
 }
 
 PyObject *lt_str(const char *data, size_t len) { return PyUnicode_FromStringAndSize(data, (Py_ssize_t)len); }

@@ -35,18 +35,19 @@ PyObject *lt_new(PyTypeObject *type, PyObject *arguments, PyObject *named) {
 
 int lt_lacks(Value *self) {
     if (self->text.owner) return 0;
-    PyErr_SetString(PyExc_AttributeError, "_data");
+    lt_raise("uninitialized", (PyObject *)self, NULL);
     return 1;
 }
 
-Value *lt_as_tag(PyObject *object, const char *message) {
+bool lt_is_tag(PyObject *object) {
     PyTypeObject *base = lt_base(Py_TYPE(object));
     if (!base) PyErr_Clear();
-    if (base && (initproc)PyType_GetSlot(base, Py_tp_init) == lt_tag_init)
-        return lt_lacks((Value *)object) ? NULL : (Value *)object;
-    PyObject *name = lt_type_name(object);
-    if (name) PyErr_Format(PyExc_TypeError, message, name);
-    Py_XDECREF(name);
+    return base && (initproc)PyType_GetSlot(base, Py_tp_init) == lt_tag_init;
+}
+
+Value *lt_as_tag(PyObject *object) {
+    if (lt_is_tag(object)) return lt_lacks((Value *)object) ? NULL : (Value *)object;
+    lt_raise("wrong_type", object, "tag");
     return NULL;
 }
 
@@ -64,8 +65,19 @@ static PyObject *only_argument(PyObject *arguments, PyObject *named) {
 }
 
 static int refuse_change(int is_tag) {
-    PyErr_SetString(PyExc_AttributeError, is_tag ? "a Tag does not change" : "a Range does not change");
+    PyObject *name = is_tag ? lt_str("Tag", 3) : lt_str("Range", 5);
+    if (name) lt_raise("unchangeable", name, NULL);
+    Py_XDECREF(name);
     return -1;
+}
+
+/* Reads the argument of a constructor. A Range is also made of a Tag. */
+static int text_of(PyObject *from, Text *text, int is_tag) {
+    if (is_tag || !lt_is_tag(from)) return lt_text_of(from, text, is_tag ? "tag" : "range");
+    if (lt_lacks((Value *)from)) return -1;
+    *text = ((Value *)from)->text;
+    Py_INCREF(text->owner);
+    return 0;
 }
 
 /* Raises `_error` of the Python class. */
@@ -95,7 +107,7 @@ int lt_init(PyObject *object, PyObject *arguments, PyObject *named, int is_tag) 
     if (!from) return -1;
     if (PyObject_TypeCheck(from, self->base)) return copy(self, (Value *)from);
     Text text;
-    if (lt_text(from, &text)) return -1;
+    if (text_of(from, &text, is_tag)) return -1;
     langtag_parts parts = {{0, 0}, {0, 0}, {0, 0}, {0, 0}, {0, 0}, {0, 0}}; /* not those of self, which another thread may read */
     LET_GO(text.len);
     uint32_t kind = is_tag ? langtag_parse(text.data, (size_t)text.len, &parts) : langtag_range_kind(text.data, (size_t)text.len);

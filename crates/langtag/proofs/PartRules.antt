@@ -1,17 +1,20 @@
 -- What the accessors cut out of a normal text meets the rules of the types of parts.
-use Rattle.std.proofs.Common.{◌≡◌, ℕ, List, [], Option, Some, IsTrue, IfSome, take, unwrap_or, sym, ◌∙◌, subst, arith, option_map}
+use Rattle.std.proofs.Common.{◌≡◌, ℕ, List, [], ◌∷◌, ◌++◌, ap, append_assoc, append-nil, flat_map, Option, Some, IsTrue, IfSome, take, unwrap_or, sym, ◌∙◌, subst, arith, option_map}
 use Rattle.std.proofs.lemmas.Grind.{common_steps}
 use Rattle.langtag_scan.specs.Class.{is_script, is_region}
-use Rattle.langtag_scan.specs.Ends.{HasEnds}
+use Rattle.langtag_scan.specs.Ends.{HasEnds, ends_of, to_variants}
 use Rattle.langtag_scan.specs.Parts.{text_between}
-use Rattle.langtag_scan.specs.Record.{PrivateUse, IsWellFormedPrivateUse, private_use_flat}
+use Rattle.langtag_scan.specs.Record.{EachRecord, PrivateUse, Record, IsWellFormed, IsWellFormedPrivateUse, Spells, extension_flat, one_flat, private_part_flat, private_use_flat, spell}
 use Rattle.langtag_scan.specs.Subtags.{join}
 use Rattle.langtag_scan.specs.Tag.{IsPrivate}
 use Rattle.langtag_scan.specs.declared.ends.Ends.{Ends}
 use Rattle.langtag_language.specs.Language.{IsLanguage}
 use Rattle.langtag_place.specs.Variants.{IsVariants}
 use Rattle.langtag_extension.specs.Spelling.{IsExtensions}
-use Rattle.langtag_scan.proofs.SpelledTexts.{ends_had, offsets_kept}
+use Rattle.langtag_scan.proofs.Joins.{take-join}
+use Rattle.langtag_scan.proofs.PartOffsets.{ends_equal}
+use Rattle.langtag_scan.proofs.SpelledTexts.{ends_each, ends_had, offsets_kept}
+use Rattle.langtag.specs.Edit.{base_record}
 use Rattle.langtag.proofs.PartsFound.{language_found, script_found, region_found, variants_found, extensions_found, private_use_found}
 
 pub IsLanguage-cut : (text : List ℕ) (ends : Ends) → HasEnds text ends → IsLanguage (take ends.language text)
@@ -57,6 +60,33 @@ unfolding HasEnds
 IsPrivate-cut text ends part (r, spells, at) cut =
     private_spelled part r.private_use (cut ∙ private_use_found text ends (r, spells, at) r spells) spells.0.private_use
 
+-- ---- the tag up to its extensions
+
+-- what precedes the extensions is the spelling of the record without them
+head-cut : (r : Record) → take (ends_of r).variants (spell r) ≡ join (to_variants r)
+head-cut r =
+    let others = flat_map extension_flat r.extensions ++ private_part_flat r.private_use in
+    let cut = take-join r.primary (r.extended ++ (one_flat r.script ++ (one_flat r.region ++ r.variants))) others in
+    simp append_assoc at cut
+
+base-cut : (r : Record) → take (ends_of r).variants (spell r) ≡ spell (base_record r)
+base-cut r = head-cut r ∙ sym (ap (λ vs. join (r.primary ∷ (r.extended ++ (one_flat r.script ++ (one_flat r.region ++ vs))))) (append-nil r.variants))
+
+base_well : (r : Record) → IsWellFormed r → IsWellFormed (base_record r)
+base_well r well = grind (arith, common_steps)
+
+pub base_found : (text : List ℕ) (ends : Ends) → HasEnds text ends → EachRecord text (λ r. Spells (base_record r) (take ends.variants text))
+base_found text ends h r spells = rw (ends_each text ends h r spells, ← spells.1) (base_well r spells.0, sym (base-cut r))
+
+pub base_ends :
+    (text : List ℕ) (ends : Ends) → HasEnds text ends → HasEnds (take ends.variants text) (record ends { extensions = ends.variants; whole = ends.variants })
+unfolding HasEnds
+base_ends text ends (r, spells, at) = (base_record r, base_found text ends (r, spells, at) r spells, grind (arith, common_steps, ends_equal, append-nil))
+
+pub base_kept :
+    (text : List ℕ) (ends : Ends) → ∥ HasEnds text ends ∥₁ → ∥ HasEnds (take ends.variants text) (record ends { extensions = ends.variants; whole = ends.variants }) ∥₁
+base_kept text ends merely = ∣ base_ends text ends (ends_had text ends merely) ∣₁
+
 -- what the accessors cite
 pub ruleset language_rules = (IsLanguage-cut, language_found, ends_had, offsets_kept)
 
@@ -69,3 +99,5 @@ pub ruleset variants_rules = (IsVariants-cut, variants_found, ends_had, offsets_
 pub ruleset extensions_rules = (IsExtensions-cut, extensions_found, ends_had, offsets_kept)
 
 pub ruleset private_use_rules = (IsPrivate-cut, private_use_found, ends_had, offsets_kept)
+
+pub ruleset base_rules = (base_kept, base_found, ends_had, offsets_kept)

@@ -1,5 +1,5 @@
 -- The variants of `GrandfatheredLangTag` and `GRANDFATHERED`, beside the table of registered tags.
-use Rattle.std.proofs.Common.{◌≡◌, ℕ, ◌<◌, ◌≤◌, true, cond, ltb, List, [], length, map, get_or, slice_get, Some, None, refl, sym, ap, subst, ◌∙◌, arith, option_map, zero-add, bytes_eq}
+use Rattle.std.proofs.Common.{◌≡◌, ℕ, ◌<◌, ◌≤◌, Bool, true, false, cond, ltb, List, [], length, map, get_or, slice_get, Option, Some, None, refl, sym, ap, subst, ◌∙◌, arith, option_map, zero-add, bytes_eq}
 use Rattle.std.specs.List.{position, position_or_len, range_with_len}
 use Rattle.std.specs.Option.{option_map_or}
 use Rattle.std.proofs.lemmas.Bool.{lt-ltb, cases_lt, both_ways}
@@ -12,9 +12,13 @@ use Rattle.std.proofs.lemmas.Grind.{common_steps}
 use Rattle.langtag_scan.specs.Case.{fold_byte, fold_text, Alike, are_alike}
 use Rattle.langtag_scan.specs.CaseLaws.{are_alike-decides}
 use Rattle.langtag_scan.specs.Class.{is_letter, is_primary}
-use Rattle.langtag_scan.specs.Grandfathered.{Grandfathered, grandfathered_tags}
-use Rattle.langtag_scan.specs.Tag.{IsTag}
+use Rattle.langtag_scan.specs.Grandfathered.{Grandfathered, grandfathered_tags, irregular_texts}
+use Rattle.langtag_scan.specs.Record.{EachRecord}
+use Rattle.langtag_scan.specs.Subtags.{segments}
+use Rattle.langtag_scan.specs.Tag.{IsNormal, IsIrregular, IsIrregularAt, IsTag}
 use Rattle.langtag_scan.proofs.CaseLaw.{alike_tag}
+use Rattle.langtag_scan.proofs.NormalTexts.{spelled_segments}
+use Rattle.langtag_scan.proofs.OneKind.{normal_no_irregular}
 use Rattle.langtag_scan.proofs.RegisteredTags.{registered_tag}
 use Rattle.langtag_language.specs.Language.{IsLanguage}
 use Rattle.langtag.specs.declared.grandfathered.GrandfatheredLangTag.{GrandfatheredLangTag}
@@ -131,3 +135,29 @@ primary_registered tag = grind (arith, common_steps)
 -- so it is a language
 pub language_registered : (tag : GrandfatheredLangTag) (text : List ℕ) → language_of tag ≡ Some text → IsLanguage text
 language_registered tag text same = grind (arith, common_steps, primary_registered tag)
+
+-- ---- the language of a regular tag is the primary subtag of its record
+
+-- the first subtag of a text
+abbrev first_subtag : List ℕ → Option (List ℕ)
+first_subtag text = slice_get (segments text) 0
+
+irregular_at_index : (tag : GrandfatheredLangTag) → slice_get irregular_texts (index_of tag) ≡ cond (ltb (index_of tag) 17) (Some (text_of tag)) None
+unfolding grandfathered_tags irregular_texts
+irregular_at_index tag =
+    at_member (λ t. slice_get irregular_texts (index_of t)) (λ t. cond (ltb (index_of t) 17) (Some (text_of t)) None) GRANDFATHERED (index_of tag) tag (listed tag) refl
+
+language_at_index : (tag : GrandfatheredLangTag) → language_of tag ≡ cond (ltb (index_of tag) 17) None (first_subtag (text_of tag))
+unfolding grandfathered_tags
+language_at_index tag =
+    at_member language_of (λ t. cond (ltb (index_of t) 17) None (first_subtag (text_of t))) GRANDFATHERED (index_of tag) tag (listed tag) refl
+
+pub registered_primary : (tag : GrandfatheredLangTag) → EachRecord (text_of tag) (λ r. language_of tag ≡ Some r.primary)
+unfolding IsNormal IsIrregular IsIrregularAt
+registered_primary tag r spells = by_index (ltb (index_of tag) 17) (irregular_at_index tag) (language_at_index tag)
+  where
+    by_index :
+        (is_irregular : Bool) → slice_get irregular_texts (index_of tag) ≡ cond is_irregular (Some (text_of tag)) None →
+        language_of tag ≡ cond is_irregular None (first_subtag (text_of tag)) → language_of tag ≡ Some r.primary
+    by_index true at language = absurd (normal_no_irregular (text_of tag) (r, spells) (index_of tag, (text_of tag, at, refl)))
+    by_index false at language = language ∙ ap (λ ss. slice_get ss 0) (ap segments (sym spells.1) ∙ spelled_segments r spells.0)

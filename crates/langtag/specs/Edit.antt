@@ -52,6 +52,10 @@ of_parts primary extended script region = record {
   private_use = None;
 }
 
+-- the record without extensions and private use
+abbrev pub base_record : Record → Record
+base_record r = with_private_use (with_extensions r []) None
+
 -- ---- the text: the record of the old text, with the part that is set, spells the new text
 
 -- the new text has the language that was set
@@ -101,3 +105,16 @@ SetsPart (part.PrivateUse private_use) old new = SetsPrivateUse (option_map priv
 abbrev pub GivesBack : (M : Type 0) → (Record → M → Record) → (Record → List ℕ → List ℕ → Type 0) → Type 0
 GivesBack M with_member sets_back =
     (r : Record) (m : M) (t u v : List ℕ) → Spells r t → Spells (with_member r m) u → sets_back r u v → v ≡ t
+
+-- the first record, with the part of the second record that a setter of this kind of part sets
+abbrev pub with_old_part : Part → Record → Record → Record
+with_old_part (Language language) new old = with_language new old.primary old.extended
+with_old_part (Script script) new old = with_script new old.script
+with_old_part (Region region) new old = with_region new old.region
+with_old_part (Variants variants) new old = with_variants new old.variants
+with_old_part (Extensions extensions) new old = with_extensions new old.extensions
+with_old_part (part.PrivateUse private_use) new old = with_private_use new old.private_use
+
+-- the record of the new text, with the part of the record of the old text, is the record of the old text
+abbrev pub ComesBack : (Record → Record → Record) → List ℕ → List ℕ → Type 0
+ComesBack with_old old new = EachRecord old (λ r. EachRecord new (λ q. with_old q r ≡ r))

@@ -1,6 +1,7 @@
 //! The grandfathered tags (RFC 5646 section 2.2.8).
 ghost use Rattle.std.specs.Prelude.{◌≡◌, ◌↔◌, ◌<◌, ℕ, List, Some, IsTrue, IfOk, IfErr, is_ok, position, slice_get, option_map};
 ghost use Rattle.langtag_scan.specs.Case.{are_alike};
+ghost use Rattle.langtag_scan.specs.Record.{EachRecord};
 ghost use Rattle.langtag_scan.specs.Tag.{IsTag};
 ghost use Rattle.langtag.specs.Registered.{text_of};
 
@@ -199,7 +200,8 @@ impl GrandfatheredLangTag {
     /// GrandfatheredLangTag::ILux.language(); // None
     /// ```
     pub fn language(&self) -> Option<Language<'static>>
-        ensures { option_map language_text result ≡ language_of self.now }
+        ensures language { option_map language_text result ≡ language_of self.now }
+        ensures primary { EachRecord (text_of self.now) (λ r. language_of self.now ≡ Some r.primary) }
     {
         let language = self.primary()?;
         Some(Language::from_checked(language))

@@ -6,9 +6,10 @@ ghost use Rattle.langtag_scan.specs.AlikeRecords.{IsSpelledAlike};
 ghost use Rattle.langtag_scan.specs.Case.{EndsFirst, are_alike, case_cmp};
 ghost use Rattle.langtag_scan.specs.Found.{IsFoundOf};
 ghost use Rattle.langtag_scan.specs.Parts.{language_part, variants_part, extensions_part, private_use_part, private_use_subtags};
-ghost use Rattle.langtag_scan.specs.Record.{EachRecord, flat};
+ghost use Rattle.langtag_scan.specs.Record.{EachRecord, flat, spell};
 ghost use Rattle.langtag_scan.specs.Subtags.{subtags};
 ghost use Rattle.langtag_scan.specs.Tag.{IsNormal, IsPrivate, IsIrregular, IsTag};
+ghost use Rattle.langtag.specs.Edit.{base_record};
 ghost use Rattle.langtag.specs.Recognised.{finding_of};
 
 use crate::grandfathered::GrandfatheredLangTag;
@@ -218,7 +219,7 @@ impl<'a> LangTag<'a> {
     /// LangTag::new("zh-Hant")?.eq_str("ZH-hant"); // true
     /// LangTag::new("zh-Hant")?.eq_str("zh_Hant"); // false
     /// ```
-    #[tactic(auto, using(crate::proofs::OrderLaws::tag_ends_first, crate::proofs::KeptFound::alike_laws))]
+    #[tactic(auto, using(langtag_scan::proofs::CaseOrder::bytes_ends_first, crate::proofs::OrderLaws::tag_ends_first, crate::proofs::KeptFound::alike_laws))]
     pub fn eq_str(&self, other: &str) -> bool
         ensures test { result ≡ are_alike (lang_tag_text self.now) other.now }
         ensures same_kind { IsTrue result → AreOfOneKind (lang_tag_text self.now) other.now }
@@ -454,7 +455,7 @@ impl<'a> LangTag<'a> {
     ghost use Rattle.langtag_extension.specs.Text.{extensions_text};
     ghost use Rattle.langtag_private.specs.Text.{private_use_text, private_use_subtags_left};
     ghost use Rattle.langtag.specs.Part.{PartOf};
-    ghost use Rattle.langtag.specs.Text.{lang_tag_text};
+    ghost use Rattle.langtag.specs.Text.{lang_tag_text, normal_lang_tag_text};
 
     /// Returns the language, with its extended subtags: `zh-yue` for `zh-yue-HK`, and `None` for `x-a` and `i-lux`.
     ///
@@ -549,6 +550,25 @@ impl<'a> LangTag<'a> {
         ensures { PartOf (lang_tag_text self.now) private_use_part None (option_map private_use_text result) }
     {
         self.as_normal()?.private_use()
+    }
+
+    /// Returns the tag without extensions and private use, as `Intl.Locale` has it in `baseName`: `de-CH-1996` for
+    /// `de-CH-1996-u-co-phonebk-x-mine`. It keeps its case. A private-use tag and an irregular tag have no extensions, so
+    /// they are returned unchanged.
+    ///
+    /// ```
+    /// use langtag::LangTag;
+    ///
+    /// LangTag::new("de-CH-1996-u-co-phonebk-x-mine")?.base().as_str(); // "de-CH-1996"
+    /// LangTag::new("x-a")?.base().as_str(); // "x-a"
+    /// ```
+    pub fn base(&self) -> LangTag<'a>
+        ensures { PartOf (lang_tag_text self.now) (λ r. spell (base_record r)) (lang_tag_text self.now) (lang_tag_text result) }
+    {
+        let Some(tag) = self.as_normal() else {
+            return *self;
+        };
+        tag.base().as_lang_tag()
     }
 
     /// Returns an iterator over the subtags of the private use part, or over no subtags if there is no such part: `x`

@@ -13,7 +13,7 @@ ghost use Rattle.langtag_place.specs.Text.{script_text, region_text, variants_te
 ghost use Rattle.langtag_extension.specs.Text.{extensions_text};
 ghost use Rattle.langtag_private.specs.Text.{private_use_text};
 ghost use Rattle.langtag.specs.Recognised.{finding_of};
-ghost use Rattle.langtag.specs.Edit.{SetsLanguage, SetsScript, SetsRegion, SetsVariants, SetsExtensions, SetsPrivateUse};
+ghost use Rattle.langtag.specs.Edit.{ComesBack, with_language, with_script, with_region, with_variants, with_extensions, with_private_use, SetsLanguage, SetsScript, SetsRegion, SetsVariants, SetsExtensions, SetsPrivateUse};
 
 use crate::edit::set_part;
 use crate::edit_error::EditError;
@@ -95,6 +95,7 @@ impl LangTagBuf {
     /// `"x-A"`.
     ///
     /// It is proved that comparisons and hashes of owned tags ignore case.
+    #[tactic(auto, using(langtag_scan::proofs::CaseOrder::bytes_ends_first))]
     pub fn as_lang_tag(&self) -> LangTag<'_>
         ensures same_text { lang_tag_text result ≡ lang_tag_buf_text self.now }
         ensures compared { LangTagBufsCompareByCase }
@@ -195,6 +196,7 @@ impl LangTagBuf {
         ensures set { OnOk result (SetsLanguage (language_text language.entry) (lang_tag_buf_text self.old) (lang_tag_buf_text self.new)) }
         ensures not_normal { IsErrOf result EditError.NotNormal ↔ (IsNormal (lang_tag_buf_text self.old) → ⊥) }
         ensures unchanged { OnErr result (self.new ≡ self.old) }
+        ensures comes_back { OnOk result (ComesBack (λ new old. with_language new old.primary old.extended) (lang_tag_buf_text self.old) (lang_tag_buf_text self.new)) }
 
         ensures cloned { (error copy : EditError) → ⟦<EditError as Clone>⟧.is_clone error copy → copy ≡ error }
         ensures clone_succeeds { (error : EditError) → ⟦<EditError as Clone>⟧.is_infallible error }
@@ -220,6 +222,7 @@ impl LangTagBuf {
         ensures set { OnOk result (SetsScript (option_map script_text script.entry) (lang_tag_buf_text self.old) (lang_tag_buf_text self.new)) }
         ensures not_normal { IsErrOf result EditError.NotNormal ↔ (IsNormal (lang_tag_buf_text self.old) → ⊥) }
         ensures unchanged { OnErr result (self.new ≡ self.old) }
+        ensures comes_back { OnOk result (ComesBack (λ new old. with_script new old.script) (lang_tag_buf_text self.old) (lang_tag_buf_text self.new)) }
         ensures taken_out { IsNone script.entry → IsNormal (lang_tag_buf_text self.old) → IsOk result }
     {
         self.put(alloc, Part::Script(script))
@@ -244,6 +247,7 @@ impl LangTagBuf {
         ensures set { OnOk result (SetsRegion (option_map region_text region.entry) (lang_tag_buf_text self.old) (lang_tag_buf_text self.new)) }
         ensures not_normal { IsErrOf result EditError.NotNormal ↔ (IsNormal (lang_tag_buf_text self.old) → ⊥) }
         ensures unchanged { OnErr result (self.new ≡ self.old) }
+        ensures comes_back { OnOk result (ComesBack (λ new old. with_region new old.region) (lang_tag_buf_text self.old) (lang_tag_buf_text self.new)) }
         ensures taken_out { IsNone region.entry → IsNormal (lang_tag_buf_text self.old) → IsOk result }
     {
         self.put(alloc, Part::Region(region))
@@ -268,6 +272,7 @@ impl LangTagBuf {
         ensures set { OnOk result (SetsVariants (variants_text variants.entry) (lang_tag_buf_text self.old) (lang_tag_buf_text self.new)) }
         ensures not_normal { IsErrOf result EditError.NotNormal ↔ (IsNormal (lang_tag_buf_text self.old) → ⊥) }
         ensures unchanged { OnErr result (self.new ≡ self.old) }
+        ensures comes_back { OnOk result (ComesBack (λ new old. with_variants new old.variants) (lang_tag_buf_text self.old) (lang_tag_buf_text self.new)) }
         ensures taken_out { variants_text variants.entry ≡ [] → IsNormal (lang_tag_buf_text self.old) → IsOk result }
     {
         self.put(alloc, Part::Variants(variants))
@@ -296,6 +301,7 @@ impl LangTagBuf {
         ensures set { OnOk result (SetsExtensions (extensions_text extensions.entry) (lang_tag_buf_text self.old) (lang_tag_buf_text self.new)) }
         ensures not_normal { IsErrOf result EditError.NotNormal ↔ (IsNormal (lang_tag_buf_text self.old) → ⊥) }
         ensures unchanged { OnErr result (self.new ≡ self.old) }
+        ensures comes_back { OnOk result (ComesBack (λ new old. with_extensions new old.extensions) (lang_tag_buf_text self.old) (lang_tag_buf_text self.new)) }
         ensures taken_out { extensions_text extensions.entry ≡ [] → IsNormal (lang_tag_buf_text self.old) → IsOk result }
     {
         self.put(alloc, Part::Extensions(extensions))
@@ -324,20 +330,22 @@ impl LangTagBuf {
         ensures set { OnOk result (SetsPrivateUse (option_map private_use_text private_use.entry) (lang_tag_buf_text self.old) (lang_tag_buf_text self.new)) }
         ensures not_normal { IsErrOf result EditError.NotNormal ↔ (IsNormal (lang_tag_buf_text self.old) → ⊥) }
         ensures unchanged { OnErr result (self.new ≡ self.old) }
+        ensures comes_back { OnOk result (ComesBack (λ new old. with_private_use new old.private_use) (lang_tag_buf_text self.old) (lang_tag_buf_text self.new)) }
         ensures taken_out { IsNone private_use.entry → IsNormal (lang_tag_buf_text self.old) → IsOk result }
     {
         self.put(alloc, Part::PrivateUse(private_use))
     }
 }
 
-#[tactic(auto, using(crate::proofs::KeptFound::found_kept, langtag_scan::proofs::SpelledTexts::offsets_kept))]
+#[tactic(auto, using(crate::proofs::PartLaws::part_comes_back, crate::proofs::KeptFound::found_kept, langtag_scan::proofs::SpelledTexts::offsets_kept))]
 impl LangTagBuf {
-    ghost use Rattle.langtag.specs.Edit.{SetsPart};
+    ghost use Rattle.langtag.specs.Edit.{SetsPart, ComesBack, with_old_part};
     ghost use Rattle.langtag.specs.Text.{lang_tag_buf_text, part_text};
 
     /// Sets a part of a normal tag, or removes it.
     fn put(&mut self, alloc: Global, part: Part<'_>) -> Result<(), EditError>
         ensures set { OnOk result (SetsPart part.entry (lang_tag_buf_text self.old) (lang_tag_buf_text self.new)) }
+        ensures comes_back { OnOk result (ComesBack (with_old_part part.entry) (lang_tag_buf_text self.old) (lang_tag_buf_text self.new)) }
         ensures not_normal { IsErrOf result EditError.NotNormal ↔ (IsNormal (lang_tag_buf_text self.old) → ⊥) }
         ensures unchanged { OnErr result (self.new ≡ self.old) }
         ensures taken_out { part_text part.entry ≡ [] → IsNormal (lang_tag_buf_text self.old) → IsOk result }

@@ -9,6 +9,7 @@ ghost use Rattle.langtag_scan.specs.Parts.{language_part, variants_part, extensi
 ghost use Rattle.langtag_scan.specs.Record.{Record, EachRecord, IsWellFormed, flat, spell};
 ghost use Rattle.langtag_scan.specs.Subtags.{join, subtags};
 ghost use Rattle.langtag_scan.specs.Tag.{IsNormal};
+ghost use Rattle.langtag.specs.Edit.{base_record};
 ghost use Rattle.langtag.specs.Offsets.{PartsStandIn};
 ghost use Rattle.langtag.specs.Repeat.{repeat, repeat_index, IsFirstRepeat, IsFirstRepeatAt, are_alike_bytes};
 
@@ -184,7 +185,7 @@ impl<'a> NormalLangTag<'a> {
     ///
     /// NormalLangTag::new("sl-IT")?.eq_str("SL-it"); // true
     /// ```
-    #[tactic(auto, using(crate::proofs::OrderLaws::normal_ends_first, crate::proofs::KeptFound::alike_laws))]
+    #[tactic(auto, using(langtag_scan::proofs::CaseOrder::bytes_ends_first, crate::proofs::OrderLaws::normal_ends_first, crate::proofs::KeptFound::alike_laws))]
     pub fn eq_str(&self, other: &str) -> bool
         ensures test { result ≡ are_alike (normal_lang_tag_text self.now) other.now }
         ensures alike_parts { IsTrue result → EachRecord (normal_lang_tag_text self.now) (λ r. IsSpelledAlike r other.now) }
@@ -211,14 +212,15 @@ impl<'a> NormalLangTag<'a> {
         LangTag::with_found(self.as_str(), Recognised::Normal(self.ends))
     }
 
-    /// Returns where the parts end, in bytes from the start of the text. In `sl-IT`, the language ends at 2, and all
-    /// other ends are 5.
+    /// Returns where the parts end, in bytes from the start of the text. In `sl-IT`, the language and the absent
+    /// script end at 2, and all other ends are 5.
     ///
     /// ```
     /// use langtag::NormalLangTag;
     ///
     /// let ends = NormalLangTag::new("sl-IT")?.ends();
-    /// (ends.language, ends.script, ends.region, ends.whole); // (2, 2, 5, 5)
+    /// (ends.language, ends.script, ends.region); // (2, 2, 5)
+    /// (ends.variants, ends.extensions, ends.whole); // (5, 5, 5)
     /// ```
     #[tactic(auto, using(langtag_scan::proofs::SpelledTexts::ends_each, langtag_scan::proofs::SpelledTexts::ends_had))]
     pub fn ends(&self) -> Ends
@@ -322,6 +324,30 @@ impl<'a> NormalLangTag<'a> {
         Some(PrivateUse::from_checked(private_use))
     }
 
+    /// Returns the tag without extensions and private use: `de-CH-1996` for `de-CH-1996-u-co-phonebk-x-mine`. It keeps the
+    /// language, the script, the region and the variants.
+    ///
+    /// ```
+    /// use langtag::NormalLangTag;
+    ///
+    /// NormalLangTag::new("de-CH-1996-u-co-phonebk-x-mine")?.base().as_str(); // "de-CH-1996"
+    /// ```
+    #[tactic(auto, using(crate::proofs::PartRules::base_rules))]
+    pub fn base(&self) -> NormalLangTag<'a>
+        ensures { EachRecord (normal_lang_tag_text self.now) (λ r. normal_lang_tag_text result ≡ spell (base_record r)) }
+    {
+        let whole = self.ends.variants;
+        let ends = Ends {
+            language: self.ends.language,
+            script: self.ends.script,
+            region: self.ends.region,
+            variants: whole,
+            extensions: whole,
+            whole,
+        };
+        NormalLangTag::with_ends(&self.as_str()[..whole], ends)
+    }
+
     /// Returns an iterator over the subtags of the private use part, or over no subtags if there is no such part: `x`
     /// and `y` for `en-x-x-y`.
     ///
@@ -344,8 +370,8 @@ impl<'a> NormalLangTag<'a> {
     /// Returns the first variant that equals an earlier variant, ignoring case: the second `1996` in `de-1996-1996`.
     ///
     /// A tag with a repeated variant is well formed but not valid (RFC 5646 section 2.2.5). The search does not
-    /// allocate, and uses less than 92 kB of stack. For up to 8,192 variants, the time grows little faster than the
-    /// number of variants. For more variants, it is quadratic.
+    /// allocate, and uses less than 16 KiB of stack. For up to 1,152 variants, the time grows little faster than the
+    /// number of variants. For more variants, it is quadratic: 1 MB of different variants takes less than a second.
     ///
     /// ```
     /// use langtag::NormalLangTag;

@@ -15,7 +15,7 @@ ghost use Rattle.langtag_language.specs.Text.{language_text};
 ghost use Rattle.langtag_place.specs.Text.{script_text, region_text, variants_text};
 ghost use Rattle.langtag_extension.specs.Text.{extensions_text};
 ghost use Rattle.langtag_private.specs.Text.{private_use_text};
-ghost use Rattle.langtag.specs.Edit.{GivesBack, of_parts, with_language, with_script, with_region, with_variants, with_extensions, with_private_use, SetsLanguage, SetsScript, SetsRegion, SetsVariants, SetsExtensions, SetsPrivateUse};
+ghost use Rattle.langtag.specs.Edit.{GivesBack, ComesBack, of_parts, with_language, with_script, with_region, with_variants, with_extensions, with_private_use, SetsLanguage, SetsScript, SetsRegion, SetsVariants, SetsExtensions, SetsPrivateUse};
 
 use crate::edit::set_part;
 use crate::lang_tag_buf::LangTagBuf;
@@ -137,6 +137,7 @@ impl NormalLangTagBuf {
     /// `NormalLangTag::new("ZH-tw")?.try_to_owned(alloc)?.as_normal_lang_tag().as_str()` is `"ZH-tw"`.
     ///
     /// It is proved that comparisons and hashes of owned normal tags ignore case.
+    #[tactic(auto, using(langtag_scan::proofs::CaseOrder::bytes_ends_first))]
     pub fn as_normal_lang_tag(&self) -> NormalLangTag<'_>
         ensures same_text { normal_lang_tag_text result ≡ normal_lang_tag_buf_text self.now }
         ensures compared { NormalLangTagBufsCompareByCase }
@@ -218,6 +219,7 @@ impl NormalLangTagBuf {
     pub fn set_language(&mut self, alloc: Global, language: Language<'_>) -> Result<(), AllocError>
         ensures set { OnOk result (SetsLanguage (language_text language.entry) (normal_lang_tag_buf_text self.old) (normal_lang_tag_buf_text self.new)) }
         ensures unchanged { OnErr result (self.new ≡ self.old) }
+        ensures comes_back { OnOk result (ComesBack (λ new old. with_language new old.primary old.extended) (normal_lang_tag_buf_text self.old) (normal_lang_tag_buf_text self.new)) }
         ensures set_back { GivesBack (List ℕ × List (List ℕ)) (λ r m. with_language r m.0 m.1) (λ r. SetsLanguage (language_part r)) }
     {
         self.put(alloc, Part::Language(language))
@@ -247,6 +249,7 @@ impl NormalLangTagBuf {
     ) -> Result<(), AllocError>
         ensures set { OnOk result (SetsScript (option_map script_text script.entry) (normal_lang_tag_buf_text self.old) (normal_lang_tag_buf_text self.new)) }
         ensures unchanged { OnErr result (self.new ≡ self.old) }
+        ensures comes_back { OnOk result (ComesBack (λ new old. with_script new old.script) (normal_lang_tag_buf_text self.old) (normal_lang_tag_buf_text self.new)) }
         ensures taken_out { IsNone script.entry → IsOk result }
         ensures set_back { GivesBack (Option (List ℕ)) with_script (λ r. SetsScript r.script) }
     {
@@ -276,6 +279,7 @@ impl NormalLangTagBuf {
     ) -> Result<(), AllocError>
         ensures set { OnOk result (SetsRegion (option_map region_text region.entry) (normal_lang_tag_buf_text self.old) (normal_lang_tag_buf_text self.new)) }
         ensures unchanged { OnErr result (self.new ≡ self.old) }
+        ensures comes_back { OnOk result (ComesBack (λ new old. with_region new old.region) (normal_lang_tag_buf_text self.old) (normal_lang_tag_buf_text self.new)) }
         ensures taken_out { IsNone region.entry → IsOk result }
         ensures set_back { GivesBack (Option (List ℕ)) with_region (λ r. SetsRegion r.region) }
     {
@@ -301,6 +305,7 @@ impl NormalLangTagBuf {
     pub fn set_variants(&mut self, alloc: Global, variants: Variants<'_>) -> Result<(), AllocError>
         ensures set { OnOk result (SetsVariants (variants_text variants.entry) (normal_lang_tag_buf_text self.old) (normal_lang_tag_buf_text self.new)) }
         ensures unchanged { OnErr result (self.new ≡ self.old) }
+        ensures comes_back { OnOk result (ComesBack (λ new old. with_variants new old.variants) (normal_lang_tag_buf_text self.old) (normal_lang_tag_buf_text self.new)) }
         ensures taken_out { variants_text variants.entry ≡ [] → IsOk result }
         ensures set_back { GivesBack (List (List ℕ)) with_variants (λ r. SetsVariants (variants_part r)) }
     {
@@ -330,6 +335,7 @@ impl NormalLangTagBuf {
     ) -> Result<(), AllocError>
         ensures set { OnOk result (SetsExtensions (extensions_text extensions.entry) (normal_lang_tag_buf_text self.old) (normal_lang_tag_buf_text self.new)) }
         ensures unchanged { OnErr result (self.new ≡ self.old) }
+        ensures comes_back { OnOk result (ComesBack (λ new old. with_extensions new old.extensions) (normal_lang_tag_buf_text self.old) (normal_lang_tag_buf_text self.new)) }
         ensures taken_out { extensions_text extensions.entry ≡ [] → IsOk result }
         ensures set_back { GivesBack (List Extension) with_extensions (λ r. SetsExtensions (extensions_part r)) }
     {
@@ -359,6 +365,7 @@ impl NormalLangTagBuf {
     ) -> Result<(), AllocError>
         ensures set { OnOk result (SetsPrivateUse (option_map private_use_text private_use.entry) (normal_lang_tag_buf_text self.old) (normal_lang_tag_buf_text self.new)) }
         ensures unchanged { OnErr result (self.new ≡ self.old) }
+        ensures comes_back { OnOk result (ComesBack (λ new old. with_private_use new old.private_use) (normal_lang_tag_buf_text self.old) (normal_lang_tag_buf_text self.new)) }
         ensures taken_out { IsNone private_use.entry → IsOk result }
         ensures set_back { GivesBack (Option model.PrivateUse) with_private_use (λ r. SetsPrivateUse (private_use_part r)) }
     {
@@ -366,14 +373,15 @@ impl NormalLangTagBuf {
     }
 }
 
-#[tactic(auto, using(langtag_scan::proofs::SpelledTexts::offsets_kept))]
+#[tactic(auto, using(crate::proofs::PartLaws::part_comes_back, langtag_scan::proofs::SpelledTexts::offsets_kept))]
 impl NormalLangTagBuf {
-    ghost use Rattle.langtag.specs.Edit.{SetsPart};
+    ghost use Rattle.langtag.specs.Edit.{SetsPart, ComesBack, with_old_part};
     ghost use Rattle.langtag.specs.Text.{normal_lang_tag_buf_text, part_text};
 
     /// Sets a part of the tag, or removes it.
     fn put(&mut self, alloc: Global, part: Part<'_>) -> Result<(), AllocError>
         ensures set { OnOk result (SetsPart part.entry (normal_lang_tag_buf_text self.old) (normal_lang_tag_buf_text self.new)) }
+        ensures comes_back { OnOk result (ComesBack (with_old_part part.entry) (normal_lang_tag_buf_text self.old) (normal_lang_tag_buf_text self.new)) }
         ensures unchanged { OnErr result (self.new ≡ self.old) }
         ensures taken_out { part_text part.entry ≡ [] → IsOk result }
     {

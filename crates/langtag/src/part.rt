@@ -1,5 +1,5 @@
 //! The parts of a normal tag (RFC 5646 section 2.1), and how a new part is put into the text of a tag.
-ghost use Rattle.std.specs.Prelude.{◌≡◌, ◌++◌, ◌≤◌, length};
+ghost use Rattle.std.specs.Prelude.{◌≡◌, ◌++◌, ◌≤◌, ◌+◌, length};
 ghost use Rattle.std.specs.List.{replace_range};
 ghost use Rattle.langtag_scan.specs.Tag.{IsNormal};
 ghost use Rattle.langtag.specs.Edit.{SetsPart};
@@ -80,6 +80,7 @@ pub fn put_part<'a>(tag: NormalLangTag<'_>, part: Part<'a>) -> Replacement<'a>
     ensures order { result.start ≤ result.end }
     ensures within { result.end ≤ length (normal_lang_tag_text tag.entry) }
     ensures one_hyphen { length result.hyphen.now ≤ 1 }
+    ensures part { result.part.now ≡ part_text part.entry }
     ensures set { SetsPart part.entry (normal_lang_tag_text tag.entry)
         (replace_range (normal_lang_tag_text tag.entry) result.start result.end (result.hyphen.now ++ result.part.now)) }
     ensures normal { IsNormal
@@ -95,7 +96,8 @@ pub fn put_part<'a>(tag: NormalLangTag<'_>, part: Part<'a>) -> Replacement<'a>
 /// bytes. If the buffer is too short, it stays unchanged, and the length says how much room is needed. The function
 /// does not allocate.
 pub fn write_part<'a>(tag: NormalLangTag<'a>, part: Part<'a>, buffer: &mut [u8]) -> usize
-    ensures { Writes (λ new. SetsPart part.entry (normal_lang_tag_text tag.entry) new × IsNormal new) buffer.old buffer.new result }
+    ensures set { Writes (λ new. SetsPart part.entry (normal_lang_tag_text tag.entry) new × IsNormal new) buffer.old buffer.new result }
+    ensures bounded { result ≤ length (normal_lang_tag_text tag.entry) + length (part_text part.entry) + 1 }
 {
     let text = tag.as_str().as_bytes();
     let new = put_part(tag, part);

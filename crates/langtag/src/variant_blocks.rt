@@ -13,10 +13,10 @@ use langtag_scan::folded_number;
 use std::mem;
 
 /// The number of variants in a block; the last block may have fewer. Each variant takes nine bytes of stack, so a block
-/// takes 72 kB.
-const BLOCK: usize = 8192;
+/// takes 10 kB.
+const BLOCK: usize = 1152;
 
-const _: () = prove!(BLOCK == 8192);
+const _: () = prove!(BLOCK == 1152);
 
 /// Returns the index of the first of these variants that equals an earlier variant, ignoring case.
 ///

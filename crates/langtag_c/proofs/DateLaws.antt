@@ -5,7 +5,6 @@ use Rattle.std.proofs.lemmas.List.{at_drop_more}
 use Rattle.std.proofs.lemmas.Bool.Decides.{nat_tests}
 use Rattle.langtag_scan.specs.Class.{is_digit}
 use Rattle.langtag_registry.specs.declared.tables.TheConstants.{FILE_DATE}
-use Rattle.langtag_likely.specs.declared.tables.TheConstants.{CLDR_VERSION}
 use Rattle.langtag_c.specs.Answers.{digits_number}
 
 -- what a number becomes by the digits of a text that follow it
@@ -39,11 +38,3 @@ date_digits = refl
 
 pub date_fits : digits_number FILE_DATE.now < 4294967296
 date_fits = ltb-true (digits_number FILE_DATE.now) 4294967296 date_digits
-
--- so does the version of CLDR
-version_digits : ltb (digits_number CLDR_VERSION.now) 4294967296 ≡ true
-unfolding is_digit
-version_digits = refl
-
-pub version_fits : digits_number CLDR_VERSION.now < 4294967296
-version_fits = ltb-true (digits_number CLDR_VERSION.now) 4294967296 version_digits

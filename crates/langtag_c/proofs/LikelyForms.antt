@@ -2,7 +2,7 @@
 use Rattle.std.proofs.Common.{◌≡◌, ◌↔◌, ℕ, ◌≤◌, List, length, Option, None, Some, unwrap_or, refl, sym, subst, arith}
 use Rattle.std.specs.Prelude.{IfSome}
 use Rattle.std.proofs.lemmas.Bool.Decides.{nat_tests}
-use Rattle.langtag_output.specs.Writes.{Writes}
+use Rattle.langtag_output.specs.WritesWhole.{WritesWhole}
 use Rattle.langtag_scan.specs.Tag.{IsTag}
 use Rattle.langtag_registry.proofs.CanonicalParts as canonical
 use Rattle.langtag_registry.specs.Canonical.{IsCanonicalForm}
@@ -42,7 +42,7 @@ some_locale old new is = let (r, fits, locale, same) = whole_of_record old new i
 -- 0 bytes stand for no form
 pub locale_none :
     (bytes text before after : List ℕ) (o : Option ℕ) (result : ℕ) → text ≡ bytes → IsTag bytes → result ≡ unwrap_or o 0 →
-    IfSome o (λ len. Writes (λ form. IsWholeForm text (Some form)) before after len) → (o ≡ None → IsWholeForm text None) → (result ≡ 0) ↔ (IsTag bytes → IsWholeForm bytes None)
+    IfSome o (λ len. WritesWhole (λ form. IsWholeForm text (Some form)) before after len) → (o ≡ None → IsWholeForm text None) → (result ≡ 0) ↔ (IsTag bytes → IsWholeForm bytes None)
 locale_none bytes text before after None result same tag is written none = (λ _ _. subst (λ t. IsWholeForm t None) same (none refl), λ _. is)
 locale_none bytes text before after (Some len) result same tag is written none =
     grind (arith, nat_tests, some_locale text written.text written.is_so, not_both text written.text written.is_so)

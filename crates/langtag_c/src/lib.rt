@@ -6,6 +6,7 @@
 #![tactic(auto)]
 
 mod accepted;
+mod base;
 mod best_match;
 mod canonical;
 mod choice;

@@ -4,10 +4,9 @@ ghost use Rattle.langtag_scan.specs.Tag.{IsTag};
 ghost use Rattle.langtag_output.specs.Writes.{Writes};
 ghost use Rattle.langtag_likely.specs.Maximal.{IsMaximalForm, IsMinimalForm};
 ghost use Rattle.langtag_likely.specs.declared.tables.TheConstants.{CLDR_VERSION};
-ghost use Rattle.langtag_c.specs.Answers.{digits_number};
 
-use crate::registry_date::number_of;
 use langtag_likely::{CLDR_VERSION, write_maximized, write_minimized};
+use langtag_output::write_text;
 use langtag_span::tag_of;
 
 /// Writes a tag with its likely subtags (UTS #35, Add Likely Subtags), and returns its length in bytes: `zh-TW`
@@ -46,11 +45,11 @@ pub extern "C" fn langtag_minimize(bytes: &[u8], buffer: &mut [u8]) -> usize
     }
 }
 
-/// Returns the major version of Unicode's CLDR from which the likely subtags come, such as 48 for CLDR 48.2.
-#[tactic(auto, using(crate::proofs::DateLaws::version_fits))]
+/// Writes the version of Unicode's CLDR whose data are in this library, and returns its length in bytes: `48.2`. If the
+/// buffer is too short, it stays unchanged, and the length says how long a buffer must be.
 #[unsafe(no_mangle)]
-pub extern "C" fn langtag_cldr_version() -> u32
-    ensures { result ≡ digits_number CLDR_VERSION.now }
+pub extern "C" fn langtag_cldr_version(buffer: &mut [u8]) -> usize
+    ensures { Writes (λ new. new ≡ CLDR_VERSION.now) buffer.old buffer.new result }
 {
-    number_of(CLDR_VERSION.as_bytes())
+    write_text(CLDR_VERSION.as_bytes(), buffer)
 }

@@ -1,8 +1,8 @@
 //! Unicode locale identifiers, and their canonical form in the caller's buffer (UTS #35, part 1).
-ghost use Rattle.std.specs.Prelude.{◌≡◌, ◌↔◌, ◌<◌, ◌≤◌, ◌+◌, None, Some, false, length};
+ghost use Rattle.std.specs.Prelude.{◌≡◌, ◌↔◌, ◌<◌, None, Some, false};
 ghost use Rattle.langtag.specs.Part.{PartOf};
 ghost use Rattle.langtag_scan.specs.Tag.{IsTag};
-ghost use Rattle.langtag_output.specs.Writes.{Writes};
+ghost use Rattle.langtag_output.specs.WritesWhole.{WritesWhole};
 ghost use Rattle.langtag_locale.specs.Locale.{is_locale_record};
 ghost use Rattle.langtag_locale.specs.LocaleForm.{IsWholeForm};
 
@@ -22,16 +22,15 @@ pub extern "C" fn langtag_is_locale(bytes: &[u8]) -> bool
 }
 
 /// Writes the canonical form of a tag as a Unicode locale identifier (UTS #35, part 1, Annex C), and returns its length in
-/// bytes: `ger-UK` becomes `de-GB`. If the buffer is too short, it stays unchanged, and the length says how long a
-/// buffer must be. The length is at most that of the tag and 32.
+/// bytes: `ger-UK` becomes `de-GB`. If the buffer is too short, its bytes are not specified, and the length says how
+/// long a buffer must be.
 ///
 /// Returns 0 and writes nothing if the bytes are not a tag, or if the tag has no form.
 #[unsafe(no_mangle)]
 pub extern "C" fn langtag_locale_form(bytes: &[u8], buffer: &mut [u8]) -> usize
-    ensures form { 0 < result → Writes (λ form. IsWholeForm bytes.now (Some form)) buffer.old buffer.new result }
+    ensures form { 0 < result → WritesWhole (λ form. IsWholeForm bytes.now (Some form)) buffer.old buffer.new result }
     ensures none { result ≡ 0 ↔ (IsTag bytes.now → IsWholeForm bytes.now None) }
     ensures nothing { result ≡ 0 → buffer.new ≡ buffer.old }
-    ensures bounded { result ≤ length bytes.now + 32 }
 {
     match tag_of(bytes) {
         Some(tag) => write_locale_form(tag, buffer).unwrap_or(0),

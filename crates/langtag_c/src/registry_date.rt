@@ -14,7 +14,7 @@ pub extern "C" fn langtag_registry_date() -> u32
     number_of(FILE_DATE.as_bytes())
 }
 
-/// Returns the digits of a date or a version, read as one number.
+/// Returns the digits of a date, read as one number.
 #[tactic(auto, using(crate::proofs::DateLaws::continued_digit, crate::proofs::DateLaws::continued_other, crate::proofs::DateLaws::digit_fits), unfolding(langtag_scan::specs::Class::is_digit))]
 pub(crate) fn number_of(date: &[u8]) -> u32
     requires { digits_number date.now < 2 ^ 32 }

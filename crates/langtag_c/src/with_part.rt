@@ -1,5 +1,5 @@
 //! A tag with one part changed, written to the caller's buffer (RFC 5646 sections 2.2.1 to 2.2.7).
-ghost use Rattle.std.specs.Prelude.{◌≡◌, ◌↔◌, IfSome};
+ghost use Rattle.std.specs.Prelude.{◌≡◌, ◌↔◌, ◌≤◌, ◌+◌, length, IfSome};
 ghost use Rattle.langtag_output.specs.Writes.{Writes};
 ghost use Rattle.langtag_c.specs.Setting.{CanSet};
 ghost use Rattle.langtag_span.specs.NumberedParts.{SetsNamedPart, part_numbered};
@@ -18,6 +18,7 @@ pub extern "C" fn langtag_with_part(tag: &[u8], part: u32, text: &[u8], buffer: 
     ensures set { CanSet part text.now tag.now →
         IfSome (part_numbered part) (λ it. Writes (SetsNamedPart it text.now tag.now) buffer.old buffer.new result) }
     ensures refused { result ≡ 0 ↔ (CanSet part text.now tag.now → ⊥) }
+    ensures bounded { result ≤ length tag.now + length text.now + 1 }
     ensures nothing { result ≡ 0 → buffer.new ≡ buffer.old }
 {
     let Some(part) = part_of(part, text) else {

@@ -16,7 +16,7 @@ use Rattle.langtag_likely.specs.Likely.{are_alike_fields, language_alone, known,
 use Rattle.langtag.specs.Fields.{Fields}
 use Rattle.langtag_likely.specs.Matching.{language_replaced, region_replaced, without_language, keeping_language, most_unknown, most_likely, matching_fields, matching_form}
 use Rattle.langtag_likely.specs.TextFields.{text_fields, fields_of_subtags, counted, counts, last_language, after_language, script_of, after_script, region_of}
-use Rattle.langtag_likely.proofs.AlikeFields.{AlikeOptions, fields-right, likely_for-alike, alone_alike, or_other-alike, added-alike, by_options, by_same, suffices-alike}
+use Rattle.langtag_likely.proofs.AlikeFields.{AlikeOptions, fields-right, likely_for-alike, alone_alike, or_other-alike, added-alike, by_options, by_same, language-alike, letters-alike, suffices-alike}
 use Rattle.langtag.proofs.Alike.{AlikeFields, are_alike-left, are_alike-right}
 use Rattle.langtag_choice.specs.Distance.{by_language, distance_of_forms, is_among, language_distance, region_distance, script_distance, DistanceIgnoresCase, distance_of_texts}
 use Rattle.langtag_choice.specs.MatchingData.{language_rules}
@@ -24,14 +24,6 @@ use Rattle.langtag_choice.specs.Nearness.{unlikely, unlikely_form}
 use Rattle.langtag_choice.specs.Rules.{Rule, fits, distance_by}
 
 -- ---- the matching form
-
-language-alike : (a b : Fields) → AlikeFields a b → AlikeFields (language_replaced a) (language_replaced b)
-unfolding language_replaced
-language-alike a b h = grind (arith, common_steps, by_same, likely_for-alike, alone_alike, or_other-alike)
-
-region-alike : (a b : Fields) → AlikeFields a b → AlikeFields (region_replaced a) (region_replaced b)
-unfolding region_replaced
-region-alike a b h = grind (arith, common_steps, by_same, likely_for-alike)
 
 unknown-alike : (a b : Fields) → AlikeFields a b → AlikeFields (most_unknown a) (most_unknown b)
 unknown-alike a b h =
@@ -46,7 +38,7 @@ likely-alike a b h =
     (λ v w same. same) _ _ (added-alike a b h)
 
 pub matching-alike : (a b : Fields) → AlikeFields a b → AlikeFields (matching_fields a) (matching_fields b)
-matching-alike a b same = likely-alike _ _ (region-alike _ _ (language-alike a b same))
+matching-alike a b same = likely-alike _ _ (letters-alike _ _ (language-alike a b same))
 
 -- ---- the distance of fields
 

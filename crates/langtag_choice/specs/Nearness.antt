@@ -2,10 +2,10 @@
 use Rattle.std.specs.Prelude.{ℕ, Bool, ◌==◌, ◌&&◌, ◌||◌, not, if◌then◌else◌, List, codes, length, take, drop}
 use Rattle.std.specs.Option.{option_map_or}
 use Rattle.langtag_scan.specs.Case.{are_alike}
-use Rattle.langtag_likely.specs.Likely.{suffices, without_region}
+use Rattle.langtag_likely.specs.Likely.{without_region}
 use Rattle.langtag.specs.Fields.{Fields}
-use Rattle.langtag_likely.specs.LikelySubtags.{likely_subtags}
 use Rattle.langtag_likely.specs.Matching.{matching_form}
+use Rattle.langtag_likely.specs.Maximal.{suffices}
 use Rattle.langtag_range.specs.Basic.{ends_subtag}
 use Rattle.langtag_range.specs.Fallback.{ends_in_single}
 
@@ -34,7 +34,7 @@ is_paradigm form = is_form (codes "en") (codes "GB") form || (is_form (codes "es
 -- how unlikely a form is: 0 if its region is the likely region for its language and script, 1 for a paradigm locale,
 -- and 2 for any other form
 abbrev pub unlikely_form : Fields → ℕ
-unlikely_form form = if suffices likely_subtags form (without_region form) then 0 else if is_paradigm form then 1 else 2
+unlikely_form form = if suffices form (without_region form) then 0 else if is_paradigm form then 1 else 2
 
 unfoldable pub unlikely : List ℕ → ℕ
 unlikely tag = option_map_or unlikely_form (matching_form tag) 2

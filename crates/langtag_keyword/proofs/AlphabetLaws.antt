@@ -31,7 +31,7 @@ before-trans a b c one two = ap is_lt (nat_list_cmp_total.trans a b c (is_less _
 pub before-back : (a b : List ℕ) → is_before a b ≡ true → is_before b a ≡ false
 before-back a b one = ap is_lt (nat_list_cmp_total.antisymm b a ∙ ap ordering_reverse (is_less _ one))
 
-before-tie : (a b : List ℕ) → is_before a b ≡ false → is_before b a ≡ false → a ≡ b
+pub before-tie : (a b : List ℕ) → is_before a b ≡ false → is_before b a ≡ false → a ≡ b
 before-tie a b one two = (bytes_eq-Decides a b).0 (sym (is_eq-slice_cmp a b) ∙ ties (slice_cmp nat_cmp a b) one (ap is_lt (sym (nat_list_cmp_total.antisymm b a)) ∙ two))
 
 pub before-itself : (a : List ℕ) → is_before a a ≡ false
@@ -97,7 +97,7 @@ Rise (s ∷ ss) = Under s ss × Rise ss
 under-put : (s x : List ℕ) (ss : List (List ℕ)) → is_before s x ≡ true → Under s ss → Under s (put_among x ss)
 under-put s x ss below under = grind (arith, nat_tests)
 
-rise-put : (x : List ℕ) (ss : List (List ℕ)) → Rise ss → Rise (put_among x ss)
+pub rise-put : (x : List ℕ) (ss : List (List ℕ)) → Rise ss → Rise (put_among x ss)
 rise-put x [] rise = (tt, tt)
 rise-put x (s ∷ ss) rise = grind (arith, nat_tests, rise-put x ss rise.1, under-put s x ss)
 

@@ -9,8 +9,9 @@ pub mod ExtensionsPut
 pub mod Found
 pub mod KeywordBlocks
 pub mod KeywordEdits
-pub mod KeywordForms
 pub mod KeywordLaws
 pub mod KeywordTwice
+pub mod KeywordsInForm
+pub mod RisingTexts
 pub mod SubtagTexts
 pub mod WalkSteps

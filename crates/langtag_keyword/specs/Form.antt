@@ -1,7 +1,7 @@
 -- The canonical form of the extensions `u` and `t` (UTS #35, part 1, section 'Unicode Locale Identifier' and Annex C; RFC 6067 section
 -- 2.1, RFC 6497 section 2.2).
 use Rattle.std.specs.Prelude.{ℕ, Bool, true, false, not, ◌&&◌, ◌||◌, ◌==◌, leb, List, [], ◌∷◌, ◌++◌, length, map, codes, if◌then◌else◌, unwrap_or}
-use Rattle.std.specs.List.{flat_map, list_any}
+use Rattle.std.specs.List.{filter, flat_map, list_any}
 use Rattle.std.specs.Option.{option_map_or}
 use Rattle.std.specs.Ordering.{is_lt, nat_cmp}
 use Rattle.std.specs.Cmp.Lexicographic.{slice_cmp}
@@ -57,9 +57,9 @@ transform_value key value = unwrap_or (type_alias_for transform_type_aliases key
 
 -- ---- keywords and fields, sorted by their keys
 
--- the bytes that a key may have, in order
-abbrev pub letters_and_digits : List ℕ
-letters_and_digits = codes "0123456789abcdefghijklmnopqrstuvwxyz"
+-- the keys in lowercase, each once, in alphabetical order
+abbrev pub keys_in_order : (List ℕ → Bool) → List (List ℕ) → List (List ℕ)
+keys_in_order opens ss = in_alphabet (filter opens ss)
 
 -- `opens` says which subtags are keys, and `canonical_value` gives the canonical value of a key
 module _ (opens : List ℕ → Bool) (canonical_value : List ℕ → List ℕ → List ℕ) where
@@ -67,13 +67,9 @@ module _ (opens : List ℕ → Bool) (canonical_value : List ℕ → List ℕ �
   abbrev pub keyword_form : List (List ℕ) → List ℕ → List (List ℕ)
   keyword_form ss key = option_map_or (λ value. key ∷ map fold_text (subtags (canonical_value key (join value)))) (value_of opens key ss) []
 
-  -- the keys that begin with one letter or digit, with their values
-  abbrev pub keywords_from : List (List ℕ) → ℕ → List (List ℕ)
-  keywords_from ss first = flat_map (λ second. keyword_form ss (first ∷ second ∷ [])) letters_and_digits
-
   -- all keys with their values
   abbrev pub keywords_form : List (List ℕ) → List (List ℕ)
-  keywords_form ss = flat_map (keywords_from ss) letters_and_digits
+  keywords_form ss = flat_map (keyword_form ss) (keys_in_order opens ss)
 
 -- ---- the extension u
 

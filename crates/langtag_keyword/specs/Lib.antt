@@ -6,5 +6,4 @@ pub mod EditText
 pub mod Form
 pub mod Keys
 pub mod Keywords
-pub mod Marks
 pub mod Transform

@@ -6,11 +6,11 @@ use thiserror::Error;
 ///
 /// ```
 /// use langtag::LangTag;
-/// use langtag_unicode::{KeywordError, write_with_keyword};
+/// use langtag_unicode::{KeywordError, SetKeywordError, set_keyword};
 ///
-/// let tag = LangTag::new("de")?;
-/// write_with_keyword(tag, "c4", "buddhist", &mut []); // Err(KeywordError::Key)
-/// write_with_keyword(tag, "ca", "islamic-c", &mut []); // Err(KeywordError::Value(8))
+/// let mut tag = LangTag::new("de")?.try_to_owned(alloc)?;
+/// set_keyword(&mut tag, alloc, "c4", "roc"); // Err(SetKeywordError::Keyword(KeywordError::Key))
+/// set_keyword(&mut tag, alloc, "ca", "roc-c"); // Err(SetKeywordError::Keyword(KeywordError::Value(4)))
 /// ```
 #[derive(Clone, Copy, Debug, PartialEq, Eq, Error)]
 pub enum KeywordError {

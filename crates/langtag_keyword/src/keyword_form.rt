@@ -1,61 +1,58 @@
 //! Keywords and fields with their canonical values, in the order of their keys, written to an output.
-ghost use Rattle.std.specs.Prelude.{◌≡◌, ◌<◌};
+ghost use Rattle.std.specs.Prelude.{◌≡◌, IfSome, length};
+ghost use Rattle.std.specs.List.{filter};
+ghost use Rattle.std.specs.Option.{option_map};
 ghost use Rattle.langtag_output.specs.Output.{Pushes};
-ghost use Rattle.langtag_scan.specs.Case.{fold_byte, fold_text};
+ghost use Rattle.langtag_scan.specs.Case.{fold_text};
 ghost use Rattle.langtag_scan.specs.Subtags.{subtags};
+ghost use Rattle.langtag_keyword.specs.Alphabet.{first_after};
 ghost use Rattle.langtag_keyword.specs.Form as spec;
 ghost use Rattle.langtag_keyword.specs.Keys.{canonical_value_of, opens_keyword};
-ghost use Rattle.langtag_keyword.specs.Marks.{AreMarked, digit, first_letter_index, key_index};
 
 use crate::alias::canonical_value;
-use crate::alphabet::push_each_lowercase;
+use crate::alphabet::{is_after, is_before_best, push_each_lowercase};
 use crate::keys::Keys;
 use crate::subtags::value_in;
 use langtag_output::Output;
 use langtag_scan::{Subtags, into_smallcase};
 
-/// The bytes that a key may have, in order.
-const LETTERS_AND_DIGITS: [u8; 36] = *b"0123456789abcdefghijklmnopqrstuvwxyz";
-
-/// The number of possible keys.
-const KEY_COUNT: usize = 1296;
-
 /// Appends the keywords of a text, each once, in the order of their keys.
 ///
-/// The text is read once, and then once for each key in it. There are at most 1,296 keys.
+/// The text is read once for each key in it, to find the next one, and once to find its value.
 pub fn push_keywords(out: &mut Output<'_>, text: &str, keys: Keys)
     ensures same_buffer { out.new.buffer.ghost_name ≡ out.old.buffer.ghost_name }
     ensures pushed { Pushes (spec.keywords_form (opens_keyword keys) (canonical_value_of keys) (subtags text.now)) out.old out.new }
 {
-    let mut marks = [false; KEY_COUNT];
-    let mut firsts = [false; 36];
-    mark_keys(&mut marks, &mut firsts, text, keys);
-    for first in LETTERS_AND_DIGITS {
-        if !firsts[digit(first)] {
-            continue;
-        }
-        push_keywords_from(out, text, keys, &marks, first);
+    let mut last = None;
+    while let Some(key) = first_key_after(text, keys, last) {
+        push_keyword(out, text, keys, &in_lowercase(key));
+        last = Some(key);
     }
 }
 
-/// Appends the keywords whose keys begin with one letter or digit.
-fn push_keywords_from(
-    out: &mut Output<'_>,
-    text: &str,
-    keys: Keys,
-    marks: &[bool; KEY_COUNT],
-    first: u8,
-)
-    requires { AreMarked key_index (opens_keyword keys) marks.now (subtags text.now) }
-    ensures same_buffer { out.new.buffer.ghost_name ≡ out.old.buffer.ghost_name }
-    ensures pushed { Pushes (spec.keywords_from (opens_keyword keys) (canonical_value_of keys) (subtags text.now) first) out.old out.new }
+/// Returns the first key, in alphabetical order, that comes after `last`.
+#[tactic(auto, using(crate::proofs::AlphabetLaws::search_laws))]
+fn first_key_after<'a>(text: &'a str, keys: Keys, last: Option<&str>) -> Option<&'a str>
+    ensures first { option_map (λ t. fold_text t.now) result ≡ first_after (option_map (λ t. fold_text t.now) last.entry) (spec.keys_in_order (opens_keyword keys) (subtags text.now)) }
+    ensures two { IfSome result (λ t. length t.now ≡ 2) }
 {
-    for second in LETTERS_AND_DIGITS {
-        let key = [first, second];
-        if !marks[key_index(&key)] {
-            continue;
+    let mut best = None;
+    for subtag in Subtags::new(text) {
+        if keys.has(subtag.as_bytes()) && is_after(subtag, last) && is_before_best(subtag, best) {
+            best = Some(subtag);
         }
-        push_keyword(out, text, keys, &key);
+    }
+    best
+}
+
+/// Returns a key in lowercase.
+fn in_lowercase(key: &str) -> [u8; 2]
+    requires { length key.now ≡ 2 }
+    ensures { result ≡ fold_text key.now }
+{
+    match key.as_bytes() {
+        [first, second] => [into_smallcase(*first), into_smallcase(*second)],
+        _ => unreachable!(),
     }
 }
 
@@ -67,53 +64,5 @@ fn push_keyword(out: &mut Output<'_>, text: &str, keys: Keys, key: &[u8])
     if let Some(value) = value_in(text, keys, key) {
         out.push_subtag(key);
         push_each_lowercase(out, canonical_value(keys, key, value));
-    }
-}
-
-/// Marks the keys that occur in a text, and the letters and digits that begin them.
-fn mark_keys(marks: &mut [bool; KEY_COUNT], firsts: &mut [bool; 36], text: &str, keys: Keys)
-    ensures marked { AreMarked key_index (opens_keyword keys) marks.new (subtags text.now) }
-    ensures begun { AreMarked first_letter_index (opens_keyword keys) firsts.new (subtags text.now) }
-{
-    for subtag in Subtags::new(text) {
-        let key = subtag.as_bytes();
-        if keys.has(key) {
-            marks[key_index(key)] = true;
-            firsts[first_index(key)] = true;
-        }
-    }
-}
-
-/// Returns the index of a key's first byte among all digits and letters, ignoring case.
-fn first_index(key: &[u8]) -> usize
-    ensures within { result < 36 }
-    ensures index { result ≡ first_letter_index (fold_text key.now) }
-{
-    match key {
-        [first, _] => digit(*first),
-        _ => 0,
-    }
-}
-
-/// Returns the index of a key among all keys, ignoring case.
-fn key_index(key: &[u8]) -> usize
-    ensures within { result < 1296 }
-    ensures index { result ≡ key_index (fold_text key.now) }
-{
-    match key {
-        [first, second] => 36 * digit(*first) + digit(*second),
-        _ => 0,
-    }
-}
-
-/// Returns the index of a byte among all digits and letters, ignoring case.
-fn digit(byte: u8) -> usize
-    ensures within { result < 36 }
-    ensures index { result ≡ digit (fold_byte byte) }
-{
-    match into_smallcase(byte) {
-        digit @ b'0'..=b'9' => usize::from(digit - b'0'),
-        letter @ b'a'..=b'z' => usize::from(letter - b'a') + 10,
-        _ => 0,
     }
 }

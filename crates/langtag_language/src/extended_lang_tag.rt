@@ -94,6 +94,7 @@ impl<'a> ExtendedLangTag<'a> {
     /// Returns whether another text equals this text, ignoring the case of ASCII letters:
     /// `ExtendedLangTag::new("yue")?.eq_str("YUE")` is `true`. It is proved that comparisons and hashes also ignore
     /// case, and that a clone is the same value.
+    #[tactic(auto, using(langtag_scan::proofs::CaseOrder::bytes_ends_first))]
     pub fn eq_str(&self, other: &str) -> bool
         ensures test { result ≡ are_alike (extended_lang_tag_text self.now) other.now }
 
@@ -177,6 +178,7 @@ impl ExtendedLangTagBuf {
 
     /// Borrows the subtag: `ExtendedLangTag::new("YUE")?.try_to_owned(alloc)?.as_extended_lang_tag().as_str()` is
     /// `"YUE"`. It is proved that comparisons and hashes of owned extended subtags ignore case.
+    #[tactic(auto, using(langtag_scan::proofs::CaseOrder::bytes_ends_first))]
     pub fn as_extended_lang_tag(&self) -> ExtendedLangTag<'_>
         ensures same_text { extended_lang_tag_text result ≡ extended_lang_tag_buf_text self.now }
 

@@ -1,14 +1,16 @@
 -- Likely subtags that are added again change nothing, since the rows have what it takes.
-use Rattle.std.proofs.Common.{◌≡◌, ◌==◌, ◌%◌, true, false, Bool, cond, leb, not, List, [], ◌∷◌, ℕ, Option, None, Some, is_some, refl, sym, ap, ◌∙◌, arith, ◌&&◌, ◌||◌, codes, option_map, ◌⊎◌, rules}
+use Rattle.std.proofs.Common.{◌≡◌, ◌==◌, ◌%◌, true, false, Bool, cond, leb, not, List, [], ◌∷◌, ℕ, Option, None, Some, is_some, refl, sym, ap, subst, ◌∙◌, arith, ◌&&◌, ◌||◌, codes, option_map, ◌⊎◌, rules}
 use Rattle.std.proofs.lemmas.Bool.{and_parts, leb-true, eqb-true}
 use Rattle.std.specs.List.{list_all}
-use Rattle.std.specs.Option.{option_map_or}
+use Rattle.std.specs.Option.{is_none, option_map_or}
 use Rattle.langtag_scan.specs.Case.{are_alike, Alike, fold_text}
 use Rattle.langtag_scan.specs.Class.{are_letters}
 use Rattle.langtag_tables.specs.Numbers.{letter_number}
 use Rattle.langtag_likely.specs.Likely.{Likely, likely_for, looked_up, or_else, are_alike_fields, or_other, filled, known, known_fields, add_likely, language_alone}
 use Rattle.langtag.specs.Fields.{Fields}
 use Rattle.langtag_likely.specs.LikelySubtags.{language_rows, other_rows, likely_subtags}
+use Rattle.langtag_likely.specs.Aliases.{region_aliases}
+use Rattle.langtag_likely.specs.Matching.{region_alone}
 use Rattle.langtag_likely.specs.Rows.{of_language}
 use Rattle.langtag_likely.proofs.AlikeFields.{alike_fields, likely_for-alike, looked_up-alike, alone_alike}
 use Rattle.langtag.proofs.Alike.{AlikeFields, alike_is}
@@ -53,7 +55,7 @@ by_or a b f g h = grind arith
 pub absent : (a : List ℕ) → is_there a ≡ false → a ≡ []
 absent a h = grind arith
 
-there_alike : (a b : List ℕ) → Alike a b → is_there a ≡ is_there b
+pub there_alike : (a b : List ℕ) → Alike a b → is_there a ≡ is_there b
 there_alike a b h = grind arith
 
 pub or_other_there : (a b : List ℕ) → is_there a ≡ true → or_other a b ≡ a
@@ -62,10 +64,10 @@ or_other_there a b h = grind arith
 pub or_other_absent : (a b : List ℕ) → is_there a ≡ false → or_other a b ≡ b
 or_other_absent a b h = grind arith
 
-there_other : (a b : List ℕ) → is_there b ≡ true → is_there (or_other a b) ≡ true
+pub there_other : (a b : List ℕ) → is_there b ≡ true → is_there (or_other a b) ≡ true
 there_other a b h = grind arith
 
-other_test : (unknown a b : List ℕ) → are_alike unknown a ≡ false → are_alike unknown b ≡ false → are_alike unknown (or_other a b) ≡ false
+pub other_test : (unknown a b : List ℕ) → are_alike unknown a ≡ false → are_alike unknown b ≡ false → are_alike unknown (or_other a b) ≡ false
 other_test unknown a b ha hb = grind arith
 
 pub known_stays : (unknown a : List ℕ) → are_alike unknown a ≡ false → known unknown a ≡ a
@@ -88,17 +90,17 @@ row_of (row ∷ rows) key to all is =
     (λ other. row_of rows key to k.1 (sym (rw other refl) ∙ is))
 
 -- the fields that were looked up have the language, and each of the others has it or has none
-record IsKey (f key : Fields) : Type 0 where
-  language : key.language ≡ f.language
+pub record IsKey (f key : Fields) : Type 0 where
+  pub language : key.language ≡ f.language
   script : (key.script ≡ f.script) ⊎ (key.script ≡ [])
   region : (key.region ≡ f.region) ⊎ (key.region ≡ [])
 
-record Found (f to : Fields) : Type 0 where
-  key : Fields
-  is_key : IsKey f key
-  found : likely_for likely_subtags key ≡ Some to
+pub record Found (f to : Fields) : Type 0 where
+  pub key : Fields
+  pub is_key : IsKey f key
+  pub found : likely_for likely_subtags key ≡ Some to
 
-found_of : (f to : Fields) → looked_up likely_subtags f ≡ Some to → Found f to
+pub found_of : (f to : Fields) → looked_up likely_subtags f ≡ Some to → Found f to
 found_of f to is = grind arith
 
 -- ---- fields that are all there stay, where something is looked up
@@ -137,10 +139,11 @@ language_of row h = grind arith
 
 record StaysUnknown (row : Likely) : Type 0 where
   from_language : is_there row.from.language ≡ false
-  some : (is_there row.from.script || is_there row.from.region) ≡ true
+  script_there : is_there row.from.script ≡ true
   script : is_kept row.from.script row.to.script ≡ true
   region : is_kept row.from.region row.to.region ≡ true
   settles : option_map_or (λ v. not (is_there v.language)) (looked_up other_rows row.to) false ≡ true
+  current : is_none (likely_for region_aliases (region_alone row.to)) ≡ true
 
 unknown_of : (row : Likely) → stays_unknown row ≡ true → StaysUnknown row
 unknown_of row h = grind arith
@@ -151,17 +154,25 @@ field_alike :
     Alike (or_other field to) to
 field_alike field to from key is same kept there = grind (arith, alike_is from to)
 
-not_first : (a b : List ℕ) → is_there (or_other a b) ≡ false → is_there a ≡ false
+pub not_first : (a b : List ℕ) → is_there (or_other a b) ≡ false → is_there a ≡ false
 not_first a b h = grind arith
-
-and_false : (a b : Bool) → (a && b) ≡ false → a ≡ true → b ≡ false
-and_false a b h it = grind arith
 
 and_false-turned : (a b : Bool) → (a && b) ≡ false → b ≡ true → a ≡ false
 and_false-turned a b h it = grind arith
 
 absent_key : (field from key : List ℕ) → (key ≡ field) ⊎ (key ≡ []) → Alike from key → is_there field ≡ false → is_there from ≡ false
 absent_key field from key h3 same none = grind (arith, there_alike)
+
+-- what is true of a right side that was found for fields
+pub record RowFacts (f to : Fields) : Type 0 where
+  -- the language has a row of its own
+  pub alone : is_there (filled f to).language ≡ true → is_some (likely_for likely_subtags (language_alone (filled f to))) ≡ true
+  -- if no language is known, the script is written, and the likely region is not deprecated
+  pub unknown : is_there (filled f to).language ≡ false → (is_there f.script ≡ true) × (is_none (likely_for region_aliases (region_alone to)) ≡ true)
+  pub script : is_there to.script ≡ true
+  pub script_known : are_alike (codes "Zzzz") to.script ≡ false
+  pub region : is_there to.region ≡ true
+  pub region_known : are_alike (codes "ZZ") to.region ≡ false
 
 -- ---- fields, the row that was found for them, and what it makes of them
 
@@ -208,29 +219,41 @@ module _ (f : Fields) (row : Likely) (key : Fields) (is_key : IsKey f key) (from
 
   -- ---- no language is known
 
+  unknown_row : is_there f.language ≡ false → is_there row.to.language ≡ false → StaysUnknown row
+  unknown_row f_none to_none = search (rules, unknown_of)
+
+  unknown_most : is_there most.language ≡ false → (is_there f.language ≡ false) × (is_there row.to.language ≡ false)
+  unknown_most none =
+      let f_none = not_first f.language row.to.language none in
+      (f_none, sym (ap is_there (or_other_absent f.language row.to.language f_none)) ∙ none)
+
+  -- the script is written
+  script_written : is_there most.language ≡ false → is_there f.script ≡ true
+  script_written none =
+      let (f_none, to_none) = unknown_most none in
+      either_way (is_there f.script) (λ there. there)
+      (λ absent. clash _ (unknown_row f_none to_none).script_there (absent_key f.script row.from.script key.script is_key.script from_is.script absent))
+
   unknown_again : is_there most.language ≡ false → add_likely likely_subtags most ≡ Some most
   unknown_again none = either_way (is_there f.script && is_there f.region) written unwritten
     where
       f_none : is_there f.language ≡ false
-      f_none = not_first f.language row.to.language none
+      f_none = (unknown_most none).0
 
       to_none : is_there row.to.language ≡ false
-      to_none = sym (ap is_there (or_other_absent f.language row.to.language f_none)) ∙ none
+      to_none = (unknown_most none).1
 
       unknown : StaysUnknown row
-      unknown = search (rules, unknown_of)
+      unknown = unknown_row f_none to_none
 
       written : (is_there f.script && is_there f.region) ≡ true → add_likely likely_subtags most ≡ Some most
       written both = grind arith
 
       unwritten : (is_there f.script && is_there f.region) ≡ false → add_likely likely_subtags most ≡ Some most
       unwritten one =
-          let script_from : is_there f.script ≡ true → is_there row.from.script ≡ true =
-          λ there. by_or (is_there row.from.script) (is_there row.from.region) (λ h. h)
-          (λ h. clash _ h (absent_key f.region row.from.region key.region is_key.region from_is.region (and_false (is_there f.script) (is_there f.region) one there))) unknown.some in
+          let script_from : is_there f.script ≡ true → is_there row.from.script ≡ true = λ there. unknown.script_there in
           let region_from : is_there f.region ≡ true → is_there row.from.region ≡ true =
-          λ there. by_or (is_there row.from.script) (is_there row.from.region)
-          (λ h. clash _ h (absent_key f.script row.from.script key.script is_key.script from_is.script (and_false-turned (is_there f.script) (is_there f.region) one there))) (λ h. h) unknown.some in
+          λ there. clash _ (script_written none) (and_false-turned (is_there f.script) (is_there f.region) one there) in
           let settles =
           ap (λ o. option_map_or (λ v. not (is_there v.language)) o false) (sym (looked_up_other row.to (absent row.to.language to_none))) ∙ unknown.settles in
           let same : AlikeFields most row.to = record {
@@ -252,6 +275,16 @@ module _ (f : Fields) (row : Likely) (key : Fields) (is_key : IsKey f key) (from
       ap (add_likely likely_subtags) same
       ∙ either_way (is_there most.language) (λ there. whole_again most there (there_other f.script row.to.script whole.script) (there_other f.region row.to.region whole.region) (alone_found there)) unknown_again
 
+  row_facts : RowFacts f row.to
+  row_facts = record {
+    alone = alone_found;
+    unknown = λ none. let (f_none, to_none) = unknown_most none in (script_written none, (unknown_row f_none to_none).current);
+    script = whole.script;
+    script_known = whole.script_known;
+    region = whole.region;
+    region_known = whole.region_known;
+  }
+
 -- ---- whatever is added to fields that are known
 
 -- fields without `Zzzz` and `ZZ`
@@ -265,6 +298,7 @@ pub record IsAdded (f m : Fields) : Type 0 where
   pub filled_is : filled f to ≡ m
   pub language : are_alike (codes "und") to.language ≡ false
   pub again : add_likely likely_subtags (known_fields m) ≡ Some m
+  pub facts : RowFacts f to
 
 pub added : (f m : Fields) → AreKnown f → add_likely likely_subtags f ≡ Some m → IsAdded f m
 added f m known is = by_row (looked_up likely_subtags f) refl is
@@ -284,4 +318,5 @@ added f m known is = by_row (looked_up likely_subtags f) refl is
           filled_is = same;
           language = sym (ap (λ v. are_alike (codes "und") v.language) r.to_is) ∙ whole.language_known;
           again = ap (λ n. add_likely likely_subtags (known_fields n)) (sym made) ∙ again ∙ ap Some made;
+          facts = subst (RowFacts f) r.to_is (row_facts f r.row found.key found.is_key r.from_is whole parts.1 (found.found ∙ ap Some (sym r.to_is)) (looked ∙ ap Some (sym r.to_is)) known.script known.region);
         }

@@ -1,9 +1,9 @@
 -- What is deprecated is found by its number, with what replaces it. The tables have the rows of the lists: by computation.
-use Rattle.std.proofs.Common.{◌≡◌, ℕ, ◌+◌, true, ◌==◌, Bool, ltb, length, arith, ◌&&◌, map, refl, [], ◌<◌, List, get_or, option_map, sym, ap, ◌∙◌, Option, IsUtf8}
+use Rattle.std.proofs.Common.{◌≡◌, ℕ, ◌+◌, true, ◌==◌, Bool, ltb, not, length, arith, ◌&&◌, map, refl, [], ◌<◌, List, get_or, option_map, sym, ap, ◌∙◌, Option, IsUtf8, codes}
 use Rattle.std.proofs.lemmas.List.{nil_from_length, get_or-map}
 use Rattle.std.proofs.lemmas.Str.{IsUtf8-from_ascii}
 use Rattle.std.specs.List.{list_all}
-use Rattle.langtag_scan.specs.Case.{folded_number, fold_byte}
+use Rattle.langtag_scan.specs.Case.{are_alike, folded_number, fold_byte}
 use Rattle.langtag_scan.specs.Class.{are_alphanumeric, is_letter, is_digit, is_primary, is_script, is_region, are_letters, is_alphanumeric}
 use Rattle.langtag_scan.proofs.Ascii.{IsAscii-each, alphanumeric_below}
 use Rattle.langtag_scan.proofs.FoldedNumbers.{folded_number-tells}
@@ -19,6 +19,7 @@ use Rattle.langtag_likely.specs.declared.alias_tables.TheConstants as table
 use Rattle.langtag_likely.specs.declared.alias_tables.TheConstants.{ALIAS_LANGUAGES, ALIAS_SCRIPT_NAMES, ALIAS_SCRIPTS, ALIAS_REGION_NAMES, ALIAS_REGIONS, REGION_ALIAS_NAMES}
 use Rattle.langtag_likely.proofs.RowLaws.{is_language, language_number, language-tells}
 use Rattle.langtag_likely.proofs.RowsFound.{is_short as is_short_row, found_by_number}
+use Rattle.langtag_likely.proofs.TableRows.{are_good, has_bit}
 
 -- ---- the number of a region tells it apart but for case
 
@@ -44,14 +45,18 @@ pub record AreAliases : Type 0 where
   pub regions : map (name_at table.ALIAS_REGION_NAMES) table.ALIAS_REGIONS ≡ map (λ row. row.to.region) language_aliases
   pub alone : list_all is_language language_aliases ≡ true
   pub short : list_all is_short_row language_aliases ≡ true
+  -- none has likely subtags of its own
+  pub unlisted : list_all (λ row. not (has_bit row.from.language)) language_aliases ≡ true
   -- each leads to a language
   pub lead : list_all (λ row. ltb 0 (length row.to.language)) language_aliases ≡ true
+  pub good : list_all are_good language_aliases ≡ true
+  pub known : list_all (λ row. not (are_alike (codes "Zzzz") row.to.script) && not (are_alike (codes "ZZ") row.to.region)) language_aliases ≡ true
   pub languages_good : list_all (λ name. is_language_field (name_text name)) table.ALIAS_LANGUAGES ≡ true
   pub scripts_good : list_all (λ name. is_script_field (name_text name)) table.ALIAS_SCRIPT_NAMES ≡ true
   pub regions_good : list_all (λ name. is_region_field (name_text name)) table.ALIAS_REGION_NAMES ≡ true
 
 pub aliases_listed : AreAliases
-unfolding language_aliases letter_number is_letter is_digit is_primary is_script is_region fold_byte
+unfolding language_aliases has_bit letter_number is_letter is_digit is_primary is_script is_region fold_byte
 aliases_listed = record {
   numbers = refl;
   count = refl;
@@ -60,7 +65,10 @@ aliases_listed = record {
   regions = refl;
   alone = refl;
   short = refl;
+  unlisted = refl;
   lead = refl;
+  good = refl;
+  known = refl;
   languages_good = refl;
   scripts_good = refl;
   regions_good = refl;
@@ -74,15 +82,16 @@ pub record AreRegions (rows : List Likely) (keys : List ℕ) (names : List (List
   pub languages : map (λ row. row.to.language) rows ≡ map (λ row. []) rows
   pub scripts : map (λ row. row.to.script) rows ≡ map (λ row. []) rows
   pub alone : list_all is_region_alone rows ≡ true
+  pub rows_good : list_all are_good rows ≡ true
   pub good : list_all (λ name. is_region_field (name_text name)) names ≡ true
 
 pub region_aliases_listed : AreRegions region_aliases table.REGION_ALIAS_KEYS table.REGION_ALIAS_NAMES
 unfolding region_aliases folded_number is_region is_letter is_digit fold_byte
-region_aliases_listed = record { numbers = refl; count = refl; regions = refl; languages = refl; scripts = refl; alone = refl; good = refl }
+region_aliases_listed = record { numbers = refl; count = refl; regions = refl; languages = refl; scripts = refl; alone = refl; rows_good = refl; good = refl }
 
 pub replacements_listed : AreRegions region_replacements table.REPLACEMENT_KEYS table.REPLACEMENT_NAMES
 unfolding region_replacements folded_number is_region is_letter is_digit fold_byte
-replacements_listed = record { numbers = refl; count = refl; regions = refl; languages = refl; scripts = refl; alone = refl; good = refl }
+replacements_listed = record { numbers = refl; count = refl; regions = refl; languages = refl; scripts = refl; alone = refl; rows_good = refl; good = refl }
 
 -- ---- what a list has at an index
 

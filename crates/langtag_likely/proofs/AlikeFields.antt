@@ -1,10 +1,14 @@
 -- Fields that are equal but for case have likely subtags that are.
 use Rattle.std.proofs.Common.{◌≡◌, ℕ, true, false, Bool, cond, List, [], ◌∷◌, Option, None, Some, option_map, refl, ap, ◌∙◌, subst, arith}
+use Rattle.std.proofs.lemmas.Grind.{common_steps}
 use Rattle.std.specs.Option.{option_map_or}
 use Rattle.langtag_scan.specs.Case.{Alike}
-use Rattle.langtag_likely.specs.Likely.{Likely, are_alike_fields, likely_for, looked_up, or_other, known, known_fields, add_likely, remove_likely, least, suffices, language_alone, without_script, without_region}
+use Rattle.langtag_scan.proofs.CaseLaw.{length-fold}
+use Rattle.langtag_likely.specs.Likely.{Likely, are_alike_fields, likely_for, looked_up, filled, or_other, known, known_fields, add_likely, language_alone, without_script, without_region}
 use Rattle.langtag.specs.Fields.{Fields}
 use Rattle.langtag_likely.specs.LikelySubtags.{likely_subtags}
+use Rattle.langtag_likely.specs.Matching.{language_replaced, letters_replaced, region_replaced}
+use Rattle.langtag_likely.specs.Maximal.{add_likely_subtags, canonical_fields, least, remove_likely_subtags, suffices}
 use Rattle.langtag.proofs.Alike.{AlikeFields, alike_is, are_alike-left, are_alike-right}
 
 pub alike_fields : (a b : Fields) → are_alike_fields a b ≡ true → AlikeFields a b
@@ -53,25 +57,51 @@ by_same P each x y same = subst (P x) same (each x)
 pub added-alike : (a b : Fields) → AlikeFields a b → AlikeOptions (add_likely likely_subtags a) (add_likely likely_subtags b)
 added-alike a b h = grind (arith, looked_up-alike a b h)
 
--- ---- and removed
+both-alike : (a b v w : List ℕ) → Alike a b → Alike v w → Alike (or_other a v) (or_other b w)
+both-alike a b v w h k = grind arith
+
+filled-alike : (a b v w : Fields) → AlikeFields a b → AlikeFields v w → AlikeFields (filled a v) (filled b w)
+filled-alike a b v w h k = record { language = both-alike _ _ _ _ h.language k.language; script = both-alike _ _ _ _ h.script k.script; region = both-alike _ _ _ _ h.region k.region }
+
+-- ---- deprecated subtags replaced
 
 pub known-alike : (unknown a b : List ℕ) → Alike a b → Alike (known unknown a) (known unknown b)
 known-alike unknown a b h = grind arith
 
+pub language-alike : (a b : Fields) → AlikeFields a b → AlikeFields (language_replaced a) (language_replaced b)
+unfolding language_replaced
+language-alike a b h = grind (arith, common_steps, by_same, likely_for-alike, alone_alike, or_other-alike)
+
+pub region-alike : (a b : Fields) → AlikeFields a b → AlikeFields (region_replaced a) (region_replaced b)
+unfolding region_replaced
+region-alike a b h = grind (arith, common_steps, by_same, likely_for-alike, known-alike)
+
+pub letters-alike : (a b : Fields) → AlikeFields a b → AlikeFields (letters_replaced a) (letters_replaced b)
+unfolding letters_replaced
+letters-alike a b h = grind (arith, common_steps, region-alike a b h, length-fold)
+
+pub likely_added-alike : (a b : Fields) → AlikeFields a b → AlikeOptions (add_likely_subtags a) (add_likely_subtags b)
+unfolding add_likely_subtags
+likely_added-alike a b h =
+    by_options (λ o p. AlikeOptions (option_map (filled a) o) (option_map (filled b) p)) tt
+    (λ v w same. filled-alike a b v w h same) _ _ (added-alike (canonical_fields a) (canonical_fields b) (region-alike _ _ (language-alike a b h)))
+
+-- ---- and removed
+
 pub known_fields-alike : (a b : Fields) → AlikeFields a b → AlikeFields (known_fields a) (known_fields b)
 known_fields-alike a b h = grind arith
 
-pub suffices-alike : (m n a b : Fields) → AlikeFields m n → AlikeFields a b → suffices likely_subtags m a ≡ suffices likely_subtags n b
+pub suffices-alike : (m n a b : Fields) → AlikeFields m n → AlikeFields a b → suffices m a ≡ suffices n b
 suffices-alike m n a b most few =
     by_options (λ o p. option_map_or (λ form. are_alike_fields m form) o false ≡ option_map_or (λ form. are_alike_fields n form) p false) refl
-    (λ v w same. fields-left m n v most ∙ fields-right n v w same) _ _ (added-alike a b few)
+    (λ v w same. fields-left m n v most ∙ fields-right n v w same) _ _ (likely_added-alike a b few)
 
 few-alike :
     (s t u : Bool) (a b m n : Fields) → AlikeFields a b → AlikeFields m n →
     AlikeFields (cond s (language_alone a) (cond t (without_script a) (cond u (without_region a) m))) (cond s (language_alone b) (cond t (without_script b) (cond u (without_region b) n)))
 few-alike s t u a b m n few same = grind arith
 
-least-alike : (m n : Fields) → AlikeFields m n → AlikeFields (least likely_subtags m) (least likely_subtags n)
+least-alike : (m n : Fields) → AlikeFields m n → AlikeFields (least m) (least n)
 least-alike m n h =
     let k = known_fields-alike m n h in
     rw (
@@ -79,8 +109,8 @@ least-alike m n h =
       suffices-alike m n (without_script (known_fields m)) (without_script (known_fields n)) h (record { language = k.language; script = refl; region = k.region }),
       suffices-alike m n (without_region (known_fields m)) (without_region (known_fields n)) h (record { language = k.language; script = k.script; region = refl }),
     )
-    (few-alike (suffices likely_subtags n (language_alone (known_fields n))) (suffices likely_subtags n (without_script (known_fields n))) (suffices likely_subtags n (without_region (known_fields n))) (known_fields m) (known_fields n) m n k h)
+    (few-alike (suffices n (language_alone (known_fields n))) (suffices n (without_script (known_fields n))) (suffices n (without_region (known_fields n))) (known_fields m) (known_fields n) m n k h)
 
-pub removed-alike : (a b : Fields) → AlikeFields a b → AlikeOptions (remove_likely likely_subtags a) (remove_likely likely_subtags b)
+pub removed-alike : (a b : Fields) → AlikeFields a b → AlikeOptions (remove_likely_subtags a) (remove_likely_subtags b)
 removed-alike a b h =
-    by_options (λ o p. AlikeOptions (option_map (least likely_subtags) o) (option_map (least likely_subtags) p)) tt least-alike _ _ (added-alike a b h)
+    by_options (λ o p. AlikeOptions (option_map least o) (option_map least p)) tt least-alike _ _ (likely_added-alike a b h)

@@ -7,13 +7,14 @@ use Rattle.langtag_scan.specs.Case.{Alike, fold_text, are_alike}
 use Rattle.langtag_scan.specs.Class.{is_extended}
 use Rattle.langtag_scan.specs.Record.{Record, IsWellFormed}
 use Rattle.langtag_tables.proofs.Letters.{primary_length, extended_primary}
-use Rattle.langtag_likely.specs.Likely.{looked_up, or_other, filled, known, known_fields, add_likely, least, suffices, language_alone, without_script, without_region}
+use Rattle.langtag_likely.specs.Likely.{or_other, filled, known, known_fields, add_likely, language_alone, without_script, without_region}
 use Rattle.langtag.specs.Fields.{Fields}
 use Rattle.langtag_likely.specs.LikelySubtags.{likely_subtags}
-use Rattle.langtag_likely.specs.Maximal.{fields_of, language_field, put_fields, put_language, maximal_record, minimal_record}
-use Rattle.langtag_likely.proofs.AddedTwice.{either_way, AreKnown, added, or_other_there}
+use Rattle.langtag_likely.specs.Maximal.{add_likely_subtags, canonical_fields, fields_of, language_field, least, put_fields, put_language, maximal_record, minimal_record, suffices}
+use Rattle.langtag_likely.proofs.AddedTwice.{either_way, AreKnown, or_other_there}
+use Rattle.langtag_likely.proofs.CanonicalFields.{likely_added}
 use Rattle.langtag_likely.proofs.TableRows.{is_there}
-use Rattle.langtag_likely.proofs.AlikeFields.{alike_fields, known-alike, known_fields-alike, suffices-alike, AlikeOptions, added-alike, removed-alike, by_options}
+use Rattle.langtag_likely.proofs.AlikeFields.{alike_fields, known-alike, known_fields-alike, suffices-alike, AlikeOptions, likely_added-alike, removed-alike, by_options}
 use Rattle.langtag.proofs.Alike.{AlikeFields}
 
 -- ---- one field
@@ -40,17 +41,18 @@ language_back most form v same made = grind (arith, alike_none)
 record Suffices (m few : Fields) : Type 0 where
   form : Fields
   v : Fields
-  is : add_likely likely_subtags few ≡ Some form
+  is : add_likely_subtags few ≡ Some form
   made : filled few v ≡ form
   same : AlikeFields m form
 
 some_value : {A P : Type 0} (o : Option A) → (o ≡ None → P) → ((v : A) → o ≡ Some v → P) → P
 some_value o none some = grind arith
 
-sufficed : (m few : Fields) → suffices likely_subtags m few ≡ true → Suffices m few
+sufficed : (m few : Fields) → suffices m few ≡ true → Suffices m few
+unfolding add_likely_subtags
 sufficed m few h =
-    some_value (looked_up likely_subtags few) (λ looked. absurd (let lost : false ≡ true = sym (rw looked refl) ∙ h in cc))
-    (λ v looked. record { form = filled few v; v = v; is = ap (option_map (filled few)) looked; made = refl; same = alike_fields m (filled few v) (sym (rw looked refl) ∙ h) })
+    some_value (add_likely likely_subtags (canonical_fields few)) (λ none. absurd (let lost : false ≡ true = sym (rw none refl) ∙ h in cc))
+    (λ v some. record { form = filled few v; v = v; is = ap (option_map (filled few)) some; made = refl; same = alike_fields m (filled few v) (sym (rw some refl) ∙ h) })
 
 -- ---- the fewest fields
 
@@ -58,11 +60,11 @@ pub record HasForm (m n : Fields) : Type 0 where
   pub form : Fields
   pub language : n.language ≡ m.language
   pub form_language : form.language ≡ m.language
-  pub is_form : add_likely likely_subtags (known_fields n) ≡ Some form
+  pub is_form : add_likely_subtags (known_fields n) ≡ Some form
   pub same : AlikeFields m form
-  pub fewest : least likely_subtags form ≡ n
+  pub fewest : least form ≡ n
 
-module _ (m : Fields) (again : add_likely likely_subtags (known_fields m) ≡ Some m) where
+module _ (m : Fields) (again : add_likely_subtags (known_fields m) ≡ Some m) where
   abbrev a : Fields
   a = language_alone (known_fields m)
 
@@ -76,21 +78,21 @@ module _ (m : Fields) (again : add_likely likely_subtags (known_fields m) ≡ So
     abbrev k : Fields
     k = known_fields form
 
-    alone_same : suffices likely_subtags form (language_alone k) ≡ suffices likely_subtags m a
+    alone_same : suffices form (language_alone k) ≡ suffices m a
     alone_same = sym (suffices-alike m form a (language_alone k) same (record { language = same.language; script = refl; region = refl }))
 
-    with_region_same : suffices likely_subtags form (without_script k) ≡ suffices likely_subtags m b
+    with_region_same : suffices form (without_script k) ≡ suffices m b
     with_region_same =
         sym (suffices-alike m form b (without_script k) same (record { language = same.language; script = refl; region = (known_fields-alike m form same).region }))
 
-    with_script_same : suffices likely_subtags form (without_region k) ≡ suffices likely_subtags m c
+    with_script_same : suffices form (without_region k) ≡ suffices m c
     with_script_same =
         sym (suffices-alike m form c (without_region k) same (record { language = same.language; script = (known_fields-alike m form same).script; region = refl }))
 
-  by_language : suffices likely_subtags m a ≡ true → HasForm m a
+  by_language : suffices m a ≡ true → HasForm m a
   by_language one = grind (arith, sufficed m a one, language_back m.language)
 
-  by_region : suffices likely_subtags m a ≡ false → suffices likely_subtags m b ≡ true → HasForm m b
+  by_region : suffices m a ≡ false → suffices m b ≡ true → HasForm m b
   by_region one two =
       let h = sufficed m b two in
       let l : h.form.language ≡ m.language = language_back m.language h.form.language h.v.language h.same.language (ap (λ f. f.language) (sym h.made)) in
@@ -101,12 +103,12 @@ module _ (m : Fields) (again : add_likely likely_subtags (known_fields m) ≡ So
         form = h.form;
         language = refl;
         form_language = l;
-        is_form = ap (add_likely likely_subtags) settled ∙ h.is;
+        is_form = ap add_likely_subtags settled ∙ h.is;
         same = h.same;
         fewest = rw (alone_same h.form h.same ∙ one, with_region_same h.form h.same ∙ two) here;
       }
 
-  by_script : suffices likely_subtags m a ≡ false → suffices likely_subtags m b ≡ false → suffices likely_subtags m c ≡ true → HasForm m c
+  by_script : suffices m a ≡ false → suffices m b ≡ false → suffices m c ≡ true → HasForm m c
   by_script one two three =
       let h = sufficed m c three in
       let l : h.form.language ≡ m.language = language_back m.language h.form.language h.v.language h.same.language (ap (λ f. f.language) (sym h.made)) in
@@ -117,19 +119,19 @@ module _ (m : Fields) (again : add_likely likely_subtags (known_fields m) ≡ So
         form = h.form;
         language = refl;
         form_language = l;
-        is_form = ap (add_likely likely_subtags) settled ∙ h.is;
+        is_form = ap add_likely_subtags settled ∙ h.is;
         same = h.same;
         fewest = rw (alone_same h.form h.same ∙ one, with_region_same h.form h.same ∙ two, with_script_same h.form h.same ∙ three) here;
       }
 
-  by_all : suffices likely_subtags m a ≡ false → suffices likely_subtags m b ≡ false → suffices likely_subtags m c ≡ false → HasForm m m
+  by_all : suffices m a ≡ false → suffices m b ≡ false → suffices m c ≡ false → HasForm m m
   by_all one two three = grind arith
 
-  pub has_form : HasForm m (least likely_subtags m)
+  pub has_form : HasForm m (least m)
   has_form =
-      either_way (suffices likely_subtags m a) (λ one. rw one (by_language one)) (λ one.
-      either_way (suffices likely_subtags m b) (λ two. rw (one, two) (by_region one two)) (λ two.
-      either_way (suffices likely_subtags m c) (λ three. rw (one, two, three) (by_script one two three)) (λ three. rw (one, two, three) (by_all one two three))))
+      either_way (suffices m a) (λ one. rw one (by_language one)) (λ one.
+      either_way (suffices m b) (λ two. rw (one, two) (by_region one two)) (λ two.
+      either_way (suffices m c) (λ three. rw (one, two, three) (by_script one two three)) (λ three. rw (one, two, three) (by_all one two three))))
 
 -- ---- the language of a tag whose fields are put
 
@@ -158,41 +160,41 @@ fields_put r n l fits same not_und = grind (arith, language_put, primary_length)
 fields_known : (r : Record) → AreKnown (fields_of r)
 fields_known r = grind arith
 
-max_of : (q : Record) (m : Fields) → add_likely likely_subtags (fields_of q) ≡ Some m → maximal_record q ≡ put_fields q m
+max_of : (q : Record) (m : Fields) → add_likely_subtags (fields_of q) ≡ Some m → maximal_record q ≡ put_fields q m
 unfolding maximal_record
 max_of q m is = ap (λ o. option_map_or (put_fields q) o q) is
 
-min_of : (q : Record) (m : Fields) → add_likely likely_subtags (fields_of q) ≡ Some m → minimal_record q ≡ put_fields q (least likely_subtags m)
+min_of : (q : Record) (m : Fields) → add_likely_subtags (fields_of q) ≡ Some m → minimal_record q ≡ put_fields q (least m)
 unfolding minimal_record
-min_of q m is = ap (λ o. option_map_or (put_fields q) (option_map (least likely_subtags) o) q) is
+min_of q m is = ap (λ o. option_map_or (put_fields q) (option_map least o) q) is
 
 -- nothing is known of the record
 record HasNone (r : Record) : Type 0 where
   max_is : maximal_record r ≡ r
   min_is : minimal_record r ≡ r
 
-none_is : (r : Record) → add_likely likely_subtags (fields_of r) ≡ None → HasNone r
+none_is : (r : Record) → add_likely_subtags (fields_of r) ≡ None → HasNone r
 unfolding maximal_record minimal_record
 none_is r is = record {
   max_is = ap (λ o. option_map_or (put_fields r) o r) is;
-  min_is = ap (λ o. option_map_or (put_fields r) (option_map (least likely_subtags) o) r) is;
+  min_is = ap (λ o. option_map_or (put_fields r) (option_map least o) r) is;
 }
 
 -- it has likely subtags
 record HasMost (r : Record) : Type 0 where
   most : Fields
   max_is : maximal_record r ≡ put_fields r most
-  min_is : minimal_record r ≡ put_fields r (least likely_subtags most)
-  again : add_likely likely_subtags (known_fields most) ≡ Some most
+  min_is : minimal_record r ≡ put_fields r (least most)
+  again : add_likely_subtags (known_fields most) ≡ Some most
   fields : (n : Fields) → n.language ≡ most.language → fields_of (put_fields r n) ≡ known_fields n
 
 forms_of : (r : Record) → IsWellFormed r → HasNone r ⊎ HasMost r
-forms_of r fits = by_option (add_likely likely_subtags (fields_of r)) refl
+forms_of r fits = by_option (add_likely_subtags (fields_of r)) refl
   where
-    by_option : (o : Option Fields) → add_likely likely_subtags (fields_of r) ≡ o → HasNone r ⊎ HasMost r
+    by_option : (o : Option Fields) → add_likely_subtags (fields_of r) ≡ o → HasNone r ⊎ HasMost r
     by_option None is = inl (none_is r is)
     by_option (Some m) is =
-        let h = added (fields_of r) m (fields_known r) is in
+        let h = likely_added (fields_of r) m (fields_known r) is in
         inr (record {
           most = m;
           max_is = max_of r m is;
@@ -207,7 +209,7 @@ pub maximal-twice : (r : Record) → IsWellFormed r → maximal_record (maximal_
 maximal-twice r fits = elim (forms_of r fits) [
   | inl h ↦ ap maximal_record h.max_is
   | inr h ↦
-      ap maximal_record h.max_is ∙ max_of (put_fields r h.most) h.most (ap (add_likely likely_subtags) (h.fields h.most refl) ∙ h.again)
+      ap maximal_record h.max_is ∙ max_of (put_fields r h.most) h.most (ap add_likely_subtags (h.fields h.most refl) ∙ h.again)
       ∙ put_twice r h.most h.most refl ∙ sym h.max_is
 ]
 
@@ -240,7 +242,7 @@ option-alike r q o p same = by_options (λ o p. AlikeRecords (option_map_or (put
 
 pub maximal-alike : (r q : Record) → AlikeRecords r q → AlikeRecords (maximal_record r) (maximal_record q)
 unfolding maximal_record
-maximal-alike r q same = option-alike r q _ _ same (added-alike (fields_of r) (fields_of q) (fields-alike r q same))
+maximal-alike r q same = option-alike r q _ _ same (likely_added-alike (fields_of r) (fields_of q) (fields-alike r q same))
 
 pub minimal-alike : (r q : Record) → AlikeRecords r q → AlikeRecords (minimal_record r) (minimal_record q)
 unfolding minimal_record
@@ -250,10 +252,10 @@ pub maximal-of_minimal : (r : Record) → IsWellFormed r → AlikeRecords (maxim
 maximal-of_minimal r fits = elim (forms_of r fits) [
   | inl h ↦ ap fold_record (ap maximal_record (sym h.min_is))
   | inr h ↦
-      let n = least likely_subtags h.most in
+      let n = least h.most in
       let form = has_form h.most h.again in
       let made : maximal_record (minimal_record r) ≡ put_fields r form.form =
-      ap maximal_record h.min_is ∙ max_of (put_fields r n) form.form (ap (add_likely likely_subtags) (h.fields n form.language) ∙ form.is_form)
+      ap maximal_record h.min_is ∙ max_of (put_fields r n) form.form (ap add_likely_subtags (h.fields n form.language) ∙ form.is_form)
       ∙ put_twice r n form.form (form.language ∙ sym form.form_language) in
       ap fold_record h.max_is ∙ put-alike r r h.most form.form refl form.same ∙ ap fold_record (sym made)
 ]

@@ -11,11 +11,14 @@ use Rattle.langtag_scan.proofs.Joins.{hyphenated}
 use Rattle.langtag_scan.proofs.PartOffsets.{length-spell}
 use Rattle.langtag_scan.proofs.SubtagFacts.{of_primary}
 use Rattle.langtag.specs.FieldClasses.{is_language_field, is_script_field, is_region_field}
-use Rattle.langtag_likely.specs.Likely.{Likely, likely_for, looked_up, or_else, filled, known_fields, add_likely, remove_likely, least, suffices, language_alone, without_script, without_region}
+use Rattle.langtag_likely.specs.Likely.{Likely, likely_for, looked_up, or_else, filled, known_fields, add_likely, language_alone, without_script, without_region}
 use Rattle.langtag.specs.Fields.{Fields}
 use Rattle.langtag_likely.specs.LikelySubtags.{likely_subtags}
-use Rattle.langtag_likely.specs.Maximal.{fields_of, language_field, put_fields, maximal_record, minimal_record}
+use Rattle.langtag_likely.specs.Aliases.{language_aliases, region_aliases}
+use Rattle.langtag_likely.specs.Matching.{language_replaced, region_alone, region_replaced, with_language_from, with_region_from}
+use Rattle.langtag_likely.specs.Maximal.{add_likely_subtags, canonical_fields, fields_of, language_field, least, put_fields, maximal_record, minimal_record, remove_likely_subtags, suffices}
 use Rattle.langtag.specs.Form.{IsForm}
+use Rattle.langtag_likely.proofs.AliasTables.{aliases_listed, region_aliases_listed}
 use Rattle.langtag_likely.proofs.FieldClasses.{from_extended, known_good}
 use Rattle.langtag_likely.proofs.TableRows.{are_good, rows_listed}
 use Rattle.langtag.proofs.FieldClasses.{from_primary}
@@ -59,6 +62,34 @@ mapped-good change (Some f) keeps go most is = let same : change f ≡ most = cc
 added-good : (f : Fields) → AreGood f → IfGood (add_likely likely_subtags f)
 added-good f good = mapped-good (filled f) (looked_up likely_subtags f) (λ v gv. filled-good f v good gv) (looked_up-good f)
 
+-- ---- deprecated subtags replaced
+
+language-good : (f : Fields) → AreGood f → AreGood (language_replaced f)
+unfolding language_replaced
+language-good f good = by_row (likely_for language_aliases (language_alone f)) refl
+  where
+    by_row : (o : Option Fields) → likely_for language_aliases (language_alone f) ≡ o → AreGood (option_map_or (with_language_from f) o f)
+    by_row None none = good
+    by_row (Some to) is =
+        let row = row_good language_aliases (language_alone f) to aliases_listed.good is in
+        let both = filled-good f to good row in
+        record { language = row.language; script = both.script; region = both.region }
+
+region-good : (f : Fields) → AreGood f → AreGood (region_replaced f)
+unfolding region_replaced
+region-good f good = by_row (likely_for region_aliases (region_alone f)) refl
+  where
+    by_row : (o : Option Fields) → likely_for region_aliases (region_alone f) ≡ o → AreGood (option_map_or (with_region_from f) o f)
+    by_row None none = good
+    by_row (Some to) is =
+        let row = row_good region_aliases (region_alone f) to region_aliases_listed.rows_good is in
+        record { language = good.language; script = good.script; region = known_good is_region_field (codes "ZZ") to.region refl row.region }
+
+likely_added-good : (f : Fields) → AreGood f → IfGood (add_likely_subtags f)
+unfolding add_likely_subtags
+likely_added-good f good =
+    mapped-good (filled f) (add_likely likely_subtags (canonical_fields f)) (λ v gv. filled-good f v good gv) (added-good (canonical_fields f) (region-good _ (language-good f good)))
+
 -- ---- and removed
 
 known_fields-good : (f : Fields) → AreGood f → AreGood (known_fields f)
@@ -68,10 +99,10 @@ few-good :
     (a b c : Bool) (few most : Fields) → AreGood few → AreGood most → AreGood (cond a (language_alone few) (cond b (without_script few) (cond c (without_region few) most)))
 few-good a b c few most small good = grind arith
 
-least-good : (most : Fields) → AreGood most → AreGood (least likely_subtags most)
+least-good : (most : Fields) → AreGood most → AreGood (least most)
 least-good most good =
-    few-good (suffices likely_subtags most (language_alone (known_fields most))) (suffices likely_subtags most (without_script (known_fields most)))
-    (suffices likely_subtags most (without_region (known_fields most))) (known_fields most) most (known_fields-good most good) good
+    few-good (suffices most (language_alone (known_fields most))) (suffices most (without_script (known_fields most)))
+    (suffices most (without_region (known_fields most))) (known_fields most) most (known_fields-good most good) good
 
 -- ---- the fields of a tag
 
@@ -95,14 +126,14 @@ put-well_formed r o well good = grind (arith, put_fields-well_formed)
 
 pub maximal_well_formed : (r : Record) → IsWellFormed r → IsWellFormed (maximal_record r)
 unfolding maximal_record
-maximal_well_formed r well = put-well_formed r (add_likely likely_subtags (fields_of r)) well (added-good (fields_of r) (fields_of-good r well))
+maximal_well_formed r well = put-well_formed r (add_likely_subtags (fields_of r)) well (likely_added-good (fields_of r) (fields_of-good r well))
 
-removed-good : (f : Fields) → AreGood f → IfGood (remove_likely likely_subtags f)
-removed-good f good = mapped-good (least likely_subtags) (add_likely likely_subtags f) least-good (added-good f good)
+removed-good : (f : Fields) → AreGood f → IfGood (remove_likely_subtags f)
+removed-good f good = mapped-good least (add_likely_subtags f) least-good (likely_added-good f good)
 
 pub minimal_well_formed : (r : Record) → IsWellFormed r → IsWellFormed (minimal_record r)
 unfolding minimal_record
-minimal_well_formed r well = put-well_formed r (remove_likely likely_subtags (fields_of r)) well (removed-good (fields_of r) (fields_of-good r well))
+minimal_well_formed r well = put-well_formed r (remove_likely_subtags (fields_of r)) well (removed-good (fields_of r) (fields_of-good r well))
 
 -- ---- how long they are
 
@@ -123,11 +154,11 @@ by_fields r o well = grind (arith, put_length)
 
 pub maximal_length : (r : Record) → IsWellFormed r → length (spell (maximal_record r)) ≤ length (spell r) + 17
 unfolding maximal_record
-maximal_length r well = by_fields r (add_likely likely_subtags (fields_of r)) (maximal_well_formed r well)
+maximal_length r well = by_fields r (add_likely_subtags (fields_of r)) (maximal_well_formed r well)
 
 pub minimal_length : (r : Record) → IsWellFormed r → length (spell (minimal_record r)) ≤ length (spell r) + 17
 unfolding minimal_record
-minimal_length r well = by_fields r (remove_likely likely_subtags (fields_of r)) (minimal_well_formed r well)
+minimal_length r well = by_fields r (remove_likely_subtags (fields_of r)) (minimal_well_formed r well)
 
 -- of every text
 pub form_bounded :

@@ -1,6 +1,7 @@
 pub mod AddedTwice
 pub mod AliasTables
 pub mod AlikeFields
+pub mod CanonicalFields
 pub mod CommonTexts
 pub mod CompletedForms
 pub mod FieldClasses
@@ -9,6 +10,7 @@ pub mod GoodForms
 pub mod KeyNumbers
 pub mod LanguageBits
 pub mod PosixLaws
+pub mod PosixVariantLaws
 pub mod PutLaws
 pub mod RowLaws
 pub mod RowsFound

@@ -21,7 +21,8 @@ use Rattle.langtag_likely.specs.Likely.{or_else}
 use Rattle.langtag.specs.Form.{IsForm}
 use Rattle.langtag_likely.specs.Modifiers.{is_script_code, modifier_script, modifier_variant}
 use Rattle.langtag_range.specs.Locale.{front_of}
-use Rattle.langtag_likely.specs.Posix.{modifier_of, said_script, script_behind, with_said, with_said_script, with_said_variant}
+use Rattle.langtag_likely.specs.Posix.{modifier_of, posix_replaced, said_script, script_behind, with_said, with_said_script, with_said_variant}
+use Rattle.langtag_likely.proofs.PosixVariantLaws.{posix_well_formed}
 use Rattle.langtag_scan.proofs.Disjoint.{script_four}
 use Rattle.langtag_scan.proofs.PartOffsets.{length-spell}
 
@@ -93,7 +94,8 @@ script_well_formed script is r fits = script_fits r fits script is
 
 pub said_well_formed : (name : List ℕ) (r : Record) → IsWellFormed r → IsWellFormed (with_said name r)
 said_well_formed name r fits =
-    variant_fits (with_said_script (said_script name) r) (script_fits r fits (said_script name) (said_script-fits name)) (modifier_variant (modifier_of name)) (modifier_variant-fits (modifier_of name))
+    variant_fits (with_said_script (said_script name) (posix_replaced r)) (script_fits (posix_replaced r) (posix_well_formed r fits) (said_script name) (said_script-fits name)) (modifier_variant (modifier_of name))
+    (modifier_variant-fits (modifier_of name))
 
 -- ---- values of the code
 

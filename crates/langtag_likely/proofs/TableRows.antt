@@ -2,14 +2,16 @@
 use Rattle.std.proofs.Common.{◌≡◌, ℕ, zero, suc, ◌-◌, ◌/◌, ◌%◌, ◌^◌, true, false, ◌==◌, Bool, cond, leb, not, List, [], ◌∷◌, length, get_or, map, flat_map, refl, sym, ap, ◌∙◌, ◌&&◌, ◌||◌, codes}
 use Rattle.std.proofs.lemmas.List.{length-map}
 use Rattle.std.specs.List.{list_all}
-use Rattle.std.specs.Option.{option_map_or}
+use Rattle.std.specs.Option.{is_none, option_map_or}
 use Rattle.langtag_scan.specs.Case.{are_alike, fold_byte, folded_number}
 use Rattle.langtag_scan.specs.Class.{is_letter, is_digit, are_letters, is_primary, is_script, is_region}
 use Rattle.langtag_tables.specs.Numbers.{letter_number, places}
 use Rattle.langtag_likely.specs.declared.tables.TheConstants as table
 use Rattle.langtag.specs.FieldClasses.{is_language_field, is_script_field, is_region_field}
-use Rattle.langtag_likely.specs.Likely.{Likely, looked_up}
+use Rattle.langtag_likely.specs.Aliases.{region_aliases}
+use Rattle.langtag_likely.specs.Likely.{Likely, likely_for, looked_up}
 use Rattle.langtag_likely.specs.LikelySubtags.{language_rows, other_rows, likely_subtags}
+use Rattle.langtag_likely.specs.Matching.{region_alone}
 use Rattle.langtag_likely.specs.Numbers.{key_number, name_at, name_text}
 use Rattle.langtag_likely.proofs.KeyNumbers.{is_numbered}
 use Rattle.langtag_likely.proofs.RowsFound.{is_short, is_alone, is_other}
@@ -54,12 +56,13 @@ is_whole row =
     && (is_known (codes "ZZ") row.to.region && (not (are_alike (codes "und") row.to.language)
     && is_kept row.from.language row.to.language))
 
--- a right side without a language keeps the left side, which has a script or a region, and leads to no language
+-- a right side without a language keeps the left side, which has a script, leads to no language, and its region is not
+-- deprecated
 abbrev pub stays_unknown : Likely → Bool
 stays_unknown row =
-    (not (is_there row.from.language) && (is_there row.from.script || is_there row.from.region))
+    (not (is_there row.from.language) && is_there row.from.script)
     && ((is_kept row.from.script row.to.script && is_kept row.from.region row.to.region)
-    && option_map_or (λ v. not (is_there v.language)) (looked_up other_rows row.to) false)
+    && (option_map_or (λ v. not (is_there v.language)) (looked_up other_rows row.to) false && is_none (likely_for region_aliases (region_alone row.to))))
 
 -- the bit of a language is set in the table of those that have a row
 unfoldable pub has_bit : List ℕ → Bool
@@ -108,15 +111,18 @@ pub record AreRows : Type 0 where
   pub languages : AreLanguages
   pub others : AreOthers
   pub settled : list_all is_settled likely_subtags ≡ true
+  -- a language on the left has its bit
+  pub listed : list_all (λ row. not (is_there row.from.language) || has_bit row.from.language) likely_subtags ≡ true
   pub good : list_all are_good likely_subtags ≡ true
 
 -- one proof for all of it, so that the lists are read only once
 pub rows_listed : AreRows
-unfolding likely_subtags language_rows other_rows has_bit bits places key_number letter_number folded_number fold_byte is_primary is_script is_region is_letter is_digit
+unfolding likely_subtags language_rows other_rows region_aliases has_bit bits places key_number letter_number folded_number fold_byte is_primary is_script is_region is_letter is_digit
 rows_listed = record {
   languages = record { scripts = refl; regions = refl; bits = refl; alone = refl; only = refl; short = refl };
   others = record { numbers = refl; languages = refl; scripts = refl; regions = refl; numbered = refl; other = refl; short = refl };
   settled = refl;
+  listed = refl;
   good = refl;
 }
 

@@ -3,10 +3,8 @@ use Rattle.std.proofs.Common.{◌≡◌, ℕ, List, Option, sym, ap, ◌∙◌, 
 use Rattle.std.specs.Option.{option_map_or}
 use Rattle.langtag_scan.specs.Record.{Record}
 use Rattle.langtag_scan.proofs.NormalTexts.{spelled_once}
-use Rattle.langtag_likely.specs.Likely.{add_likely, remove_likely}
 use Rattle.langtag.specs.Fields.{Fields}
-use Rattle.langtag_likely.specs.LikelySubtags.{likely_subtags}
-use Rattle.langtag_likely.specs.Maximal.{IsMaximalForm, IsMinimalForm, fields_of, put_fields, maximal_record, minimal_record}
+use Rattle.langtag_likely.specs.Maximal.{IsMaximalForm, IsMinimalForm, add_likely_subtags, fields_of, put_fields, maximal_record, minimal_record, remove_likely_subtags}
 use Rattle.langtag.specs.Form.{IsAlikeForm}
 use Rattle.langtag_likely.specs.MaximalLaws.{UndoesMinimal, UndoesMaximal, TellsAsMaximal, KeepsOthers}
 use Rattle.langtag.proofs.FormLaws.{alike_forms, composed, some_form, undone}
@@ -58,7 +56,7 @@ unfolding maximal_record
 maximal_keeps old new is = λ r spells q also.
     let well = maximal_well_formed r spells.0 in
     let same : maximal_record r ≡ q = spelled_once (maximal_record r) q well also.0 (sym (is.parts r spells) ∙ sym also.1) in
-    let stay = others_stay r (add_likely likely_subtags (fields_of r)) in
+    let stay = others_stay r (add_likely_subtags (fields_of r)) in
     (ap (λ x. x.extended) (sym same) ∙ stay.0, ap (λ x. x.variants) (sym same) ∙ stay.1, ap (λ x. x.extensions) (sym same) ∙ stay.2, ap (λ x. x.private_use) (sym same) ∙ stay.3)
 
 pub minimal_keeps : (old new : List ℕ) → IsMinimalForm old new → KeepsOthers old new
@@ -66,5 +64,5 @@ unfolding minimal_record
 minimal_keeps old new is = λ r spells q also.
     let well = minimal_well_formed r spells.0 in
     let same : minimal_record r ≡ q = spelled_once (minimal_record r) q well also.0 (sym (is.parts r spells) ∙ sym also.1) in
-    let stay = others_stay r (remove_likely likely_subtags (fields_of r)) in
+    let stay = others_stay r (remove_likely_subtags (fields_of r)) in
     (ap (λ x. x.extended) (sym same) ∙ stay.0, ap (λ x. x.variants) (sym same) ∙ stay.1, ap (λ x. x.extensions) (sym same) ∙ stay.2, ap (λ x. x.private_use) (sym same) ∙ stay.3)

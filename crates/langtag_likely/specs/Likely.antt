@@ -1,7 +1,7 @@
 -- Likely subtags (UTS #35, part 1, section 'Likely Subtags'): the most likely script and region of a language, and the
 -- most likely language for a script or a region.
-use Rattle.std.specs.Prelude.{ℕ, ◌&&◌, Bool, false, List, [], ◌∷◌, Option, None, Some, codes, if◌then◌else◌}
-use Rattle.std.specs.Option.{option_map, option_map_or}
+use Rattle.std.specs.Prelude.{ℕ, ◌&&◌, Bool, List, [], ◌∷◌, Option, None, Some, codes, if◌then◌else◌}
+use Rattle.std.specs.Option.{option_map}
 use Rattle.langtag_scan.specs.Case.{are_alike}
 use Rattle.langtag.specs.Fields.{Fields}
 
@@ -82,7 +82,7 @@ filled f likely = record {
   region = or_other f.region likely.region;
 }
 
--- the operation Add Likely Subtags of UTS #35, for fields; `None` if no row fits
+-- the steps Lookup and Return of Add Likely Subtags, for fields without deprecated subtags; `None` if no row fits
 abbrev pub add_likely : List Likely → Fields → Option Fields
 add_likely rows f = option_map (filled f) (looked_up rows f)
 
@@ -94,21 +94,3 @@ known unknown text = if are_alike unknown text then [] else text
 
 abbrev pub known_fields : Fields → Fields
 known_fields f = record { language = f.language; script = known (codes "Zzzz") f.script; region = known (codes "ZZ") f.region }
-
--- ---- the operation Remove Likely Subtags of UTS #35, for fields
-
--- whether these few fields have this maximal form
-abbrev pub suffices : List Likely → Fields → Fields → Bool
-suffices rows most few = option_map_or (λ form. are_alike_fields most form) (add_likely rows few) false
-
--- the fewest fields with the same maximal form. These fields are tried in order: only the language; language and
--- region; language and script; all fields
-abbrev pub least : List Likely → Fields → Fields
-least rows most =
-    if suffices rows most (language_alone (known_fields most)) then language_alone (known_fields most)
-    else if suffices rows most (without_script (known_fields most)) then without_script (known_fields most)
-    else if suffices rows most (without_region (known_fields most)) then without_region (known_fields most)
-    else most
-
-abbrev pub remove_likely : List Likely → Fields → Option Fields
-remove_likely rows f = option_map (least rows) (add_likely rows f)

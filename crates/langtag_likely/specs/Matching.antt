@@ -1,11 +1,11 @@
 -- The matching form of a text: the fields by which two tags are compared (UTS #35, part 1, section 'Language
 -- Matching'). Deprecated subtags are replaced, and then likely subtags are added.
-use Rattle.std.specs.Prelude.{ℕ, List, [], Option, None, codes, if◌then◌else◌}
+use Rattle.std.specs.Prelude.{ℕ, ◌==◌, List, [], length, Option, None, codes, if◌then◌else◌}
 use Rattle.std.specs.Option.{option_map, option_map_or}
 use Rattle.langtag_scan.specs.Case.{are_alike}
 use Rattle.langtag_range.specs.Listed.{basic_text}
 use Rattle.langtag_range.specs.Wanted.{hyphened}
-use Rattle.langtag_likely.specs.Likely.{likely_for, or_other, language_alone, add_likely}
+use Rattle.langtag_likely.specs.Likely.{likely_for, or_other, language_alone, known, add_likely}
 use Rattle.langtag.specs.Fields.{Fields}
 use Rattle.langtag_likely.specs.LikelySubtags.{likely_subtags}
 use Rattle.langtag_likely.specs.Aliases.{language_aliases, region_aliases}
@@ -20,12 +20,15 @@ region_alone f = record { language = []; script = []; region = f.region }
 abbrev pub with_language_from : Fields → Fields → Fields
 with_language_from f to = record { language = to.language; script = or_other f.script to.script; region = or_other f.region to.region }
 
+-- the fields with another region; `ZZ`, by which `999` is replaced, counts as no region
 abbrev pub with_region_from : Fields → Fields → Fields
-with_region_from f to = record { language = f.language; script = f.script; region = to.region }
+with_region_from f to = record { language = f.language; script = f.script; region = known (codes "ZZ") to.region }
 
+-- `iw` becomes `he`, and `sh` becomes `sr` with the script `Latn`
 unfoldable pub language_replaced : Fields → Fields
 language_replaced f = option_map_or (with_language_from f) (likely_for language_aliases (language_alone f)) f
 
+-- `UK` and `826` become `GB`. The first region is taken if several regions replace one, so `SU` becomes `RU`
 unfoldable pub region_replaced : Fields → Fields
 region_replaced f = option_map_or (with_region_from f) (likely_for region_aliases (region_alone f)) f
 
@@ -45,11 +48,15 @@ most_unknown f = option_map_or (keeping_language f) (add_likely likely_subtags (
 unfoldable pub most_likely : Fields → Fields
 most_likely f = option_map_or (λ most. most) (add_likely likely_subtags f) (most_unknown f)
 
+-- the fields with a deprecated region of two letters replaced; the code of a country in digits, such as `840`, stays
+unfoldable pub letters_replaced : Fields → Fields
+letters_replaced f = if length f.region == 2 then region_replaced f else f
+
 -- the fields with a deprecated region replaced, and with likely subtags
 abbrev pub completed : Fields → Fields
-completed f = most_likely (region_replaced f)
+completed f = most_likely (letters_replaced f)
 
--- the matching form of fields: the language is replaced, then the region, and then likely subtags are added
+-- the matching form of fields: deprecated subtags are replaced, and then likely subtags are added
 abbrev pub matching_fields : Fields → Fields
 matching_fields f = completed (language_replaced f)
 

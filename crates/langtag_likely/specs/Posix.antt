@@ -1,11 +1,11 @@
 -- The tag for a locale name: language[_territory][.codeset][@modifier] (IEEE Std 1003.1, section 8.2), or a name as
 -- Java and Android print it, with a script after `_#`.
-use Rattle.std.specs.Prelude.{◌≡◌, ℕ, ◌≤◌, ◌==◌, Bool, false, List, [], ◌∷◌, length, Option, None, Some, codes, if◌then◌else◌}
+use Rattle.std.specs.Prelude.{◌≡◌, ℕ, ◌+◌, ◌≤◌, ◌==◌, ◌&&◌, Bool, true, false, List, [], ◌∷◌, ◌++◌, length, Option, None, Some, codes, if◌then◌else◌}
 use Rattle.std.specs.List.{before_first, after_first}
 use Rattle.std.specs.Borrow.{Bor}
 use Rattle.langtag_scan.specs.Case.{are_alike}
 use Rattle.langtag_scan.specs.Class.{is_script}
-use Rattle.langtag_scan.specs.Record.{Record}
+use Rattle.langtag_scan.specs.Record.{Extension, Record, spell}
 use Rattle.langtag_scan.specs.Tag.{IsTag}
 use Rattle.langtag.specs.Edit.{with_script, with_variants}
 use Rattle.langtag_range.specs.Locale.{front_of, is_hash, locale_place}
@@ -33,6 +33,33 @@ script_behind front =
 abbrev pub modifier_of : List ℕ → List ℕ
 modifier_of name = after_first is_at name
 
+-- ---- the variant POSIX
+
+-- the extension `u` with the keyword `va-posix`, by which UTS #35 replaces the variant POSIX
+abbrev pub posix_extension : Extension
+posix_extension = record { singleton = 117; subtags = codes "va" ∷ codes "posix" ∷ [] }
+
+-- whether the only variant is POSIX, ignoring case
+abbrev pub is_posix_alone : List (List ℕ) → Bool
+is_posix_alone [] = false
+is_posix_alone (variant ∷ []) = are_alike variant (codes "POSIX")
+is_posix_alone (first ∷ second ∷ others) = false
+
+abbrev pub are_no_extensions : List Extension → Bool
+are_no_extensions [] = true
+are_no_extensions (e ∷ extensions) = false
+
+-- the record in which the only variant, if it is POSIX, has become the keyword `va-posix`; a record with extensions stays
+unfoldable pub posix_replaced : Record → Record
+posix_replaced r =
+    if is_posix_alone r.variants && are_no_extensions r.extensions then record r { variants = []; extensions = posix_extension ∷ [] } else r
+
+-- the text of the record is made of these two texts and `-POSIX` between them, which `-u-va-posix` replaces; only the contract
+-- of a private function cites this definition
+pub record IsAroundPosix (r : Record) (before after : List ℕ) : Type 0 where
+  pub shorter : length before + (6 + length after) ≡ length (spell r)
+  pub replaced : before ++ (codes "-u-va-posix" ++ after) ≡ spell (posix_replaced r)
+
 -- ---- the tag
 
 -- the script that a name gives: the script of its modifier, or else the script after `#`
@@ -47,9 +74,9 @@ abbrev pub with_said_variant : Option (List ℕ) → Record → Record
 with_said_variant None r = r
 with_said_variant (Some variant) r = with_variants r (variant ∷ [])
 
--- the record with the script and the variant that the name gives
+-- the record with a keyword in place of the variant POSIX, and with the script and the variant that the name gives
 abbrev pub with_said : List ℕ → Record → Record
-with_said name r = with_said_variant (modifier_variant (modifier_of name)) (with_said_script (said_script name) r)
+with_said name r = with_said_variant (modifier_variant (modifier_of name)) (with_said_script (said_script name) (posix_replaced r))
 
 -- a language and a territory, joined by a hyphen, are a tag other than `POSIX`, and not too long; `C` and the empty
 -- text are not tags

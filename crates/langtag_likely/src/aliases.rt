@@ -1,15 +1,17 @@
 //! Replacing deprecated languages and regions in the fields of a tag.
 ghost use Rattle.std.specs.Prelude.{◌≡◌, IsTrue, length, map, option_map};
+ghost use Rattle.std.specs.Option.{is_none};
 ghost use Rattle.langtag_scan.specs.Case.{folded_number};
 ghost use Rattle.langtag_tables.specs.Numbers.{climbs_from, letter_number};
 ghost use Rattle.langtag_likely.specs.Likely.{likely_for, language_alone};
 ghost use Rattle.langtag_likely.specs.Matching as spec;
+ghost use Rattle.langtag_likely.specs.Maximal.{canonical_fields};
 ghost use Rattle.langtag_likely.specs.Aliases.{language_aliases, region_aliases};
 ghost use Rattle.langtag_likely.specs.Texts.{field_texts};
 ghost use Rattle.langtag_likely.specs.declared.alias_tables.TheConstants.{ALIAS_LANGUAGES, REGION_ALIAS_NAMES};
 
 use crate::alias_tables as tables;
-use crate::fields::or_other;
+use crate::fields::{known, or_other};
 use crate::keys::index_of;
 use crate::names::{name_at, name_in};
 use crate::rows::language_number;
@@ -27,9 +29,28 @@ pub fn language_replaced<'a>(fields: TagFields<'a>) -> TagFields<'a>
     }
 }
 
+/// Returns the fields with deprecated subtags replaced.
+pub(crate) fn canonical_fields<'a>(fields: TagFields<'a>) -> TagFields<'a>
+    ensures { field_texts result ≡ canonical_fields (field_texts fields.entry) }
+{
+    region_replaced(language_replaced(fields))
+}
+
+/// Returns the fields with the region replaced if it has two letters and is deprecated.
+#[tactic(auto, unfolding(crate::specs::Matching::letters_replaced))]
+pub(crate) fn letters_replaced<'a>(fields: TagFields<'a>) -> TagFields<'a>
+    ensures { field_texts result ≡ spec.letters_replaced (field_texts fields.entry) }
+{
+    if fields.region.len() == 2 {
+        region_replaced(fields)
+    } else {
+        fields
+    }
+}
+
 /// Returns the fields with the region replaced if it is deprecated.
 #[tactic(auto, unfolding(crate::specs::Matching::region_replaced))]
-pub(crate) fn region_replaced<'a>(fields: TagFields<'a>) -> TagFields<'a>
+fn region_replaced<'a>(fields: TagFields<'a>) -> TagFields<'a>
     ensures { field_texts result ≡ spec.region_replaced (field_texts fields.entry) }
 {
     match region_alias(fields) {
@@ -52,6 +73,13 @@ pub(crate) fn language_alias(fields: TagFields<'_>) -> Option<TagFields<'static>
         script: name_in(&tables::ALIAS_SCRIPT_NAMES, &tables::ALIAS_SCRIPTS, index),
         region: name_in(&tables::ALIAS_REGION_NAMES, &tables::ALIAS_REGIONS, index),
     })
+}
+
+/// Returns whether the region is not deprecated.
+pub(crate) fn is_current_region(fields: TagFields<'_>) -> bool
+    ensures { result ≡ is_none (likely_for region_aliases (spec.region_alone (field_texts fields.entry))) }
+{
+    fields.region.is_empty() || region_alias(fields).is_none()
 }
 
 /// Returns the replacement of the region, if there is one.
@@ -98,14 +126,15 @@ impl<'a> TagFields<'a> {
         }
     }
 
-    /// Returns these fields with the region of `other`.
+    /// Returns these fields with the region of `other`, or without a region if it is `ZZ`.
+    #[tactic(auto, using(crate::proofs::FieldClasses::known_region))]
     fn with_region(self, other: TagFields<'a>) -> TagFields<'a>
         ensures { field_texts result ≡ spec.with_region_from (field_texts self.entry) (field_texts other.entry) }
     {
         TagFields {
             language: self.language,
             script: self.script,
-            region: other.region,
+            region: known(b"ZZ", other.region),
         }
     }
 }

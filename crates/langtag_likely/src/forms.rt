@@ -6,7 +6,7 @@ ghost use Rattle.langtag_likely.specs.Maximal.{IsMaximalForm, IsMinimalForm, max
 ghost use Rattle.langtag.specs.Form.{IsOnlyForm, IsAlikeForm};
 ghost use Rattle.langtag_likely.specs.MaximalLaws.{KeepsOthers, TellsAsMaximal, UndoesMaximal, UndoesMinimal};
 
-use crate::likely::{add_likely, remove_likely};
+use crate::likely::{add_likely_subtags, remove_likely_subtags};
 use crate::put::write_changed;
 use crate::tag_fields::TagFields;
 use langtag::{LangTag, LangTagBuf, tag_of};
@@ -17,9 +17,9 @@ use std::alloc::{AllocError, Global};
 /// `en-Latn-US`, and `de-1996` becomes `de-Latn-DE-1996`.
 ///
 /// Subtags of the tag stay, with their case. Only `und`, `Zzzz` and `ZZ`, which mean an unknown language, script or
-/// region, are replaced. Deprecated subtags stay, too: to replace them, call `langtag_registry::canonical` first.
-/// Variants, extensions and private use stay. A tag without known likely subtags, such as `x-a` or `qaa`, stays
-/// unchanged.
+/// region, are replaced. Deprecated subtags stay, too, and get the likely subtags of their replacements: `iw` becomes
+/// `iw-Hebr-IL`. To replace them, call `langtag_locale::locale_form` first. Variants, extensions and private use stay. A
+/// tag without known likely subtags, such as `x-a` or `qaa`, stays unchanged.
 ///
 /// # Errors
 ///
@@ -84,7 +84,7 @@ pub fn write_maximized(tag: LangTag<'_>, buffer: &mut [u8]) -> usize
     let Some(normal) = tag.as_normal() else {
         return write_text(tag.as_bytes(), buffer);
     };
-    write_changed(normal, add_likely(TagFields::of(normal)), buffer)
+    write_changed(normal, add_likely_subtags(TagFields::of(normal)), buffer)
 }
 
 /// Writes a tag without its likely subtags to a buffer, as [`minimized`] returns it, and returns its length in bytes.
@@ -104,7 +104,7 @@ pub fn write_minimized(tag: LangTag<'_>, buffer: &mut [u8]) -> usize
     let Some(normal) = tag.as_normal() else {
         return write_text(tag.as_bytes(), buffer);
     };
-    write_changed(normal, remove_likely(TagFields::of(normal)), buffer)
+    write_changed(normal, remove_likely_subtags(TagFields::of(normal)), buffer)
 }
 
 /// Returns a buffer that is long enough for the maximal and the minimal form of a tag.

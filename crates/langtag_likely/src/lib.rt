@@ -23,6 +23,7 @@ mod modifiers;
 mod names;
 mod posix;
 mod posix_error;
+mod posix_variant;
 mod put;
 mod read_text;
 mod rows;

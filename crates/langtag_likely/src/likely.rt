@@ -1,9 +1,11 @@
 //! Adding and removing the likely subtags of fields (UTS #35, part 1, section 'Likely Subtags').
 ghost use Rattle.std.specs.Prelude.{◌≡◌, option_map};
-ghost use Rattle.langtag_likely.specs.Likely.{filled, add_likely, looked_up, suffices, least, remove_likely};
+ghost use Rattle.langtag_likely.specs.Likely.{filled, add_likely, looked_up};
 ghost use Rattle.langtag_likely.specs.LikelySubtags.{likely_subtags};
+ghost use Rattle.langtag_likely.specs.Maximal.{add_likely_subtags, suffices, least, remove_likely_subtags};
 ghost use Rattle.langtag_likely.specs.Texts.{field_texts};
 
+use crate::aliases::{canonical_fields, is_current_region};
 use crate::rows::likely_for;
 use crate::tag_fields::TagFields;
 
@@ -32,16 +34,31 @@ fn looked_up(fields: TagFields<'_>) -> Option<TagFields<'static>>
     likely_for(fields.language_alone())
 }
 
-/// Returns the fewest fields that have the same maximal form, or `None` if no row fits.
-pub(crate) fn remove_likely<'a>(fields: TagFields<'a>) -> Option<TagFields<'a>>
-    ensures { option_map field_texts result ≡ remove_likely likely_subtags (field_texts fields.entry) }
+/// Returns the fields with the likely subtag in place of each empty field, or `None` if no row fits. Deprecated subtags
+/// count as their replacements, and stay.
+#[tactic(auto, unfolding(crate::specs::Maximal::add_likely_subtags))]
+pub(crate) fn add_likely_subtags<'a>(fields: TagFields<'a>) -> Option<TagFields<'a>>
+    ensures { option_map field_texts result ≡ add_likely_subtags (field_texts fields.entry) }
 {
-    Some(least(add_likely(fields)?))
+    // A language that has a row is not deprecated.
+    if is_current_region(fields) {
+        if let Some(most) = add_likely(fields) {
+            return Some(most);
+        }
+    }
+    Some(fields.filled(add_likely(canonical_fields(fields))?))
+}
+
+/// Returns the fewest fields that have the same maximal form, or `None` if no row fits.
+pub(crate) fn remove_likely_subtags<'a>(fields: TagFields<'a>) -> Option<TagFields<'a>>
+    ensures { option_map field_texts result ≡ remove_likely_subtags (field_texts fields.entry) }
+{
+    Some(least(add_likely_subtags(fields)?))
 }
 
 /// Returns the fewest fields of a maximal form that have the same maximal form. A region is preferred to a script.
 fn least<'a>(most: TagFields<'a>) -> TagFields<'a>
-    ensures { field_texts result ≡ least likely_subtags (field_texts most.entry) }
+    ensures { field_texts result ≡ least (field_texts most.entry) }
 {
     let known = most.known();
     if suffices(most, known.language_alone()) {
@@ -58,9 +75,9 @@ fn least<'a>(most: TagFields<'a>) -> TagFields<'a>
 
 /// Returns whether the fields `few` have the maximal form `most`.
 pub fn suffices(most: TagFields<'_>, few: TagFields<'_>) -> bool
-    ensures { result ≡ suffices likely_subtags (field_texts most.entry) (field_texts few.entry) }
+    ensures { result ≡ suffices (field_texts most.entry) (field_texts few.entry) }
 {
-    match add_likely(few) {
+    match add_likely_subtags(few) {
         Some(form) => most.are_alike(form),
         None => false,
     }

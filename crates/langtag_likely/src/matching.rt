@@ -3,7 +3,7 @@ ghost use Rattle.std.specs.Prelude.{◌≡◌, option_map};
 ghost use Rattle.langtag_likely.specs.Matching as spec;
 ghost use Rattle.langtag_likely.specs.Texts.{field_texts};
 
-use crate::aliases::{language_replaced, region_replaced};
+use crate::aliases::{language_replaced, letters_replaced};
 use crate::likely::add_likely;
 use crate::read_text::are_alike;
 use crate::tag_fields::TagFields;
@@ -28,11 +28,11 @@ pub fn replaced_form(text: &[u8]) -> Option<TagFields<'_>>
     Some(language_replaced(TagFields::of_text(text)?))
 }
 
-/// Returns the fields with a deprecated region replaced, and with likely subtags added.
+/// Returns the fields with a deprecated region of two letters replaced, and with likely subtags added.
 pub fn completed<'a>(fields: TagFields<'a>) -> TagFields<'a>
     ensures { field_texts result ≡ spec.completed (field_texts fields.entry) }
 {
-    most_likely(region_replaced(fields))
+    most_likely(letters_replaced(fields))
 }
 
 /// Returns the fields with likely subtags added. If no likely subtags of the language are known, script and region

@@ -13,6 +13,7 @@ ghost use Rattle.langtag_likely.specs.Posix.{IsLocalePlace, IsRefusal, IsTagOfNa
 
 use crate::modifiers::{modifier_script, modifier_variant, script_of};
 use crate::posix_error::PosixError;
+use crate::posix_variant::{MOST_WITH_KEYWORD, tag_with_keyword};
 use langtag::{LangTag, LangTagBuf, Part, tag_of, write_part};
 use langtag_output::write_text;
 use langtag_place::{Script, Variants};
@@ -23,8 +24,8 @@ use std::alloc::{AllocError, Global};
 /// The greatest length of a language and a territory, in bytes.
 const MOST: usize = 255;
 
-/// The greatest length of a language and a territory with a script, in bytes.
-const MOST_WITH_SCRIPT: usize = MOST + 5;
+/// The greatest length of a language and a territory with the keyword `va-posix` and a script, in bytes.
+const MOST_WITH_SCRIPT: usize = MOST_WITH_KEYWORD + 5;
 
 /// Returns the tag for a POSIX locale name (IEEE Std 1003.1, section 8.2),
 /// `language[_territory][.codeset][@modifier]`: `pt-BR` for `pt_BR.UTF-8`, `sr-Latn-RS` for `sr_RS@latin`,
@@ -37,7 +38,8 @@ const MOST_WITH_SCRIPT: usize = MOST + 5;
 ///
 /// Other modifiers are dropped, such as `euro`; [`unknown_modifier`] returns a modifier whose meaning is not known. A
 /// script after `_#`, as Java and Android print it, is read, too: `zh-Hant-TW` for `zh_TW_#Hant`. Each `_` is read as a
-/// hyphen. Case and deprecated subtags stay as they are.
+/// hyphen. If the only variant is `POSIX`, ignoring case, it becomes the keyword `va-posix` (UTS #35):
+/// `en-US-u-va-posix` for `en_US_POSIX`. Case and deprecated subtags stay as they are.
 ///
 /// [`unknown_modifier`]: crate::unknown_modifier
 ///
@@ -99,8 +101,10 @@ pub fn write_from_posix(name: &[u8], buffer: &mut [u8]) -> Option<usize>
     let tag = tag_of_place(locale_place(name), &mut room)?;
     let (front, modifier) = front_and_modifier(name);
     let script = script_behind(front);
-    let mut longer = [0; MOST_WITH_SCRIPT];
-    let tag = tag_with_script(tag, modifier_script(modifier).or(script), &mut longer);
+    let mut longer = [0; MOST_WITH_KEYWORD];
+    let tag = tag_with_keyword(tag, &mut longer);
+    let mut longest = [0; MOST_WITH_SCRIPT];
+    let tag = tag_with_script(tag, modifier_script(modifier).or(script), &mut longest);
     Some(write_with_variant(tag, modifier_variant(modifier), buffer))
 }
 
@@ -155,7 +159,7 @@ fn tag_with_script<'a>(
     script: Option<Script<'_>>,
     room: &'a mut [u8; MOST_WITH_SCRIPT],
 ) -> LangTag<'a>
-    requires { length (lang_tag_text tag) ≤ 255 }
+    requires { length (lang_tag_text tag) ≤ 260 }
     ensures { IsForm (with_said_script (option_map script_text script.entry)) (lang_tag_text tag.entry) (lang_tag_text result) }
 {
     let Some(script) = script else { return tag };

@@ -1,7 +1,7 @@
 //! Unicode's CLDR 48.2 in tables (the notice: likely/LICENSE-UNICODE). Written by likely/generate.py. Do not edit.
 
-/// The major version of Unicode's CLDR in this crate. The full version is 48.2.
-pub const CLDR_VERSION: &str = "48";
+/// The version of Unicode's CLDR in this crate.
+pub const CLDR_VERSION: &str = "48.2";
 
 /// The keys of the scripts, in rising order: each key is the number whose base-256 digits are the lowercase bytes.
 #[rattlefmt::skip]

@@ -1,10 +1,10 @@
 -- How the answers that a writer holds grow as bytes are taken.
-use Rattle.std.proofs.Common.{◌≡◌, ◌∙◌, ℕ, ◌+◌, ◌-◌, false, Option, None, Some, ◌<◌, ◌≤◌, arith, List, [], ◌∷◌, ◌++◌, length, length-append, take, take-append-drop, refl, sym, ap, append_assoc, append-nil, subst, Result, Ok, Err, ◌≢◌}
+use Rattle.std.proofs.Common.{◌≡◌, ◌∙◌, ℕ, ◌+◌, ◌-◌, false, Option, None, Some, ◌<◌, ◌≤◌, arith, List, [], ◌∷◌, ◌++◌, length, length-append, length-drop, take, drop, take-append-drop, refl, sym, ap, append_assoc, append-nil, subst, Result, Ok, Err, ◌≢◌}
 use Rattle.std.specs.Prelude.{OnOk, IfSome, IfErr, IsErrOf}
 use Rattle.std.proofs.lemmas.List.{take-append-le}
 use Rattle.std.specs.Io.KnownBytes.{Appends, IsAtEnd, Keeps, append_known}
 use Rattle.std.proofs.KnownBytes.{Appends-nil, Appends-trans, Appends-kept}
-use Rattle.std.proofs.Math.Seq.{take-append_seam, take-append-add, take-length}
+use Rattle.std.proofs.Math.Seq.{take-add, take-append_seam, take-append-add, take-length}
 use Rattle.std.proofs.lemmas.Bool.Decides.{nat_tests}
 use Rattle.langtag_lines.specs.Lines.{is_line_feed, complete_lines, rest_of, last_line, lines_of, ended, NoLineFeed}
 use Rattle.langtag_lines.specs.Report.{AreAnswersBy, none, one_more, AnswersBy, FirstAnswersBy, HasRun, HavingRead, read_len}
@@ -160,3 +160,23 @@ module _ {IsAnswer : List ℕ → List ℕ → Type 0} where
         (result : Result (Unit {0}) RunError) (e : RunError) → result ≡ Err e → e ≢ Read →
         (IsErrOf result Memory → HavingRead unread left (FirstAnswersBy IsAnswer old new)) → HasRun IsAnswer result unread left old new
     run_stopped result e is other memory = grind (arith, nat_tests)
+
+-- ---- a message, of which a writer may take only the first bytes
+
+-- one more write, of the bytes from n on
+pub Appends-more :
+    (a b c : Option (List ℕ)) (text : List ℕ) (n m : ℕ) → Appends a b (take n text) → Appends b c (take m (take (length text - n) (drop n text))) →
+    Appends a c (take (n + m) text)
+Appends-more a b c text n m first second =
+    let rest : take (length text - n) (drop n text) ≡ drop n text = ap (λ k. take k (drop n text)) (sym (length-drop n text)) ∙ take-length (drop n text) in
+    rw (take-add n m text) (Appends-trans a b c _ _ first (rw rest at second))
+
+-- some bytes of a line, without its LF
+pub front_of_line : (a b : Option (List ℕ)) (text : List ℕ) (k : ℕ) → k ≤ length text → Appends a b (take k text) → Appends a b (take k (ended text))
+front_of_line a b text k within wrote = rw (take-append-le k text (10 ∷ []) within) wrote
+
+-- all bytes of a line, and its LF if there is room
+pub line_with_front_of_end :
+    (a b c : Option (List ℕ)) (text : List ℕ) (k : ℕ) → Appends a b text → Appends b c (take k (10 ∷ [])) →
+    Appends a c (take (length text + k) (ended text))
+line_with_front_of_end a b c text k whole front = rw (take-append-add text (10 ∷ []) k) (Appends-trans a b c _ _ whole front)

@@ -39,6 +39,6 @@ pub record HasRun (IsAnswer : List ℕ → List ℕ → Type 0) (result : Result
   pub report : OnOk result (IfSome unread (λ input. AnswersBy IsAnswer old new (lines_of input)))
   -- a read failed: the run wrote the answers to the complete lines that were read
   pub after_read : IsErrOf result Read → HavingRead unread left (λ input. AnswersBy IsAnswer old new (complete_lines input))
-  -- allocation failed: the run wrote the answers to the lines before the line for which it failed, and to none of the
-  -- later lines
+  -- allocation failed: the run wrote the answers to the first complete lines that were read. They include all lines that
+  -- end before the last `read_len` bytes
   pub after_memory : IsErrOf result Memory → HavingRead unread left (FirstAnswersBy IsAnswer old new)

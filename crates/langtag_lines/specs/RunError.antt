@@ -1,5 +1,7 @@
 -- The message of a program for an error, and its exit status.
-use Rattle.std.specs.Prelude.{ℕ, List, Result, Ok, Err, codes}
+use Rattle.std.specs.Prelude.{ℕ, List, take, Option, Result, Ok, Err, codes}
+use Rattle.std.specs.Io.KnownBytes.{Appends}
+use Rattle.langtag_lines.specs.Lines.{ended}
 use Rattle.langtag_lines.specs.declared.run_error.RunError.{RunError}
 use Rattle.langtag_lines.specs.declared.run_error.RunError.TheVariants.{Memory, Read, Write}
 
@@ -8,6 +10,11 @@ abbrev pub message_of : RunError → List ℕ
 message_of Memory = codes "out of memory"
 message_of Read = codes "read failed"
 message_of Write = codes "write failed"
+
+-- the first bytes of the line with the message of an error were written to a writer, and nothing else. They are the
+-- whole line, unless a write failed
+abbrev pub WritesFrontOfMessage : Option (List ℕ) → Option (List ℕ) → RunError → Type 0
+WritesFrontOfMessage old new error = (k : ℕ) × Appends old new (take k (ended (message_of error)))
 
 -- the exit status for an error
 abbrev pub status_of : RunError → ℕ

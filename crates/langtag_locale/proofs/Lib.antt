@@ -1,9 +1,8 @@
 pub mod LocaleExtensions
 pub mod LocaleTables
 pub mod IdentifierForms
-pub mod IdentifierSizes
 pub mod LocaleRecords
-pub mod LocaleSizes
+pub mod SpelledLocales
 pub mod LocaleAgain
 pub mod LocaleSettled
 pub mod WholeForms

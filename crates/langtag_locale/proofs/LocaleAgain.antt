@@ -15,7 +15,7 @@ use Rattle.langtag_scan.specs.CaseLaws.{are_alike-decides}
 use Rattle.langtag_scan.specs.Record.{Extension}
 use Rattle.langtag_scan.specs.Subtags.{join, subtags}
 use Rattle.langtag_keyword.specs.Edit.{is_unicode_key}
-use Rattle.langtag_keyword.specs.Form.{in_alphabet, is_of, unicode_form, unicode_value}
+use Rattle.langtag_keyword.specs.Form.{in_alphabet, keys_in_order, is_of, unicode_form, unicode_value}
 use Rattle.langtag_keyword.specs.Keywords.{before_key, is_key, value_of}
 use Rattle.langtag_locale.specs.Locale.{is_unicode_subtag}
 use Rattle.langtag_registry.specs.Canonical.{singletons}
@@ -24,11 +24,9 @@ use Rattle.langtag_unicode.proofs.CanonicalKeywords.{form-blocks, key-fold, valu
 use Rattle.langtag_keyword.proofs.Each.{each-alphabet, each-before}
 use Rattle.langtag_unicode.proofs.FormRecords.{Good}
 use Rattle.langtag_unicode.proofs.FormSizes.{are_apart}
-use Rattle.langtag_unicode.proofs.KeySplits.{all_keys}
 use Rattle.langtag_keyword.proofs.KeywordBlocks.{block, blocks}
 use Rattle.langtag_keyword.proofs.KeywordLaws.{AreNoKeys}
 use Rattle.langtag_locale.proofs.LocaleExtensions.{locale_form_by, locale_form_tested}
-use Rattle.langtag_locale.proofs.LocaleSizes.{singletons_apart}
 use Rattle.langtag_keyword.proofs.Found.{both, found_is}
 use Rattle.langtag_locale.proofs.VariantForms.{forms}
 use Rattle.langtag_unicode.proofs.Apart.{Apart, alphabet-apart}
@@ -82,6 +80,10 @@ module _ (es : List Extension) where
       by_found (Some e) found others later =
           (others-apart (locale_extension_form e).singleton n (form_singleton e ∙ eqb-true _ _ (found_is _ es e found)) ns others, later)
 
+  singletons_apart : are_apart singletons ≡ true
+  unfolding fold_byte
+  singletons_apart = refl
+
   pub singletons-apart : Apart are_alike_bytes (map (λ e. e.singleton) (extensions_in_order es))
   singletons-apart = bytes-apart singletons singletons_apart
 
@@ -133,4 +135,4 @@ pub unicode_form-may : (ss : List (List ℕ)) → Good ss → MayBeInU ss → Ma
 unicode_form-may ss good may =
     each-append _ (in_alphabet (before_key is_key ss)) _
     (each-alphabet (λ s. IsTrue (is_unicode_subtag s)) (λ s is. unicode_subtag-fold s ∙ is) (before_key is_key ss) (each-before (λ s. IsTrue (is_unicode_subtag s)) is_key ss may))
-    (subst MayBeInU (sym (form-blocks ss)) (keywords-may ss good may all_keys))
+    (subst MayBeInU (sym (form-blocks ss)) (keywords-may ss good may (keys_in_order is_key ss)))

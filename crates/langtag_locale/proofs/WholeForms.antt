@@ -1,23 +1,19 @@
 -- The form of any tag is the form of the Unicode locale identifier that takes the place of the tag.
-use Rattle.std.proofs.Common.{◌≡◌, ℕ, ◌+◌, ◌≤◌, Bool, true, false, leb, List, [], ◌∷◌, ◌++◌, drop, length, Option, Some, None, inl, inr, ◌⊎◌, refl, sym, ap, ◌∙◌, arith, append_assoc}
-use Rattle.std.proofs.lemmas.Bool.{and_parts, false≢true, leb-true}
+use Rattle.std.proofs.Common.{◌≡◌, ℕ, ◌+◌, Bool, true, false, List, [], ◌∷◌, ◌++◌, drop, length, Option, Some, None, inl, inr, ◌⊎◌, refl, sym, ap, ◌∙◌, arith, append_assoc}
+use Rattle.std.proofs.lemmas.Bool.{false≢true}
 use Rattle.std.proofs.Math.Seq.{get_or-append_seam}
 use Rattle.std.proofs.lemmas.List.{drop_at, length-append, length_push}
 use Rattle.std.proofs.lemmas.Option.{none-some, same_Some}
 use Rattle.std.proofs.lemmas.Str.{IsCharBoundary-after_ascii}
 use Rattle.std.specs.Str.{IsCharBoundary, IsUtf8}
-use Rattle.std.specs.List.{flat_map, list_all}
+use Rattle.std.specs.List.{flat_map}
 use Rattle.std.proofs.lemmas.Bool.Decides.{nat_tests}
 use Rattle.langtag.specs.Part.{PartOf}
 use Rattle.langtag.specs.Registered.{IsGrandfathered}
 use Rattle.langtag_language.proofs.Rules.{subtags-extension}
 use Rattle.langtag_language.specs.Language.{SpellsLanguageExtension}
-use Rattle.langtag.proofs.Alike.{alike_length}
-use Rattle.langtag_registry.proofs.WholeTags.{preferred_spelled, record_of, simple_record}
-use Rattle.langtag_registry.specs.Entry.{Entry, value_for}
 use Rattle.langtag_registry.specs.Fields.{preferred_tag}
 use Rattle.langtag_registry.specs.Registered.{is_registered_extlang}
-use Rattle.langtag_registry.specs.Subtags.{tag_preferred}
 use Rattle.langtag_scan.proofs.NormalTexts.{normal_or_not, spelled_once}
 use Rattle.langtag_scan.specs.Class.{is_extended}
 use Rattle.langtag_scan.specs.Record.{EachRecord, IsWellFormed, Record, Spells, extension_flat, one_flat, private_part_flat}
@@ -26,7 +22,6 @@ use Rattle.langtag_scan.specs.Tag.{IsNormal}
 use Rattle.langtag_tables.proofs.Letters.{extended_primary}
 use Rattle.langtag_locale.specs.Locale.{IsLocale, is_locale_record}
 use Rattle.langtag_locale.specs.LocaleForm.{IsLocaleForm, IsWholeForm, extlang_replaced, locale_text, record_form, replace_language}
-use Rattle.langtag_locale.proofs.LocaleSizes.{locale_length, plain_length}
 
 -- ---- the extended language takes the place of the language
 
@@ -106,31 +101,6 @@ stays_none tag outside none new stays =
       part = λ r spells. record_form-none r (λ locale. outside (r, spells, locale)) ∙ ap record_form (sym (stays r spells));
       absent = λ other. refl;
     })
-
--- ---- how long it may be
-
-pub own_bounded : (tag old form : List ℕ) → IsLocale tag → length tag ≤ length old → IsLocaleForm tag (Some form) → length form ≤ length old + 32
-own_bounded tag old form (r, spells, locale) short of = grind (arith, nat_tests, form_from tag form (r, spells, locale) of, locale_length r spells.0 locale)
-
--- no Preferred-Value is much longer than its tag, and it has no extensions, which would grow
-values_follow : list_all (λ (e : Entry). leb (length e.value) (length e.subtag + 26)) tag_preferred ≡ true
-unfolding tag_preferred
-values_follow = refl
-
-value_long :
-    (list : List Entry) (text value : List ℕ) → list_all (λ (e : Entry). leb (length e.value) (length e.subtag + 26)) list ≡ true → value_for list text ≡ Some value →
-    length value ≤ length text + 26
-value_long [] text value all found = absurd cc
-value_long (e ∷ list) text value all found = grind (arith, nat_tests, and_parts, leb-true, value_long list text, alike_length)
-
-pub value_bounded : (tag value form : List ℕ) → preferred_tag tag ≡ Some value → IsLocale value → IsLocaleForm value (Some form) → length form ≤ length tag + 32
-unfolding preferred_tag
-value_bounded tag value form found (r, spells, locale) of =
-    let plain = preferred_spelled tag value found in
-    let one : r ≡ record_of value = spelled_once r (record_of value) spells.0 plain.0 (spells.1 ∙ sym plain.1) in
-    let none = ap (λ (p : Record). p.extensions) one ∙ (simple_record value).extensions in
-    let is = ap length (form_from value form (r, spells, locale) of) in
-    omega (arith, is, plain_length r spells.0 locale none, ap length spells.1, value_long tag_preferred tag value values_follow found)
 
 -- ---- a form is that of a Unicode locale identifier
 

@@ -7,7 +7,7 @@ ghost use Rattle.langtag_language.specs.Text.{language_text};
 ghost use Rattle.langtag.specs.FieldClasses.{is_language_field, is_region_field, is_script_field};
 ghost use Rattle.langtag_likely.specs.Texts.{field_texts};
 ghost use Rattle.langtag_output.specs.Output.{IsCounted};
-ghost use Rattle.langtag_output.specs.Writes.{Writes};
+ghost use Rattle.langtag_output.specs.WritesWhole.{WritesWhole};
 ghost use Rattle.langtag_place.specs.Text.{region_text, script_text};
 ghost use Rattle.langtag_scan.specs.Record as model;
 ghost use Rattle.langtag_locale.specs.Locale as identifier;
@@ -23,6 +23,9 @@ use langtag_keyword::nonempty;
 use langtag_likely::TagFields;
 use langtag_output::Output;
 use std::alloc::{AllocError, Global};
+
+/// How many bytes longer than its tag a form is expected to be at most. A longer form is right, too, but takes longer.
+const SPARE: usize = 32;
 
 /// Returns the canonical form of a tag as a Unicode locale identifier (UTS #35, part 1, Annex C): `ger-UK` becomes
 /// `de-GB`, `sh` becomes `sr-Latn`, and `hy-SU` becomes `hy-AM`.
@@ -54,8 +57,23 @@ pub fn locale_form(alloc: Global, tag: LangTag<'_>) -> Result<Option<LangTagBuf>
     Ok(Some(tag_of(form_bytes(alloc, locale)?)))
 }
 
-/// Returns the bytes of the form of a Unicode locale identifier. It allocates once, exactly their number.
+/// Returns the bytes of the form of a Unicode locale identifier. They are written once if they fit into a guess of their
+/// number, and otherwise again.
 fn form_bytes(alloc: Global, tag: NormalLangTag<'_>) -> Result<Vec<u8>, AllocError>
+    requires { identifier.IsLocale (normal_lang_tag_text tag) }
+    ensures { IfOk result (λ bytes. model.EachRecord (normal_lang_tag_text tag.entry) (λ r. bytes.items ≡ spec.locale_text r)) }
+{
+    let mut bytes = vec![in alloc; 0; tag.as_str().len().saturating_add(SPARE)]?;
+    let len = write_parts(tag, &mut bytes);
+    if len > bytes.len() {
+        return counted_form_bytes(alloc, tag);
+    }
+    bytes.truncate(len);
+    Ok(bytes)
+}
+
+/// Returns the bytes of the form, which are counted before they are written.
+fn counted_form_bytes(alloc: Global, tag: NormalLangTag<'_>) -> Result<Vec<u8>, AllocError>
     requires { identifier.IsLocale (normal_lang_tag_text tag) }
     ensures { IfOk result (λ bytes. model.EachRecord (normal_lang_tag_text tag.entry) (λ r. bytes.items ≡ spec.locale_text r)) }
 {
@@ -81,9 +99,8 @@ fn form_bytes(alloc: Global, tag: NormalLangTag<'_>) -> Result<Vec<u8>, AllocErr
 /// registered extended language replaces the language before it: `zh-yue-HK` becomes `yue-HK`. Returns `None` if the
 /// result is not a Unicode locale identifier, either, as in `x-a`, `i-default` and `und-t-m0`.
 ///
-/// If the buffer is too short, it stays unchanged, and the length says how long a buffer must be. A buffer of the
-/// tag's length and 32 bytes is always long enough. It does not allocate. The time is quadratic in the number of
-/// variants, and of attributes. It needs as much stack as `is_locale`.
+/// If the buffer is too short, its bytes are not specified, and the length says how long a buffer must be. It does not
+/// allocate. The time is quadratic in the number of variants, and of attributes. It needs as much stack as `is_locale`.
 ///
 /// ```
 /// use langtag::LangTag;
@@ -96,8 +113,7 @@ fn form_bytes(alloc: Global, tag: NormalLangTag<'_>) -> Result<Vec<u8>, AllocErr
 /// write_locale_form(LangTag::new("x-a")?, &mut buffer); // None
 /// ```
 pub fn write_locale_form(tag: LangTag<'_>, buffer: &mut [u8]) -> Option<usize>
-    ensures form { IfSome result (λ len. Writes (λ form. spec.IsWholeForm (lang_tag_text tag.entry) (Some form)) buffer.old buffer.new len) }
-    ensures bounded { IfSome result (λ len. len ≤ length (lang_tag_text tag.entry) + 32) }
+    ensures form { IfSome result (λ len. WritesWhole (λ form. spec.IsWholeForm (lang_tag_text tag.entry) (Some form)) buffer.old buffer.new len) }
     ensures none { result ≡ None → spec.IsWholeForm (lang_tag_text tag.entry) None }
     ensures locale { (r : model.Record) → model.IsWellFormed r → IsTrue (identifier.is_locale_record r)
         → IsTrue (identifier.is_locale_record (spec.locale_record r)) }
@@ -110,32 +126,14 @@ pub fn write_locale_form(tag: LangTag<'_>, buffer: &mut [u8]) -> Option<usize>
 /// Writes the form of a Unicode locale identifier.
 fn write_parts(tag: NormalLangTag<'_>, buffer: &mut [u8]) -> usize
     requires { identifier.IsLocale (normal_lang_tag_text tag) }
-    ensures { model.EachRecord (normal_lang_tag_text tag.entry) (λ r. Writes (λ form. form ≡ spec.locale_text r) buffer.old buffer.new result) }
+    ensures { model.EachRecord (normal_lang_tag_text tag.entry) (λ r. WritesWhole (λ form. form ≡ spec.locale_text r) buffer.old buffer.new result) }
 {
-    if let Some(len) = longer_than(tag, buffer.len()) {
+    let len = put_parts(tag, buffer);
+    if len > buffer.len() {
         return len;
     }
-    let len = put_parts(tag, buffer);
     make_recommended_case(&mut buffer[..len]);
     len
-}
-
-/// Returns the length of the form if it is longer than a buffer of `room` bytes. It is not counted if the buffer is long
-/// enough for the form of every tag of this length.
-fn longer_than(tag: NormalLangTag<'_>, room: usize) -> Option<usize>
-    requires { identifier.IsLocale (normal_lang_tag_text tag) }
-    ensures longer { IfSome result (λ len. model.EachRecord (normal_lang_tag_text tag.entry) (λ r.
-        (len ≡ length (spec.locale_text r)) × (room < length (spec.locale_text r)))) }
-    ensures fits { result ≡ None → model.EachRecord (normal_lang_tag_text tag.entry) (λ r. length (spec.locale_text r) ≤ room) }
-{
-    if room >= tag.as_str().len() + 32 {
-        return None;
-    }
-    let len = put_parts(tag, &mut []);
-    if len <= room {
-        return None;
-    }
-    Some(len)
 }
 
 /// Writes as much of the form, before its case is changed, as fits into a buffer, and returns its full length.

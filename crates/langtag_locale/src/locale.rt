@@ -22,8 +22,8 @@ use langtag_keyword::{Keys, is_of, is_transform, is_unicode_key, is_unicode_lang
 ///
 /// `x-a`, `i-klingon`, `zh-yue` and `und-t-m0` are tags, but they are not Unicode locale identifiers.
 ///
-/// Repeated variants are found by `NormalLangTag::repeated_variant`, which needs 92 kB of stack, and takes quadratic time
-/// beyond 8,192 variants. The time is also quadratic in the number of variants in the language of `t`.
+/// Repeated variants are found by `NormalLangTag::repeated_variant`, which needs up to 16 KiB of stack, and takes quadratic
+/// time beyond 1,152 variants. The time is also quadratic in the number of variants in the language of `t`.
 ///
 /// ```
 /// use langtag::LangTag;

@@ -1,5 +1,5 @@
 //! The Unicode locale identifier whose form is the form of a tag (UTS #35, part 1, Annex C).
-ghost use Rattle.std.specs.Prelude.{◌≡◌, ◌≤◌, ◌+◌, IfSome, List, None, Some, ℕ, length};
+ghost use Rattle.std.specs.Prelude.{◌≡◌, IfSome, List, None, Some, ℕ};
 ghost use Rattle.langtag.specs.Text.{lang_tag_text, normal_lang_tag_text};
 ghost use Rattle.langtag_scan.specs.Record.{EachRecord, Spells};
 ghost use Rattle.langtag_locale.specs.Locale.{IsLocale};
@@ -15,8 +15,6 @@ pub(crate) fn locale_for<'a>(tag: LangTag<'a>) -> Option<NormalLangTag<'a>>
     ensures is_locale { IfSome result (λ locale. IsLocale (normal_lang_tag_text locale)) }
     ensures form { IfSome result (λ locale. (form : List ℕ) → spec.IsLocaleForm (normal_lang_tag_text locale) (Some form)
         → spec.IsWholeForm (lang_tag_text tag.entry) (Some form)) }
-    ensures bounded { IfSome result (λ locale. (form : List ℕ) → spec.IsLocaleForm (normal_lang_tag_text locale) (Some form)
-        → length form ≤ length (lang_tag_text tag.entry) + 32) }
     ensures none { result ≡ None → spec.IsWholeForm (lang_tag_text tag.entry) None }
 {
     if let Some(locale) = as_locale(tag) {
@@ -47,7 +45,6 @@ fn as_locale<'a>(tag: LangTag<'a>) -> Option<NormalLangTag<'a>>
 /// registered, or not the only one.
 fn from_extlang<'a>(tag: NormalLangTag<'a>) -> Option<LangTag<'a>>
     ensures some { IfSome result (λ rest. EachRecord (normal_lang_tag_text tag.entry) (λ r. Spells (spec.extlang_replaced r) (lang_tag_text rest))) }
-    ensures shorter { IfSome result (λ rest. length (lang_tag_text rest) ≤ length (normal_lang_tag_text tag.entry)) }
     ensures none { result ≡ None → EachRecord (normal_lang_tag_text tag.entry) (λ r. spec.extlang_replaced r ≡ r) }
 {
     let language = tag.language();

@@ -91,6 +91,7 @@ impl<'a> LanguageRange<'a> {
     /// Returns whether another text equals this text, ignoring the case of ASCII letters:
     /// `LanguageRange::new("de-CH")?.eq_str("DE-ch")` is `true`. It is proved that comparisons and hashes also ignore
     /// case, and that a clone is the same value.
+    #[tactic(auto, using(langtag_scan::proofs::CaseOrder::bytes_ends_first))]
     pub fn eq_str(&self, other: &str) -> bool
         ensures test { result ≡ are_alike (language_range_text self.now) other.now }
 
@@ -246,6 +247,7 @@ impl LanguageRangeBuf {
 
     /// Borrows the range: `LanguageRange::new("de")?.try_to_owned(alloc)?.as_language_range().is_basic()` is `true`. It
     /// is proved that comparisons and hashes of owned ranges ignore case.
+    #[tactic(auto, using(langtag_scan::proofs::CaseOrder::bytes_ends_first))]
     pub fn as_language_range(&self) -> LanguageRange<'_>
         ensures same_text { language_range_text result ≡ language_range_buf_text self.now }
 

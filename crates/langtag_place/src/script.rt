@@ -92,6 +92,7 @@ impl<'a> Script<'a> {
     /// Returns whether another text equals this text, ignoring the case of ASCII letters:
     /// `Script::new("Latn")?.eq_str("LATN")` is `true`. It is proved that comparisons and hashes also ignore case, and
     /// that a clone is the same value.
+    #[tactic(auto, using(langtag_scan::proofs::CaseOrder::bytes_ends_first))]
     pub fn eq_str(&self, other: &str) -> bool
         ensures test { result ≡ are_alike (script_text self.now) other.now }
 
@@ -175,6 +176,7 @@ impl ScriptBuf {
 
     /// Borrows the script: `Script::new("LATN")?.try_to_owned(alloc)?.as_script().as_str()` is `"LATN"`. It is proved
     /// that comparisons and hashes of owned scripts ignore case.
+    #[tactic(auto, using(langtag_scan::proofs::CaseOrder::bytes_ends_first))]
     pub fn as_script(&self) -> Script<'_>
         ensures same_text { script_text result ≡ script_buf_text self.now }
 

@@ -96,6 +96,7 @@ impl<'a> PrivateUseSubtag<'a> {
     /// Returns whether another text equals this text, ignoring the case of ASCII letters:
     /// `PrivateUseSubtag::new("twain")?.eq_str("TWAIN")` is `true`. It is proved that comparisons and hashes also
     /// ignore case, and that a clone is the same value.
+    #[tactic(auto, using(langtag_scan::proofs::CaseOrder::bytes_ends_first))]
     pub fn eq_str(&self, other: &str) -> bool
         ensures test { result ≡ are_alike (private_use_subtag_text self.now) other.now }
 
@@ -180,6 +181,7 @@ impl PrivateUseSubtagBuf {
 
     /// Borrows the subtag: `PrivateUseSubtag::new("TWAIN")?.try_to_owned(alloc)?.as_private_use_subtag().as_str()` is
     /// `"TWAIN"`. It is proved that comparisons and hashes of owned private use subtags ignore case.
+    #[tactic(auto, using(langtag_scan::proofs::CaseOrder::bytes_ends_first))]
     pub fn as_private_use_subtag(&self) -> PrivateUseSubtag<'_>
         ensures same_text { private_use_subtag_text result ≡ private_use_subtag_buf_text self.now }
 

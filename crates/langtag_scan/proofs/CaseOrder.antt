@@ -1,6 +1,8 @@
 -- How the order of texts without regard to case goes on from an index, and what it answers where a text has ended.
-use Rattle.std.proofs.Common.{◌≡◌, ℕ, suc, ◌+◌, ◌-◌, ◌<◌, min, true, false, cond, List, [], ◌∷◌, length, get_or, take, drop, refl, ◌∙◌, Fits, w8, arith, add-one, length-drop, Less, Greater, Ordering, get_or-drop}
+use Rattle.std.proofs.Common.{◌≡◌, ℕ, suc, All, ◌+◌, ◌-◌, ◌<◌, min, true, false, cond, List, [], ◌∷◌, length, get_or, take, drop, refl, ◌∙◌, Fits, w8, arith, add-one, length-drop, Less, Greater, Ordering, get_or-drop}
 use Rattle.std.specs.Ordering.{nat_cmp, ordering_then, is_ne}
+use Rattle.std.proofs.Math.Facts.{Fits-of_lt}
+use Rattle.std.proofs.Math.ListN.{get_or-eq_default}
 use Rattle.std.proofs.Math.Seq.{drop-cons}
 use Rattle.std.proofs.lemmas.Grind.{common_steps}
 use Rattle.langtag_scan.specs.Case.{fold_byte, Alike, case_cmp, EndsFirst}
@@ -57,3 +59,11 @@ case_cmp-ends_first (x ∷ a) (y ∷ b) bytes ends =
     let same : fold_byte x ≡ fold_byte y = cc (ends.1) in
     let rest : Alike a (take (length a) b) = cc (ends.1) in
     rw same (grind (arith, common_steps, case_cmp-ends_first a b (λ k. bytes (suc k)) (longer, rest)))
+
+-- each place in a list of bytes has a byte; beyond its end, 0 is read
+byte-at : (b : List ℕ) → All (λ byte. byte < 256) b → (k : ℕ) → Fits w8 (get_or b k 0)
+byte-at b bytes k = grind (arith, common_steps, bytes k 0, get_or-eq_default b 0 {n = k}, Fits-of_lt)
+
+-- the law of `ComparesByCase`
+pub bytes_ends_first : (a b : List ℕ) → All (λ byte. byte < 256) b → EndsFirst a b → case_cmp a b ≡ Greater
+bytes_ends_first a b bytes ends = case_cmp-ends_first a b (byte-at b bytes) ends

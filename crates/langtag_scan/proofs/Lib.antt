@@ -22,6 +22,7 @@ mod PositionLaws
 mod RecogniserLaws
 mod FillLaw
 pub mod CaseLaw
+pub mod AlikeClasses
 pub mod OneKind
 pub mod Ascii
 pub mod SubtagLists

@@ -1,5 +1,5 @@
 -- What a recogniser finds out about a tag (RFC 5646 section 2.1).
-use Rattle.std.specs.Prelude.{ℕ, Bool, true, false, List, Option, Some, None}
+use Rattle.std.specs.Prelude.{◌≡◌, ℕ, Bool, true, false, List, [], ◌∷◌, count_by, Option, Some, None, is_some}
 use Rattle.langtag_scan.specs.Tag.{IsPrivate, IsIrregularAt}
 use Rattle.langtag_scan.specs.Ends.{HasEnds}
 use Rattle.langtag_scan.specs.declared.ends.Ends.{Ends}
@@ -41,3 +41,9 @@ abbrev pub normal_ends : Finding → Option Ends
 normal_ends (Normal ends) = Some ends
 normal_ends PrivateUse = None
 normal_ends (Irregular index) = None
+
+-- exactly one of the three holds: a normal tag was found, a private use tag was found, or there is the index of an
+-- irregular tag. There are ends if and only if a normal tag was found
+pub record IsOfOneKind (found : Finding) : Type 0 where
+  pub one : count_by (λ holds. holds) (is_normal found ∷ is_private_use found ∷ is_some (irregular_index found) ∷ []) ≡ 1
+  pub ends : is_some (normal_ends found) ≡ is_normal found

@@ -1,6 +1,6 @@
 //! What a recogniser found.
 ghost use Rattle.std.specs.Prelude.{◌≡◌, ◌↔◌, IsTrue};
-ghost use Rattle.langtag_scan.specs.Found.{finding, is_normal, is_private_use, irregular_index, normal_ends};
+ghost use Rattle.langtag_scan.specs.Found.{finding, is_normal, is_private_use, irregular_index, normal_ends, IsOfOneKind};
 
 use crate::ends::Ends;
 use crate::finding::Finding;
@@ -32,7 +32,9 @@ impl Found {
     /// found.map(|found| found.is_normal()); // Some(true)
     /// ```
     pub fn is_normal(&self) -> bool
-        ensures { result ≡ is_normal (finding self.now) }
+        ensures normal { result ≡ is_normal (finding self.now) }
+
+        ensures one_kind { IsOfOneKind (finding self.now) }
     {
         matches!(self.finding, Finding::Normal(_))
     }
@@ -69,14 +71,16 @@ impl Found {
         }
     }
 
-    /// Returns the ends of the parts of a normal tag (section 2.1): in `fr-FR`, the language ends at 2, and all other
-    /// ends are 5. Returns `None` for `x-a`. It is proved that a clone of the ends, or of a `Found`, is the same value.
+    /// Returns the ends of the parts of a normal tag (section 2.1): in `fr-FR`, the language and the absent script
+    /// end at 2, and all other ends are 5. Returns `None` for `x-a`. It is proved that a clone of the ends, or of a `Found`, is the same value.
     ///
     /// ```
     /// use langtag_scan::{recognise, Metered};
     ///
     /// let ends = recognise(&mut Metered::new("fr-FR")).and_then(|found| found.ends());
     /// ends.map(|ends| (ends.language, ends.script, ends.region)); // Some((2, 2, 5))
+    /// ends.map(|ends| (ends.variants, ends.extensions, ends.whole)); // Some((5, 5, 5))
+    /// recognise(&mut Metered::new("x-a")).and_then(|found| found.ends()); // None
     /// ```
     pub fn ends(&self) -> Option<Ends>
         ensures ends { result ≡ normal_ends (finding self.now) }

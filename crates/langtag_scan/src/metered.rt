@@ -21,6 +21,7 @@ pub struct Metered<'a> {
     reads: u128,
     reach: usize,
     ghost short: { length end.now ≤ 2 },
+    ghost reached: { reach ≤ length (bytes.now ++ end.now) },
 }
 
 impl<'a> Metered<'a> {
@@ -100,4 +101,6 @@ impl<'a> ByteSource for Metered<'a> {
             self.end[index - self.bytes.len()]
         }
     }
+
+    ghost reach_within = { λ source. source.reached };
 }

@@ -1,9 +1,11 @@
-//! Functions over bytes: what they feed to a hasher (RFC 5646 section 2.1.1), and where subtags begin and end
-//! (section 2.1).
+//! Functions over bytes: what they feed to a hasher (RFC 5646 section 2.1.1), where subtags begin and end (section 2.1),
+//! and how many bytes of a text are read.
 ghost use Rattle.std.specs.Prelude.{◌≡◌, ◌+◌, ◌*◌, ◌%◌, ◌^◌, length, fold};
 
 use crate::support::expect_true;
-use langtag_scan::{case_insensitive_hash, segment_end, segment_start};
+use langtag_scan::{
+    ByteSource, Metered, case_insensitive_hash, recognise, segment_end, segment_start,
+};
 use std::hash::Hasher;
 
 /// Records each call that feeds the hasher: first the length as one hexadecimal digit, and then each byte as two
@@ -63,4 +65,57 @@ fn subtags_begin_and_end(rt: HostRuntime) {
         segment_start(b"", 0),
     ];
     expect_true(&rt, starts == [3, 3, 0, 3, 0], 5);
+}
+
+/// Returns how many bytes are read until it is known whether the bytes are a tag.
+fn bytes_read(bytes: &[u8]) -> usize {
+    let mut source = Metered::of_bytes(bytes);
+    let _ = recognise(&mut source);
+    source.reach()
+}
+
+/// Tags of each kind.
+const TAGS: &[&str] = &[
+    "de",
+    "zh-cmn-Hans-CN",
+    "sl-IT-nedis-rozaj",
+    "en-a-bbb-x-a-ccc",
+    "zh-min-nan",
+    "x-whatever",
+    "i-enochian",
+    "sgn-BE-FR",
+];
+
+#[test]
+fn each_byte_of_a_tag_is_read(rt: HostRuntime) {
+    for tag in TAGS {
+        expect_true(&rt, reads_each(tag.as_bytes()), tag.len());
+    }
+}
+
+/// Returns whether all bytes of each prefix are read.
+fn reads_each(tag: &[u8]) -> bool {
+    for len in 0..tag.len() + 1 {
+        if bytes_read(&tag[..len]) != len {
+            return false;
+        }
+    }
+    true
+}
+
+#[test]
+fn no_byte_is_read_in_vain(rt: HostRuntime) {
+    for (text, read) in [
+        ("de_", 3),
+        ("zh-cmn-Hans-CN_", 15),
+        ("x-whatever_a", 11),
+        ("i-enochian_", 11),
+        ("de--", 4),
+        ("zh-min-nan--", 12),
+        ("en-a-bbb-x-a-ccc--a", 18),
+        ("i-enochian--", 11),
+        ("sgn-BE-FR--", 10),
+    ] {
+        expect_true(&rt, bytes_read(text.as_bytes()) == read, text.len());
+    }
 }

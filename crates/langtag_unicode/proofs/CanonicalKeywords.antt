@@ -1,9 +1,9 @@
 -- The extension `u` in canonical form stays in that form when a canonical keyword is set, or a key is removed.
-use Rattle.std.proofs.Common.{◌≡◌, ℕ, ◌==◌, ◌&&◌, Bool, true, false, cond, IsTrue, List, [], ◌∷◌, ◌++◌, map, find, Option, None, Some, option_map, unwrap_or, refl, sym, ap, subst, ◌∙◌, arith}
+use Rattle.std.proofs.Common.{◌≡◌, ℕ, ◌==◌, ◌&&◌, ◌||◌, Bool, true, false, cond, IsTrue, List, [], ◌∷◌, ◌++◌, map, find, Option, None, Some, option_map, unwrap_or, refl, sym, ap, subst, ◌∙◌, arith}
 use Rattle.std.proofs.lemmas.Bool.{and_parts, false≢true}
 use Rattle.std.proofs.lemmas.Bool.Decides.{nat_tests}
 use Rattle.std.proofs.lemmas.Grind.{flat_map-append}
-use Rattle.std.specs.List.{AllByRecursion}
+use Rattle.std.specs.List.{AllByRecursion, filter}
 use Rattle.std.specs.Option.{is_some, option_map_or}
 use Rattle.langtag.proofs.Alike.{alike_length}
 use Rattle.langtag_scan.proofs.CaseLaw.{fold_text-twice, is_digit-fold, is_letter-fold, length-fold}
@@ -15,15 +15,17 @@ use Rattle.langtag_scan.specs.Class.{are_alphanumeric, has_length, is_extension_
 use Rattle.langtag_scan.specs.Subtags.{join, subtags}
 use Rattle.langtag_keyword.specs.Edit.{is_this_key, is_type, is_unicode_key, keyword_error, put_keyword, with_keyword, without_keyword, without_within}
 use Rattle.langtag_keyword.specs.Form as form
-use Rattle.langtag_keyword.specs.Form.{in_alphabet, unicode_form, unicode_value}
+use Rattle.langtag_keyword.specs.Form.{in_alphabet, keys_in_order, put_among, unicode_form, unicode_value}
 use Rattle.langtag_keyword.specs.Keywords.{before_key, is_key, value_of}
 use Rattle.langtag_keyword.proofs.Each.{each-alphabet}
 use Rattle.langtag_unicode.proofs.FormRecords.{Good, good-value, types-unicode}
-use Rattle.langtag_unicode.proofs.KeySplits.{KeySplit, all_keys, key-split}
+use Rattle.langtag_keyword.proofs.RisingTexts.{KeySplit, among, among-put, key-split, lower-put, same-risen}
 use Rattle.langtag_keyword.proofs.KeywordBlocks.{AreValues, block, blocks, find-among, find-passed, found_key, put-among, put-passed, removed-among, without-passed}
-use Rattle.langtag_unicode.proofs.KeywordsInForm as in_form
-use Rattle.langtag_unicode.proofs.KeywordsInForm.{flat-same, plain-before}
-use Rattle.langtag_keyword.proofs.KeywordLaws.{AreNoKeys, alike-itself, allowed_from, before-kept, before-put, fits_from, none_after_removal, others_after_removal, others_after_set, read_after_set, standing-this, type-no_key}
+use Rattle.langtag_keyword.proofs.KeywordsInForm as in_form
+use Rattle.langtag_keyword.proofs.KeywordsInForm.{blocks-put, flat-same, keys-have, plain-before}
+use Rattle.langtag_keyword.proofs.AlphabetLaws.{Rise, rise-in_alphabet, rise-put}
+use Rattle.langtag_keyword.proofs.AlphabetTwice.{AreLower, lower-in_alphabet}
+use Rattle.langtag_keyword.proofs.KeywordLaws.{AreNoKeys, alike-itself, before-kept, before-put, fits_from, none_after_removal, others_after_removal, others_after_set, read_after_set, standing-this, type-no_key}
 
 -- ---- values in canonical form have no keys
 
@@ -81,7 +83,7 @@ values-are ss good key v is = by_found (value_of is_key key ss) refl is
 
 -- ---- the form, key after key
 
-pub form-blocks : (ss : List (List ℕ)) → form.keywords_form is_key unicode_value ss ≡ blocks (values ss) all_keys
+pub form-blocks : (ss : List (List ℕ)) → form.keywords_form is_key unicode_value ss ≡ blocks (values ss) (keys_in_order is_key ss)
 form-blocks = in_form.form-blocks is_key unicode_value
 
 pub alike-back : (a b : List ℕ) → are_alike a b ≡ false → are_alike b a ≡ false
@@ -91,18 +93,62 @@ alike-back a b apart = by_test (are_alike b a) refl
     by_test true alike = absurd (false≢true (sym apart ∙ (are_alike-decides a b).1 (sym ((are_alike-decides b a).0 alike))))
     by_test false differ = differ
 
-module _ (ss : List (List ℕ)) (good : Good ss) (own : unicode_form ss ≡ ss) (key : List ℕ) (lower : fold_text key ≡ key) (s : KeySplit key) where
+-- the keys with one more key
+abbrev with_key : List ℕ → List (List ℕ) → List (List ℕ)
+with_key key ss = put_among key (keys_in_order is_key ss)
+
+module _ (key : List ℕ) (lower : fold_text key ≡ key) where
+  lower-keys : (ss : List (List ℕ)) → AreLower (with_key key ss)
+  lower-keys ss = lower-put key (keys_in_order is_key ss) lower (lower-in_alphabet (filter is_key ss))
+
+  rise-keys : (ss : List (List ℕ)) → Rise (with_key key ss)
+  rise-keys ss = rise-put key (keys_in_order is_key ss) (rise-in_alphabet (filter is_key ss))
+
+  pub split : (ss : List (List ℕ)) → KeySplit key (with_key key ss)
+  split ss =
+      key-split key (with_key key ss) lower (lower-keys ss) (rise-keys ss)
+      (among-put key key (keys_in_order is_key ss) ∙ ap (λ b. b || among key (keys_in_order is_key ss)) (alike-itself key))
+
+  -- the form with a key more, which puts nothing if it has no value
+  more-blocks : (ss : List (List ℕ)) → form.keywords_form is_key unicode_value ss ≡ blocks (values ss) (with_key key ss)
+  more-blocks ss =
+      form-blocks ss
+      ∙ sym
+      (blocks-put (values ss) key (keys_in_order is_key ss) lower (lower-in_alphabet (filter is_key ss)) (rise-in_alphabet (filter is_key ss))
+      (λ absent. by_value (value_of is_key key ss) (sym (keys-have is_key key ss) ∙ absent)))
+    where
+      by_value : (o : Option (List (List ℕ))) → is_some o ≡ false → option_map (λ w. map fold_text (subtags (unicode_value key (join w)))) o ≡ None
+      by_value None none = refl
+      by_value (Some w) none = absurd (false≢true (sym none))
+
+  -- subtags with the same values of other keys have the same keys with this one
+  same-keys :
+      (ss ts : List (List ℕ)) → ((other : List ℕ) → are_alike key other ≡ false → value_of is_key other ts ≡ value_of is_key other ss) → with_key key ts ≡ with_key key ss
+  same-keys ss ts others =
+      same-risen (with_key key ts) (with_key key ss) (lower-keys ts) (lower-keys ss) (rise-keys ts) (rise-keys ss)
+      (λ k low. among-put k key (keys_in_order is_key ts) ∙ by_test k (are_alike key k) refl ∙ sym (among-put k key (keys_in_order is_key ss)))
+    where
+      by_test :
+          (k : List ℕ) (b : Bool) → are_alike key k ≡ b →
+          (are_alike key k || among k (keys_in_order is_key ts)) ≡ (are_alike key k || among k (keys_in_order is_key ss))
+      by_test k true alike = ap (λ b. b || among k (keys_in_order is_key ts)) alike ∙ sym (ap (λ b. b || among k (keys_in_order is_key ss)) alike)
+      by_test k false apart = ap (λ b. are_alike key k || b) (keys-have is_key k ts ∙ ap is_some (others k apart) ∙ sym (keys-have is_key k ss))
+
+module _ (ss : List (List ℕ)) (good : Good ss) (own : unicode_form ss ≡ ss) (key : List ℕ) (lower : fold_text key ≡ key) where
+  abbrev s : KeySplit key (with_key key ss)
+  s = split key lower ss
+
   abbrev attributes : List (List ℕ)
   attributes = in_alphabet (before_key is_key ss)
 
   abbrev spelled : List (List ℕ) → List (List ℕ)
   spelled here = attributes ++ (blocks (values ss) s.before ++ (here ++ blocks (values ss) s.after))
 
-  apart-form : (ts : List (List ℕ)) → blocks (values ts) all_keys ≡ blocks (values ts) s.before ++ (block (values ts) key ++ blocks (values ts) s.after)
+  apart-form : (ts : List (List ℕ)) → blocks (values ts) (with_key key ss) ≡ blocks (values ts) s.before ++ (block (values ts) key ++ blocks (values ts) s.after)
   apart-form ts = ap (blocks (values ts)) s.is ∙ flat_map-append (block (values ts)) s.before (key ∷ s.after)
 
   shape : ss ≡ spelled (block (values ss) key)
-  shape = sym own ∙ ap (λ t. attributes ++ t) (form-blocks ss ∙ apart-form ss)
+  shape = sym own ∙ ap (λ t. attributes ++ t) (more-blocks key lower ss ∙ apart-form ss)
 
   plain : AreNoKeys attributes
   plain = each-alphabet (λ t. is_key t ≡ false) (λ t other. key-fold t ∙ other) (before_key is_key ss) (plain-before is_key ss)
@@ -140,7 +186,7 @@ module _ (ss : List (List ℕ)) (good : Good ss) (own : unicode_form ss ≡ ss) 
   other-form ts here same others is =
       ap (λ t. in_alphabet t ++ form.keywords_form is_key unicode_value ts) same
       ∙ ap (λ t. attributes ++ t)
-      (form-blocks ts ∙ apart-form ts
+      (more-blocks key lower ts ∙ ap (blocks (values ts)) (same-keys key lower ss ts others) ∙ apart-form ts
       ∙ ap (λ t. t ++ (block (values ts) key ++ blocks (values ts) s.after)) (alike_blocks s.before s.before_others)
       ∙ ap (λ t. blocks (values ss) s.before ++ (t ++ blocks (values ts) s.after)) is
       ∙ ap (λ t. blocks (values ss) s.before ++ (here ++ t)) (alike_blocks s.after s.after_others))
@@ -162,20 +208,18 @@ pub canonical_set :
     unicode_form (with_keyword key v ss) ≡ with_keyword key v ss
 canonical_set key v ss none lower canonical good own =
     let fits = fits_from key v none in
-    let s = key-split key (allowed_from key v none).key_fits lower in
     let standing = find (is_this_key key) ss in
-    other-form ss good own key lower s (with_keyword key v ss) (key ∷ v)
+    other-form ss good own key lower (with_keyword key v ss) (key ∷ v)
     (before-put key (unwrap_or standing key) v (standing-this key ss fits.two) fits.no_keys (is_some standing) ss) (λ other differ. others_after_set key other v ss none differ)
     (ap (λ o. option_map_or (λ w. key ∷ w) (option_map (λ w. map fold_text (subtags (unicode_value key (join w)))) o) []) (read_after_set key v ss none) ∙ ap (λ w. key ∷ w) canonical)
-    ∙ sym (set-shape ss good own key lower s v)
+    ∙ sym (set-shape ss good own key lower v)
 
 removed_lower :
-    (key : List ℕ) (ss : List (List ℕ)) → is_unicode_key key ≡ true → fold_text key ≡ key → Good ss → unicode_form ss ≡ ss → unicode_form (without_keyword key ss) ≡ without_keyword key ss
-removed_lower key ss fits lower good own =
-    let s = key-split key fits lower in
-    other-form ss good own key lower s (without_keyword key ss) [] (before-kept key ss) (λ other differ. others_after_removal key other ss differ)
+    (key : List ℕ) (ss : List (List ℕ)) → fold_text key ≡ key → Good ss → unicode_form ss ≡ ss → unicode_form (without_keyword key ss) ≡ without_keyword key ss
+removed_lower key ss lower good own =
+    other-form ss good own key lower (without_keyword key ss) [] (before-kept key ss) (λ other differ. others_after_removal key other ss differ)
     (ap (λ o. option_map_or (λ w. key ∷ w) (option_map (λ w. map fold_text (subtags (unicode_value key (join w)))) o) []) (none_after_removal key ss))
-    ∙ sym (removed-shape ss good own key lower s)
+    ∙ sym (removed-shape ss good own key lower)
 
 without-fold : (key : List ℕ) (inside : Bool) (ss : List (List ℕ)) → without_within (fold_text key) inside ss ≡ without_within key inside ss
 without-fold key inside [] = refl
@@ -186,6 +230,5 @@ unicode_key-fold key = grind (arith, nat_tests, is_letter-fold, is_digit-fold)
 
 pub canonical_removal : (key : List ℕ) (ss : List (List ℕ)) → keyword_error key [] ≡ None → Good ss → unicode_form ss ≡ ss → unicode_form (without_keyword key ss) ≡ without_keyword key ss
 canonical_removal key ss none good own =
-    let fits = unicode_key-fold key ∙ (allowed_from key [] none).key_fits in
     let same : without_keyword (fold_text key) ss ≡ without_keyword key ss = without-fold key false ss in
-    subst (λ ts. unicode_form ts ≡ ts) same (removed_lower (fold_text key) ss fits (fold_text-twice key) good own)
+    subst (λ ts. unicode_form ts ≡ ts) same (removed_lower (fold_text key) ss (fold_text-twice key) good own)

@@ -1,7 +1,6 @@
 -- The case of letters changes nothing in the forms of extensions but case.
-use Rattle.std.proofs.Common.{◌≡◌, ℕ, Bool, true, false, not, ◌&&◌, ◌||◌, ◌==◌, List, [], ◌∷◌, ◌++◌, map, Option, None, Some, option_map, unwrap_or, refl, sym, ap, ◌∙◌, arith}
-use Rattle.std.specs.List.{AllByRecursion, list_any}
-use Rattle.std.specs.Option.{option_map_or}
+use Rattle.std.proofs.Common.{◌≡◌, ℕ, Bool, true, false, not, ◌&&◌, ◌||◌, ◌==◌, List, [], ◌∷◌, ◌++◌, map, Option, None, Some, option_map, unwrap_or, refl, ap, ◌∙◌, arith}
+use Rattle.std.specs.List.{list_any}
 use Rattle.std.proofs.lemmas.Bool.Decides.{nat_tests}
 use Rattle.langtag.proofs.Alike.{AlikeFields}
 use Rattle.langtag.proofs.FormLaws.{alike_forms}
@@ -27,9 +26,7 @@ use Rattle.langtag_keyword.proofs.CanonicalValues.{replaced, subtags-fold}
 use Rattle.langtag_keyword.proofs.ExtensionForms.{form_by, form_tested, forms-next}
 use Rattle.langtag_unicode.proofs.FormTwice.{language-parts, lower_fields, same_fields, unicode_language-fold}
 use Rattle.langtag_keyword.proofs.AliasCase.{alias_for-alike, type_alias_for-alike}
-use Rattle.langtag_unicode.proofs.KeySplits.{all_keys}
-use Rattle.langtag_keyword.proofs.KeywordBlocks.{block}
-use Rattle.langtag_unicode.proofs.KeywordsInForm.{flat-same, form-blocks, values_in_form}
+use Rattle.langtag_keyword.proofs.KeywordsInForm.{same-values, values_in_form}
 use Rattle.langtag_unicode.proofs.TransformParts.{field_key-fold}
 
 pub lower-twice : (ss : List (List ℕ)) → map fold_text (map fold_text ss) ≡ map fold_text ss
@@ -57,15 +54,7 @@ module _ (opens : List ℕ → Bool) (opens-fold : (s : List ℕ) → opens (fol
         by_value (Some w) = grind (arith, nat_tests, join-fold w, subtags-fold (canonical key (fold_text (join w))), subtags-fold (canonical key (join w)))
 
     pub keywords-fold : (ss : List (List ℕ)) → form.keywords_form opens canonical (map fold_text ss) ≡ form.keywords_form opens canonical ss
-    keywords-fold ss =
-        form-blocks opens canonical (map fold_text ss)
-        ∙ flat-same (block (values_in_form opens canonical (map fold_text ss))) (block (values_in_form opens canonical ss)) all_keys (each all_keys)
-        ∙ sym (form-blocks opens canonical ss)
-      where
-        each :
-            (keys : List (List ℕ)) → AllByRecursion (λ k. block (values_in_form opens canonical (map fold_text ss)) k ≡ block (values_in_form opens canonical ss) k) keys
-        each [] = tt
-        each (k ∷ keys) = (ap (λ o. option_map_or (λ v. k ∷ v) o []) (in_form-fold ss k), each keys)
+    keywords-fold ss = same-values opens canonical (map fold_text ss) ss (λ k low. in_form-fold ss k)
 
 -- ---- values
 

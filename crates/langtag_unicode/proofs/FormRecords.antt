@@ -1,29 +1,26 @@
 -- The form of a tag is a tag: its extensions are well-formed.
-use Rattle.std.proofs.Common.{◌≡◌, ℕ, ◌+◌, ◌<◌, ◌≤◌, ◌&&◌, ◌||◌, ◌==◌, not, Bool, true, false, cond, IsTrue, List, [], ◌∷◌, ◌++◌, length, map, Some, unwrap_or, refl, sym, ap, subst, ◌∙◌, arith, eqb-true, get_or, length-append, zero-add}
+use Rattle.std.proofs.Common.{◌≡◌, ℕ, ◌+◌, ◌≤◌, ◌&&◌, ◌||◌, not, Bool, true, false, cond, IsTrue, List, [], ◌∷◌, ◌++◌, length, map, Option, Some, None, unwrap_or, refl, sym, ap, subst, ◌∙◌, arith, length-append}
 use Rattle.std.proofs.lemmas.Bool.{and_parts, false≢true}
 use Rattle.std.proofs.lemmas.Bool.Decides.{nat_tests}
-use Rattle.std.proofs.lemmas.List.FromFn.{get_or-range_with_len}
-use Rattle.std.specs.List.{AllByRecursion, flat_map, list_all, list_any, range_with_len}
-use Rattle.std.specs.Option.{option_map_or}
-use Rattle.langtag_scan.proofs.CaseLaw.{fold_text-twice, classes-fold}
+use Rattle.std.specs.List.{AllByRecursion, filter, flat_map, list_all}
+use Rattle.std.specs.Option.{is_some, option_map_or}
+use Rattle.langtag_scan.proofs.CaseLaw.{classes-fold}
 use Rattle.langtag_scan.proofs.SubtagFacts.{of_extension_subtag}
 use Rattle.langtag_scan.proofs.SubtagLists.{each_from_test, each_subtag, subtags-joined, each-append}
-use Rattle.langtag_scan.specs.Case.{are_alike, fold_byte, fold_text}
-use Rattle.langtag_scan.specs.CaseLaws.{are_alike-decides}
-use Rattle.langtag_scan.specs.Class.{are_alphanumeric, has_length, is_alphanumeric, is_digit, is_extension_subtag, is_letter, is_mark, is_singleton}
+use Rattle.langtag_scan.specs.Case.{fold_text}
+use Rattle.langtag_scan.specs.Class.{is_alphanumeric, is_digit, is_extension_subtag, is_letter, is_mark, is_singleton}
 use Rattle.langtag_scan.specs.Record.{Extension, IsWellFormed, IsWellFormedExtension, Record}
 use Rattle.langtag_scan.specs.Subtags.{join, subtags}
 use Rattle.langtag_keyword.specs.Alias.{Alias, TypeAlias, alias_for, type_alias_for}
 use Rattle.langtag_keyword.specs.Aliases.{subdivision_aliases, transform_type_aliases, unicode_type_aliases}
 use Rattle.langtag_keyword.specs.Edit.{is_type}
 use Rattle.langtag_keyword.specs.Form as form
-use Rattle.langtag_keyword.specs.Form.{extension_form, extensions_record, forms_after, in_alphabet, is_of, is_transform, letters_and_digits, put_among, transform_form, transform_value, unicode_form, unicode_value}
+use Rattle.langtag_keyword.specs.Form.{extension_form, extensions_record, forms_after, in_alphabet, is_of, is_transform, put_among, transform_form, transform_value, unicode_form, unicode_value}
 use Rattle.langtag_keyword.specs.Keywords.{before_key, is_key, value_of}
 use Rattle.langtag_keyword.specs.Transform.{is_field_key}
-use Rattle.langtag_tables.proofs.Elements.{list_all_get}
+use Rattle.langtag_keyword.proofs.KeywordsInForm.{each-has}
 use Rattle.langtag_keyword.proofs.Each.{each-alphabet, each-before}
 use Rattle.langtag_keyword.proofs.ExtensionForms.{form_by, form_tested}
-use Rattle.langtag_unicode.proofs.FormSizes.{field-two, key-two}
 use Rattle.langtag_scan.specs.Stage.{Classes}
 
 -- each is a subtag of an extension
@@ -104,85 +101,45 @@ good-transform key value good = pass-type is_extension_subtag transform_type_ali
 
 -- ---- keywords
 
-good-flat : (f : ℕ → List (List ℕ)) → ((a : ℕ) → is_alphanumeric a ≡ true → Good (f a)) → (xs : List ℕ) → are_alphanumeric xs ≡ true → Good (flat_map f xs)
-good-flat f good [] all = tt
-good-flat f good (a ∷ xs) all = grind (arith, nat_tests, and_parts (is_alphanumeric a) (are_alphanumeric xs) all, each-append, good-flat f good xs)
+good-flat : (f : List ℕ → List (List ℕ)) (keys : List (List ℕ)) → ((key : List ℕ) → IsTrue (is_extension_subtag key) → Good (f key)) → Good keys → Good (flat_map f keys)
+good-flat f [] make good = tt
+good-flat f (key ∷ keys) make good = each-append _ (f key) (flat_map f keys) (make key good.0) (good-flat f keys make good.1)
 
-letters_alphanumeric : are_alphanumeric letters_and_digits ≡ true
-unfolding is_letter is_digit
-letters_alphanumeric = refl
+good-filter : (test : List ℕ → Bool) (ss : List (List ℕ)) → Good ss → Good (filter test ss)
+good-filter test [] good = tt
+good-filter test (s ∷ ss) good = grind (arith, nat_tests, good-filter test ss good.1)
 
 pub good-key : (a b : ℕ) → is_alphanumeric a ≡ true → is_alphanumeric b ≡ true → is_extension_subtag (a ∷ b ∷ []) ≡ true
 unfolding is_extension_subtag
 good-key a b one two = rw (one, two) refl
 
--- a letter that is among some puts something
-some-flat : (f : ℕ → List (List ℕ)) (n : ℕ) (xs : List ℕ) → list_any (λ a. a == n) xs ≡ true → 1 ≤ length (f n) → 1 ≤ length (flat_map f xs)
-some-flat f n [] among some = absurd (false≢true among)
-some-flat f n (a ∷ xs) among some = grind (arith, nat_tests, some-flat f n xs, eqb-true, length-append)
-
--- the fold of a letter or a digit is among them
-abbrev is_among : ℕ → Bool
-is_among x = not (is_alphanumeric x) || list_any (λ a. a == fold_byte x) letters_and_digits
-
-all_among : list_all is_among (range_with_len 0 123) ≡ true
-unfolding is_letter is_digit fold_byte
-all_among = refl
-
-alphanumeric_below : (x : ℕ) → is_alphanumeric x ≡ true → x < 123
-unfolding is_letter is_digit
-alphanumeric_below x is = grind (arith, nat_tests)
-
-pub among-letters : (x : ℕ) → is_alphanumeric x ≡ true → list_any (λ a. a == fold_byte x) letters_and_digits ≡ true
-among-letters x is =
-    let below = alphanumeric_below x is in
-    let at : get_or (range_with_len 0 123) x 0 ≡ x = get_or-range_with_len 0 123 x 0 below ∙ zero-add x in
-    ap (λ b. not b || list_any (λ a. a == fold_byte x) letters_and_digits) (sym is)
-    ∙ subst (λ y. is_among y ≡ true) at (list_all_get is_among (range_with_len 0 123) x 0 all_among below)
-
 module _ (opens : List ℕ → Bool) (canonical : List ℕ → List ℕ → List ℕ) where
   good-keyword :
-      ((key value : List ℕ) → GoodText value → GoodText (canonical key value)) → (ss : List (List ℕ)) → Good ss → (a b : ℕ) → is_alphanumeric a ≡ true → is_alphanumeric b ≡ true →
-      Good (form.keyword_form opens canonical ss (a ∷ b ∷ []))
-  good-keyword keeps ss good a b one two = grind (arith, nat_tests, good-key a b one two, good-lower, good-joined, good-value opens (a ∷ b ∷ []) ss)
+      ((key value : List ℕ) → GoodText value → GoodText (canonical key value)) → (ss : List (List ℕ)) → Good ss → (key : List ℕ) → IsTrue (is_extension_subtag key) →
+      Good (form.keyword_form opens canonical ss key)
+  good-keyword keeps ss good key one = grind (arith, nat_tests, good-lower, good-joined, good-value opens key ss)
 
   pub good-keywords :
       ((key value : List ℕ) → GoodText value → GoodText (canonical key value)) → (ss : List (List ℕ)) → Good ss → Good (form.keywords_form opens canonical ss)
   good-keywords keeps ss good =
-      good-flat (form.keywords_from opens canonical ss)
-      (λ a one. good-flat (λ b. form.keyword_form opens canonical ss (a ∷ b ∷ [])) (λ b two. good-keyword keeps ss good a b one two) letters_and_digits letters_alphanumeric)
-      letters_and_digits letters_alphanumeric
+      good-flat (form.keyword_form opens canonical ss) (form.keys_in_order opens ss) (good-keyword keeps ss good) (good-alphabet (filter opens ss) (good-filter opens ss good))
 
   -- a key puts something
-  some-keywords :
-      (x y : ℕ) (ss : List (List ℕ)) → opens (x ∷ y ∷ []) ≡ true → is_alphanumeric x ≡ true → is_alphanumeric y ≡ true →
-      1 ≤ length (form.keywords_form opens canonical ((x ∷ y ∷ []) ∷ ss))
-  some-keywords x y ss is one two =
-      let key = fold_byte x ∷ fold_byte y ∷ [] in
-      let alike : are_alike (x ∷ y ∷ []) key ≡ true = (are_alike-decides (x ∷ y ∷ []) key).1 (sym (fold_text-twice (x ∷ y ∷ []))) in
-      let found : value_of opens key ((x ∷ y ∷ []) ∷ ss) ≡ Some (before_key opens ss) =
-      ap (λ t. cond (t && are_alike (x ∷ y ∷ []) key) (Some (before_key opens ss)) (value_of opens key ss)) is
-      ∙ ap (λ t. cond t (Some (before_key opens ss)) (value_of opens key ss)) alike in
-      let here : 1 ≤ length (form.keyword_form opens canonical ((x ∷ y ∷ []) ∷ ss) key) =
-      subst (λ o. 1 ≤ length (option_map_or (λ v. key ∷ map fold_text (subtags (canonical key (join v)))) o [])) (sym found) (omega arith) in
-      some-flat (form.keywords_from opens canonical ((x ∷ y ∷ []) ∷ ss)) (fold_byte x) letters_and_digits (among-letters x one)
-      (some-flat (λ b. form.keyword_form opens canonical ((x ∷ y ∷ []) ∷ ss) (fold_byte x ∷ b ∷ [])) (fold_byte y) letters_and_digits (among-letters y two) here)
+  some-key : (s : List ℕ) (ss : List (List ℕ)) → opens s ≡ true → 1 ≤ length (form.keywords_form opens canonical (s ∷ ss))
+  some-key s ss is = by_keys (form.keys_in_order opens (s ∷ ss)) some (each-has opens (s ∷ ss))
+    where
+      some : 1 ≤ length (form.keys_in_order opens (s ∷ ss))
+      some = subst (λ b. 1 ≤ length (in_alphabet (cond b (s ∷ filter opens ss) (filter opens ss)))) (sym is) (some-put (fold_text s) (in_alphabet (filter opens ss)))
 
-good_alphanumeric : (s : List ℕ) → is_extension_subtag s ≡ true → are_alphanumeric s ≡ true
-unfolding is_extension_subtag
-good_alphanumeric s good = (and_parts (has_length 2 8 s) (are_alphanumeric s) good).1
+      by_value : (key : List ℕ) (o : Option (List (List ℕ))) (rest : List (List ℕ)) → is_some o ≡ true →
+          1 ≤ length (option_map_or (λ v. key ∷ map fold_text (subtags (canonical key (join v)))) o [] ++ rest)
+      by_value key None rest has = absurd (false≢true has)
+      by_value key (Some v) rest has = omega arith
 
-some-key :
-    (opens : List ℕ → Bool) (canonical : List ℕ → List ℕ → List ℕ) → ((s : List ℕ) → opens s ≡ true → length s ≡ 2) →
-    (s : List ℕ) (ss : List (List ℕ)) → opens s ≡ true → is_extension_subtag s ≡ true → 1 ≤ length (form.keywords_form opens canonical (s ∷ ss))
-some-key opens canonical two [] ss is good = absurd (omega (arith, two [] is))
-some-key opens canonical two (x ∷ []) ss is good = absurd (omega (arith, two (x ∷ []) is))
-some-key opens canonical two (x ∷ y ∷ z ∷ s) ss is good = absurd (omega (arith, two (x ∷ y ∷ z ∷ s) is))
-some-key opens canonical two (x ∷ y ∷ []) ss is good =
-    let all = good_alphanumeric (x ∷ y ∷ []) good in
-    let one = and_parts (is_alphanumeric x) (is_alphanumeric y && true) all in
-    let other = and_parts (is_alphanumeric y) true one.1 in
-    some-keywords opens canonical x y ss is one.0 other.0
+      by_keys : (keys : List (List ℕ)) → 1 ≤ length keys → AllByRecursion (λ k. is_some (value_of opens k (s ∷ ss)) ≡ true) keys →
+          1 ≤ length (flat_map (form.keyword_form opens canonical (s ∷ ss)) keys)
+      by_keys [] none has = absurd (omega (arith, none))
+      by_keys (key ∷ keys) none has = by_value key (value_of opens key (s ∷ ss)) (flat_map (form.keyword_form opens canonical (s ∷ ss)) keys) has.0
 
 -- ---- the forms of `u` and `t`
 
@@ -203,7 +160,7 @@ some-unicode_form (s ∷ ss) good some = by_test (is_key s) refl
   where
     by_test : (t : Bool) → is_key s ≡ t → 1 ≤ length (unicode_form (s ∷ ss))
     by_test true is =
-        let keys = some-key is_key unicode_value key-two s ss is good.0 in
+        let keys = some-key is_key unicode_value s ss is in
         let both = length-append (in_alphabet (before_key is_key (s ∷ ss))) (form.keywords_form is_key unicode_value (s ∷ ss)) in
         two_parts _ _ _ both keys
     by_test false is =
@@ -235,7 +192,7 @@ module _ (language : List (List ℕ) → List (List ℕ)) (has : (s : List ℕ) 
     where
       by_test : (t : Bool) → is_field_key s ≡ t → 1 ≤ length (language (before_key is_field_key (s ∷ ss)) ++ form.keywords_form is_field_key transform_value (s ∷ ss))
       by_test true is =
-          let keys = some-key is_field_key transform_value field-two s ss is good.0 in
+          let keys = some-key is_field_key transform_value s ss is in
           let both = length-append (language (before_key is_field_key (s ∷ ss))) (form.keywords_form is_field_key transform_value (s ∷ ss)) in
           two_parts _ _ _ both keys
       by_test false is =

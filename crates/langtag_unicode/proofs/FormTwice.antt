@@ -19,7 +19,7 @@ use Rattle.langtag_keyword.proofs.CanonicalValues.{transform-settled, unicode-se
 use Rattle.langtag_keyword.proofs.Each.{each-alphabet}
 use Rattle.langtag_unicode.proofs.FormRecords.{Good}
 use Rattle.langtag_unicode.proofs.IdentifierParts.{AreSubtags, AreVariants, different_variants, fields_good}
-use Rattle.langtag_unicode.proofs.KeywordsInForm.{Plain, front-again, keywords-again, plain-before}
+use Rattle.langtag_keyword.proofs.KeywordsInForm.{Plain, front-again, keywords-again, plain-before}
 use Rattle.langtag_unicode.proofs.Apart.{alphabet-apart}
 use Rattle.langtag_keyword.proofs.Found.{both}
 use Rattle.langtag_unicode.proofs.TransformParts.{AreNoFields, after_region, after_script, are-fields, field_values, identifier-no_field, identifier-variants, variant-no_region, variant-no_script, region-no_script}

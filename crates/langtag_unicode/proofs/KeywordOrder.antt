@@ -1,17 +1,15 @@
 -- Keywords that change places leave each key its value, and so the form as it is.
-use Rattle.std.proofs.Common.{◌≡◌, ℕ, Bool, true, false, cond, ◌&&◌, List, [], ◌∷◌, ◌++◌, map, Option, Some, refl, sym, ap, ◌∙◌, append-nil}
+use Rattle.std.proofs.Common.{◌≡◌, ℕ, Bool, true, false, cond, ◌&&◌, List, [], ◌∷◌, ◌++◌, map, Option, Some, option_map, refl, sym, ap, ◌∙◌, append-nil}
 use Rattle.std.proofs.lemmas.Bool.{false≢true}
-use Rattle.std.specs.List.{flat_map}
-use Rattle.std.specs.Option.{option_map_or}
 use Rattle.langtag_scan.specs.Case.{are_alike, fold_text}
 use Rattle.langtag_scan.specs.CaseLaws.{are_alike-decides}
 use Rattle.langtag_scan.specs.Subtags.{join, subtags}
 use Rattle.langtag_keyword.specs.Form as form
-use Rattle.langtag_keyword.specs.Form.{in_alphabet, language_form, letters_and_digits, transform_form, transform_value, unicode_form, unicode_value}
+use Rattle.langtag_keyword.specs.Form.{in_alphabet, language_form, transform_form, transform_value, unicode_form, unicode_value}
 use Rattle.langtag_unicode.specs.FormLaws.{IsKeyword, OrderChangesNothing}
 use Rattle.langtag_keyword.specs.Keywords.{before_key, is_key, value_of}
 use Rattle.langtag_keyword.specs.Transform.{is_field_key}
-use Rattle.langtag_unicode.proofs.KeywordsInForm.{before-plain, value-plain}
+use Rattle.langtag_keyword.proofs.KeywordsInForm.{before-plain, same-values, value-plain}
 
 module _ (opens : List ℕ → Bool) where
   stops : (k : List ℕ) (ss : List (List ℕ)) → opens k ≡ true → before_key opens (k ∷ ss) ≡ []
@@ -58,22 +56,12 @@ module _ (opens : List ℕ → Bool) where
           ∙ ap (λ o. cond (are_alike l key) (Some w) o) (sym (value-first key k v after one none))
           ∙ sym (value-first key l w (k ∷ (v ++ after)) two (stops k (v ++ after) one.0))
 
-  -- keywords in which each key has the same value have the same form
-  keywords-same :
-      (canonical : List ℕ → List ℕ → List ℕ) (ss ts : List (List ℕ)) → ((key : List ℕ) → value_of opens key ss ≡ value_of opens key ts) →
-      form.keywords_form opens canonical ss ≡ form.keywords_form opens canonical ts
-  keywords-same canonical ss ts same =
-      ap
-      (λ (values : List ℕ → Option (List (List ℕ))).
-      flat_map (λ a. flat_map (λ b. option_map_or (λ w. (a ∷ b ∷ []) ∷ map fold_text (subtags (canonical (a ∷ b ∷ []) (join w)))) (values (a ∷ b ∷ [])) []) letters_and_digits)
-      letters_and_digits)
-      (λ i key. same key i)
-
   moved : (start : List (List ℕ) → List (List ℕ)) (canonical : List ℕ → List ℕ → List ℕ) → OrderChangesNothing opens (λ ss. start (before_key opens ss) ++ form.keywords_form opens canonical ss)
   moved start canonical before after k l v w one two differ none =
       ap (λ t. start t ++ form.keywords_form opens canonical (before ++ k ∷ (v ++ l ∷ (w ++ after)))) (before-same before _ _ k l one.0 two.0)
       ∙ ap (λ t. start (before_key opens (before ++ l ∷ (w ++ k ∷ (v ++ after)))) ++ t)
-      (keywords-same canonical _ _ (λ key. value-moved key before after k l v w one two differ none))
+      (same-values opens canonical _ _
+      (λ key low. ap (option_map (λ w. map fold_text (subtags (canonical key (join w))))) (value-moved key before after k l v w one two differ none)))
 
 pub unicode-moved : OrderChangesNothing is_key unicode_form
 unicode-moved = moved is_key in_alphabet unicode_value

@@ -7,10 +7,8 @@ pub mod FormRecords
 pub mod FormSizes
 pub mod FormTwice
 pub mod IdentifierParts
-pub mod KeySplits
 pub mod KeywordOrder
 pub mod KeywordRecords
 pub mod KeywordSizes
-pub mod KeywordsInForm
 pub mod TransformParts
 pub mod WalkLaws

@@ -18,14 +18,14 @@ use Rattle.langtag_tables.proofs.Letters.{primary_letters}
 use Rattle.langtag_keyword.specs.Alias.{TypeAlias}
 use Rattle.langtag_keyword.specs.Aliases.{transform_type_aliases}
 use Rattle.langtag_keyword.specs.Form as form
-use Rattle.langtag_keyword.specs.Form.{after_one, are_different_variants, are_fields, letters_and_digits, may_follow, transform_value}
+use Rattle.langtag_keyword.specs.Form.{after_one, are_different_variants, are_fields, may_follow, transform_value}
 use Rattle.langtag_keyword.specs.Keywords.{before_key, value_of}
 use Rattle.langtag_unicode.specs.Identifier.{identifier_flat}
 use Rattle.langtag_keyword.specs.Transform.{is_field_key}
 use Rattle.langtag_unicode.proofs.CanonicalKeywords.{alike-back}
 use Rattle.langtag_unicode.proofs.FormRecords.{Good, good-value}
 use Rattle.langtag_unicode.proofs.IdentifierParts.{AreSubtags, language_primary, AreVariants}
-use Rattle.langtag_unicode.proofs.KeywordsInForm.{AreKeywords, values_in_form}
+use Rattle.langtag_keyword.proofs.KeywordsInForm.{AreKeywords, values_in_form}
 use Rattle.langtag_unicode.proofs.Apart.{Apart}
 use Rattle.langtag_keyword.proofs.Found.{both, found_has}
 
@@ -188,9 +188,9 @@ nothing = record { follows = λ inside rest later. later inside }
 pair : (xs ys : List (List ℕ)) → IsField xs → IsField ys → IsField (xs ++ ys)
 pair xs ys one two = grind (arith, nat_tests, append_assoc xs ys)
 
-all-fields : (f : ℕ → List (List ℕ)) → ((n : ℕ) → IsField (f n)) → (ns : List ℕ) → IsField (flat_map f ns)
+all-fields : (f : List ℕ → List (List ℕ)) → ((key : List ℕ) → IsField (f key)) → (keys : List (List ℕ)) → IsField (flat_map f keys)
 all-fields f are [] = nothing
-all-fields f are (n ∷ ns) = pair (f n) (flat_map f ns) (are n) (all-fields f are ns)
+all-fields f are (key ∷ keys) = pair (f key) (flat_map f keys) (are key) (all-fields f are keys)
 
 module _ (ss : List (List ℕ)) (good : Good ss) (are : are_fields false false ss ≡ true) where
   keyword-field : (key : List ℕ) → IsField (form.keyword_form is_field_key transform_value ss key)
@@ -198,7 +198,7 @@ module _ (ss : List (List ℕ)) (good : Good ss) (are : are_fields false false s
       grind (arith, nat_tests, nothing, found-field false false key ss, field key, lower-value, transform-value key, good-value is_field_key key ss)
 
   fields : IsField (form.keywords_form is_field_key transform_value ss)
-  fields = all-fields _ (λ a. all-fields _ (λ b. keyword-field (a ∷ b ∷ [])) letters_and_digits) letters_and_digits
+  fields = all-fields _ keyword-field (form.keys_in_order is_field_key ss)
 
   -- a value is that of a key, and has no keys
   pub field_values : AreKeywords is_field_key (values_in_form is_field_key transform_value ss)

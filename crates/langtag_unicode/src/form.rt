@@ -1,9 +1,9 @@
 //! The canonical form of a tag's extensions `u` and `t` (UTS #35, part 1, Annex C).
-ghost use Rattle.std.specs.Prelude.{◌≡◌, ◌≤◌, ◌<◌, ◌+◌, length, [], IfOk, IfSome, None};
+ghost use Rattle.std.specs.Prelude.{◌≡◌, [], IfOk, None};
 ghost use Rattle.langtag.specs.Text.{lang_tag_buf_text, lang_tag_text, normal_lang_tag_text};
 ghost use Rattle.langtag.specs.Form.{IsOnlyForm, IsAlikeForm};
 ghost use Rattle.langtag_output.specs.Output.{IsCounted, Pushes};
-ghost use Rattle.langtag_output.specs.Writes.{Writes};
+ghost use Rattle.langtag_output.specs.WritesWhole.{WritesWhole};
 ghost use Rattle.langtag_scan.specs.Record as model;
 ghost use Rattle.langtag_keyword.specs.Form as spec;
 ghost use Rattle.langtag_unicode.specs.ExtensionsForm.{IsExtensionsForm};
@@ -16,6 +16,9 @@ use langtag::{LangTag, LangTagBuf, NormalLangTag, push_private_use, tag_of};
 use langtag_keyword::push_extensions;
 use langtag_output::{Output, write_text};
 use std::alloc::{AllocError, Global};
+
+/// How many bytes longer than its tag a form is expected to be at most. A longer form is right, too, but takes longer.
+const SPARE: usize = 32;
 
 /// Returns a tag with its extensions `u` and `t` in canonical form (UTS #35, part 1, Annex C): `en-u-nu-thai-ca-gregory-kn-true`
 /// becomes `en-u-ca-gregory-kn-nu-thai`.
@@ -53,8 +56,21 @@ pub fn extensions_form(alloc: Global, tag: LangTag<'_>) -> Result<LangTagBuf, Al
     Ok(tag_of(form_bytes(alloc, tag)?))
 }
 
-/// Returns the bytes of the form.
+/// Returns the bytes of the form. They are written once if they fit into a guess of their number, and otherwise again.
 fn form_bytes(alloc: Global, tag: LangTag<'_>) -> Result<Vec<u8>, AllocError>
+    ensures { IfOk result (λ bytes. IsExtensionsForm (lang_tag_text tag.entry) bytes.items) }
+{
+    let mut bytes = vec![in alloc; 0; tag.as_bytes().len().saturating_add(SPARE)]?;
+    let len = write_extensions_form(tag, &mut bytes);
+    if len > bytes.len() {
+        return counted_form_bytes(alloc, tag);
+    }
+    bytes.truncate(len);
+    Ok(bytes)
+}
+
+/// Returns the bytes of the form, which are counted before they are written.
+fn counted_form_bytes(alloc: Global, tag: LangTag<'_>) -> Result<Vec<u8>, AllocError>
     ensures { IfOk result (λ bytes. IsExtensionsForm (lang_tag_text tag.entry) bytes.items) }
 {
     let mut bytes = vec![in alloc; 0; write_extensions_form(tag, &mut [])]?;
@@ -63,8 +79,8 @@ fn form_bytes(alloc: Global, tag: LangTag<'_>) -> Result<Vec<u8>, AllocError>
 }
 
 /// Writes a tag with its extensions `u` and `t` in canonical form to a buffer, as [`extensions_form`] returns it, and
-/// returns its length in bytes. If the buffer is too short, it stays unchanged, and the length says how long a buffer
-/// must be. A buffer of the tag's length and 20 bytes is always long enough. It does not allocate.
+/// returns its length in bytes. If the buffer is too short, its bytes are not specified, and the length says how long a
+/// buffer must be. It does not allocate.
 ///
 /// ```
 /// use langtag::LangTag;
@@ -74,44 +90,13 @@ fn form_bytes(alloc: Global, tag: LangTag<'_>) -> Result<Vec<u8>, AllocError>
 /// let length = write_extensions_form(LangTag::new("de-u-kn-true")?, &mut buffer);
 /// buffer.get(..length); // Some(&b"de-u-kn"[..])
 /// ```
-#[tactic(auto, using(crate::proofs::FormSizes::form_bounded))]
 pub fn write_extensions_form(tag: LangTag<'_>, buffer: &mut [u8]) -> usize
-    ensures form { Writes (IsExtensionsForm (lang_tag_text tag.entry)) buffer.old buffer.new result }
-    ensures bounded { result ≤ length (lang_tag_text tag.entry) + 20 }
+    ensures form { WritesWhole (IsExtensionsForm (lang_tag_text tag.entry)) buffer.old buffer.new result }
 {
     match tag.as_normal() {
-        Some(normal) => write_parts(normal, buffer),
+        Some(normal) => put_parts(normal, buffer),
         None => write_text(tag.as_bytes(), buffer),
     }
-}
-
-/// Writes a tag with its extensions in canonical form.
-#[tactic(auto, using(crate::proofs::FormSizes::form_length))]
-fn write_parts(tag: NormalLangTag<'_>, buffer: &mut [u8]) -> usize
-    ensures { model.EachRecord (normal_lang_tag_text tag.entry) (λ r. Writes (λ form. form ≡ model.spell (spec.extensions_record r)) buffer.old buffer.new result) }
-{
-    if let Some(len) = longer_than(tag, buffer.len()) {
-        return len;
-    }
-    put_parts(tag, buffer)
-}
-
-/// Returns the length of the form if it is longer than a buffer of `room` bytes. It is not counted if the buffer is long
-/// enough for the form of every tag of this length.
-#[tactic(auto, using(crate::proofs::FormSizes::form_length))]
-fn longer_than(tag: NormalLangTag<'_>, room: usize) -> Option<usize>
-    ensures longer { IfSome result (λ len. model.EachRecord (normal_lang_tag_text tag.entry) (λ r.
-        (len ≡ length (model.spell (spec.extensions_record r))) × (room < length (model.spell (spec.extensions_record r))))) }
-    ensures fits { result ≡ None → model.EachRecord (normal_lang_tag_text tag.entry) (λ r. length (model.spell (spec.extensions_record r)) ≤ room) }
-{
-    if room >= tag.as_str().len() + 20 {
-        return None;
-    }
-    let len = put_parts(tag, &mut []);
-    if len <= room {
-        return None;
-    }
-    Some(len)
 }
 
 /// Writes as much of a tag with its extensions in canonical form as fits into a buffer, and returns the length of

@@ -26,7 +26,7 @@ impl LanguageTag {
     }
 
     pub fn canonicalize(&self) -> Result<LanguageTag, ParseError> {
-        let form = registry::canonical(tag(&self.text)).map_err(|_| ParseError)?;
+        let form = registry::canonical(tag(&self.text));
         Ok(LanguageTag { text: form.into_string() })
     }
 

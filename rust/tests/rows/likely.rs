@@ -5,18 +5,19 @@ use langtag::matching::{wanted_ranges, AcceptLanguage};
 use langtag::*;
 
 use crate::matching::{ranges_of, tags_of};
+use crate::reader::{escaped, length};
 
 /// Returns a form of a tag. The form must also be written to a buffer of its length, but not to a shorter buffer.
 fn form(
     text: Option<&str>,
-    made: fn(LangTag<'_>) -> Result<LangTagBuf, AllocError>,
-    write: fn(LangTag<'_>, &mut [u8]) -> usize,
+    made: fn(LangTag<'_>) -> LangTagBuf,
+    write: for<'b> fn(LangTag<'_>, &'b mut [u8]) -> Result<&'b str, TooShort>,
 ) -> String {
     let Some(Ok(tag)) = text.map(LangTag::new) else {
         return "-".into();
     };
-    let form = made(tag).unwrap();
-    check_buffer(form.as_str(), |buffer| write(tag, buffer));
+    let form = made(tag);
+    check_buffer(form.as_str(), |buffer| length(write(tag, buffer)));
     form.into_string()
 }
 
@@ -36,11 +37,19 @@ fn check_buffer(form: &str, write: impl Fn(&mut [u8]) -> usize) {
 }
 
 pub fn maximal(text: Option<&str>) -> String {
-    form(text, maximized, write_maximized)
+    form(
+        text,
+        |tag| maximized(tag),
+        |tag, buffer| write_maximized(tag, buffer),
+    )
 }
 
 pub fn minimal(text: Option<&str>) -> String {
-    form(text, minimized, write_minimized)
+    form(
+        text,
+        |tag| minimized(tag),
+        |tag, buffer| write_minimized(tag, buffer),
+    )
 }
 
 pub fn far(desired: Option<&str>, supported: Option<&str>) -> String {
@@ -66,15 +75,12 @@ pub fn posix(name: Option<&str>) -> String {
     match from_posix(name) {
         Ok(tag) => {
             check_buffer(tag.as_str(), |buffer| {
-                write_from_posix(name.as_bytes(), buffer).unwrap()
+                length(write_from_posix(name, buffer).map(Option::unwrap))
             });
             tag.into_string()
         }
         Err(PosixError::NoTag(text)) => {
-            assert_eq!(
-                (text, write_from_posix(name.as_bytes(), &mut [])),
-                (name, None)
-            );
+            assert_eq!((text, write_from_posix(name, &mut [])), (name, Ok(None)));
             "-".into()
         }
         Err(error) => panic!("{error}"),
@@ -83,9 +89,29 @@ pub fn posix(name: Option<&str>) -> String {
 
 pub fn unknown(name: &[u8]) -> String {
     match unknown_modifier(name) {
-        Some(modifier) => String::from_utf8_lossy(modifier).into_owned(),
+        Some(modifier) => escaped(modifier),
         None => "-".into(),
     }
+}
+
+/// Returns the best tag, which must be the same one in each kind of list that a program may have.
+fn in_each_list(tags: &str, best: impl Fn(&dyn TagList) -> Option<usize>) -> String {
+    let tags = tags_of(tags);
+    let owned: Vec<LangTagBuf> = tags.iter().map(|tag| tag.to_owned()).collect();
+    let texts: Vec<&str> = tags.iter().map(|tag| tag.as_str()).collect();
+    let strings: Vec<String> = tags.iter().map(|tag| tag.to_string()).collect();
+    let found = best(&tags);
+    assert_eq!(
+        [found; 5],
+        [
+            best(&&tags[..]),
+            best(&owned),
+            best(&&owned[..]),
+            best(&texts),
+            best(&strings)
+        ]
+    );
+    shown(found, &tags)
 }
 
 fn shown(best: Option<usize>, tags: &[LangTag<'_>]) -> String {
@@ -93,8 +119,7 @@ fn shown(best: Option<usize>, tags: &[LangTag<'_>]) -> String {
 }
 
 pub fn best(header: &[u8], tags: &str) -> String {
-    let tags = tags_of(tags);
-    shown(best_for_header(header, &tags), &tags)
+    in_each_list(tags, |tags| best_for_header(header, tags))
 }
 
 pub fn best_match(header: &[u8], tags: &str) -> String {
@@ -113,13 +138,18 @@ pub fn best_match(header: &[u8], tags: &str) -> String {
 
 pub fn best_accepted(header: &str, tags: &str) -> String {
     let tags = tags_of(tags);
-    shown(
-        best_for_accept_language(&AcceptLanguage::lenient(header).unwrap(), &tags),
-        &tags,
-    )
+    let accepted = AcceptLanguage::lenient(header);
+    let best = best_for_accept_language(&accepted, &tags);
+    let ranges: Vec<_> = accepted.ranges().iter().map(|it| it.range).collect();
+    assert_eq!(best, best_for_ranges(&ranges, &tags));
+    shown(best, &tags)
 }
 
 pub fn best_ranges(ranges: &str, tags: &str) -> String {
-    let tags = tags_of(tags);
-    shown(best_for_ranges(&ranges_of(ranges), &tags), &tags)
+    let texts: Vec<&str> = ranges.split_whitespace().collect();
+    in_each_list(tags, |tags| {
+        let found = best_for_ranges(&ranges_of(ranges), tags);
+        assert_eq!(found, best_for_ranges(&texts, tags));
+        found
+    })
 }

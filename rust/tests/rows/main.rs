@@ -1,5 +1,5 @@
 //! Compares the answers of this crate with the rows of the tests. If `LANGTAG_ANSWERS` names a file, it also compares them with the answers of the proved C library in that file.
-#![cfg(feature = "alloc")]
+#![cfg(all(feature = "alloc", feature = "data"))]
 mod edits;
 mod likely;
 mod matching;
@@ -39,6 +39,7 @@ fn answer(row: &Row) -> String {
         "scan" => tags::scan(&row.arguments[0]),
         "recommended" => tags::recommended(&row.arguments[0]),
         "refused" => tags::refused(&row.arguments[0]),
+        "character" | "byte" => tags::invalid_character(&row.arguments[0]),
         "order" => tags::order(&row.arguments[0], &row.arguments[1]),
         "class" => types::class(&row.arguments[0]),
         "types" => types::types(row.str(0)),
@@ -79,8 +80,10 @@ fn answer(row: &Row) -> String {
         "transform" => unicode::transformed(row.str(0)),
         "extensions-form" => unicode::form(row.str(0)),
         "with-keyword" => unicode::edited(row.str(0), row.str(1), row.str(2)),
+        "base" => tags::base(row.str(0)),
         "is-locale" => unicode::is_identifier(row.str(0)),
         "locale-form" => unicode::whole_form(row.str(0)),
+        "cldr-version" => langtag::likely::CLDR_VERSION.into(),
         call => panic!("no call: {call}"),
     }
 }
@@ -96,7 +99,7 @@ macro_rules! files {
 }
 
 files! {
-    table: "table.txt", 360, ["tag", "grandfathered", "viable", "validity", "suggestion", "canonical", "range", "match", "order"];
+    table: "table.txt", 360, ["tag", "grandfathered", "viable", "validity", "suggestion", "canonical", "range", "match", "order", "base"];
     texts: "texts.txt", 1700, ["scan", "recommended", "class", "types", "new", "spelling"];
     prefixes: "prefixes.txt", 26, ["fronts"];
     lists: "walks.txt", 150, ["walk", "extension"];
@@ -104,17 +107,21 @@ files! {
     subtags: "registry.txt", 220, ["extlang-form", "fault", "misplaced", "subtag", "registered"];
     headers: "negotiation.txt", 102, ["header", "ranges"];
     ranges: "ranges.txt", 60, ["elements", "fallbacks", "filter"];
-    refusals: "refused.txt", 60, ["refused"];
+    refusals: "refused.txt", 60, ["refused", "character", "byte"];
     forms: "likely.txt", 250, ["maximized", "minimized"];
     distances: "distance.txt", 140, ["distance"];
     directions: "direction.txt", 325, ["right-to-left"];
     names: "posix.txt", 150, ["posix", "unknown-modifier"];
     choices: "choices.txt", 285, ["best", "best-match"];
     preferences: "lists.txt", 15, ["best-accepted", "best-ranges"];
+    lengths: "lengths.txt", 180, ["base", "tag", "scan", "recommended", "validity", "suggestion", "canonical", "grandfathered", "viable", "refused",
+        "range", "maximized", "minimized", "right-to-left", "posix", "unknown-modifier", "match", "order", "distance", "header", "ranges",
+        "best", "best-match", "best-accepted", "best-ranges", "edit", "keyword", "keywords", "attributes", "transform", "extensions-form",
+        "with-keyword", "is-locale", "locale-form"];
     extensions: "extensions.txt", 630, ["extensions-form"];
     setters: "keywords.txt", 380, ["with-keyword"];
     locales: "locale.txt", 750, ["is-locale", "locale-form"];
-    cases: "cldr.txt", 1773, ["locale-form"];
+    cases: "cldr.txt", 1774, ["cldr-version", "locale-form"];
     keywords: "unicode.txt", 500, ["keyword", "keywords", "attributes", "transform"];
 }
 

@@ -63,13 +63,13 @@ pub fn matches(range: Option<&str>, tag: Option<&str>) -> String {
 /// Returns the tag for a header, with strict and with lenient reading of the header.
 pub fn header(header: &str, tags: &str) -> String {
     let tags = tags_of(tags);
-    let lenient = shown(
-        AcceptLanguage::lenient(header)
-            .unwrap()
-            .look_up(&tags, default()),
-    );
-    match tag_for_header(header, &tags, default()) {
-        Ok(tag) => format!("{} | {lenient}", shown(tag)),
+    let accepted = AcceptLanguage::lenient(header);
+    let lenient = accepted.look_up(&tags, default());
+    let ranges: Vec<_> = accepted.ranges().iter().map(|it| it.range).collect();
+    assert_eq!(looked_up(&ranges, &tags), lenient);
+    let lenient = shown(lenient);
+    match tag_for_header(header, &tags, &default()) {
+        Ok(tag) => format!("{} | {lenient}", shown(*tag)),
         Err(AcceptLanguageError::BadElement {
             header: kept,
             index,
@@ -79,7 +79,7 @@ pub fn header(header: &str, tags: &str) -> String {
             assert_eq!(kept, header);
             let part = match part {
                 ElementPart::Range => "range",
-                ElementPart::Weight => "weight",
+                _ => "weight",
             };
             format!("bad {index} {offset} {part} | {lenient}")
         }
@@ -93,7 +93,7 @@ pub fn elements(header: &str) -> String {
         Ok(accepted) => weighted(accepted.ranges()),
         Err(error) => format!(
             "{error} | {}",
-            weighted(AcceptLanguage::lenient(header).unwrap().ranges())
+            weighted(AcceptLanguage::lenient(header).ranges())
         ),
     }
 }
@@ -106,8 +106,26 @@ fn weighted(ranges: &[WeightedRange<'_>]) -> String {
     list(ranges.iter().map(String::as_str))
 }
 
+/// Returns the tag that lookup finds. It must be the one that the proved function finds, in each kind of list.
+fn looked_up<'a>(ranges: &[LanguageRange<'_>], tags: &[LangTag<'a>]) -> LangTag<'a> {
+    let found = *look_up(ranges, tags, &default());
+    assert_eq!(
+        found.as_str(),
+        langtag::erased::matching::look_up(ranges, tags, default()).as_str()
+    );
+    let owned: Vec<LangTagBuf> = tags.iter().map(|tag| tag.to_owned()).collect();
+    assert_eq!(*look_up(ranges, &owned, &default().to_owned()), found);
+    let texts: Vec<&str> = tags.iter().map(|tag| tag.as_str()).collect();
+    let words: Vec<&str> = ranges.iter().map(|range| range.as_str()).collect();
+    assert_eq!(
+        *look_up(&words, &texts, &default().as_str()),
+        found.as_str()
+    );
+    found
+}
+
 pub fn ranges(ranges: &str, tags: &str) -> String {
-    shown(look_up(&ranges_of(ranges), &tags_of(tags), default()))
+    shown(looked_up(&ranges_of(ranges), &tags_of(tags)))
 }
 
 pub fn fallbacks(range: &str) -> String {

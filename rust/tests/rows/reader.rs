@@ -31,7 +31,7 @@ impl Row {
 /// Returns the folder of the rows: in the repository, or in the packed crate.
 fn folder() -> PathBuf {
     let here = PathBuf::from(env!("CARGO_MANIFEST_DIR"));
-    ["../rows", "rows"]
+    ["rows", "../rows"]
         .map(|folder| here.join(folder))
         .into_iter()
         .find(|folder| folder.join("table.txt").is_file())
@@ -160,4 +160,21 @@ pub fn list<'a>(texts: impl Iterator<Item = &'a str>) -> String {
     } else {
         list
     }
+}
+
+/// Returns the length of what was written to a buffer, or the length that the buffer would have to have.
+pub fn length(written: Result<&str, langtag::TooShort>) -> usize {
+    written.map_or_else(|error| error.needed(), str::len)
+}
+
+/// Returns bytes as rows write them.
+pub fn escaped(bytes: &[u8]) -> String {
+    if bytes.is_empty() {
+        return "''".into();
+    }
+    let bytes = bytes.iter().map(|byte| match byte {
+        byte if byte.is_ascii_graphic() => char::from(*byte).to_string(),
+        byte => format!("\\x{byte:02x}"),
+    });
+    bytes.collect()
 }

@@ -1,8 +1,9 @@
 //! Calls of the registry.
+use langtag::erased::registry::fault_at;
 use langtag::registry::*;
 use langtag::*;
 
-use crate::reader::words;
+use crate::reader::{length, words};
 
 /// Returns the first fault of a tag, and the offset of its subtag.
 pub fn validity(text: &str) -> String {
@@ -26,6 +27,7 @@ pub fn validity(text: &str) -> String {
             "repeated-singleton",
             &tag.extensions().iter().nth(index).unwrap().as_str()[..1],
         ),
+        _ => panic!("{invalid}"),
     };
     format!(
         "{fault} {} {subtag}",
@@ -56,23 +58,23 @@ pub fn canonical_form(text: &str) -> String {
     let Ok(tag) = LangTag::new(text) else {
         return "-".into();
     };
-    let form = canonical(tag).unwrap();
+    let form = canonical(tag);
     assert_eq!(
         (is_canonical(tag), is_canonical(form.as_lang_tag())),
         (tag == form, true)
     );
     let (len, mut buffer) = (form.len(), vec![b'~'; form.len() + 1]);
     assert!(len <= canonical_bound(text.len()));
-    assert_eq!(write_canonical(tag, &mut buffer), len);
+    assert_eq!(length(write_canonical(tag, &mut buffer)), len);
     assert_eq!((&buffer[..len], buffer[len]), (form.as_bytes(), b'~'));
     buffer.fill(b'~');
-    assert_eq!(write_canonical(tag, &mut buffer[..len - 1]), len);
+    assert_eq!(length(write_canonical(tag, &mut buffer[..len - 1])), len);
     assert!(buffer.iter().all(|byte| *byte == b'~'));
     form.into_string()
 }
 
 pub fn extlang(text: &str) -> String {
-    LangTag::new(text).map_or("-".into(), |tag| extlang_form(tag).unwrap().into_string())
+    LangTag::new(text).map_or("-".into(), |tag| extlang_form(tag).into_string())
 }
 
 pub fn fault(text: &str) -> String {

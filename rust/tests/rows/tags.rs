@@ -2,9 +2,10 @@
 use std::cmp::Ordering;
 use std::hash::{Hash, Hasher};
 
+use langtag::scan::*;
 use langtag::*;
 
-use crate::reader::list;
+use crate::reader::{escaped, list};
 
 /// The 64-bit FNV-1a hash of all bytes that are written.
 struct Fnv(u64);
@@ -150,11 +151,27 @@ pub fn viable(bytes: &[u8]) -> String {
     format!("{} {}", viable_len(bytes), reads(bytes))
 }
 
+/// Checks how much of a tag is read: each of its prefixes exactly once. If `_` follows, so is the `_`. If `--` follows, the second
+/// hyphen is read, except after an irregular tag: no subtag can follow that, so the first hyphen decides.
+fn sweep(tag: &[u8], is_irregular: bool) {
+    for len in 0..=tag.len() {
+        assert_eq!(reads(&tag[..len]), len, "of the first {len} bytes");
+    }
+    for (end, more) in [("_", 1), ("--", if is_irregular { 1 } else { 2 })] {
+        let text = [tag, end.as_bytes()].concat();
+        assert!(LangTag::from_bytes(&text).is_err());
+        assert_eq!(reads(&text), tag.len() + more, "with {end} behind it");
+    }
+}
+
 /// Returns how many bytes are read, how many prefixes are tags, the kind of the text, and the ends of its parts.
 pub fn scan(bytes: &[u8]) -> String {
     let fronts = (0..=bytes.len()).filter(|end| LangTag::from_bytes(&bytes[..*end]).is_ok());
     let head = format!("{} {} {}", reads(bytes), fronts.count(), kind_of(bytes));
     let found = recognise(&mut Metered::of_bytes(bytes));
+    if let Some(found) = found {
+        sweep(bytes, found.irregular().is_some());
+    }
     let normal = recognise_normal(&mut Metered::of_bytes(bytes));
     assert_eq!(
         normal.and_then(|found| found.ends()),
@@ -198,18 +215,6 @@ pub fn recommended(bytes: &[u8]) -> String {
     escaped(&form)
 }
 
-/// Returns bytes as rows write them.
-fn escaped(bytes: &[u8]) -> String {
-    if bytes.is_empty() {
-        return "''".into();
-    }
-    let bytes = bytes.iter().map(|byte| match byte {
-        byte if byte.is_ascii_graphic() => char::from(*byte).to_string(),
-        byte => format!("\\x{byte:02x}"),
-    });
-    bytes.collect()
-}
-
 /// Returns where a text is wrong: the kind of the error, the subtag, and the offset of the error.
 pub fn refused(bytes: &[u8]) -> String {
     let Some(refusal) = Refusal::of(bytes) else {
@@ -219,7 +224,7 @@ pub fn refused(bytes: &[u8]) -> String {
     let kind = match refusal.kind {
         RefusalKind::Subtag => "subtag",
         RefusalKind::Byte => "byte",
-        RefusalKind::End => "end",
+        _ => "end",
     };
     format!(
         "{kind} {} {} {}",
@@ -227,6 +232,18 @@ pub fn refused(bytes: &[u8]) -> String {
         refusal.end - refusal.start,
         refusal.offset
     )
+}
+
+/// Returns the character or the byte that the message of an error shows.
+pub fn invalid_character(bytes: &[u8]) -> String {
+    let message = LangTag::from_bytes(bytes).unwrap_err().to_string();
+    if let Ok(text) = std::str::from_utf8(bytes) {
+        let error = LangTag::new(text).unwrap_err();
+        assert!(message.ends_with(&error.reason().to_string()));
+    }
+    let (_, shown) = message.rsplit_once(": invalid character `").unwrap();
+    let (shown, _) = shown.rsplit_once("`: expected").unwrap();
+    escaped(shown.as_bytes())
 }
 
 pub fn order(a: &[u8], b: &[u8]) -> String {
@@ -250,4 +267,20 @@ pub fn order(a: &[u8], b: &[u8]) -> String {
         Ordering::Greater => "after",
     };
     order.into()
+}
+
+/// Returns the base of a tag, which must be the base of its owned forms, of its normal form, and its own base.
+pub fn base(text: &str) -> String {
+    let tag = LangTag::new(text).expect("the row has a tag");
+    let base = tag.base();
+    assert_eq!(base.base().as_str(), base.as_str(), "{text}");
+    assert_eq!(base.kind(), tag.kind(), "{text}");
+    assert_eq!(tag.to_owned().base().as_str(), base.as_str(), "{text}");
+    if let Some(normal) = tag.as_normal() {
+        assert_eq!(normal.base().as_str(), base.as_str(), "{text}");
+        assert_eq!(normal.to_owned().base().as_str(), base.as_str(), "{text}");
+        assert_eq!(normal.base().private_use(), None, "{text}");
+        assert_eq!(normal.base().variants(), normal.variants(), "{text}");
+    }
+    base.to_string()
 }

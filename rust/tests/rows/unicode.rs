@@ -2,7 +2,7 @@
 use langtag::unicode::*;
 use langtag::{LangTag, LangTagBuf};
 
-use crate::reader::{list, words};
+use crate::reader::{length, list, words};
 
 fn tag(text: &str) -> LangTag<'_> {
     LangTag::new(text).expect("the row has a tag")
@@ -47,37 +47,32 @@ pub fn is_identifier(text: &str) -> String {
     is.into()
 }
 
+/// Returns the length of what is written to a buffer, or the length that the buffer would have to have.
+fn locale_len(text: &str, buffer: &mut [u8]) -> Option<usize> {
+    match write_locale_form(tag(text), buffer) {
+        Ok(written) => written.map(str::len),
+        Err(error) => Some(error.needed()),
+    }
+}
+
 /// Returns the form, which must be a Unicode locale identifier and its own form. It must be written to a buffer of its
-/// length, but not to a shorter buffer.
+/// length, and its length returned for a shorter buffer.
 pub fn whole_form(text: &str) -> String {
-    let Some(len) = write_locale_form(tag(text), &mut []) else {
+    let Some(len) = locale_len(text, &mut []) else {
         assert!(!is_locale(tag(text)), "{text}");
         return "-".into();
     };
     let mut buffer = vec![b'!'; len];
-    assert_eq!(
-        write_locale_form(tag(text), &mut buffer[1..]),
-        Some(len),
-        "{text}"
-    );
-    assert!(buffer.iter().all(|byte| *byte == b'!'), "{text}");
-    assert_eq!(
-        write_locale_form(tag(text), &mut buffer),
-        Some(len),
-        "{text}"
-    );
+    assert_eq!(locale_len(text, &mut buffer[1..]), Some(len), "{text}");
+    assert_eq!(buffer[0], b'!', "{text}");
+    assert_eq!(locale_len(text, &mut buffer), Some(len), "{text}");
 
     let form = String::from_utf8(buffer).expect("the form is a text");
     let mut again = vec![0; len];
     assert!(is_locale(tag(&form)), "{text}");
-    assert_eq!(
-        write_locale_form(tag(&form), &mut again),
-        Some(len),
-        "{text}"
-    );
+    assert_eq!(locale_len(&form, &mut again), Some(len), "{text}");
     assert_eq!(form.as_bytes(), again, "{text}");
-    assert!(len <= text.len() + 32, "{text}");
-    let owned = locale_form(tag(text)).expect("there is memory");
+    let owned = locale_form(tag(text));
     assert_eq!(
         owned.as_ref().map(LangTagBuf::as_str),
         Some(&*form),
@@ -86,24 +81,23 @@ pub fn whole_form(text: &str) -> String {
     form
 }
 
-/// Returns the form. It must be its own form, and must be written to a buffer of its length, but not to a shorter
-/// buffer.
+/// Returns the form. It must be its own form, and must be written to a buffer of its length, and its length returned for a
+/// shorter buffer.
 pub fn form(text: &str) -> String {
-    let form = extensions_form(tag(text)).expect("there is memory");
-    let again = extensions_form(form.as_lang_tag()).expect("there is memory");
+    let form = extensions_form(tag(text));
+    let again = extensions_form(&form);
     assert_eq!(again.as_str(), form.as_str(), "{text}");
 
-    assert!(form.as_str().len() <= text.len() + 20, "{text}");
     let mut buffer = vec![b'!'; form.as_str().len()];
     let short = buffer.len() - 1;
     assert_eq!(
-        write_extensions_form(tag(text), &mut buffer[..short]),
+        length(write_extensions_form(tag(text), &mut buffer[..short])),
         short + 1,
         "{text}"
     );
-    assert!(buffer.iter().all(|byte| *byte == b'!'), "{text}");
+    assert_eq!(buffer[short], b'!', "{text}");
     assert_eq!(
-        write_extensions_form(tag(text), &mut buffer),
+        length(write_extensions_form(tag(text), &mut buffer)),
         short + 1,
         "{text}"
     );
@@ -119,8 +113,7 @@ pub fn edited(text: &str, key: &str, value: &str) -> String {
         _ => write_with_keyword(tag(text), key, value, &mut buffer),
     };
     let error = match written {
-        Ok(length) => {
-            let made = std::str::from_utf8(&buffer[..length]).expect("a tag is ASCII");
+        Ok(made) => {
             assert!(
                 value == "-" || keyword(tag(made), key) == Some(value),
                 "{made}"
@@ -130,6 +123,9 @@ pub fn edited(text: &str, key: &str, value: &str) -> String {
         Err(error) => error,
     };
     assert!(buffer.iter().all(|byte| *byte == b'!'), "{text}");
+    let WriteKeywordError::Keyword(error) = error else {
+        panic!("{error}");
+    };
     match error {
         KeywordError::Key => "bad key".into(),
         KeywordError::Value(offset) => {
@@ -143,5 +139,6 @@ pub fn edited(text: &str, key: &str, value: &str) -> String {
             "bad value".into()
         }
         KeywordError::NotNormal => "no parts".into(),
+        _ => panic!("{error}"),
     }
 }

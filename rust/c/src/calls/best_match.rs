@@ -3,7 +3,7 @@
 //! The best tag for a reader, with the range that it serves and its distance from that range.
 
 use crate::calls::spanned_tags::SpannedTags;
-use crate::choice::match_among;
+use crate::erased::choice::match_among;
 use crate::spans::{range_at, Span};
 
 /// The range that the best tag serves, and the distance from the range to the tag.
@@ -16,10 +16,11 @@ pub struct BestMatch {
     pub distance: u32,
 }
 
-/// Returns the index of the best tag for an Accept-Language header, as `langtag_best_for_header` does, and writes the
-/// range that the tag serves and the distance from that range. For `tlh, gsw` and the tags `en` and `de`, the index is
-/// 1, the range is `gsw`, and the distance is 8. If no tag is suitable, it returns the number of tags and writes an
-/// empty range at the end of the header. `found` is always written.
+/// Returns the index of the best tag for an Accept-Language header, as `langtag_best_for_header`
+/// does, and writes the range that the tag serves and the distance from that range. For `tlh, gsw`
+/// and the tags `en` and `de`, the index is 1, the range is `gsw`, and the distance is 8. If no tag
+/// is suitable, it returns the number of tags and writes an empty range at the end of the header.
+/// `found` is always written.
 pub fn langtag_match_for_header(
     header: &[u8],
     bytes: &[u8],

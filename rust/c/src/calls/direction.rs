@@ -2,11 +2,11 @@
 
 //! Whether a tag is written from right to left.
 
-use crate::likely::is_right_to_left;
+use crate::erased::likely::is_right_to_left;
 use crate::spans::tag_of;
 
-/// Returns whether the bytes are a tag that is written from right to left: `true` for `he`, `pa-PK` and `az-Arab`,
-/// `false` for `ar-Latn`, and for bytes that are not a tag.
+/// Returns whether the bytes are a tag that is written from right to left: `true` for `he`, `pa-PK`
+/// and `az-Arab`, `false` for `ar-Latn`, and for bytes that are not a tag.
 #[inline]
 pub fn langtag_is_right_to_left(bytes: &[u8]) -> bool {
     match tag_of(bytes) {

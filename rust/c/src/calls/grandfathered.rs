@@ -2,10 +2,11 @@
 
 //! The grandfathered tags (RFC 5646 section 2.2.8).
 
-use crate::tag::GrandfatheredLangTag;
+use crate::erased::tag::GrandfatheredLangTag;
 
-/// Returns the index of a grandfathered tag, ignoring case, in the order of [RFC 5646 section 2.1]. If the index is below
-/// 17, the tag is irregular. Returns 26 if the bytes are not a grandfathered tag.
+/// Returns the index of a grandfathered tag, ignoring case, in the order of [RFC 5646 section 2.1].
+/// If the index is below 17, the tag is irregular. Returns 26 if the bytes are not a grandfathered
+/// tag.
 ///
 /// [RFC 5646 section 2.1]: https://www.rfc-editor.org/rfc/rfc5646#section-2.1
 #[inline]

@@ -2,12 +2,12 @@
 
 //! Where the keywords and attributes of the extension `u` are (RFC 6067 section 2.1).
 
-use crate::keyword::Keys;
+use crate::erased::keyword::Keys;
 use crate::spans::{before_key, extension_subtags, next_key, value_of, Span};
 
-/// Returns whether the extension `u` has a key ([RFC 6067 section 2.1]), ignoring case, and writes its value:
-/// `islamic-civil` for `ca` in `ar-u-ca-islamic-civil`. The value is empty if the key has none, which means `true`. If
-/// a key is repeated, its first value counts.
+/// Returns whether the extension `u` has a key ([RFC 6067 section 2.1]), ignoring case, and writes
+/// its value: `islamic-civil` for `ca` in `ar-u-ca-islamic-civil`. The value is empty if the key
+/// has none, which means `true`. If a key is repeated, its first value counts.
 ///
 /// If it returns `false`, `value` is unchanged.
 ///
@@ -21,9 +21,9 @@ pub fn langtag_keyword(bytes: &[u8], key: &[u8], value: &mut Span) -> bool {
     true
 }
 
-/// Writes the next keyword of the extension `u` ([RFC 6067 section 2.1]). `passed` counts the subtags of `u` that a
-/// walk has passed, and is 0 at the start. Each key is returned once, with its first value. The value is empty if the
-/// key has none.
+/// Writes the next keyword of the extension `u` ([RFC 6067 section 2.1]). `passed` counts the
+/// subtags of `u` that a walk has passed, and is 0 at the start. Each key is returned once, with
+/// its first value. The value is empty if the key has none.
 ///
 /// Returns `false` and changes nothing if no keyword is left.
 ///
@@ -43,8 +43,9 @@ pub fn langtag_next_keyword(
     true
 }
 
-/// Writes the span of the attributes of the extension `u` ([RFC 6067 section 2.1]), which precede its first key:
-/// `attr-foo` in `de-u-attr-foo-ca-buddhist`. A repeated attribute is included twice.
+/// Writes the span of the attributes of the extension `u` ([RFC 6067 section 2.1]), which precede
+/// its first key: `attr-foo` in `de-u-attr-foo-ca-buddhist`. A repeated attribute is included
+/// twice.
 ///
 /// Returns `false`, and writes an empty span, if there are no attributes.
 ///

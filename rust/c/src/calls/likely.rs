@@ -1,14 +1,15 @@
 // Made by rust/erase from crates/langtag_c/src/likely.rt. Change that file, not this one.
 
-//! The maximal and minimal forms of a tag, in the caller's buffer (UTS #35, part 1, section 'Likely Subtags').
+//! The maximal and minimal forms of a tag, in the caller's buffer (UTS #35, part 1, section 'Likely
+//! Subtags').
 
-use crate::calls::registry_date::number_of;
-use crate::likely::{write_maximized, write_minimized, CLDR_VERSION};
+use crate::erased::likely::{write_maximized, write_minimized, CLDR_VERSION};
+use crate::erased::output::write_text;
 use crate::spans::tag_of;
 
-/// Writes a tag with its likely subtags (UTS #35, Add Likely Subtags), and returns its length in bytes: `zh-TW`
-/// becomes `zh-Hant-TW`. If the buffer is too short, it stays unchanged, and the length says how long a buffer must
-/// be.
+/// Writes a tag with its likely subtags (UTS #35, Add Likely Subtags), and returns its length in
+/// bytes: `zh-TW` becomes `zh-Hant-TW`. If the buffer is too short, it stays unchanged, and the
+/// length says how long a buffer must be.
 ///
 /// Returns 0 and writes nothing if the bytes are not a tag.
 #[inline]
@@ -19,9 +20,9 @@ pub fn langtag_maximize(bytes: &[u8], buffer: &mut [u8]) -> usize {
     }
 }
 
-/// Writes a tag without its likely subtags (UTS #35, Remove Likely Subtags), and returns its length in bytes:
-/// `zh-Hant-TW` becomes `zh-TW`. If the buffer is too short, it stays unchanged, and the length says how long a
-/// buffer must be.
+/// Writes a tag without its likely subtags (UTS #35, Remove Likely Subtags), and returns its length
+/// in bytes: `zh-Hant-TW` becomes `zh-TW`. If the buffer is too short, it stays unchanged, and the
+/// length says how long a buffer must be.
 ///
 /// Returns 0 and writes nothing if the bytes are not a tag.
 #[inline]
@@ -32,8 +33,10 @@ pub fn langtag_minimize(bytes: &[u8], buffer: &mut [u8]) -> usize {
     }
 }
 
-/// Returns the major version of Unicode's CLDR from which the likely subtags come, such as 48 for CLDR 48.2.
+/// Writes the version of Unicode's CLDR whose data are in this library, and returns its length in
+/// bytes: `48.2`. If the buffer is too short, it stays unchanged, and the length says how long a
+/// buffer must be.
 #[inline]
-pub fn langtag_cldr_version() -> u32 {
-    number_of(CLDR_VERSION.as_bytes())
+pub fn langtag_cldr_version(buffer: &mut [u8]) -> usize {
+    write_text(CLDR_VERSION.as_bytes(), buffer)
 }

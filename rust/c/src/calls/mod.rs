@@ -1,12 +1,14 @@
 // Made by rust/erase from crates/langtag_c/src/lib.rt. Change that file, not this one.
 
-//! Language tags for C, and for languages that call C: a static library over plain bytes. It does not allocate, keeps
-//! no state, and calls no function of the program. `bindings/include/langtag.h` declares its functions.
+//! Language tags for C, and for languages that call C: a static library over plain bytes. It does
+//! not allocate, keeps no state, and calls no function of the program. `bindings/include/langtag.h`
+//! declares its functions.
 //!
-//! A slice is passed as a pointer and a length. Bytes need not be UTF-8. No function requires more of its arguments
-//! than their types do.
+//! A slice is passed as a pointer and a length. Bytes need not be UTF-8. No function requires more
+//! of its arguments than their types do.
 
 pub(crate) mod accepted;
+pub(crate) mod base;
 pub(crate) mod best_match;
 pub(crate) mod canonical;
 pub(crate) mod choice;

@@ -2,7 +2,7 @@
 
 //! Whether bytes are a tag, of which kind, and where its parts are.
 
-use crate::scan::{recognise, Ends, Found, Metered};
+use crate::erased::scan::{recognise, Ends, Found, Metered};
 use crate::spans::Span;
 
 /// Where the parts of a tag are in its text.
@@ -58,8 +58,8 @@ fn found_of(bytes: &[u8]) -> Option<Found> {
     recognise(&mut Metered::of_bytes(bytes))
 }
 
-/// Returns the kind of a tag: 1 for a normal tag, 2 for private use, 3 for an irregular tag, and 0 if the bytes are
-/// not a tag.
+/// Returns the kind of a tag: 1 for a normal tag, 2 for private use, 3 for an irregular tag, and 0
+/// if the bytes are not a tag.
 pub fn langtag_kind(bytes: &[u8]) -> u32 {
     let Some(found) = found_of(bytes) else {
         return 0;
@@ -73,8 +73,9 @@ pub fn langtag_kind(bytes: &[u8]) -> u32 {
     }
 }
 
-/// Returns the kind, as [`langtag_kind`] returns it, and writes where the parts are. A private-use tag is its own
-/// private use part, and an irregular tag has no parts. All of `parts` is written, even if the result is 0.
+/// Returns the kind, as [`langtag_kind`] returns it, and writes where the parts are. A private-use
+/// tag is its own private use part, and an irregular tag has no parts. All of `parts` is written,
+/// even if the result is 0.
 pub fn langtag_parse(bytes: &[u8], parts: &mut Parts) -> u32 {
     let Some(found) = found_of(bytes) else {
         *parts = Parts::none();

@@ -1,13 +1,14 @@
 // Made by rust/erase from crates/langtag_c/src/posix.rt. Change that file, not this one.
 
-//! The tag for a POSIX locale name, in the caller's buffer, and the unknown modifier that is dropped.
+//! The tag for a POSIX locale name, in the caller's buffer, and the unknown modifier that is
+//! dropped.
 
-use crate::likely::{unknown_modifier, write_from_posix};
+use crate::erased::likely::{unknown_modifier, write_from_posix};
 use crate::spans::Span;
 
-/// Writes the tag for a POSIX locale name (IEEE Std 1003.1, section 8.2), and returns its length in bytes: `pt-BR`
-/// for `pt_BR.UTF-8`, `sr-Latn-RS` for `sr_RS@latin`. If the buffer is too short, it stays unchanged, and the length
-/// says how long a buffer must be.
+/// Writes the tag for a POSIX locale name (IEEE Std 1003.1, section 8.2), and returns its length in
+/// bytes: `pt-BR` for `pt_BR.UTF-8`, `sr-Latn-RS` for `sr_RS@latin`. If the buffer is too short, it
+/// stays unchanged, and the length says how long a buffer must be.
 ///
 /// Returns 0 and writes nothing for a name without a tag, such as `C` or `POSIX`.
 #[inline]
@@ -18,8 +19,9 @@ pub fn langtag_from_posix(name: &[u8], buffer: &mut [u8]) -> usize {
     }
 }
 
-/// Returns whether `langtag_from_posix` drops the modifier of a name because it is not known, and writes where the
-/// modifier is: `foo` in `de_DE@foo`. It returns `false` for `sr_RS@latin`, `de_DE@euro` and `de_DE`.
+/// Returns whether `langtag_from_posix` drops the modifier of a name because it is not known, and
+/// writes where the modifier is: `foo` in `de_DE@foo`. It returns `false` for `sr_RS@latin`,
+/// `de_DE@euro` and `de_DE`.
 ///
 /// If it returns `false`, `modifier` is unchanged.
 pub fn langtag_unknown_modifier(name: &[u8], modifier: &mut Span) -> bool {

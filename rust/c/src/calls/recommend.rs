@@ -2,11 +2,12 @@
 
 //! The recommended case (RFC 5646 section 2.1.1).
 
-use crate::case::make_recommended_case;
+use crate::erased::case::make_recommended_case;
 
-/// Changes the letters to their recommended case, in place: `MN-cYRL-mn-X-LATN` becomes `mn-Cyrl-MN-x-latn`. Texts
-/// that differ only in case become the same text. Bytes other than ASCII letters stay as they are, so the text may be
-/// any bytes. A tag keeps its kind, and its parts keep their offsets.
+/// Changes the letters to their recommended case, in place: `MN-cYRL-mn-X-LATN` becomes
+/// `mn-Cyrl-MN-x-latn`. Texts that differ only in case become the same text. Bytes other than ASCII
+/// letters stay as they are, so the text may be any bytes. A tag keeps its kind, and its parts keep
+/// their offsets.
 #[inline]
 pub fn langtag_recommend(bytes: &mut [u8]) {
     make_recommended_case(bytes);

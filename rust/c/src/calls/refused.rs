@@ -2,14 +2,15 @@
 
 //! Where a text that is not a tag is wrong (RFC 5646 section 2.1).
 
+use crate::erased::tag::{Refusal, RefusalKind};
 use crate::spans::Span;
-use crate::tag::{Refusal, RefusalKind};
 
-/// Returns 0 if the bytes are a tag, and otherwise what is wrong. The result is 1 for a subtag that is not allowed at
-/// its position, such as `DE` in `de-419-DE`. It is 2 for a subtag with a byte that is neither a letter nor a digit,
-/// such as `_` in `de_CH`. It is 3 if the bytes end too soon, as `en-` and `en-a` do. `subtag` is the first wrong
-/// subtag: no tag begins with all subtags up to and including this subtag. `offset` is the offset of its first byte, or
-/// of its first byte that is neither a letter nor a digit. If the result is 0 or 3, `subtag` is empty, and `subtag` and
+/// Returns 0 if the bytes are a tag, and otherwise what is wrong. The result is 1 for a subtag that
+/// is not allowed at its position, such as `DE` in `de-419-DE`. It is 2 for a subtag with a byte
+/// that is neither a letter nor a digit, such as `_` in `de_CH`. It is 3 if the bytes end too soon,
+/// as `en-` and `en-a` do. `subtag` is the first wrong subtag: no tag begins with all subtags up to
+/// and including this subtag. `offset` is the offset of its first byte, or of its first byte that
+/// is neither a letter nor a digit. If the result is 0 or 3, `subtag` is empty, and `subtag` and
 /// `offset` are at the end of the bytes.
 pub fn langtag_refused(bytes: &[u8], subtag: &mut Span, offset: &mut usize) -> u32 {
     let Some(refusal) = Refusal::of(bytes) else {

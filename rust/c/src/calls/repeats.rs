@@ -2,11 +2,11 @@
 
 //! Variants and singletons that occur twice in a tag (RFC 5646 section 2.2.9).
 
+use crate::erased::tag::NormalLangTag;
 use crate::spans::{normal_tag_of, singleton_at, variant_at, Span};
-use crate::tag::NormalLangTag;
 
-/// The spans of the first repeated variant and of the first repeated singleton, ignoring case. A span is empty if
-/// nothing is repeated.
+/// The spans of the first repeated variant and of the first repeated singleton, ignoring case. A
+/// span is empty if nothing is repeated.
 #[repr(C)]
 #[derive(Clone, Copy)]
 pub struct Repeated {
@@ -14,9 +14,10 @@ pub struct Repeated {
     pub singleton: Span,
 }
 
-/// Returns 1 if a variant of a normal tag equals an earlier one, ignoring case, 2 if a singleton does, and 3 if both
-/// do. Writes where the first repeated variant and singleton are, such as the second `1996` in `de-1996-1996`. Such a
-/// tag is well formed but not valid. Returns 0 for any other text. All of `repeated` is written.
+/// Returns 1 if a variant of a normal tag equals an earlier one, ignoring case, 2 if a singleton
+/// does, and 3 if both do. Writes where the first repeated variant and singleton are, such as the
+/// second `1996` in `de-1996-1996`. Such a tag is well formed but not valid. Returns 0 for any
+/// other text. All of `repeated` is written.
 pub fn langtag_repeats(bytes: &[u8], repeated: &mut Repeated) -> u32 {
     let none = Span { start: 0, len: 0 };
     let Some(tag) = normal_tag_of(bytes) else {

@@ -2,8 +2,8 @@
 
 //! Language ranges as spans of a text.
 
-use crate::choice::RangeList;
-use crate::range::WantedRange;
+use crate::erased::choice::RangeList;
+use crate::erased::range::WantedRange;
 use crate::spans::{range_in, Span};
 
 /// A text, and spans of it that are language ranges, the most wanted first.

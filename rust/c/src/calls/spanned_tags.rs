@@ -2,9 +2,9 @@
 
 //! Tags as spans of a text.
 
-use crate::choice::TagList;
+use crate::erased::choice::TagList;
+use crate::erased::tag::LangTag;
 use crate::spans::{bytes_in, tag_in, Span};
-use crate::tag::LangTag;
 
 /// A text, and spans of it that are tags.
 #[derive(Clone, Copy)]

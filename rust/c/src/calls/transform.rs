@@ -2,12 +2,12 @@
 
 //! Where the language and the fields of the extension `t` are (RFC 6497 section 2.2).
 
-use crate::keyword::Keys;
+use crate::erased::keyword::Keys;
 use crate::spans::{before_key, extension_subtags, next_key, value_of, Span};
 
-/// Returns whether a tag has the extension `t` ([RFC 6497 section 2.2]), and writes the span of its language, which
-/// precedes its first field: `ja-latn` in `und-t-ja-latn-m0-hepburn`. The language is empty if there is none, as in
-/// `und-t-m0-hepburn`.
+/// Returns whether a tag has the extension `t` ([RFC 6497 section 2.2]), and writes the span of its
+/// language, which precedes its first field: `ja-latn` in `und-t-ja-latn-m0-hepburn`. The language
+/// is empty if there is none, as in `und-t-m0-hepburn`.
 ///
 /// If it returns `false`, `language` is unchanged.
 ///
@@ -22,8 +22,9 @@ pub fn langtag_transform(bytes: &[u8], language: &mut Span) -> bool {
     true
 }
 
-/// Returns whether the extension `t` has a field ([RFC 6497 section 2.2]), ignoring case, and writes its value: `hepburn`
-/// for `m0` in `und-t-ja-m0-hepburn`. If a field is repeated, its first value counts.
+/// Returns whether the extension `t` has a field ([RFC 6497 section 2.2]), ignoring case, and
+/// writes its value: `hepburn` for `m0` in `und-t-ja-m0-hepburn`. If a field is repeated, its first
+/// value counts.
 ///
 /// If it returns `false`, `value` is unchanged.
 ///
@@ -37,8 +38,9 @@ pub fn langtag_field(bytes: &[u8], key: &[u8], value: &mut Span) -> bool {
     true
 }
 
-/// Writes the next field of the extension `t` ([RFC 6497 section 2.2]). `passed` counts the subtags of `t` that a walk
-/// has passed, and is 0 at the start. Each key is returned once, with its first value.
+/// Writes the next field of the extension `t` ([RFC 6497 section 2.2]). `passed` counts the subtags
+/// of `t` that a walk has passed, and is 0 at the start. Each key is returned once, with its first
+/// value.
 ///
 /// Returns `false` and changes nothing if no field is left.
 ///

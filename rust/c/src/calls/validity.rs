@@ -2,14 +2,15 @@
 
 //! Whether a tag is valid by the registry (RFC 5646 section 2.2.9).
 
-use crate::registry::{fault_at, InvalidSubtag};
+use crate::erased::registry::{fault_at, InvalidSubtag};
+use crate::erased::tag::NormalLangTag;
 use crate::spans::{singleton_at, tag_of, variant_at, Span};
-use crate::tag::NormalLangTag;
 
-/// Returns 1 for a valid tag, 0 if the bytes are not a tag, and otherwise the first fault. The result is 2 for a
-/// language, 3 for an extended language, 5 for a script, 6 for a region and 7 for a variant that is not registered. It
-/// is 4 for a second extended language, 8 for a repeated variant and 9 for a repeated singleton. `invalid` is the span
-/// of that subtag, or empty if the result is 0 or 1.
+/// Returns 1 for a valid tag, 0 if the bytes are not a tag, and otherwise the first fault. The
+/// result is 2 for a language, 3 for an extended language, 5 for a script, 6 for a region and 7 for
+/// a variant that is not registered. It is 4 for a second extended language, 8 for a repeated
+/// variant and 9 for a repeated singleton. `invalid` is the span of that subtag, or empty if the
+/// result is 0 or 1.
 pub fn langtag_validity(bytes: &[u8], invalid: &mut Span) -> u32 {
     *invalid = Span { start: 0, len: 0 };
     let Some(tag) = tag_of(bytes) else {
@@ -36,8 +37,8 @@ fn number(fault: InvalidSubtag<'_>) -> u32 {
     }
 }
 
-/// Returns where the invalid subtag is in its tag. `index` is the index of the subtag among the variants, or of its
-/// extension among the extensions.
+/// Returns where the invalid subtag is in its tag. `index` is the index of the subtag among the
+/// variants, or of its extension among the extensions.
 fn place(tag: &NormalLangTag<'_>, fault: InvalidSubtag<'_>, index: usize) -> Span {
     let ends = tag.ends();
     let none = Span { start: 0, len: 0 };

@@ -2,12 +2,12 @@
 
 //! Walks over the subtags and the extensions of a part, without allocating.
 
-use crate::extension::first_extension_end;
-use crate::scan::segment_end;
+use crate::erased::extension::first_extension_end;
+use crate::erased::scan::segment_end;
 use crate::spans::Span;
 
-/// Removes the first subtag from a span, with the hyphen after it. Returns `false` and changes nothing if nothing is
-/// left, or if the span reaches beyond the bytes.
+/// Removes the first subtag from a span, with the hyphen after it. Returns `false` and changes
+/// nothing if nothing is left, or if the span reaches beyond the bytes.
 #[inline]
 pub fn langtag_next_subtag(bytes: &[u8], rest: &mut Span, subtag: &mut Span) -> bool {
     let Some(part) = rest.of(bytes) else {
@@ -17,8 +17,9 @@ pub fn langtag_next_subtag(bytes: &[u8], rest: &mut Span, subtag: &mut Span) -> 
     true
 }
 
-/// Removes the first extension from a span ([RFC 5646 section 2.2.6]), with the hyphen after it. An extension is a
-/// singleton and the subtags after it. Returns `false` when [`langtag_next_subtag`] would return `false`.
+/// Removes the first extension from a span ([RFC 5646 section 2.2.6]), with the hyphen after it. An
+/// extension is a singleton and the subtags after it. Returns `false` when [`langtag_next_subtag`]
+/// would return `false`.
 ///
 /// [RFC 5646 section 2.2.6]: https://www.rfc-editor.org/rfc/rfc5646#section-2.2.6
 #[inline]

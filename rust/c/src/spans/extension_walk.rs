@@ -2,9 +2,9 @@
 
 //! Where the subtags of an extension are in a tag (RFC 5646 section 2.2.6).
 
-use crate::extension::first_extension_end;
-use crate::keyword::Keys;
-use crate::scan::{case_insensitive_eq, into_smallcase, segment_end};
+use crate::erased::extension::first_extension_end;
+use crate::erased::keyword::Keys;
+use crate::erased::scan::{case_insensitive_eq, into_smallcase, segment_end};
 use crate::spans::span::Span;
 use crate::spans::tag::normal_tag_of;
 
@@ -30,8 +30,8 @@ fn extensions_of(bytes: &[u8]) -> Option<Span> {
     Some(Span::between(ends.variants, ends.extensions))
 }
 
-/// Returns the subtags of the first of several extensions that has the given singleton, or an empty span if none has
-/// it.
+/// Returns the subtags of the first of several extensions that has the given singleton, or an empty
+/// span if none has it.
 fn find_extension(bytes: &[u8], extensions: Span, singleton: u8) -> Span {
     let mut rest = extensions;
     while let Some(part) = rest.of(bytes) {
@@ -111,8 +111,8 @@ fn is_new_key(bytes: &[u8], subtags: Span, keys: Keys, count: usize, subtag: &[u
     keys.has(subtag) && !is_among_first(bytes, subtags, count, subtag)
 }
 
-/// Returns the first key after the first `passed` subtags that equals no subtag before it, with its value. `passed`
-/// then counts the subtags up to and including that key.
+/// Returns the first key after the first `passed` subtags that equals no subtag before it, with its
+/// value. `passed` then counts the subtags up to and including that key.
 pub fn next_key(bytes: &[u8], subtags: Span, keys: Keys, passed: &mut usize) -> Option<KeyPlace> {
     let mut rest = after_first(bytes, subtags, *passed);
     let mut count = *passed;

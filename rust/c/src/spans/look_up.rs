@@ -1,24 +1,24 @@
 // Made by rust/erase from crates/langtag_span/src/look_up.rt. Change that file, not this one.
 
-//! The tag that look-up finds for an Accept-Language header (RFC 9110 section 12.5.4, RFC 4647 section 3.4), without
-//! allocating.
+//! The tag that look-up finds for an Accept-Language header (RFC 9110 section 12.5.4, RFC 4647
+//! section 3.4), without allocating.
 
-use crate::matching::{element_at, ElementPart, LanguageRange};
-use crate::range::is_empty_element;
-use crate::scan::case_insensitive_eq;
+use crate::erased::matching::{element_at, ElementPart, LanguageRange};
+use crate::erased::range::is_empty_element;
+use crate::erased::scan::case_insensitive_eq;
 use crate::spans::items::{is_comma, next_item};
 use crate::spans::span::Span;
 use crate::spans::spanned::{bytes_in, tag_in};
 
-/// Returns the index of the tag that look-up finds for an Accept-Language header, or the number of spans if it finds none.
-/// Malformed elements, and spans that are not tags, are skipped.
+/// Returns the index of the tag that look-up finds for an Accept-Language header, or the number of
+/// spans if it finds none. Malformed elements, and spans that are not tags, are skipped.
 #[inline]
 pub fn index_for_header(header: &[u8], bytes: &[u8], spans: &[Span]) -> usize {
     heaviest_found(header, bytes, spans).unwrap_or(spans.len())
 }
 
-/// Returns the index of the tag for the element of the greatest weight that finds a tag. If several elements have
-/// this weight, the first counts.
+/// Returns the index of the tag for the element of the greatest weight that finds a tag. If several
+/// elements have this weight, the first counts.
 fn heaviest_found(header: &[u8], bytes: &[u8], spans: &[Span]) -> Option<usize> {
     let mut rest = Span {
         start: 0,

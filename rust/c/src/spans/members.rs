@@ -1,9 +1,10 @@
 // Made by rust/erase from crates/langtag_span/src/members.rt. Change that file, not this one.
 
-//! Where the variants and the singletons of a tag are in its text (RFC 5646 sections 2.2.5 and 2.2.6).
+//! Where the variants and the singletons of a tag are in its text (RFC 5646 sections 2.2.5 and
+//! 2.2.6).
 
+use crate::erased::tag::NormalLangTag;
 use crate::spans::span::Span;
-use crate::tag::NormalLangTag;
 
 /// Returns where the variant at an index is in a tag.
 pub fn variant_at(tag: &NormalLangTag<'_>, wanted: usize) -> Option<Span> {

@@ -1,8 +1,9 @@
 // Made by rust/erase from crates/langtag_span/src/range_place.rt. Change that file, not this one.
 
-//! Where a range is in an Accept-Language header (RFC 9110 section 12.5.4), by the ranges before it.
+//! Where a range is in an Accept-Language header (RFC 9110 section 12.5.4), by the ranges before
+//! it.
 
-use crate::range::split_wanted;
+use crate::erased::range::split_wanted;
 use crate::spans::items::is_comma;
 use crate::spans::span::Span;
 

@@ -2,7 +2,8 @@
 
 //! Where a part of a text is.
 
-/// A span of a text: the offset of its first byte, and its number of bytes. An absent part has no bytes.
+/// A span of a text: the offset of its first byte, and its number of bytes. An absent part has no
+/// bytes.
 #[repr(C)]
 #[derive(Clone, Copy)]
 pub struct Span {

@@ -2,10 +2,10 @@
 
 //! Spans of a text as tags and as language ranges.
 
-use crate::range::{listed_range, WantedRange};
+use crate::erased::range::{listed_range, WantedRange};
+use crate::erased::tag::LangTag;
 use crate::spans::span::Span;
 use crate::spans::tag::tag_of;
-use crate::tag::LangTag;
 
 /// Returns a span of a text as a tag, or `None` if it is not one.
 #[inline]

@@ -2,7 +2,7 @@
 
 //! Reading bytes as tags.
 
-use crate::tag::{LangTag, NormalLangTag};
+use crate::erased::tag::{LangTag, NormalLangTag};
 
 /// Returns the bytes as a tag, or `None` if they are not a tag.
 #[inline]

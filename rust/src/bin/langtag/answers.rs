@@ -1,8 +1,8 @@
 //! The answers of each command.
 use langtag::choice::{best_for_header, distance};
-use langtag::likely::{maximized, minimized};
+use langtag::likely::{try_maximized, try_minimized};
 use langtag::matching::LanguageRange;
-use langtag::registry::{canonical, validate, InvalidSubtag};
+use langtag::registry::{try_canonical, validate, InvalidSubtag};
 use langtag::{LangTag, LangTagBuf, NormalLangTag, TypedLangTag};
 
 use crate::input::Failure;
@@ -82,10 +82,10 @@ impl<'a> Asked<'a> {
         match self.command {
             Command::Show => Ok(show(tag, self.options)),
             Command::Check => check(tag, self.options),
-            Command::Maximize => Ok(self.form(tag, maximized(tag)?)),
-            Command::Minimize => Ok(self.form(tag, minimized(tag)?)),
+            Command::Maximize => Ok(self.form(tag, try_maximized(tag)?)),
+            Command::Minimize => Ok(self.form(tag, try_minimized(tag)?)),
             Command::Match => Ok(self.matched(tag)),
-            _ => Ok(self.form(tag, canonical(tag)?)),
+            _ => Ok(self.form(tag, try_canonical(tag)?)),
         }
     }
 
@@ -183,7 +183,7 @@ fn parts_of<'a>(tag: &NormalLangTag<'a>) -> [(&'static str, &'a str); 7] {
 
 /// Returns the line of `check`. The proved program prints the same line.
 fn check(tag: LangTag<'_>, options: &Options) -> Result<Answer, Failure> {
-    let form = canonical(tag)?;
+    let form = try_canonical(tag)?;
     let Err(invalid) = validate(tag) else {
         let columns: &[&str] = if options.tsv {
             &["valid", "", "", &form]
@@ -227,6 +227,7 @@ fn fault_of(invalid: &InvalidSubtag<'_>) -> (&'static str, String) {
         InvalidSubtag::RepeatedSingleton(singleton) => {
             ("repeated-singleton", singleton.to_string())
         }
+        _ => ("fault", invalid.to_string()),
     }
 }
 

@@ -25,7 +25,7 @@ pub fn refused(text: &[u8]) -> String {
             format!("invalid character `{wrong}`: expected a letter, a digit or a hyphen"),
             refusal.offset..refusal.offset + 1,
         ),
-        RefusalKind::End => (
+        _ => (
             "unexpected end: expected a subtag".into(),
             refusal.start..refusal.end,
         ),
@@ -45,7 +45,7 @@ pub fn invalid(tag: LangTag<'_>, invalid: &InvalidSubtag<'_>) -> String {
         InvalidSubtag::Script(subtag) => subtag.as_str(),
         InvalidSubtag::Region(subtag) => subtag.as_str(),
         InvalidSubtag::Variant(subtag) | InvalidSubtag::RepeatedVariant(subtag) => subtag.as_str(),
-        InvalidSubtag::RepeatedSingleton(_) => repeated_singleton(tag),
+        _ => repeated_singleton(tag),
     };
     let start = subtag.as_ptr() as usize - text.as_ptr() as usize;
     let shown = shown(tag.as_bytes());

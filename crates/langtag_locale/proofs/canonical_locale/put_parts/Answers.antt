@@ -9,7 +9,7 @@ use Rattle.langtag_scan.specs.Record.{extension_flat, private_part_flat, spell}
 use Rattle.langtag_locale.specs.LocaleForm.{extensions_in_order, identifier_form, locale_record, new_variants, record_fields}
 use Rattle.langtag_unicode.specs.Identifier.{identifier_flat}
 use Rattle.langtag_locale.proofs.IdentifierForms.{locale_joined}
-use Rattle.langtag_locale.proofs.LocaleSizes.{spelled_locale}
+use Rattle.langtag_locale.proofs.SpelledLocales.{spelled_locale}
 use Rattle.langtag_locale.proofs.canonical_locale.put_parts.Goals as goal
 
 pub returns : goal.returns

@@ -1,22 +1,11 @@
-use Rattle.std.proofs.Common.{◌≡◌, ◌≤◌, ◌++◌, drop, length, take, refl, sym, ap, ◌∙◌, arith}
+use Rattle.std.proofs.Common.{◌≡◌, ◌≤◌, ◌++◌, drop, length, take, refl, ap, ◌∙◌, arith}
 use Rattle.std.proofs.Math.Seq.{take-append_seam}
-use Rattle.std.proofs.lemmas.List.{length-take-le}
 use Rattle.std.proofs.lemmas.Slice.{drop-append-drop}
 use Rattle.langtag_case.specs.RecommendedCase.{recommended_text}
 use Rattle.langtag_scan.specs.Record.{spell}
 use Rattle.langtag_locale.specs.LocaleForm.{locale_record, locale_text}
 use Rattle.langtag_locale.proofs.IdentifierForms.{same_length}
 use Rattle.langtag_locale.proofs.canonical_locale.write_parts.Goals as goal
-
-pub slice_bounds-make_recommended_case-end : goal.slice_bounds-make_recommended_case-end
-slice_bounds-make_recommended_case-end c =
-    let (r, spells, locale) = c.requires in
-    omega (arith, (c.put_parts-len.ensures r spells).counted, same_length r, c.in_default.ensures.fits refl r spells, c.put_parts-len.auto.buffer)
-
-pub slice_bounds-make_recommended_case-end-2 : goal.slice_bounds-make_recommended_case-end-2
-slice_bounds-make_recommended_case-end-2 c =
-    let (r, spells, locale) = c.requires in
-    sym (length-take-le _ _ (omega (arith, (c.put_parts-len.ensures r spells).counted, same_length r, c.in_default.ensures.fits refl r spells, c.put_parts-len.auto.buffer)))
 
 pub returns : goal.returns
 unfolding locale_text
@@ -26,15 +15,27 @@ returns c = λ r spells.
     let text = spell (locale_record r) in
     let n = c.put_parts-len.result in
     let put = c.put_parts-len.ensures r spells in
-    let fits : length text ≤ length before = omega (arith, c.in_default.ensures.fits refl r spells, same_length r) in
+    let fits : length text ≤ length before = omega (arith, put.counted, c.if-len-buffer.false, c.put_parts-len.auto.buffer) in
     let same : n ≡ length text = omega (arith, put.counted, fits) in
     let written : after ≡ text ++ drop (length text) before = put.written fits in
     let start : take n after ≡ text = ap (λ k. take k after) same ∙ ap (take (length text)) written ∙ take-append_seam text (drop (length text) before) in
     let rest : drop n after ≡ drop n before = ap (drop n) written ∙ drop-append-drop (length text) before text n (omega (arith, same)) refl in
+    let whole : n ≡ length (locale_text r) = omega (arith, same, same_length r) in
     record {
       text = locale_text r;
       is_so = refl;
-      whole = omega (arith, same, same_length r);
-      written = λ room. ap (λ t. t ++ drop n after) (c.make_recommended_case.ensures.case ∙ ap recommended_text start) ∙ ap (λ t. recommended_text text ++ t) rest;
-      untouched = λ none. absurd (omega (arith, none, same, fits));
+      whole = omega (arith, put.counted, same_length r);
+      written = λ room.
+          ap (λ t. t ++ drop n after) (c.make_recommended_case.ensures.case ∙ ap recommended_text start) ∙ ap (λ t. recommended_text text ++ t) rest
+          ∙ ap (λ k. recommended_text text ++ drop k before) whole;
+    }
+
+pub returns-then-len-buffer : goal.returns-then-len-buffer
+returns-then-len-buffer c = λ r spells.
+    let counted = (c.put_parts-len.ensures r spells).counted in
+    record {
+      text = locale_text r;
+      is_so = refl;
+      whole = omega (arith, counted, same_length r);
+      written = λ room. absurd (omega (arith, counted, same_length r, room, c.if-len-buffer.true, c.put_parts-len.auto.buffer));
     }

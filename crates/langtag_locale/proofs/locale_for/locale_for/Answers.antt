@@ -1,19 +1,15 @@
-use Rattle.std.proofs.Common.{Some, None, length, refl, sym, ap, subst, ◌∙◌, arith}
+use Rattle.std.proofs.Common.{Some, None, refl, sym, subst, ◌∙◌}
 use Rattle.std.proofs.lemmas.Bool.{false≢true}
 use Rattle.std.proofs.lemmas.Option.{IfSome_then}
 use Rattle.langtag.specs.Text.{lang_tag_text}
 use Rattle.langtag_scan.specs.Tag.{IsNormal}
 use Rattle.langtag_locale.specs.Locale.{IsLocale}
 use Rattle.langtag_locale.specs.LocaleForm.{IsLocaleForm}
-use Rattle.langtag_locale.proofs.WholeForms.{none_form, own_bounded, own_form, rest_form, stays_none, value_bounded, value_form}
+use Rattle.langtag_locale.proofs.WholeForms.{none_form, own_form, rest_form, stays_none, value_form}
 use Rattle.langtag_locale.proofs.locale_for.locale_for.Goals as goal
 
 pub returns-in-Some-clause-form : goal.returns-in-Some-clause-form
 returns-in-Some-clause-form c = λ form of. own_form _ (Some form) c.in-Some.ensures.some.1 (subst (λ t. IsLocaleForm t (Some form)) c.in-Some.ensures.some.0 of)
-
-pub returns-in-Some-clause-bounded : goal.returns-in-Some-clause-bounded
-returns-in-Some-clause-bounded c = λ form of.
-    own_bounded _ _ form c.in-Some.ensures.some.1 (omega arith) (subst (λ t. IsLocaleForm t (Some form)) c.in-Some.ensures.some.0 of)
 
 pub returns-in-Some-preferred_tag-clause-is_locale : goal.returns-in-Some-preferred_tag-clause-is_locale
 returns-in-Some-preferred_tag-clause-is_locale c =
@@ -24,11 +20,6 @@ returns-in-Some-preferred_tag-clause-form c =
     IfSome_then c.as_locale-in-Some-preferred_tag.result c.as_locale-in-Some-preferred_tag.ensures.some
     (λ locale is form of.
     value_form _ _ (Some form) (c.in_default.ensures.none refl) (sym c.in-Some-preferred_tag.ensures) (subst (λ t. IsLocaleForm t (Some form)) is.0 of))
-
-pub returns-in-Some-preferred_tag-clause-bounded : goal.returns-in-Some-preferred_tag-clause-bounded
-returns-in-Some-preferred_tag-clause-bounded c =
-    IfSome_then c.as_locale-in-Some-preferred_tag.result c.as_locale-in-Some-preferred_tag.ensures.some
-    (λ locale is form of. value_bounded _ _ form (sym c.in-Some-preferred_tag.ensures) is.1 (subst (λ t. IsLocaleForm t (Some form)) is.0 of))
 
 pub returns-in-Some-preferred_tag-clause-none : goal.returns-in-Some-preferred_tag-clause-none
 returns-in-Some-preferred_tag-clause-none c = λ is.
@@ -57,13 +48,6 @@ returns-clause-form c =
     rest_form (lang_tag_text c.args.tag) _ (Some form) (c.in_default.ensures.none refl) (sym c.in_default-preferred_tag.ensures)
     (λ old. false≢true (sym c.if-is_grandfathered.false ∙ c.is_grandfathered.ensures.1 old)) (c.in_ok-as_normal.ensures.kind.0 refl)
     (λ r spells. c.in_ok-from_extlang.ensures.some r (spells.0, spells.1 ∙ sym c.in_ok-as_normal.ensures.same_text)) (subst (λ t. IsLocaleForm t (Some form)) is.0 of))
-
-pub returns-clause-bounded : goal.returns-clause-bounded
-returns-clause-bounded c =
-    IfSome_then c.as_locale-2.result c.as_locale-2.ensures.some
-    (λ locale is form of.
-    own_bounded _ (lang_tag_text c.args.tag) form is.1 (omega (arith, c.in_ok-from_extlang.ensures.shorter, ap length c.in_ok-as_normal.ensures.same_text))
-    (subst (λ t. IsLocaleForm t (Some form)) is.0 of))
 
 pub returns-clause-none : goal.returns-clause-none
 returns-clause-none c = λ is.

@@ -1,23 +1,25 @@
-use Rattle.std.proofs.Common.{refl, sym, ◌∙◌, arith}
-use Rattle.langtag.specs.Text.{lang_tag_text}
-use Rattle.langtag.proofs.FormLaws.{kept_written, record_written}
+use Rattle.std.proofs.Common.{◌++◌, drop, refl, sym, ap, ◌∙◌, arith}
+use Rattle.langtag.proofs.FormLaws.{kept_form, record_form}
+use Rattle.langtag_scan.specs.Record.{spell}
 use Rattle.langtag_scan.specs.Tag.{IsNormal}
 use Rattle.langtag_keyword.specs.Form.{extensions_record}
-use Rattle.langtag_unicode.proofs.FormSizes.{form_bounded}
 use Rattle.langtag_unicode.proofs.form.write_extensions_form.Goals as goal
 
-pub returns-in-Some-clause-form : goal.returns-in-Some-clause-form
+pub returns-in-Some : goal.returns-in-Some
 unfolding IsNormal
-returns-in-Some-clause-form c =
+returns-in-Some c =
     let (r, spells) = c.in-Some.ensures.kind.0 refl in
-    record_written extensions_record _ _ _ _ _ r spells refl (c.write_parts.ensures r (spells.0, spells.1 ∙ sym c.in-Some.ensures.same_text))
+    let put = c.put_parts.ensures r (spells.0, spells.1 ∙ sym c.in-Some.ensures.same_text) in
+    record { form = record { text = spell (extensions_record r); is_so = record_form extensions_record _ _ r spells refl; whole = put.counted; written = put.written } }
 
-pub returns-in-Some-clause-bounded : goal.returns-in-Some-clause-bounded
-unfolding IsNormal
-returns-in-Some-clause-bounded c =
-    let (r, spells) = c.in-Some.ensures.kind.0 refl in
-    let w = record_written extensions_record (lang_tag_text c.args.tag) _ _ _ _ r spells refl (c.write_parts.ensures r (spells.0, spells.1 ∙ sym c.in-Some.ensures.same_text)) in
-    omega (arith, w.whole, form_bounded (lang_tag_text c.args.tag) w.text w.is_so)
-
-pub returns-in-None-clause-form : goal.returns-in-None-clause-form
-returns-in-None-clause-form c = kept_written extensions_record _ _ _ _ _ (λ normal. let no = c.in-None.ensures.kind.1 normal in absurd cc) c.as_bytes.ensures c.write_text.ensures
+pub returns-in-None : goal.returns-in-None
+returns-in-None c =
+    let w = c.write_text.ensures in
+    record {
+      form = record {
+        text = w.text;
+        is_so = kept_form extensions_record _ _ (λ normal. let no = c.in-None.ensures.kind.1 normal in absurd cc) (w.is_so ∙ c.as_bytes.ensures);
+        whole = omega (arith, w.whole);
+        written = λ room. w.written (omega (arith, w.whole, room)) ∙ ap (λ k. w.text ++ drop k c.args.buffer.now) w.whole;
+      };
+    }

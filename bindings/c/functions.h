@@ -1,0 +1,73 @@
+/* Lists of the functions of langtag.h, without the prefix langtag_. Written by bindings/generate.py from crates/langtag_c. Do not edit. */
+
+/* All functions. */
+#define LANGTAG_FUNCTIONS(EACH) \
+    EACH(parse) \
+    EACH(kind) \
+    EACH(base_len) \
+    EACH(viable) \
+    EACH(stop) \
+    EACH(refused) \
+    EACH(eq) \
+    EACH(cmp) \
+    EACH(hash) \
+    EACH(fold) \
+    EACH(recommend) \
+    EACH(next_subtag) \
+    EACH(next_extension) \
+    EACH(keyword) \
+    EACH(next_keyword) \
+    EACH(attributes) \
+    EACH(transform) \
+    EACH(field) \
+    EACH(next_field) \
+    EACH(with_part) \
+    EACH(with_keyword) \
+    EACH(without_keyword) \
+    EACH(extensions_form) \
+    EACH(is_locale) \
+    EACH(locale_form) \
+    EACH(repeats) \
+    EACH(validity) \
+    EACH(suggestion) \
+    EACH(canonical) \
+    EACH(is_canonical) \
+    EACH(registry_date) \
+    EACH(maximize) \
+    EACH(minimize) \
+    EACH(is_right_to_left) \
+    EACH(distance) \
+    EACH(best_for_header) \
+    EACH(match_for_header) \
+    EACH(best_for_ranges) \
+    EACH(from_posix) \
+    EACH(unknown_modifier) \
+    EACH(cldr_version) \
+    EACH(grandfathered) \
+    EACH(range_kind) \
+    EACH(matches_basic) \
+    EACH(matches_extended) \
+    EACH(next_fallback) \
+    EACH(next_accepted) \
+    EACH(tag_for_header_lenient) \
+    EACH(tag_for_header)
+
+/* The functions of one string that only return a value. */
+#define LANGTAG_OF_ONE(EACH) \
+    EACH(kind) \
+    EACH(base_len) \
+    EACH(viable) \
+    EACH(stop) \
+    EACH(is_locale) \
+    EACH(is_canonical) \
+    EACH(is_right_to_left) \
+    EACH(grandfathered) \
+    EACH(range_kind)
+
+/* The functions of two strings that only return a value. */
+#define LANGTAG_OF_TWO(EACH) \
+    EACH(eq) \
+    EACH(cmp) \
+    EACH(distance) \
+    EACH(matches_basic) \
+    EACH(matches_extended)

@@ -1,0 +1,73 @@
+#!/usr/bin/env python3
+"""Checks that numbers that stand in several files agree: the version, the number of the ABI, and the indices of the grandfathered
+tags. No file may have a copy of the registry's date, which the library returns. The meaning of the numbers is not compared, since the
+tests of each language check its constants with the library.
+
+    check_numbers.py [ROOT] the root of the repository; by default, the repository that contains this file
+"""
+from __future__ import annotations
+
+import pathlib
+import re
+import sys
+
+# Where the version and the ABI number are: a file, and the text around the number.
+VERSIONS = [
+    ("rust/Cargo.toml", r'^version = "([^"]+)"'),
+    ("rust/c/Cargo.toml", r'^version = "([^"]+)"'),
+    ("bindings/python/pyproject.toml", r'^version = "([^"]+)"'),
+    ("bindings/python/langtag/__init__.py", r'^__version__ = "([^"]+)"'),
+    ("bindings/js/package.json", r'^  "version": "([^"]+)"'),
+]
+NUMBERS = [
+    ("bindings/c/Makefile", r"\.so\.([0-9]+)"), ("bindings/c/langtag_verified.map", r"LANGTAG_VERIFIED_([0-9]+) "),
+    ("bindings/python/langtag/_library.py", r"\.so\.([0-9]+)"), ("bindings/python/backend.py", r"\.so\.([0-9]+)"),
+]
+
+# The file with the registry's date, and the files that get the date from the library and so must not have a copy of it.
+DATED = "crates/langtag_registry/src/tables.rt"
+UNDATED = ["crates/langtag_c/src", "crates/langtag_span/src", "rows", "bindings/include", "bindings/python/langtag", "bindings/python/native"]
+
+
+def registry_date(root: pathlib.Path) -> str:
+    found = re.search(r'FILE_DATE: &str = "([0-9-]+)"', (root / DATED).read_text())
+    return found[1] if found else ""
+
+
+def copied_dates(root: pathlib.Path) -> list[str]:
+    """Returns the files in which the registry's date is written by hand, although langtag_registry_date returns it."""
+    date = registry_date(root)
+    if not date:
+        return [f"the registry's date does not stand in {DATED}"]
+    files = sorted(path for folder in UNDATED for path in (root / folder).rglob("*") if path.suffix in (".rt", ".txt", ".h", ".hpp", ".rs", ".py"))
+    holders = [path for path in files if re.search(f"{date}|{date.replace('-', '')}", path.read_text(encoding="utf-8"))]
+    return [f"the registry's date, {date}: {path.relative_to(root)} has a copy of it" for path in holders]
+
+
+def wrong_numbers(root: pathlib.Path) -> list[str]:
+    """Returns where a number of the header differs from the table, or a number of another file from the header."""
+    source = (root / "bindings/include/langtag.h").read_text()
+    comment = re.search(r"order of RFC 5646 section 2\.1, or(.*?)\*/", source, flags=re.S)
+    said = sorted((int(number), tag) for number, tag in re.findall(r" (\d+) ([a-z]+-[\w-]+)", comment[1] if comment else ""))
+    table = (root / "rows/table.txt").read_text()
+    wanted = [(int(number), tag) for tag, number in re.findall(r"^grandfathered \| (\S+) \| (\d+)", table, flags=re.M)][:26]
+    found = [] if said == wanted else [f"grandfathered tags: the header has {sorted(set(said) ^ set(wanted))}"]
+    if "#define LANGTAG_PURE __attribute__((pure, warn_unused_result))\n" not in source:
+        found.append("LANGTAG_PURE: the header's word is not pure")
+    for name, places in (("LANGTAG_VERSION", VERSIONS), ("LANGTAG_ABI_VERSION", NUMBERS)):
+        number = re.search(rf'#define {name} "?([\w.-]+)', source)
+        for file, around in places:
+            others = set(re.findall(around, (root / file).read_text(), flags=re.M))
+            if not number or others != {number[1]}:
+                found.append(f"{name}: {file} has {sorted(others)}, and the header {number[1] if number else 'none'}")
+    return found
+
+
+def main(root: pathlib.Path) -> int:
+    found = wrong_numbers(root) + copied_dates(root)
+    print("\n".join(found) or "the numbers agree")
+    return 1 if found else 0
+
+
+if __name__ == "__main__":
+    sys.exit(main(pathlib.Path(sys.argv[1]) if len(sys.argv) > 1 else pathlib.Path(__file__).resolve().parent.parent))

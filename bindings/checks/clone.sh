@@ -1,0 +1,58 @@
+# Installs the packages for Python and npm from a clone, as a reader of the pages does: with the tools of the language and cargo, without
+# Rattle and without a network, from an empty folder. The packages say that they are not proved, and pass the rows.
+cloned() {
+    mkdir "$work/clone" && cd "$root" && { git ls-files -z -- bindings docs likely/LICENSE-UNICODE 'LICENSE-*' rows rust 2>/dev/null |
+        tar -c --null -T - --ignore-failed-read 2>/dev/null || tar -c --exclude=target --exclude=build --exclude=dist bindings docs likely rows rust LICENSE-*; } |
+        tar -x -C "$work/clone"
+}
+# outside COMMAND..: runs a command in an empty folder, without rt in the PATH.
+without_rt=$(tr : '\n' <<<"$PATH" | while read -r folder; do [ -e "$folder/rt" ] || printf '%s:' "$folder"; done)
+outside() {
+    local folder
+    folder=$(mktemp -d -p "$work") || return 1
+    env -u LANGTAG_ARCHIVE -u LANGTAG_LIBRARY -u CARGO_TARGET_DIR -C "$folder" PATH="${without_rt%:}" bash -ec "$*"
+}
+pip_installs() {
+    outside 'python3 -m venv v
+        PIP_NO_INDEX=1 v/bin/python -m pip install -q --disable-pip-version-check ../clone/bindings/python
+        v/bin/python -c "import langtag; assert not langtag.PROVED and langtag.parse(\"zh-Hant-TW\").script == \"Hant\""
+        v/bin/python -m langtag --version | tee version
+        cp ../clone/bindings/python/rows.py ../clone/bindings/python/test_rows.py . && sed -i "s|^FOLDER = .*|FOLDER = pathlib.Path(\"../clone/rows\").resolve()|" rows.py
+        v/bin/python -m unittest -q test_rows
+        v/bin/python -m pip show -q langtag-verified && v/bin/python -m pip uninstall -q -y langtag-verified && ! v/bin/python -c "import langtag" 2>/dev/null'
+}
+npm_installs() {
+    outside 'npm install --offline --no-audit --no-fund --loglevel=error ../clone/bindings/js
+        echo "import { LanguageTag, PROVED } from \"langtag-verified\"; if (PROVED || LanguageTag.parse(\"zh-Hant-TW\").script !== \"Hant\") process.exit(1);" >first.mjs
+        node first.mjs && [ -c /dev/null ]
+        cd node_modules/langtag-verified/ && node --test test/rows.test.js test/langtag.test.js test/examples.test.js'
+}
+# Without cargo, pip and npm fail, and say so.
+said_without_cargo() {
+    mkdir -p "$work/no-cargo" && local tool
+    for tool in sh bash env dirname basename mkdir tar sed cat python3 cc ld as ar find head cmp cp rm touch grep id uname mktemp node npm nproc; do
+        ln -sf "$(command -v $tool)" "$work/no-cargo/$tool"
+    done
+    cp -r "$work/clone" "$work/bare" && rm -rf "$work"/bare/bindings/python/build "$work"/bare/rust/c/target "$work"/bare/bindings/js/module.js || return 1
+    without_rt=$work/no-cargo
+    ! outside 'python3 -m pip install -q --no-index --target t ../bare/bindings/python' >"$work/said" 2>&1 && grep 'there is no cargo' "$work/said" &&
+        ! outside 'cd ../bare/bindings/js && ./build' >"$work/said" 2>&1 && [ "$(wc -l <"$work/said")" = 1 ] && grep 'there is no cargo' "$work/said"
+}
+if ! has cargo; then
+    not_run "a clone: pip and npm" "there is no cargo"
+    return 0
+fi
+check "a clone: a copy of its files" cloned
+if python3 -c 'import venv, ensurepip' >/dev/null 2>&1; then
+    check "a clone: pip install, and the rows" pip_installs
+    check "a clone: without cargo, pip and npm say so" said_without_cargo
+else
+    not_run "a clone: pip install" "python3 has no venv and ensurepip (in Debian: apt-get install python3-venv)"
+fi
+if ! node_is_new || ! has npm; then
+    not_run "a clone: npm install" "there is no npm, or no Node of version 20 or later"
+elif outside 'cd ../clone/bindings/js && ./build' >"$work/log" 2>&1; then
+    check "a clone: npm install, and the rows" npm_installs
+else
+    not_run "a clone: npm install" "$(tail -1 "$work/log")"
+fi

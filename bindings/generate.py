@@ -1,0 +1,221 @@
+#!/usr/bin/env python3
+"""Writes the declarations of the C interface that follow from the signatures in crates/langtag_c:
+
+    rust/c/src/exports.rs                     the functions that cargo exports to C
+    bindings/c/langtag_verified.map           what the shared library exports
+    bindings/c/functions.h                    lists of the functions, for programs that call each of them
+    bindings/python/native/functions.h        the same
+    bindings/python/langtag/_declarations.py  the functions and structs for ctypes
+    bindings/js/test/signatures.js            the functions, for a test that calls each of them
+
+It also compares the declarations of langtag.h, which is written by hand. A function must have LANGTAG_PURE if its result is its only
+effect.
+
+    bindings/generate.py            writes the files
+    bindings/generate.py --check    compares the files with what it would write, and fails if one differs
+"""
+from __future__ import annotations
+
+import pathlib
+import re
+import sys
+
+import interface
+from interface import Function, Interface, Parameter
+
+ROOT = pathlib.Path(__file__).resolve().parent.parent
+WRITTEN = "Written by bindings/generate.py from crates/langtag_c. Do not edit."
+HEADER = "bindings/include/langtag.h"
+
+# ---- rust/c/src/exports.rs
+
+EXPORTS = f"""\
+// {WRITTEN}
+
+//! The functions of `bindings/include/langtag.h`, in the order of the header. Each function turns its pointers into slices and
+//! references, and calls the function of the same name in `calls`.
+//!
+//! The rules of the header make these calls safe. A pointer with a length after it points to that many bytes, which are
+//! writable if the pointer is not const. A pointer to a struct is valid for writing. Written memory does not overlap
+//! the memory of another argument. An empty text may have any pointer, even NULL.
+//!
+//! An argument that is only written may be uninitialised. So its function gets a value of its own, which is then copied.
+#![allow(unsafe_code, unsafe_op_in_unsafe_fn)]
+#![warn(clippy::all)]
+#![allow(clippy::missing_safety_doc)]
+
+use crate::calls;
+%s
+use core::mem::zeroed;
+use core::slice;
+
+/// Returns the slice at a pointer, for reading.
+unsafe fn lent<'a, T>(start: *const T, len: usize) -> &'a [T] {{
+    if len == 0 {{
+        return &[];
+    }}
+    slice::from_raw_parts(start, len)
+}}
+
+/// Returns the slice at a pointer, for writing.
+unsafe fn taken<'a>(start: *mut u8, len: usize) -> &'a mut [u8] {{
+    if len == 0 {{
+        return &mut [];
+    }}
+    slice::from_raw_parts_mut(start, len)
+}}
+"""
+
+
+def argument_of_rust(it: Parameter) -> str:
+    if it.is_slice():
+        return f"{'taken' if it.is_writable() else 'lent'}({it.name}, {it.length()})"
+    if it.is_writable():
+        return f"&mut *{it.name}" if it.is_read else f"&mut new_{it.name}"
+    return it.name
+
+
+def taken_by_rust(it: Parameter) -> list[str]:
+    if not it.kind.startswith("&"):
+        return [f"{it.name}: {it.kind}"]
+    pointer = f"{it.name}: *{'mut' if it.is_writable() else 'const'} {it.target()}"
+    return [pointer, f"{it.length()}: usize"] if it.is_slice() else [pointer]
+
+
+def export(function: Function) -> str:
+    """Returns the function for C in rust/c. It copies what was written to the caller's memory, unless the contract leaves it unchanged."""
+    out = [it for it in function.parameters if it.is_writable() and not it.is_slice() and not it.is_read]
+    taken = [text for it in function.parameters for text in taken_by_rust(it)]
+    inside = f"calls::{function.module}::{function.name}({', '.join(map(argument_of_rust, function.parameters))})"
+    lines = [f"let mut new_{it.name}: {it.target()} = zeroed();" for it in out]
+    lines += [f"let answer = {inside};"] if out else [inside + ("" if function.result else ";")]
+    kept = [f"{it.name}.write(new_{it.name});" for it in out if it.is_kept]
+    lines += [f"{it.name}.write(new_{it.name});" for it in out if not it.is_kept]
+    if kept:
+        lines += [f"if answer{'' if function.result == 'bool' else ' != 0'} {{", *(f"    {line}" for line in kept), "}"]
+    lines += ["answer"] if out else []
+    result = f" -> {function.result}" if function.result else ""
+    body = "".join(f"    {line}\n" for line in lines)
+    return f'\n#[no_mangle]\npub unsafe extern "C" fn {function.name}({", ".join(taken)}){result} {{\n{body}}}\n'
+
+
+def exports(it: Interface) -> str:
+    uses = "\n".join(sorted(f"use {struct.path};" for struct in it.structs.values()))
+    return EXPORTS % uses + "".join(map(export, it.functions))
+
+
+# ---- bindings/c
+
+
+def script(it: Interface) -> str:
+    names = "".join(f"    {function.name};\n" for function in it.functions)
+    return f"# {WRITTEN}\nLANGTAG_VERIFIED_1 {{\nglobal:\n{names}local:\n    *;\n}};\n"
+
+
+def list_for_c(comment: str, name: str, functions: list[Function]) -> str:
+    names = " \\\n".join(f"    EACH({function.short()})" for function in functions)
+    return f"\n/* {comment} */\n#define {name}(EACH) \\\n{names}\n"
+
+
+def functions_for_c(it: Interface) -> str:
+    pure = [function for function in it.functions if function.is_pure()]
+    texts = {count: [function for function in pure if [of.kind for of in function.parameters] == count * ["&[u8]"]] for count in (1, 2)}
+    return f"/* Lists of the functions of langtag.h, without the prefix langtag_. {WRITTEN} */\n" + "".join([
+        list_for_c("All functions.", "LANGTAG_FUNCTIONS", it.functions),
+        list_for_c("The functions of one string that only return a value.", "LANGTAG_OF_ONE", texts[1]),
+        list_for_c("The functions of two strings that only return a value.", "LANGTAG_OF_TWO", texts[2])])
+
+
+# ---- bindings/python/langtag/_declarations.py
+
+PYTHON = f'''\
+"""The functions and structs of langtag.h, for ctypes. {WRITTEN}"""
+from __future__ import annotations
+
+from ctypes import POINTER, Structure, c_bool, c_char, c_char_p, c_int32, c_size_t, c_uint32, c_uint64
+from typing import Any
+'''
+
+
+def type_of_python(it: Interface, kind: str) -> str:
+    return kind if kind in it.structs else "None" if kind == "" else "c_" + interface.INTEGERS[kind].replace("_t", "").replace("size", "size_t")
+
+
+def parameter_of_python(it: Interface, parameter: Parameter) -> str:
+    if parameter.kind == "&[u8]":
+        return "c_char_p, c_size_t"
+    if parameter.kind == "&mut [u8]":
+        return "POINTER(c_char), c_size_t"
+    kind = type_of_python(it, parameter.target())
+    pointer = f"POINTER({kind})" if parameter.kind.startswith("&") else kind
+    return f"{pointer}, c_size_t" if parameter.is_slice() else pointer
+
+
+def python(it: Interface) -> str:
+    text = PYTHON
+    for struct in sorted(it.structs.values(), key=lambda struct: struct.name != "Span"):
+        fields = ", ".join(f'("{name}", {type_of_python(it, kind)})' for name, kind in struct.fields)
+        text += f"\n\nclass {struct.name}(Structure):\n    _fields_ = [{fields}]\n"
+    text += "\n\n# The types of the result and of the parameters of each function.\nFUNCTIONS: dict[str, tuple[Any, ...]] = {\n"
+    for function in it.functions:
+        kinds = [type_of_python(it, function.result), *(parameter_of_python(it, parameter) for parameter in function.parameters)]
+        text += f'    "{function.name}": ({", ".join(kinds)}{"," if len(kinds) == 1 else ""}),\n'
+    return text + "}\n"
+
+
+# ---- bindings/js/test/signatures.js
+
+
+def word_of_js(it: Parameter) -> str:
+    words = {"&[u8]": "text", "&[Span]": "spans", "&mut [u8]": "buffer" if it.name == "buffer" else "bytes"}
+    return words.get(it.kind, "out" if it.kind.startswith("&") and not it.is_read else it.name if it.is_writable() else it.kind)
+
+
+def javascript(it: Interface) -> str:
+    lines = "".join(f'    {function.name}: "{" ".join(map(word_of_js, function.parameters))}",\n' for function in it.functions)
+    return f"/** The parameters of each function of langtag.h. {WRITTEN} */\nexport const SIGNATURES = {{\n{lines}}};\n"
+
+
+# ---- bindings/include/langtag.h
+
+
+def wrong_header(it: Interface, header: str) -> list[str]:
+    """Returns the declarations and structs of langtag.h that are not those of the crate."""
+    source = re.sub(r"/\*.*?\*/|//[^\n]*", "", header, flags=re.S)
+    said = [" ".join(found.split()) for found in re.findall(r"^(?:LANGTAG_PURE )?\w+ langtag_\w+\([^)]*\);", source, flags=re.M)]
+    wanted = [it.prototype(function) for function in it.functions]
+    found = [f"{HEADER} lacks: {line}" for line in wanted if line not in said]
+    found += [f"{HEADER} has what no function of the crate is: {line}" for line in said if line not in wanted]
+    structs = {name: re.findall(r"(\w+) (\w+);", body) for body, name in re.findall(r"typedef struct \w+ \{(.*?)\} (\w+);", source, flags=re.S)}
+    ours = {struct.in_c(): [(it.type_in_c(kind), name) for name, kind in struct.fields] for struct in it.structs.values()}
+    return found + [f"{HEADER}: {name} is {structs.get(name)}, and {ours.get(name)} in the crate"
+                    for name in sorted(structs.keys() | ours.keys()) if structs.get(name) != ours.get(name)]
+
+
+FILES = {
+    "rust/c/src/exports.rs": exports,
+    "bindings/c/langtag_verified.map": script,
+    "bindings/c/functions.h": functions_for_c,
+    "bindings/python/native/functions.h": functions_for_c,
+    "bindings/python/langtag/_declarations.py": python,
+    "bindings/js/test/signatures.js": javascript,
+}
+
+
+def main(root: pathlib.Path, is_check: bool) -> int:
+    it = interface.read(root)
+    faults = wrong_header(it, (root / HEADER).read_text(encoding="utf-8"))
+    if not it.functions or not it.structs:
+        faults.append("crates/langtag_c has no functions, or no structs")
+    for name, written in FILES.items():
+        path, text = root / name, written(it)
+        if not is_check:
+            path.write_text(text, encoding="utf-8")
+        elif not path.is_file() or path.read_text(encoding="utf-8") != text:
+            faults.append(f"{name} is not what bindings/generate.py writes")
+    print("\n".join(faults) or f"{len(it.functions)} functions and {len(it.structs)} structs: all declarations agree")
+    return 1 if faults else 0
+
+
+if __name__ == "__main__":
+    sys.exit(main(ROOT, "--check" in sys.argv[1:]))

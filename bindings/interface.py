@@ -1,0 +1,105 @@
+"""Reads the C interface: the functions of crates/langtag_c, and the structs of langtag_c and langtag_span.
+
+A slice is passed to C as a pointer and a length. The length is named after the slice, except for `bytes`. The contract shows how a
+function uses a reference to a struct or number: it reads the old value only if a clause other than `nothing` names it, and it leaves
+the value unchanged if the clause `nothing` says so.
+"""
+from __future__ import annotations
+
+import pathlib
+import re
+from typing import NamedTuple
+
+INTEGERS = {"usize": "size_t", "u64": "uint64_t", "u32": "uint32_t", "i32": "int32_t", "bool": "bool", "": "void"}
+DECLARATION = r'pub extern "C" fn (\w+)\(([^)]*)\)(?:\s*->\s*(\w+))?(.*?)\n\{'
+
+
+class Parameter(NamedTuple):
+    name: str
+    kind: str  # in Rattle, such as `&mut Span`
+    is_read: bool = True  # whether the function reads the value before it writes it
+    is_kept: bool = False  # whether the value stays as it is if the result is false or 0
+
+    def is_slice(self) -> bool:
+        return "[" in self.kind
+
+    def is_writable(self) -> bool:
+        return self.kind.startswith("&mut ")
+
+    def target(self) -> str:
+        """Returns the type in Rattle of what is referred to."""
+        return re.sub(r"^&(mut )?|[\[\]]", "", self.kind)
+
+    def length(self) -> str:
+        return "len" if self.name == "bytes" else f"{self.name}_len"
+
+
+class Function(NamedTuple):
+    name: str
+    module: str
+    result: str
+    parameters: list[Parameter]
+
+    def short(self) -> str:
+        return self.name[len("langtag_"):]
+
+    def is_pure(self) -> bool:
+        """Returns whether the result is the only effect of a call."""
+        return self.result != "" and not any(parameter.is_writable() for parameter in self.parameters)
+
+
+class Struct(NamedTuple):
+    name: str
+    path: str  # in rust/c
+    fields: list[tuple[str, str]]  # names and types
+
+    def in_c(self) -> str:
+        return "langtag" + re.sub("[A-Z]", lambda letter: "_" + letter[0].lower(), self.name)
+
+
+class Interface(NamedTuple):
+    functions: list[Function]
+    structs: dict[str, Struct]
+
+    def type_in_c(self, kind: str) -> str:
+        return "char" if kind == "u8" else self.structs[kind].in_c() if kind in self.structs else INTEGERS[kind]
+
+    def parameters_in_c(self, function: Function) -> list[tuple[str, str]]:
+        """Returns the types and names of a function's parameters in C."""
+        found = []
+        for it in function.parameters:
+            pointer = f"{'' if it.is_writable() else 'const '}{self.type_in_c(it.target())} *"
+            found.append((pointer if it.kind.startswith("&") else INTEGERS[it.kind], it.name))
+            if it.is_slice():
+                found.append(("size_t", it.length()))
+        return found
+
+    def prototype(self, function: Function) -> str:
+        taken = ", ".join(f"{kind}{'' if kind.endswith('*') else ' '}{name}" for kind, name in self.parameters_in_c(function))
+        return f"{'LANGTAG_PURE ' if function.is_pure() else ''}{INTEGERS[function.result]} {function.name}({taken or 'void'});"
+
+
+def pairs(text: str) -> list[tuple[str, str]]:
+    return [(name, kind.strip()) for name, kind in re.findall(r"(?:pub )?(\w+)\s*:\s*([^,]+)", text)]
+
+
+def function_of(module: str, name: str, parameters: str, result: str, contract: str) -> Function:
+    unchanged = re.findall(r"ensures nothing \{ result ≡ (?:false|0) → (.*) \}", contract)
+    others = re.sub(r"ensures nothing .*", "", contract)
+    return Function(name, module, result, [
+        Parameter(it, kind, re.search(rf"\b{it}\.old\b", others) is not None, any(f"{it}.new ≡ {it}.old" in said for said in unchanged))
+        for it, kind in pairs(parameters)])
+
+
+def read(root: pathlib.Path) -> Interface:
+    """Reads the interface of the repository. The functions are in the order of langtag.h, and those that the header lacks come last."""
+    functions, structs = [], {}
+    for crate, inside in (("langtag_span", "spans"), ("langtag_c", "calls")):
+        for path in sorted((root / "crates" / crate / "src").glob("*.rt")):
+            source = re.sub(r"//[^\n]*", "", path.read_text(encoding="utf-8"))
+            functions += [function_of(path.stem, *found) for found in re.findall(DECLARATION, source, flags=re.S)]
+            for name, body in re.findall(r"#\[repr\(C\)\][^{]*struct (\w+) \{(.*?)\}", source, flags=re.S):
+                structs[name] = Struct(name, f"crate::{inside}{'' if crate == 'langtag_span' else '::' + path.stem}::{name}", pairs(body))
+    header = (root / "bindings/include/langtag.h").read_text(encoding="utf-8")
+    places = {name: place for place, name in enumerate(re.findall(r"^\w[^(\n]* (langtag_\w+)\(", header, flags=re.M))}
+    return Interface(sorted(functions, key=lambda function: places.get(function.name, len(places))), structs)

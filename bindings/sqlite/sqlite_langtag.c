@@ -1,0 +1,405 @@
+/*
+ * A loadable extension for SQLite. It returns parts of language tags, canonical forms, validity, likely subtags, the best tag for a
+ * request, and whether a range matches. It also has a collation. `make` in this folder builds it, with the C library inside.
+ *
+ *     sqlite> .load ./sqlite_langtag
+ *     sqlite> SELECT langtag_part('zh-Hant-TW', 'script');          -- Hant
+ *     sqlite> SELECT langtag_keyword('ar-u-ca-islamic-nu-latn', 'ca'); -- islamic
+ *     sqlite> SELECT langtag_set_keyword('th-u-ca-gregory', 'ca', 'buddhist'); -- th-u-ca-buddhist
+ *     sqlite> SELECT langtag_canonical('iw-Hebr');                   -- he-Hebr
+ *     sqlite> SELECT langtag_is_well_formed('de-1996-1996');         -- 1
+ *     sqlite> SELECT langtag_is_valid('de-1996-1996');               -- 0
+ *     sqlite> SELECT langtag_suggestion('ger-AT');                   -- de
+ *     sqlite> SELECT langtag_maximize('zh-TW');                      -- zh-Hant-TW
+ *     sqlite> SELECT langtag_from_posix('sr_RS@latin');              -- sr-Latn-RS
+ *     sqlite> SELECT langtag_best_for_header('zh-TW,zh;q=0.9', 'en', 'zh-Hans', 'zh-Hant'); -- zh-Hant
+ *     sqlite> SELECT langtag_match_for_header('tlh', 'de', 'en') ->> 'distance'; -- 30
+ *     sqlite> SELECT langtag_group_best_for_header('zh-TW', tag) FROM (SELECT 'zh' AS tag UNION SELECT 'zh-Hant'); -- zh-Hant
+ *     sqlite> SELECT * FROM texts WHERE langtag_matches_basic('de', tag);
+ *     sqlite> SELECT * FROM texts WHERE tag = 'ZH-hant' COLLATE langtag;
+ *
+ * Each function returns NULL if an argument is NULL, except for the value of langtag_set_keyword and the tags of a choice.
+ *
+ * The following functions say yes or no, as 1 or 0. They return 0 for a string that is not a tag, so that a CHECK refuses it:
+ *
+ *   - langtag_is_well_formed(tag), whether the string is a tag, and langtag_is_valid(tag), whether its subtags are registered, too (RFC
+ *     5646 section 2.2.9)
+ *   - langtag_is_locale(tag), whether the tag is a Unicode locale identifier (UTS #35, part 1)
+ *   - langtag_is_right_to_left(tag), whether the tag is written from right to left (UTS #35)
+ *   - langtag_matches_basic(range, tag) and langtag_matches_extended(range, tag) (RFC 4647 sections 3.3.1 and 3.3.2), also 0 if the first
+ *     string is not a range
+ *
+ * langtag_part(tag, part) returns NULL if the string is not a tag, or the part is absent. The parts are language, script, region,
+ * variants, extensions and private_use. langtag_keyword(tag, key) returns the value of a key of the extension u (RFC 6067), which
+ * is empty if the key has none, and NULL if the key is absent. The following functions return NULL if a string is not a tag:
+ *
+ *   - langtag_set_keyword(tag, key, value), the tag with a value of a key of the extension u. If the value is NULL, the key is removed.
+ *     An empty value means true. It is an error if the key or the value cannot be in a keyword, or if the tag is not a normal tag
+ *   - langtag_base(tag), the tag without extensions and private use
+ *   - langtag_extensions_form(tag), the tag with its extensions u and t in canonical form (UTS #35, part 1, Annex C)
+ *   - langtag_locale_form(tag), the canonical form of a Unicode locale identifier, also NULL if there is none
+ *   - langtag_canonical(tag) (RFC 5646 section 4.5)
+ *   - langtag_suggestion(tag), the registered code that is probably meant by the invalid subtag, also NULL if there is none
+ *   - langtag_maximize(tag), langtag_minimize(tag), langtag_distance(desired, supported) (UTS #35)
+ *
+ * langtag_from_posix(name) returns the tag for a POSIX locale name, or NULL if it has none. langtag_unknown_modifier(name) returns
+ * the modifier that langtag_from_posix drops because it is not known, or NULL.
+ *
+ * langtag_best_for_header(header, tag, ..) returns the best tag for a header, or NULL if none is suitable. langtag_match_for_header
+ * returns this tag as JSON, with its index, the range of the header that it serves, and the distance from that range. The aggregate
+ * langtag_group_best_for_header(header, tag) returns the best tag of the rows of a group. Among equally good tags it takes the first, and
+ * the order of rows is that of a subquery with ORDER BY. It is an error if the header is not the same in all rows of a group.
+ *
+ * langtag_version() returns the version of the library, the date of the IANA registry and the version of CLDR in one line, and
+ * langtag_proved() whether the library is the proved archive. In the collation a tag sorts after every longer tag that begins with it. For
+ * alphabetical order use ORDER BY lower(tag).
+ */
+#include <langtag.h>
+#include <sqlite3ext.h>
+#include <string.h>
+SQLITE_EXTENSION_INIT1
+
+/* The functions depend on nothing but their arguments, and have no side effects. So a schema may use them even if it is not trusted. */
+#ifndef SQLITE_INNOCUOUS
+#define SQLITE_INNOCUOUS 0
+#endif
+#define FLAGS (SQLITE_UTF8 | SQLITE_DETERMINISTIC | SQLITE_INNOCUOUS)
+
+/* A function of SQL. If several functions share `call`, one of the last three is what they ask of the library. */
+typedef struct function {
+    const char *name;
+    int arguments;
+    void (*call)(sqlite3_context *context, int count, sqlite3_value **values);
+    size_t (*form)(const char *tag, size_t len, char *buffer, size_t buffer_len);
+    bool (*is)(const char *tag, size_t len);
+    bool (*matches)(const char *range, size_t range_len, const char *tag, size_t tag_len);
+} function;
+
+static const function *called(sqlite3_context *context) { return sqlite3_user_data(context); }
+
+/* A text argument. `at` is NULL if the argument is NULL. */
+typedef struct text {
+    const char *at;
+    size_t len;
+} text;
+
+static text text_of(sqlite3_value *value) {
+    const char *at = (const char *)sqlite3_value_text(value);
+    return (text){at, at ? (size_t)sqlite3_value_bytes(value) : 0};
+}
+
+static void return_span(sqlite3_context *context, text of, langtag_span span) {
+    sqlite3_result_text64(context, of.at + span.start, span.len, SQLITE_TRANSIENT, SQLITE_UTF8);
+}
+
+/* Returns the span of the part with a name, or NULL if no part has that name. */
+static const langtag_span *part_named(const langtag_parts *parts, text name) {
+    const struct {
+        const char *name;
+        const langtag_span *span;
+    } named[] = {
+        {"language", &parts->language}, {"script", &parts->script},         {"region", &parts->region},
+        {"variants", &parts->variants}, {"extensions", &parts->extensions}, {"private_use", &parts->private_use},
+    };
+    for (size_t k = 0; k < sizeof named / sizeof *named; k++)
+        if (strlen(named[k].name) == name.len && memcmp(named[k].name, name.at, name.len) == 0) return named[k].span;
+    return NULL;
+}
+
+static void part(sqlite3_context *context, int count, sqlite3_value **values) {
+    (void)count;
+    const text tag = text_of(values[0]), name = text_of(values[1]);
+    langtag_parts parts;
+    if (!tag.at || !name.at) return; /* NULL */
+    uint32_t kind = langtag_parse(tag.at, tag.len, &parts);
+    const langtag_span *span = part_named(&parts, name);
+    if (!span) sqlite3_result_error(context, "langtag_part: no part has that name", -1);
+    else if (kind != LANGTAG_NONE && span->len > 0) return_span(context, tag, *span);
+}
+
+static void keyword(sqlite3_context *context, int count, sqlite3_value **values) {
+    (void)count;
+    const text tag = text_of(values[0]), key = text_of(values[1]);
+    langtag_span value;
+    if (tag.at && key.at && langtag_keyword(tag.at, tag.len, key.at, key.len, &value)) return_span(context, tag, value); /* else NULL */
+}
+
+static void base(sqlite3_context *context, int count, sqlite3_value **values) {
+    (void)count;
+    const text tag = text_of(values[0]);
+    const langtag_span span = {0, tag.at ? langtag_base_len(tag.at, tag.len) : 0};
+    if (span.len > 0) return_span(context, tag, span); /* else NULL */
+}
+
+/* Writes the form to the stack first, and to allocated memory only if it is longer. */
+static void form(sqlite3_context *context, int count, sqlite3_value **values) {
+    (void)count;
+    const text tag = text_of(values[0]);
+    char room[256];
+    size_t form_len = tag.at ? called(context)->form(tag.at, tag.len, room, sizeof room) : 0;
+    if (form_len == 0) return; /* NULL */
+    if (form_len <= sizeof room) {
+        sqlite3_result_text(context, room, (int)form_len, SQLITE_TRANSIENT);
+        return;
+    }
+    char *form = sqlite3_malloc64(form_len);
+    if (!form) {
+        sqlite3_result_error_nomem(context);
+        return;
+    }
+    called(context)->form(tag.at, tag.len, form, form_len);
+    sqlite3_result_text64(context, form, form_len, sqlite3_free, SQLITE_UTF8);
+}
+
+/* Writes a tag with the value of a key, or without the key if the value is NULL. Returns what the library returns. */
+static size_t write_keyword(text tag, text key, text value, char *buffer, size_t room) {
+    if (!value.at) return langtag_without_keyword(tag.at, tag.len, key.at, key.len, buffer, room);
+    return langtag_with_keyword(tag.at, tag.len, key.at, key.len, value.at, value.len, buffer, room);
+}
+
+/* Returns why a keyword is not set. A keyword can be set in und, so the library refuses the key or the value, if it refuses them there
+ * too. */
+static const char *why_refused(text key, text value) {
+    char none;
+    const text und = {"und", 3}, absent = {NULL, 0};
+    if (write_keyword(und, key, absent, &none, 0) == 0)
+        return "langtag_set_keyword: the key is not a letter or a digit, and then a letter";
+    if (write_keyword(und, key, value, &none, 0) == 0)
+        return "langtag_set_keyword: the value is not subtags of 3 to 8 letters or digits";
+    return "langtag_set_keyword: not a normal language tag";
+}
+
+static void set_keyword(sqlite3_context *context, int count, sqlite3_value **values) {
+    (void)count;
+    const int removes = sqlite3_value_type(values[2]) == SQLITE_NULL;
+    const text tag = text_of(values[0]), key = text_of(values[1]), value = text_of(values[2]);
+    if (!removes && !value.at) { /* no memory for the text of a number, which is no reason to remove the key */
+        sqlite3_result_error_nomem(context);
+        return;
+    }
+    if (!tag.at || !key.at || !langtag_kind(tag.at, tag.len)) return; /* NULL */
+    char none;
+    size_t len = write_keyword(tag, key, value, &none, 0);
+    if (len == 0) {
+        sqlite3_result_error(context, why_refused(key, value), -1);
+        return;
+    }
+    char *made = sqlite3_malloc64(len);
+    if (!made) {
+        sqlite3_result_error_nomem(context);
+        return;
+    }
+    write_keyword(tag, key, value, made, len);
+    sqlite3_result_text64(context, made, len, sqlite3_free, SQLITE_UTF8);
+}
+
+/* Reads an argument of a function that says yes or no. Returns false if it is NULL, as then the result is, or if there is no memory for
+ * the text of a number, which is an error: NULL would let the row pass a CHECK. */
+static bool given(sqlite3_context *context, sqlite3_value *value, text *found) {
+    if (sqlite3_value_type(value) == SQLITE_NULL) return false;
+    *found = text_of(value);
+    if (!found->at) sqlite3_result_error_nomem(context);
+    return found->at != NULL;
+}
+
+static void is(sqlite3_context *context, int count, sqlite3_value **values) {
+    (void)count;
+    text tag;
+    if (given(context, values[0], &tag)) sqlite3_result_int(context, called(context)->is(tag.at, tag.len));
+}
+
+static bool is_well_formed(const char *tag, size_t len) { return langtag_kind(tag, len) != LANGTAG_NONE; }
+
+static bool is_valid(const char *tag, size_t len) {
+    langtag_span invalid;
+    return langtag_validity(tag, len, &invalid) == LANGTAG_VALID;
+}
+
+static void matches(sqlite3_context *context, int count, sqlite3_value **values) {
+    (void)count;
+    text range, tag;
+    if (given(context, values[0], &range) && given(context, values[1], &tag))
+        sqlite3_result_int(context, called(context)->matches(range.at, range.len, tag.at, tag.len));
+}
+
+static void unknown_modifier(sqlite3_context *context, int count, sqlite3_value **values) {
+    (void)count;
+    const text name = text_of(values[0]);
+    langtag_span modifier;
+    if (name.at && langtag_unknown_modifier(name.at, name.len, &modifier)) return_span(context, name, modifier); /* else NULL */
+}
+
+static void distance(sqlite3_context *context, int count, sqlite3_value **values) {
+    (void)count;
+    const text desired = text_of(values[0]), supported = text_of(values[1]);
+    if (!desired.at || !supported.at) return; /* NULL */
+    uint32_t far = langtag_distance(desired.at, desired.len, supported.at, supported.len);
+    if (far != LANGTAG_NO_DISTANCE) sqlite3_result_int(context, (int)far); /* else NULL */
+}
+
+/* Returns the place of the chosen tag among the arguments, or 0 if no tag is chosen. The tags are spans of one text in one
+ * allocated block. */
+static size_t chosen(sqlite3_context *context, int count, sqlite3_value **values, langtag_best_match *match) {
+    if (count < 1) {
+        sqlite3_result_error(context, "langtag: a header is wanted", -1);
+        return 0;
+    }
+    const text header = text_of(values[0]);
+    size_t tags = (size_t)count - 1, len = 0;
+    if (!header.at) return 0;
+    for (size_t k = 1; k <= tags; k++) len += text_of(values[k]).len;
+    langtag_span *spans = sqlite3_malloc64(tags * sizeof *spans + len + 1);
+    if (!spans) {
+        sqlite3_result_error_nomem(context);
+        return 0;
+    }
+    char *all = (char *)(spans + tags);
+    for (size_t k = 0, at = 0; k < tags; k++) {
+        const text tag = text_of(values[k + 1]);
+        spans[k] = (langtag_span){at, tag.len};
+        if (tag.at) memcpy(all + at, tag.at, tag.len);
+        at += tag.len;
+    }
+    size_t best = langtag_match_for_header(header.at, header.len, all, len, spans, tags, match);
+    sqlite3_free(spans);
+    return best < tags ? best + 1 : 0;
+}
+
+static void best_for_header(sqlite3_context *context, int count, sqlite3_value **values) {
+    langtag_best_match match;
+    size_t best = chosen(context, count, values, &match);
+    if (best) sqlite3_result_value(context, values[best]); /* else NULL */
+}
+
+/* Returns a JSON object. The bytes of tags and ranges need no escapes in JSON. */
+static void match_for_header(sqlite3_context *context, int count, sqlite3_value **values) {
+    langtag_best_match match;
+    size_t best = chosen(context, count, values, &match);
+    if (!best) return; /* NULL */
+    char *json = sqlite3_mprintf("{\"index\":%d,\"tag\":\"%s\",\"distance\":%u,\"range\":\"%.*s\"}", (int)best - 1, text_of(values[best]).at,
+                                 (unsigned)match.distance, (int)match.range.len, text_of(values[0]).at + match.range.start);
+    if (json) sqlite3_result_text(context, json, -1, sqlite3_free);
+    else sqlite3_result_error_nomem(context);
+}
+
+static void suggestion(sqlite3_context *context, int count, sqlite3_value **values) {
+    (void)count;
+    const text tag = text_of(values[0]);
+    langtag_span invalid;
+    char code[3];
+    if (!tag.at) return; /* NULL */
+    uint32_t fault = langtag_validity(tag.at, tag.len, &invalid);
+    size_t len = langtag_suggestion(fault, tag.at + invalid.start, invalid.len, code, sizeof code);
+    if (len > 0 && len <= sizeof code) sqlite3_result_text(context, code, (int)len, SQLITE_TRANSIENT);
+}
+
+/* What an aggregate keeps of its rows: the header, and in `bytes` the best tag, behind which the tag of a row is put. */
+typedef struct group {
+    char *header;
+    size_t header_len;
+    char *bytes;
+    size_t best_len; /* 0 if no tag is suitable so far */
+} group;
+
+/* Copies the header of the first row, and returns whether that of a row is the same. Otherwise the result is an error. */
+static bool same_header(sqlite3_context *context, group *rows, text header) {
+    if (!rows->header) {
+        rows->header = sqlite3_malloc64(header.len + 1);
+        if (!rows->header) {
+            sqlite3_result_error_nomem(context);
+            return false;
+        }
+        memcpy(rows->header, header.at, header.len);
+        rows->header_len = header.len;
+    }
+    if (rows->header_len == header.len && memcmp(rows->header, header.at, header.len) == 0) return true;
+    sqlite3_result_error(context, "langtag_group_best_for_header: the header differs in the rows of a group", -1);
+    return false;
+}
+
+/* Chooses between the best tag of the rows before and that of this row. This is correct because the choice between two tags depends on
+ * no third tag, and of two equally good tags the first is chosen. */
+static void group_step(sqlite3_context *context, int count, sqlite3_value **values) {
+    (void)count;
+    group *rows = sqlite3_aggregate_context(context, sizeof *rows);
+    text header, tag;
+    if (!rows) sqlite3_result_error_nomem(context);
+    if (!rows || !given(context, values[0], &header) || !given(context, values[1], &tag) || !same_header(context, rows, header)) return;
+    char *bytes = sqlite3_realloc64(rows->bytes, rows->best_len + tag.len + 1);
+    if (!bytes) {
+        sqlite3_result_error_nomem(context);
+        return;
+    }
+    rows->bytes = bytes;
+    memcpy(bytes + rows->best_len, tag.at, tag.len);
+    /* Without a best tag, the first span is empty, which is no tag. */
+    const langtag_span both[] = {{0, rows->best_len}, {rows->best_len, tag.len}};
+    if (langtag_best_for_header(header.at, header.len, bytes, rows->best_len + tag.len, both, 2) != 1) return;
+    memmove(bytes, bytes + rows->best_len, tag.len);
+    rows->best_len = tag.len;
+}
+
+static void group_final(sqlite3_context *context) {
+    group *rows = sqlite3_aggregate_context(context, 0);
+    if (!rows) return; /* NULL */
+    if (rows->best_len > 0) sqlite3_result_text64(context, rows->bytes, rows->best_len, SQLITE_TRANSIENT, SQLITE_UTF8);
+    sqlite3_free(rows->header);
+    sqlite3_free(rows->bytes);
+}
+
+static void version(sqlite3_context *context, int count, sqlite3_value **values) {
+    (void)count, (void)values;
+    const unsigned date = langtag_registry_date();
+    char cldr[32];
+    const size_t len = langtag_cldr_version(cldr, sizeof cldr);
+    char *line = sqlite3_mprintf("langtag %s (IANA's registry of %04u-%02u-%02u, CLDR %.*s)", LANGTAG_VERSION, date / 10000, date / 100 % 100, date % 100,
+                                 len <= sizeof cldr ? (int)len : 0, cldr);
+    if (line) sqlite3_result_text(context, line, -1, sqlite3_free);
+    else sqlite3_result_error_nomem(context);
+}
+
+static void proved(sqlite3_context *context, int count, sqlite3_value **values) {
+    (void)count, (void)values;
+    sqlite3_result_int(context, LANGTAG_PROVED);
+}
+
+static int compare(void *unused, int a_len, const void *a, int b_len, const void *b) {
+    (void)unused;
+    return langtag_cmp(langtag_bytes(a), (size_t)a_len, langtag_bytes(b), (size_t)b_len);
+}
+
+int sqlite3_sqlitelangtag_init(sqlite3 *db, char **message, const sqlite3_api_routines *api) {
+    (void)message;
+    SQLITE_EXTENSION_INIT2(api);
+    static function functions[] = {
+        {.name = "langtag_part", .arguments = 2, .call = part},
+        {.name = "langtag_keyword", .arguments = 2, .call = keyword},
+        {.name = "langtag_set_keyword", .arguments = 3, .call = set_keyword},
+        {.name = "langtag_base", .arguments = 1, .call = base},
+        {.name = "langtag_extensions_form", .arguments = 1, .call = form, .form = langtag_extensions_form},
+        {.name = "langtag_is_locale", .arguments = 1, .call = is, .is = langtag_is_locale},
+        {.name = "langtag_locale_form", .arguments = 1, .call = form, .form = langtag_locale_form},
+        {.name = "langtag_canonical", .arguments = 1, .call = form, .form = langtag_canonical},
+        {.name = "langtag_is_well_formed", .arguments = 1, .call = is, .is = is_well_formed},
+        {.name = "langtag_is_valid", .arguments = 1, .call = is, .is = is_valid},
+        {.name = "langtag_suggestion", .arguments = 1, .call = suggestion},
+        {.name = "langtag_maximize", .arguments = 1, .call = form, .form = langtag_maximize},
+        {.name = "langtag_minimize", .arguments = 1, .call = form, .form = langtag_minimize},
+        {.name = "langtag_from_posix", .arguments = 1, .call = form, .form = langtag_from_posix},
+        {.name = "langtag_unknown_modifier", .arguments = 1, .call = unknown_modifier},
+        {.name = "langtag_distance", .arguments = 2, .call = distance},
+        {.name = "langtag_is_right_to_left", .arguments = 1, .call = is, .is = langtag_is_right_to_left},
+        {.name = "langtag_best_for_header", .arguments = -1, .call = best_for_header},
+        {.name = "langtag_match_for_header", .arguments = -1, .call = match_for_header},
+        {.name = "langtag_version", .arguments = 0, .call = version},
+        {.name = "langtag_proved", .arguments = 0, .call = proved},
+        {.name = "langtag_matches_basic", .arguments = 2, .call = matches, .matches = langtag_matches_basic},
+        {.name = "langtag_matches_extended", .arguments = 2, .call = matches, .matches = langtag_matches_extended},
+    };
+    int status = SQLITE_OK;
+    for (function *it = functions; status == SQLITE_OK && it < functions + sizeof functions / sizeof *functions; it++)
+        status = sqlite3_create_function(db, it->name, it->arguments, FLAGS, it, it->call, NULL, NULL);
+    if (status == SQLITE_OK)
+        status = sqlite3_create_function(db, "langtag_group_best_for_header", 2, FLAGS, NULL, NULL, group_step, group_final);
+    return status == SQLITE_OK ? sqlite3_create_collation(db, "langtag", SQLITE_UTF8, NULL, compare) : status;
+}

@@ -1,0 +1,266 @@
+#!/usr/bin/env python3
+"""Tests the extension for SQLite: test_sqlite.py EXTENSION [TEST]. It runs the rows that the tests of all languages read, and tests
+what only SQL has."""
+import json
+import re
+import subprocess
+import sys
+import unittest
+
+import rows
+
+PARTS = ("language", "script", "region", "variants", "extensions", "private_use")
+
+
+def sqlite(script):
+    """Runs statements with the extension loaded. Returns SQLite's output and its errors."""
+    command = ["sqlite3", ":memory:", "-cmd", f".load {EXTENSION}"]
+    run = subprocess.run(command, input=script, capture_output=True, text=True)
+    return run.stdout, run.stderr
+
+
+def text(data):
+    """Returns a text of any bytes as an SQL expression."""
+    return f"CAST(X'{data.hex()}' AS TEXT)"
+
+
+def shown(expression):
+    """Returns an SQL expression that shows the bytes of a text, or NULL."""
+    return f"quote(CAST({expression} AS BLOB))"
+
+
+def of_rows(header, tags):
+    """Returns the query that chooses among tags that are rows."""
+    rows_of_tags = ", ".join(f"({text(tag)})" for tag in tags) or "(NULL)"
+    return f"SELECT coalesce(langtag_group_best_for_header({text(header)}, column1), '-') FROM (VALUES {rows_of_tags})"
+
+
+def of_arguments(header, tags):
+    """Returns the expression that chooses among tags that are arguments, or the query among rows if they are too many arguments."""
+    return f"coalesce(langtag_best_for_header({', '.join(map(text, [header, *tags]))}), '-')" if len(tags) < 100 else f"({of_rows(header, tags)})"
+
+
+# Each call of the rows as a statement that returns one line.
+QUERIES = {
+    "tag": lambda tag: f"SELECT {','.join(shown(f'langtag_part({text(tag)}, {name!r})') for name in PARTS)}",
+    "keyword": lambda tag, key: f"SELECT {shown(f'langtag_keyword({text(tag)}, {text(key)})')}",
+    "with-keyword": lambda tag, key, value: "SELECT " + shown(
+        f"langtag_set_keyword({text(tag)}, {text(key)}, {'NULL' if value == b'-' else text(value)})"),
+    "base": lambda tag: f"SELECT {shown(f'langtag_base({text(tag)})')}",
+    "extensions-form": lambda tag: f"SELECT {shown(f'langtag_extensions_form({text(tag)})')}",
+    "is-locale": lambda tag: f"SELECT langtag_is_locale({text(tag)})",
+    "locale-form": lambda tag: f"SELECT {shown(f'langtag_locale_form({text(tag)})')}",
+    "canonical": lambda tag: f"SELECT {shown(f'langtag_canonical({text(tag)})')}",
+    "maximized": lambda tag: f"SELECT {shown(f'langtag_maximize({text(tag)})')}",
+    "minimized": lambda tag: f"SELECT {shown(f'langtag_minimize({text(tag)})')}",
+    "posix": lambda name: f"SELECT {shown(f'langtag_from_posix({text(name)})')}",
+    "unknown-modifier": lambda name: f"SELECT {shown(f'langtag_unknown_modifier({text(name)})')}",
+    "distance": lambda a, b: f"SELECT langtag_distance({text(a)}, {text(b)})",
+    "right-to-left": lambda tag: f"SELECT langtag_is_well_formed({text(tag)}), langtag_is_right_to_left({text(tag)})",
+    "best": lambda header, tags: f"SELECT {of_arguments(header, tags.split())}, ({of_rows(header, tags.split())})",
+    "best-match": lambda header, tags:
+        f"SELECT coalesce(langtag_match_for_header({', '.join(map(text, [header, *tags.split()]))}), '-')",
+    "suggestion": lambda tag: f"SELECT {shown(f'langtag_suggestion({text(tag)})')}",
+    "validity": lambda tag: f"SELECT langtag_is_well_formed({text(tag)}), langtag_is_valid({text(tag)})",
+    "match": lambda range, tag: f"SELECT langtag_matches_basic({text(range)}, {text(tag)}),"
+                                f" langtag_matches_extended({text(range)}, {text(tag)})",
+    "order": lambda a, b: "SELECT " + ", ".join(f"{text(a)} {how} {text(b)} COLLATE langtag" for how in "<=>"),
+}
+
+
+def is_asked(row):
+    """Returns whether SQLite has the call. A function takes at most 100 arguments, so a longer list is only asked as rows."""
+    return row.call in QUERIES and (row.call != "best-match" or len(row.arguments[1].split()) < 100)
+
+
+def bytes_of(word):
+    """Returns the text that was shown, or None for NULL."""
+    return None if word == "NULL" else bytes.fromhex(word[2:-1]).decode("utf-8", "backslashreplace")
+
+
+def answer_tag(said):
+    found = zip(PARTS, map(bytes_of, said.split("|")))
+    return "".join(f"\n  {name} {part}" for name, part in found if part is not None)
+
+
+#: The answer for each message of langtag_set_keyword.
+REFUSED = {"the key is not a letter or a digit, and then a letter": "bad key", "not a normal language tag": "no parts",
+           "the value is not subtags of 3 to 8 letters or digits": "bad value"}
+
+
+def answer_with_keyword(said):
+    return bytes_of(said) if said[:2] == "X'" else REFUSED.get(re.sub(r".*langtag_set_keyword: (.*?)( \(\d+\))?$", r"\1", said), said)
+
+
+def answer_match(said):
+    if said == "-":
+        return said
+    found = json.loads(said)
+    return f"{found['index']} {found['distance']} {found['range']}"
+
+
+def answer_best(said):
+    """Returns the tag that was chosen among arguments, which has to be the tag that was chosen among rows."""
+    arguments, of_rows = said.split("|")
+    return arguments if arguments == of_rows else f"{of_rows} among rows"
+
+
+# The answer in a line, in the form of the rows.
+ANSWERS = {
+    "tag": answer_tag,
+    "keyword": lambda said: "-" if said == "NULL" else bytes_of(said) or "''",
+    "with-keyword": answer_with_keyword,
+    "base": bytes_of,
+    "extensions-form": bytes_of,
+    "is-locale": {"1": "yes", "0": "no"}.get,
+    "locale-form": lambda said: bytes_of(said) or "-",
+    "canonical": lambda said: bytes_of(said) or "-",
+    "suggestion": lambda said: bytes_of(said) or "-",
+    "maximized": lambda said: bytes_of(said) or "-",
+    "minimized": lambda said: bytes_of(said) or "-",
+    "posix": lambda said: bytes_of(said) or "-",
+    "unknown-modifier": lambda said: bytes_of(said) or "-",
+    "distance": lambda said: said or "-",
+    "right-to-left": {"0|0": "-", "1|1": "yes", "1|0": "no"}.get,
+    "best": answer_best,
+    "best-match": answer_match,
+    "validity": {"0|0": "none", "1|1": "valid", "1|0": "invalid"}.get,
+    "match": {"1|1": "both", "1|0": "basic", "0|1": "extended", "0|0": "neither"}.get,
+    "order": {"1|0|0": "before", "0|1|0": "equal", "0|0|1": "after"}.get,
+}
+
+
+def adapted(row):
+    """Returns the answer as SQLite gives it: each part of a tag as one text, and for an invalid tag only that it is invalid."""
+    if row.call == "validity":
+        return row.wanted if row.wanted in ("none", "valid") else "invalid"
+    if row.call != "tag":
+        return row.wanted
+    lines = [line.split() for line in row.wanted.split("\n")[1:]]
+    return "".join(f"\n  {name} {'-'.join(subtags)}" for name, *subtags in lines if name in PARTS)
+
+
+FLOORS = {"table.txt": 255, "likely.txt": 250, "distance.txt": 140, "direction.txt": 325, "posix.txt": 150, "choices.txt": 285, "lengths.txt": 90,
+          "unicode.txt": 25, "keywords.txt": 380, "extensions.txt": 630, "locale.txt": 780, "cldr.txt": 1770}
+
+TABLE = "CREATE TABLE texts (tag TEXT PRIMARY KEY COLLATE langtag); INSERT INTO texts VALUES ('zh-Hant'), ('de'), ('zh'), ('');"
+# Statements, and SQLite's output for them.
+STATEMENTS = [
+    ("SELECT langtag_part(NULL, 'script') IS NULL, langtag_part('zh-Hant', NULL) IS NULL;", "1|1"),
+    ("SELECT langtag_canonical(NULL) IS NULL, langtag_is_valid(NULL) IS NULL, langtag_suggestion(NULL) IS NULL;", "1|1|1"),
+    # A function that says yes or no says no for a string that is no tag.
+    ("SELECT langtag_is_well_formed('de_DE'), langtag_is_valid('de_DE'), langtag_is_locale('de_DE'), langtag_is_right_to_left('he_IL'), langtag_is_valid('not a tag at all'), "
+     "langtag_is_valid(''), langtag_is_valid(X''), langtag_is_valid(5), langtag_is_well_formed(''), langtag_matches_basic('d_', 'de'), langtag_matches_extended('de', 'd_');",
+     "0|0|0|0|0|0|0|0|0|0|0"),
+    ("SELECT langtag_is_well_formed(NULL) IS NULL, langtag_is_right_to_left(NULL) IS NULL, langtag_matches_basic(NULL, 'de') IS NULL, langtag_matches_extended('de', NULL) IS NULL, "
+     "langtag_is_well_formed('x-a'), langtag_is_valid('de'), langtag_is_right_to_left('he');", "1|1|1|1|1|1|1"),
+    ("CREATE TABLE t (tag TEXT); INSERT INTO t VALUES ('de'), ('de_DE'), (NULL), ('not a tag at all'); SELECT count(*), group_concat(tag) FROM t WHERE NOT langtag_is_valid(tag);",
+     "2|de_DE,not a tag at all"),
+    ("SELECT langtag_keyword(NULL, 'ca') IS NULL, langtag_keyword('de-u-ca', NULL) IS NULL, langtag_keyword('de-u-ca', 'ca');", "1|1|"),
+    ("SELECT langtag_set_keyword(NULL, 'ca', 'roc') IS NULL, langtag_set_keyword('de', NULL, 'roc') IS NULL, langtag_set_keyword('d_', 'c1', '') IS NULL;", "1|1|1"),
+    ("SELECT langtag_set_keyword('de-u-ca-roc', 'CA', NULL), langtag_set_keyword('de', 'kn', ''), langtag_set_keyword('de', 'ca', 1996);",
+     "de|de-u-kn|de-u-ca-1996"),
+    ("SELECT langtag_extensions_form(NULL) IS NULL, langtag_extensions_form('d_') IS NULL, langtag_extensions_form('x-a');", "1|1|x-a"),
+    ("SELECT langtag_is_locale(NULL) IS NULL, langtag_is_locale('d_'), langtag_is_locale('de'), langtag_is_locale('x-a');", "1|0|1|0"),
+    ("SELECT langtag_locale_form(NULL) IS NULL, langtag_locale_form('d_') IS NULL, langtag_locale_form('x-a') IS NULL, langtag_locale_form('ger-UK');",
+     "1|1|1|de-GB"),
+    ("SELECT langtag_matches_basic('de', NULL) IS NULL, langtag_matches_extended(NULL, 'de') IS NULL;", "1|1"),
+    ("SELECT langtag_part('zh-Hant', 'script'), typeof(langtag_canonical('iw')), typeof(langtag_is_valid('iw'));",
+     "Hant|text|integer"),
+    ("SELECT langtag_from_posix(NULL) IS NULL, langtag_unknown_modifier(NULL) IS NULL, langtag_unknown_modifier('de@ö');", "1|1|ö"),
+    ("SELECT langtag_maximize(NULL) IS NULL, langtag_distance('de', NULL) IS NULL, langtag_best_for_header(NULL, 'de') IS NULL;",
+     "1|1|1"),
+    ("SELECT langtag_best_for_header('zh-TW,zh;q=0.9,en;q=0.8', 'en', 'zh-Hans', NULL, 'zh-Hant');", "zh-Hant"),
+    ("SELECT langtag_best_for_header('zh-TW', NULL, 'zh-Hant'), langtag_best_for_header('zh-TW', NULL, NULL, 'de', 'zh-Hant', NULL);", "zh-Hant|zh-Hant"),
+    ("SELECT langtag_best_for_header('de', NULL) IS NULL, langtag_best_for_header('', NULL, 'de') IS NULL;", "1|1"),
+    ("SELECT langtag_best_for_header('fi', 'en') IS NULL, langtag_best_for_header('fi') IS NULL;", "1|1"),
+    ("SELECT langtag_match_for_header('fi, de_AT;q=0.5', NULL, 'en', 'de');", '{"index":2,"tag":"de","distance":4,"range":"de_AT"}'),
+    ("SELECT langtag_match_for_header(NULL, 'de') IS NULL, langtag_match_for_header('fi', 'en') IS NULL, langtag_match_for_header('fi') IS NULL;",
+     "1|1|1"),
+    # A choice among rows: NULL is skipped, and the first of equally good tags is taken.
+    ("SELECT langtag_group_best_for_header('zh-TW', column1) FROM (VALUES (NULL), ('en'), ('zh'), ('not a tag at all'), ('zh-Hant'), ('zh-Hant-x-a'), (NULL));", "zh-Hant"),
+    ("SELECT langtag_group_best_for_header('fi', column1) IS NULL, langtag_group_best_for_header(NULL, column1) IS NULL FROM (VALUES ('en'), ('de'));", "1|1"),
+    ("SELECT langtag_group_best_for_header('de', 'de') IS NULL WHERE 0;", "1"),
+    ("CREATE TABLE t (page, tag); INSERT INTO t VALUES (1, 'en'), (2, 'de'), (1, 'de-CH'), (2, 'fr'), (3, 'ja');"
+     "SELECT group_concat(page || coalesce(best, '-'), ' ') FROM (SELECT page, langtag_group_best_for_header('gsw, fr;q=0.5', tag) AS best FROM t GROUP BY page ORDER BY page);",
+     "1de-CH 2de 3-"),
+    ("WITH RECURSIVE n(k) AS (SELECT 1 UNION ALL SELECT k + 1 FROM n WHERE k < 1000) SELECT langtag_group_best_for_header('de-CH, fr;q=0.5', CASE k WHEN 9 THEN 'fr' WHEN 999 THEN 'de-CH' "
+     "WHEN 1000 THEN 'de' ELSE 'x-a' || k END) FROM n;", "de-CH"),
+    # A schema that is not trusted may use the functions.
+    ("PRAGMA trusted_schema = off; CREATE TABLE t (tag TEXT CHECK (langtag_is_valid(tag)), form TEXT AS (langtag_canonical(tag)) STORED); CREATE INDEX i ON t (langtag_maximize(tag));"
+     "CREATE VIEW best AS SELECT langtag_group_best_for_header('he', tag) AS tag FROM t; CREATE VIEW more AS SELECT langtag_best_for_header('he', tag), langtag_match_for_header('de', tag) FROM t;"
+     "INSERT INTO t VALUES ('iw'), (NULL); SELECT form FROM t WHERE form IS NOT NULL; SELECT * FROM best; SELECT count(*) FROM more;", "he\niw\n2"),
+    ("SELECT langtag_version() GLOB 'langtag *.*.* (IANA''s registry of 20[0-9][0-9]-[01][0-9]-[0-3][0-9], CLDR [0-9]*)', langtag_proved() IN (0, 1);", "1|1"),
+    (TABLE + "CREATE INDEX forms ON texts (langtag_canonical(tag), langtag_part(tag, 'script')); SELECT 1;", "1"),
+    (TABLE + "CREATE INDEX valid ON texts (langtag_is_valid(tag), langtag_matches_basic('de', tag)); SELECT 1;", "1"),
+    (TABLE + "SELECT tag FROM texts WHERE tag = 'ZH-hant';", "zh-Hant"),
+    (TABLE + "SELECT tag FROM texts WHERE langtag_matches_extended('*-Hant', tag);", "zh-Hant"),
+    (TABLE + "SELECT group_concat(tag) FROM (SELECT tag FROM texts ORDER BY tag);", "de,zh-Hant,zh,"),
+    (TABLE + "SELECT group_concat(tag) FROM (SELECT tag FROM texts ORDER BY lower(tag));", ",de,zh,zh-Hant"),
+    (TABLE + "INSERT OR IGNORE INTO texts VALUES ('DE'); SELECT count(*) FROM texts;", "4"),
+]
+
+
+class Sqlite(unittest.TestCase):
+    def test_rows(self):
+        asked = [row for name in rows.wanted(FLOORS) for row in rows.read(rows.FOLDER / name) if is_asked(row)]
+        said, complaints = sqlite("".join(f"{QUERIES[row.call](*row.arguments)};\n" for row in asked))
+        errors = {int(number): error for number, error in re.findall(r"(?m)near line (\d+): (.*)$", complaints)}
+        self.assertEqual(len(errors), len(complaints.splitlines()))
+        self.assertEqual({asked[number - 1].call for number in errors} - {"with-keyword"}, set())
+        rest = iter(said.splitlines())
+        lines = {(row.call, *row.arguments): errors.get(number) or next(rest) for number, row in enumerate(asked, 1)}
+        self.assertEqual(list(rest), [])
+        asker = rows.Asker({call: lambda *arguments, call=call: ANSWERS[call](lines[(call, *arguments)]) if (call, *arguments) in lines else None for call in QUERIES},
+                           adapted)
+        for name, floor in rows.wanted(FLOORS).items():
+            asker.ask(rows.FOLDER / name, floor)
+        if asker.failures():
+            self.fail("\n" + asker.failures())
+
+    def test_statements(self):
+        for statements, said in STATEMENTS:
+            self.assertEqual(sqlite(statements), (said + "\n", ""))
+        self.assertIn("no part has that name", sqlite("SELECT langtag_part('de', 'skript');")[1])
+        self.assertIn("no part has that name", sqlite("SELECT langtag_part('de', CAST(X'736372697074002e' AS TEXT));")[1])
+        self.assertIn("no part has that name", sqlite("SELECT langtag_part('de', 'scr');")[1])
+        self.assertIn("the header differs in the rows of a group", sqlite("SELECT langtag_group_best_for_header(column1, 'de') FROM (VALUES ('de'), ('en'));")[1])
+
+    def test_check(self):
+        """A CHECK refuses what is no valid tag, and NOT NULL refuses NULL."""
+        for value in ("'de_DE'", "'not a tag at all'", "''", "'qt-FR'", "5"):
+            said, complaint = sqlite(f"CREATE TABLE t (tag TEXT NOT NULL CHECK (langtag_is_valid(tag))); INSERT INTO t VALUES ('de-CH');\nINSERT INTO t VALUES ({value});\nSELECT tag FROM t;")
+            self.assertEqual(said, "de-CH\n")
+            self.assertIn("CHECK constraint failed: langtag_is_valid(tag)", complaint)
+        self.assertIn("NOT NULL constraint failed", sqlite("CREATE TABLE t (tag TEXT NOT NULL CHECK (langtag_is_valid(tag))); INSERT INTO t VALUES (NULL);")[1])
+
+    def test_lengths(self):
+        """Texts of each length are whole: parts, keywords, forms, and choices among rows and arguments."""
+        for length in (200, 300, 2000, 4506, 100_000):
+            tail = "x-" + "abcdefgh-" * (length // 9) + "a"
+            said, complaint = sqlite(f"SELECT langtag_part('zh-TW-{tail}', 'private_use'), langtag_canonical('zh-yue-{tail}'), langtag_maximize('zh-TW-{tail}'), langtag_locale_form('ger-UK-{tail}'), "
+                                     f"langtag_best_for_header('de', 'de-{tail}'), (SELECT langtag_group_best_for_header('de', column1) FROM (VALUES ('de-CH-{tail}'), ('de-{tail}'))), langtag_set_keyword('de-{tail}', 'ca', 'roc');")
+            self.assertEqual(complaint, "")
+            self.assertEqual(said.strip(), "|".join([tail, f"yue-{tail}", f"zh-Hant-TW-{tail}", f"de-GB-{tail}", f"de-{tail}", f"de-{tail}", f"de-u-ca-roc-{tail}"]))
+
+    def test_memory(self):
+        """Makes 20,000 calls of each function. The memory of SQLite's allocator must not grow."""
+        numbers = "WITH RECURSIVE n(k) AS (SELECT 1 UNION ALL SELECT k + 1 FROM n WHERE k < {})"
+        calls = ("langtag_best_for_header('de', 'en', 'de-x-a' || k)", "langtag_canonical('iw-x-' || replace(printf('%.40c', 'a'), 'a', 'abcdefgh-') || k)", "langtag_maximize('de-x-a' || k)",
+                 "langtag_part('de-x-a' || k, 'private_use')", "langtag_canonical('iw-x-a' || k)", "langtag_is_valid('de' || k)",
+                 "langtag_keyword('de-u-ca-a' || k, 'ca')", "langtag_set_keyword('de-u-ca-a', 'ca', 1000 + k)",
+                 "langtag_set_keyword('de-u-a' || k, 'ca', NULL)", "langtag_extensions_form('de-u-kn-ca-a' || k)", "langtag_is_locale('de-x-a' || k)",
+                 "langtag_locale_form('ger-x-a' || k)", "langtag_from_posix('de_x@' || k)", "langtag_unknown_modifier('de@' || k)",
+                 "langtag_matches_basic('de', 'de-x-a' || k)", "langtag_matches_extended('de', 'de-x-a' || k)")
+        asked = ", ".join(f"count({call})" for call in calls)
+        groups = "SELECT count(*) FROM (SELECT langtag_group_best_for_header('de', 'de-x-a' || k) FROM n GROUP BY k / 2)"
+        statements = "".join(f"{numbers.format(count)} SELECT {asked}, ({groups}) FROM n;\n" for count in (100, 20_000))
+        said, complaint = sqlite(".stats on\n" + statements)
+        before, after = map(int, re.findall(r"Memory Used: +(\d+)", said))
+        self.assertEqual(complaint, "")
+        self.assertLess(after - before, 20_000)
+
+
+if __name__ == "__main__":
+    EXTENSION = sys.argv[1]
+    unittest.main(argv=[sys.argv[0], *sys.argv[2:]])

@@ -1,0 +1,90 @@
+#!/usr/bin/env python3
+"""Tests that generate.py --check and check_numbers.py find differences, which are planted one by one in a copy of the files.
+
+    test_generate.py [ROOT] the root of the repository; by default, the repository that contains this file
+"""
+import contextlib
+import io
+import pathlib
+import shutil
+import sys
+import tempfile
+import unittest
+
+import check_numbers
+import generate
+
+ROOT = pathlib.Path(sys.argv[1] if sys.argv[1:] else pathlib.Path(__file__).parent.parent).resolve()
+HEADER, MODULE = generate.HEADER, "bindings/python/langtag/__init__.py"
+CRATE, SPANS = "crates/langtag_c/src", "crates/langtag_span/src"
+DATE = check_numbers.registry_date(ROOT)
+FILES = {HEADER, MODULE, check_numbers.DATED, "rows/table.txt", *generate.FILES, *(name for name, _ in check_numbers.VERSIONS + check_numbers.NUMBERS)}
+
+# A file, a text in it, the text that replaces it, and what the message has to name.
+PLANTED = [
+    (HEADER, "size_t langtag_viable(", "uint32_t langtag_viable(", "langtag_viable"),
+    (HEADER, "_basic(const char *range, size_t range_len,", "_basic(size_t range_len, const char *range,", "langtag_matches_basic"),
+    (HEADER, "void langtag_fold(char *bytes", "void langtag_fold(const char *bytes", "langtag_fold"),
+    (HEADER, "langtag_span script; ", "langtag_span region; ", "langtag_parts"),
+    (HEADER, "    size_t start;\n    size_t len;", "    size_t len;\n    size_t start;", "langtag_span"),
+    (HEADER, "langtag_grandfathered(const", "langtag_grandfatherd(const", "langtag_grandfatherd"),
+    (HEADER, "\nuint32_t langtag_parse(", "\nLANGTAG_PURE uint32_t langtag_parse(", "langtag_parse"),
+    (HEADER, "\nvoid langtag_recommend(", "\nLANGTAG_PURE void langtag_recommend(", "langtag_recommend"),
+    (HEADER, "\nLANGTAG_PURE bool langtag_eq(", "\nbool langtag_eq(", "langtag_eq"),
+    (HEADER, "uint32_t langtag_registry_date(void);", "uint64_t langtag_registry_date(void);", "langtag_registry_date"),
+    (HEADER, "uint32_t langtag_registry_date(void);", "uint32_t langtag_registry_date(uint32_t kind);", "langtag_registry_date"),
+    (HEADER, "__attribute__((pure,", "__attribute__((const,", "LANGTAG_PURE"),
+    (HEADER, "0 en-GB-oed    1 i-ami ", "1 en-GB-oed    0 i-ami ", "grandfathered"),
+    (HEADER, "LANGTAG_ABI_VERSION 1", "LANGTAG_ABI_VERSION 2", "LANGTAG_ABI_VERSION"),
+    (HEADER, "20250131 is 2025-01-31", DATE, DATE),
+    ("bindings/c/Makefile", "soname,$(NAME).so.1", "soname,$(NAME).so.2", "Makefile"),
+    ("rust/Cargo.toml", 'version = "0.2.0-dev"', 'version = "0.1.1"', "Cargo.toml"),
+    ("rust/c/Cargo.toml", 'version = "0.2.0-dev"', 'version = "0.1.1"', "rust/c/Cargo.toml"),
+    (MODULE, '__version__ = "0.2.0-dev"', '__version__ = "0.2.0"', "LANGTAG_VERSION"),
+    (MODULE, "REGISTRY_DATE = _registry_date()", f'REGISTRY_DATE = "{DATE}"', DATE),
+    (check_numbers.DATED, "pub const FILE_DATE", "pub const DATE", "the registry's date"),
+    (CRATE, "fn langtag_eq(a: &[u8], b: &[u8])", "fn langtag_eq(b: &[u8], a: &[u8])", "langtag_eq"),
+    (CRATE, "pub singleton: Span", "pub singletons: Span", "langtag_repeated"),
+    (SPANS, "pub len: usize", "pub length: usize", "langtag_span"),
+    # The contract says what is written: exports.rs follows it.
+    (CRATE, "ensures nothing { result ≡ false → language.new ≡ language.old }", "", "exports.rs"),
+    *((name, "hash", "hush", name) for name in generate.FILES),
+]
+
+
+def plant(path: pathlib.Path, old: str, new: str) -> None:
+    files = sorted(path.rglob("*.r[st]")) if path.is_dir() else [path]
+    holders = [file for file in files if old in file.read_text()]
+    if len(holders) != 1:
+        raise ValueError(f"{old!r} stands in {len(holders)} files of {path}")
+    holders[0].write_text(holders[0].read_text().replace(old, new, 1))
+
+
+def outcome(root: pathlib.Path) -> "tuple[int, str]":
+    said = io.StringIO()
+    with contextlib.redirect_stdout(said):
+        return max(generate.main(root, True), check_numbers.main(root)), said.getvalue()
+
+
+class Planted(unittest.TestCase):
+    def test_each_is_seen(self):
+        for where, old, new, named in PLANTED:
+            with self.subTest(where=where, new=new), tempfile.TemporaryDirectory() as folder:
+                copy = pathlib.Path(folder)
+                for name in FILES:
+                    (copy / name).parent.mkdir(parents=True, exist_ok=True)
+                    shutil.copy(ROOT / name, copy / name)
+                for name in (CRATE, SPANS):
+                    shutil.copytree(ROOT / name, copy / name)
+                plant(copy / where, old, new)
+                status, said = outcome(copy)
+                self.assertEqual(status, 1)
+                self.assertIn(named, said)
+
+    def test_none_is_there(self):
+        status, said = outcome(ROOT)
+        self.assertEqual(status, 0, said)
+
+
+if __name__ == "__main__":
+    unittest.main(argv=sys.argv[:1])

@@ -1,0 +1,22 @@
+//! The part of a tag before its extensions and private use.
+ghost use Rattle.std.specs.Prelude.{◌≡◌, ◌↔◌, length};
+ghost use Rattle.langtag.specs.Edit.{base_record};
+ghost use Rattle.langtag.specs.Part.{PartOf};
+ghost use Rattle.langtag_scan.specs.Record.{spell};
+ghost use Rattle.langtag_scan.specs.Tag.{IsTag};
+
+use langtag_span::tag_of;
+
+/// Returns the length of a tag without its extensions and private use: 10 for `de-CH-1996-u-co-phonebk`. A private-use
+/// tag and an irregular tag have no extensions, so this is their whole length. Returns 0 if the bytes are not a tag.
+#[tactic(auto, using(langtag_span::proofs::TagLengths::some_tag))]
+#[unsafe(no_mangle)]
+pub extern "C" fn langtag_base_len(bytes: &[u8]) -> usize
+    ensures base { IsTag bytes.now → PartOf bytes.now (λ r. length (spell (base_record r))) (length bytes.now) result }
+    ensures none { result ≡ 0 ↔ (IsTag bytes.now → ⊥) }
+{
+    match tag_of(bytes) {
+        Some(tag) => tag.base().as_str().len(),
+        None => 0,
+    }
+}

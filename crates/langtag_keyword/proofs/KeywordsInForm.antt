@@ -1,0 +1,209 @@
+-- Keywords that are written in the order of their keys are read again as they are: so keywords in their form are their own
+-- form, and subtags in which each key has the same value have the same form.
+use Rattle.std.proofs.Common.{◌≡◌, ℕ, Bool, true, false, cond, ◌&&◌, ◌||◌, List, [], ◌∷◌, ◌++◌, map, Option, None, Some, option_map, refl, sym, ap, ◌∙◌, append-nil}
+use Rattle.std.specs.List.{AllByRecursion, filter, flat_map, list_any}
+use Rattle.std.specs.Option.{is_some, option_map_or}
+use Rattle.langtag_scan.specs.Case.{are_alike, fold_text}
+use Rattle.langtag_scan.specs.CaseLaws.{are_alike-decides}
+use Rattle.langtag_scan.specs.Subtags.{join, subtags}
+use Rattle.langtag_keyword.specs.Form as form
+use Rattle.langtag_keyword.specs.Form.{is_before, keys_in_order, put_among}
+use Rattle.langtag_keyword.specs.Keywords.{before_key, value_of}
+use Rattle.langtag_keyword.proofs.AlphabetLaws.{Rise, rise-in_alphabet}
+use Rattle.langtag_keyword.proofs.AlphabetTwice.{AreLower, lower-in_alphabet}
+use Rattle.langtag_keyword.proofs.KeywordBlocks.{block, blocks}
+use Rattle.langtag_keyword.proofs.RisingTexts.{among, among-alphabet, before-apart, each-among, not-among, same-risen, under-each}
+
+pub flat-same : (f g : List ℕ → List (List ℕ)) (keys : List (List ℕ)) → AllByRecursion (λ k. f k ≡ g k) keys → flat_map f keys ≡ flat_map g keys
+flat-same f g [] same = refl
+flat-same f g (k ∷ keys) same = ap (λ t. t ++ flat_map f keys) same.0 ∙ ap (λ t. g k ++ t) (flat-same f g keys same.1)
+
+-- a key that has no value puts nothing among the keys
+pub blocks-put :
+    (value : List ℕ → Option (List (List ℕ))) (key : List ℕ) (keys : List (List ℕ)) → fold_text key ≡ key → AreLower keys → Rise keys → (among key keys ≡ false → value key ≡ None) →
+    blocks value (put_among key keys) ≡ blocks value keys
+blocks-put value key [] low lowers rise none = ap (λ o. option_map_or (λ v. key ∷ v) o [] ++ []) (none refl)
+blocks-put value key (j ∷ keys) low lowers rise none = by_tests (is_before key j) (is_before j key) refl refl (blocks-put value key keys low lowers.1 rise.1)
+  where
+    by_tests :
+        (a b : Bool) → is_before key j ≡ a → is_before j key ≡ b → ((among key keys ≡ false → value key ≡ None) → blocks value (put_among key keys) ≡ blocks value keys) →
+        blocks value (cond a (key ∷ j ∷ keys) (cond b (j ∷ put_among key keys) (j ∷ keys))) ≡ blocks value (j ∷ keys)
+    by_tests true b below other later =
+        ap (λ o. option_map_or (λ v. key ∷ v) o [] ++ blocks value (j ∷ keys)) (none (not-among key key (j ∷ keys) refl low lowers (under-each key (j ∷ keys) below rise)))
+    by_tests false true other below later = ap (λ t. block value j ++ t) (later (λ absent. none (ap (λ b. b || among key keys) (before-apart j key lowers.0 low below).0 ∙ absent)))
+    by_tests false false one two later = refl
+
+-- `opens` says which subtags are keys
+module _ (opens : List ℕ → Bool) where
+  -- no subtag is a key
+  abbrev pub Plain : List (List ℕ) → Type 0
+  Plain ss = AllByRecursion (λ s. opens s ≡ false) ss
+
+  pub plain-before : (ss : List (List ℕ)) → Plain (before_key opens ss)
+  plain-before [] = tt
+  plain-before (s ∷ ss) = by_test (opens s) refl (plain-before ss)
+    where
+      by_test : (b : Bool) → opens s ≡ b → Plain (before_key opens ss) → Plain (cond b [] (s ∷ before_key opens ss))
+      by_test true is later = tt
+      by_test false is later = (is, later)
+
+  pub before-plain : (xs ys : List (List ℕ)) → Plain xs → before_key opens (xs ++ ys) ≡ xs ++ before_key opens ys
+  before-plain [] ys plain = refl
+  before-plain (x ∷ xs) ys plain = ap (λ b. cond b [] (x ∷ before_key opens (xs ++ ys))) plain.0 ∙ ap (λ t. x ∷ t) (before-plain xs ys plain.1)
+
+  pub value-plain : (key : List ℕ) (xs ys : List (List ℕ)) → Plain xs → value_of opens key (xs ++ ys) ≡ value_of opens key ys
+  value-plain key [] ys plain = refl
+  value-plain key (x ∷ xs) ys plain =
+      ap (λ b. cond (b && are_alike x key) (Some (before_key opens (xs ++ ys))) (value_of opens key (xs ++ ys))) plain.0 ∙ value-plain key xs ys plain.1
+
+  -- what has a value is a key, and there is no key in the value
+  abbrev pub AreKeywords : (List ℕ → Option (List (List ℕ))) → Type 0
+  AreKeywords value = (key : List ℕ) (v : List (List ℕ)) → value key ≡ Some v → (opens key ≡ true) × Plain v
+
+  module _ (value : List ℕ → Option (List (List ℕ))) (are : AreKeywords value) where
+    blocks-start : (keys : List (List ℕ)) → before_key opens (blocks value keys) ≡ []
+    blocks-start [] = refl
+    blocks-start (key ∷ keys) = by_value (value key) refl (blocks-start keys)
+      where
+        by_value :
+            (o : Option (List (List ℕ))) → value key ≡ o → before_key opens (blocks value keys) ≡ [] → before_key opens (option_map_or (λ v. key ∷ v) o [] ++ blocks value keys) ≡ []
+        by_value None is later = later
+        by_value (Some v) is later = ap (λ b. cond b [] (key ∷ before_key opens (v ++ blocks value keys))) (are key v is).0
+
+    -- after subtags that are no keys
+    pub before-blocks : (front keys : List (List ℕ)) → Plain front → before_key opens (front ++ blocks value keys) ≡ front
+    before-blocks front keys plain = before-plain front (blocks value keys) plain ∙ ap (λ t. front ++ t) (blocks-start keys) ∙ append-nil front
+
+    -- the value of a key in lowercase, among keys in lowercase
+    value-found :
+        (k : List ℕ) (keys : List (List ℕ)) → fold_text k ≡ k → AllByRecursion (λ j. fold_text j ≡ j) keys →
+        value_of opens k (blocks value keys) ≡ cond (among k keys) (value k) None
+    value-found k [] lower lowers = refl
+    value-found k (j ∷ keys) lower lowers = by_tests (are_alike j k) (value j) refl refl (value-found k keys lower lowers.1)
+      where
+        by_any : (b : Bool) → value k ≡ None → cond b (value k) None ≡ value k
+        by_any true none = refl
+        by_any false none = sym none
+
+        by_tests :
+            (a : Bool) (o : Option (List (List ℕ))) → are_alike j k ≡ a → value j ≡ o →
+            value_of opens k (blocks value keys) ≡ cond (list_any (λ i. are_alike i k) keys) (value k) None →
+            value_of opens k (option_map_or (λ v. j ∷ v) o [] ++ blocks value keys) ≡ cond (a || list_any (λ i. are_alike i k) keys) (value k) None
+        by_tests true None alike is later =
+            let same : j ≡ k = sym lowers.0 ∙ (are_alike-decides j k).0 alike ∙ lower in
+            later ∙ by_any (list_any (λ i. are_alike i k) keys) (ap value (sym same) ∙ is)
+        by_tests true (Some v) alike is later =
+            let same : j ≡ k = sym lowers.0 ∙ (are_alike-decides j k).0 alike ∙ lower in
+            let rest : List (List ℕ) = v ++ blocks value keys in
+            ap (λ b. cond (b && are_alike j k) (Some (before_key opens rest)) (value_of opens k rest)) (are j v is).0
+            ∙ ap (λ b. cond b (Some (before_key opens rest)) (value_of opens k rest)) alike
+            ∙ ap (λ t. Some t) (before-blocks v keys (are j v is).1) ∙ sym is ∙ ap value same
+        by_tests false None alike is later = later
+        by_tests false (Some v) alike is later =
+            let rest : List (List ℕ) = v ++ blocks value keys in
+            ap (λ b. cond (b && are_alike j k) (Some (before_key opens rest)) (value_of opens k rest)) (are j v is).0
+            ∙ ap (λ b. cond b (Some (before_key opens rest)) (value_of opens k rest)) alike ∙ value-plain k v (blocks value keys) (are j v is).1 ∙ later
+
+  -- ---- which keys are in order
+
+  key-has : (k : List ℕ) (ss : List (List ℕ)) → among k (filter opens ss) ≡ is_some (value_of opens k ss)
+  key-has k [] = refl
+  key-has k (s ∷ ss) = by_tests (opens s) (are_alike s k) refl (key-has k ss)
+    where
+      by_tests :
+          (t a : Bool) → are_alike s k ≡ a → among k (filter opens ss) ≡ is_some (value_of opens k ss) →
+          among k (cond t (s ∷ filter opens ss) (filter opens ss)) ≡ is_some (cond (t && a) (Some (before_key opens ss)) (value_of opens k ss))
+      by_tests true true alike later = ap (λ b. b || among k (filter opens ss)) alike
+      by_tests true false apart later = ap (λ b. b || among k (filter opens ss)) apart ∙ later
+      by_tests false a is later = later
+
+  pub keys-have : (k : List ℕ) (ss : List (List ℕ)) → among k (keys_in_order opens ss) ≡ is_some (value_of opens k ss)
+  keys-have k ss = among-alphabet k (filter opens ss) ∙ key-has k ss
+
+  -- each key in order has a value
+  pub each-has : (ss : List (List ℕ)) → AllByRecursion (λ k. is_some (value_of opens k ss) ≡ true) (keys_in_order opens ss)
+  each-has ss = each (keys_in_order opens ss) (each-among [] (keys_in_order opens ss))
+    where
+      each : (ks : List (List ℕ)) → AllByRecursion (λ k. among k (keys_in_order opens ss) ≡ true) ks → AllByRecursion (λ k. is_some (value_of opens k ss) ≡ true) ks
+      each [] all = tt
+      each (k ∷ ks) all = (sym (keys-have k ss) ∙ all.0, each ks all.1)
+
+  -- ---- keywords in their form
+
+  module _ (canonical : List ℕ → List ℕ → List ℕ) where
+    -- the values in canonical form
+    abbrev pub values_in_form : List (List ℕ) → List ℕ → Option (List (List ℕ))
+    values_in_form ss key = option_map (λ w. map fold_text (subtags (canonical key (join w)))) (value_of opens key ss)
+
+    -- the form, key after key
+    pub form-blocks : (ss : List (List ℕ)) → form.keywords_form opens canonical ss ≡ blocks (values_in_form ss) (keys_in_order opens ss)
+    form-blocks ss = flat-same (form.keyword_form opens canonical ss) (block (values_in_form ss)) (keys_in_order opens ss) (each (keys_in_order opens ss))
+      where
+        by_value :
+            (key : List ℕ) (o : Option (List (List ℕ))) →
+            option_map_or (λ w. key ∷ map fold_text (subtags (canonical key (join w)))) o []
+            ≡ option_map_or (λ v. key ∷ v) (option_map (λ w. map fold_text (subtags (canonical key (join w)))) o) []
+        by_value key None = refl
+        by_value key (Some w) = refl
+
+        each : (keys : List (List ℕ)) → AllByRecursion (λ k. form.keyword_form opens canonical ss k ≡ block (values_in_form ss) k) keys
+        each [] = tt
+        each (k ∷ keys) = (by_value k (value_of opens k ss), each keys)
+
+    -- a key is among the keys of subtags in which it has a value
+    has-value : (k : List ℕ) (ss : List (List ℕ)) → among k (keys_in_order opens ss) ≡ is_some (values_in_form ss k)
+    has-value k ss = keys-have k ss ∙ by_value (value_of opens k ss)
+      where
+        by_value : (o : Option (List (List ℕ))) → is_some o ≡ is_some (option_map (λ w. map fold_text (subtags (canonical k (join w)))) o)
+        by_value None = refl
+        by_value (Some w) = refl
+
+    -- the form depends on nothing but the values of keys in lowercase
+    pub same-values :
+        (ss ts : List (List ℕ)) → ((k : List ℕ) → fold_text k ≡ k → values_in_form ss k ≡ values_in_form ts k) → form.keywords_form opens canonical ss ≡ form.keywords_form opens canonical ts
+    same-values ss ts same =
+        form-blocks ss ∙ flat-same (block (values_in_form ss)) (block (values_in_form ts)) (keys_in_order opens ss) (each (keys_in_order opens ss) (lower-in_alphabet (filter opens ss)))
+        ∙ ap (blocks (values_in_form ts)) keys ∙ sym (form-blocks ts)
+      where
+        each : (ks : List (List ℕ)) → AreLower ks → AllByRecursion (λ k. block (values_in_form ss) k ≡ block (values_in_form ts) k) ks
+        each [] lowers = tt
+        each (k ∷ ks) lowers = (ap (λ o. option_map_or (λ v. k ∷ v) o []) (same k lowers.0), each ks lowers.1)
+
+        keys : keys_in_order opens ss ≡ keys_in_order opens ts
+        keys =
+            same-risen (keys_in_order opens ss) (keys_in_order opens ts) (lower-in_alphabet (filter opens ss)) (lower-in_alphabet (filter opens ts)) (rise-in_alphabet (filter opens ss))
+            (rise-in_alphabet (filter opens ts)) (λ k low. has-value k ss ∙ ap is_some (same k low) ∙ sym (has-value k ts))
+
+    -- the form after some subtags that are no keys
+    module _ (ss : List (List ℕ)) (are : AreKeywords (values_in_form ss)) (front : List (List ℕ)) (plain : Plain front) where
+      abbrev whole : List (List ℕ)
+      whole = front ++ form.keywords_form opens canonical ss
+
+      pub front-again : before_key opens whole ≡ front
+      front-again = ap (λ t. before_key opens (front ++ t)) (form-blocks ss) ∙ before-blocks (values_in_form ss) are front (keys_in_order opens ss) plain
+
+      found-again : (k : List ℕ) → fold_text k ≡ k → value_of opens k whole ≡ values_in_form ss k
+      found-again k low =
+          value-plain k front (form.keywords_form opens canonical ss) plain ∙ ap (value_of opens k) (form-blocks ss)
+          ∙ value-found (values_in_form ss) are k (keys_in_order opens ss) low (lower-in_alphabet (filter opens ss)) ∙ ap (λ b. cond b (values_in_form ss k) None) (has-value k ss)
+          ∙ by_value (values_in_form ss k)
+        where
+          by_value : (o : Option (List (List ℕ))) → cond (is_some o) o None ≡ o
+          by_value None = refl
+          by_value (Some v) = refl
+
+      -- a canonical value is its own canonical value
+      module _
+          (settled :
+          (key : List ℕ) (w : List (List ℕ)) →
+          map fold_text (subtags (canonical key (join (map fold_text (subtags (canonical key (join w))))))) ≡ map fold_text (subtags (canonical key (join w))))
+        where
+          pub keywords-again : form.keywords_form opens canonical whole ≡ form.keywords_form opens canonical ss
+          keywords-again = same-values whole ss (λ k low. ap (option_map (λ w. map fold_text (subtags (canonical k (join w))))) (found-again k low) ∙ by_value k (value_of opens k ss))
+            where
+              by_value :
+                  (k : List ℕ) (o : Option (List (List ℕ))) →
+                  option_map (λ w. map fold_text (subtags (canonical k (join w)))) (option_map (λ w. map fold_text (subtags (canonical k (join w)))) o)
+                  ≡ option_map (λ w. map fold_text (subtags (canonical k (join w)))) o
+              by_value k None = refl
+              by_value k (Some w) = ap (λ t. Some t) (settled k w)

@@ -1,0 +1,396 @@
+-- Likely subtags that are added again change nothing, also where deprecated subtags are replaced before the look-up. A language
+-- that has a row is not deprecated.
+use Rattle.std.proofs.Common.{◌≡◌, ℕ, ◌==◌, ◌%◌, ◌&&◌, ◌||◌, true, false, Bool, leb, ltb, not, List, [], ◌∷◌, length, Option, None, Some, is_some, option_map, refl, sym, ap, subst, ◌∙◌, arith, codes}
+use Rattle.std.proofs.lemmas.Bool.{and_parts, eqb-true}
+use Rattle.std.proofs.lemmas.List.{nil_from_length}
+use Rattle.std.specs.List.{list_all}
+use Rattle.std.specs.Option.{is_none, option_map_or}
+use Rattle.langtag_scan.specs.Case.{Alike, are_alike, fold_byte}
+use Rattle.langtag_scan.specs.CaseLaws.{are_alike-decides}
+use Rattle.langtag_scan.specs.Class.{are_letters, is_letter}
+use Rattle.langtag_scan.proofs.CaseLaw.{all-fold, is_letter-fold}
+use Rattle.langtag.proofs.Alike.{AlikeFields}
+use Rattle.langtag.specs.Fields.{Fields}
+use Rattle.langtag_tables.specs.Numbers.{letter_number}
+use Rattle.langtag_tables.proofs.Letters.{letter_number-tells}
+use Rattle.langtag_likely.specs.Aliases.{language_aliases, region_aliases}
+use Rattle.langtag_likely.specs.Likely.{Likely, add_likely, are_alike_fields, filled, known, known_fields, language_alone, likely_for, looked_up, or_else, or_other}
+use Rattle.langtag_likely.specs.LikelySubtags.{likely_subtags}
+use Rattle.langtag_likely.specs.Matching.{language_replaced, region_alone, region_replaced, with_language_from, with_region_from}
+use Rattle.langtag_likely.specs.Maximal.{add_likely_subtags, canonical_fields}
+use Rattle.langtag_likely.proofs.AddedTwice.{AreKnown, IsAdded, absent, added, either_way, found_of, known_stays, not_first, or_other_absent, or_other_there, other_test, there_alike, there_other}
+use Rattle.langtag_likely.proofs.AliasTables.{aliases_listed}
+use Rattle.langtag_likely.proofs.AlikeFields.{alike_fields}
+use Rattle.langtag_likely.proofs.TableRows.{has_bit, from_bit, is_there, rows_listed}
+
+-- ---- the bit of a language does not change with the case of letters
+
+letters-alike : (a b : List ℕ) → Alike a b → are_letters a ≡ are_letters b
+letters-alike a b same = sym (all-fold is_letter is_letter-fold a) ∙ ap (list_all is_letter) same ∙ all-fold is_letter is_letter-fold b
+
+number-alike : (a b : List ℕ) → Alike a b → are_letters a ≡ true → letter_number a ≡ letter_number b
+number-alike a b same letters =
+    sym (eqb-true (letter_number b) (letter_number a) (letter_number-tells a b letters (sym (letters-alike a b same) ∙ letters) ∙ (are_alike-decides a b).1 same))
+
+bit_by : Bool → ℕ → Bool
+bit_by letters number = letters && (leb 27 number && (leb number 18278 && (from_bit number % 2 == 1)))
+
+bit-alike : (a b : List ℕ) → Alike a b → has_bit a ≡ true → has_bit b ≡ true
+unfolding has_bit bit_by
+bit-alike a b same bit =
+    let letters : are_letters a ≡ true = (and_parts (are_letters a) _ bit).0 in
+    sym (ap (λ l. bit_by l (letter_number a)) (letters-alike a b same) ∙ ap (bit_by (are_letters b)) (number-alike a b same letters)) ∙ bit
+
+-- ---- a language that has a row is not deprecated
+
+-- the left side of a row that was found
+record LeftSide (holds : Likely → Bool) (key : Fields) : Type 0 where
+  row : Likely
+  holds_of_it : holds row ≡ true
+  same : AlikeFields row.from key
+
+left_side : (rows : List Likely) (holds : Likely → Bool) (key to : Fields) → list_all holds rows ≡ true → likely_for rows key ≡ Some to → LeftSide holds key
+left_side [] holds key to all is = absurd cc
+left_side (row ∷ rows) holds key to all is =
+    let k = and_parts (holds row) (list_all holds rows) all in
+    either_way (are_alike_fields row.from key)
+    (λ same. record { row = row; holds_of_it = k.0; same = alike_fields row.from key same })
+    (λ other. left_side rows holds key to k.1 (sym (rw other refl) ∙ is))
+
+abbrev is_listed : Likely → Bool
+is_listed row = not (is_there row.from.language) || has_bit row.from.language
+
+listed_bit : (key to : Fields) → likely_for likely_subtags key ≡ Some to → is_there key.language ≡ true → has_bit key.language ≡ true
+listed_bit key to is there =
+    let left = left_side likely_subtags is_listed key to rows_listed.listed is in
+    let from : is_there left.row.from.language ≡ true = there_alike _ _ left.same.language ∙ there in
+    bit-alike left.row.from.language key.language left.same.language (sym (ap (λ b. not b || has_bit left.row.from.language) from) ∙ left.holds_of_it)
+
+no_value : {A : Type 0} (o : Option A) → ((v : A) → o ≡ Some v → ⊥) → o ≡ None
+no_value None never = refl
+no_value (Some v) never = absurd (never v refl)
+
+listed_current : (f to : Fields) → likely_for likely_subtags f ≡ Some to → is_there f.language ≡ true → likely_for language_aliases (language_alone f) ≡ None
+listed_current f to is there = no_value (likely_for language_aliases (language_alone f)) (λ v found.
+    let left = left_side language_aliases (λ row. not (has_bit row.from.language)) (language_alone f) v aliases_listed.unlisted found in
+    let bit = bit-alike f.language left.row.from.language (sym left.same.language) (listed_bit f to is there) in
+    let no : not true ≡ true = sym (ap not bit) ∙ left.holds_of_it in
+    absurd cc)
+
+-- ---- the empty field is not deprecated
+
+none_language : likely_for language_aliases (record { language = []; script = []; region = [] }) ≡ None
+unfolding language_aliases fold_byte
+none_language = refl
+
+none_region : likely_for region_aliases (record { language = []; script = []; region = [] }) ≡ None
+unfolding region_aliases fold_byte
+none_region = refl
+
+no_language : (f : Fields) → f.language ≡ [] → likely_for language_aliases (language_alone f) ≡ None
+no_language f none = ap (λ l. likely_for language_aliases (record { language = l; script = []; region = [] })) none ∙ none_language
+
+pub no_region : (f : Fields) → length f.region ≡ 0 → likely_for region_aliases (region_alone f) ≡ None
+no_region f none = ap (λ r. likely_for region_aliases (record { language = []; script = []; region = r })) (nil_from_length f.region none) ∙ none_region
+
+-- ---- fields without deprecated subtags
+
+language_stays : (f : Fields) → likely_for language_aliases (language_alone f) ≡ None → language_replaced f ≡ f
+unfolding language_replaced
+language_stays f none = ap (λ o. option_map_or (with_language_from f) o f) none
+
+region_stays : (f : Fields) → likely_for region_aliases (region_alone f) ≡ None → region_replaced f ≡ f
+unfolding region_replaced
+region_stays f none = ap (λ o. option_map_or (with_region_from f) o f) none
+
+canonical_stays : (f : Fields) → likely_for language_aliases (language_alone f) ≡ None → likely_for region_aliases (region_alone f) ≡ None → canonical_fields f ≡ f
+canonical_stays f language region = ap region_replaced (language_stays f language) ∙ region_stays f region
+
+-- the language of fields to which likely subtags are added is not deprecated
+looked_up-current : (f to : Fields) → looked_up likely_subtags f ≡ Some to → likely_for language_aliases (language_alone f) ≡ None
+looked_up-current f to is =
+    either_way (is_there f.language)
+    (λ there.
+    let found = found_of f to is in
+    ap (λ l. likely_for language_aliases (record { language = l; script = []; region = [] })) (sym found.is_key.language)
+    ∙ listed_current found.key to found.found (ap is_there found.is_key.language ∙ there))
+    (λ none. no_language f (absent f.language none))
+
+-- ---- likely subtags that are added are those of the canonical fields
+
+or_other-twice : (a b : List ℕ) → or_other a (or_other a b) ≡ or_other a b
+or_other-twice a b = grind arith
+
+filled-twice : (f v : Fields) → filled f (filled f v) ≡ filled f v
+filled-twice f v = rw (or_other-twice f.language v.language, or_other-twice f.script v.script, or_other-twice f.region v.region) refl
+
+canonical_added : (f m : Fields) → canonical_fields f ≡ f → add_likely likely_subtags f ≡ Some m → add_likely_subtags f ≡ Some m
+unfolding add_likely_subtags
+canonical_added f m stays is = ap (λ c. option_map (filled f) (add_likely likely_subtags c)) stays ∙ by_row (looked_up likely_subtags f) is
+  where
+    by_row : (o : Option Fields) → option_map (filled f) o ≡ Some m → option_map (filled f) (option_map (filled f) o) ≡ Some m
+    by_row None is = absurd cc
+    by_row (Some v) is = ap Some (filled-twice f v) ∙ is
+
+none_is : {A : Type 0} (o : Option A) → is_none o ≡ true → o ≡ None
+none_is None h = refl
+none_is (Some x) h = absurd cc
+
+pub current_added : (f m : Fields) → is_none (likely_for region_aliases (region_alone f)) ≡ true → add_likely likely_subtags f ≡ Some m → add_likely_subtags f ≡ Some m
+current_added f m region is = by_row (looked_up likely_subtags f) refl is
+  where
+    by_row : (o : Option Fields) → looked_up likely_subtags f ≡ o → option_map (filled f) o ≡ Some m → add_likely_subtags f ≡ Some m
+    by_row None looked none = absurd cc
+    by_row (Some to) looked some = canonical_added f m (canonical_stays f (looked_up-current f to looked) (none_is (likely_for region_aliases (region_alone f)) region)) is
+
+-- ---- what replaces a language, or a region
+
+right_side : (rows : List Likely) (holds : Fields → Bool) (key to : Fields) → list_all (λ row. holds row.to) rows ≡ true → likely_for rows key ≡ Some to → holds to ≡ true
+right_side [] holds key to all is = absurd cc
+right_side (row ∷ rows) holds key to all is =
+    let k = and_parts (holds row.to) (list_all (λ row. holds row.to) rows) all in
+    either_way (are_alike_fields row.from key)
+    (λ same. let it : Some row.to ≡ Some to = sym (rw same refl) ∙ is in let here : row.to ≡ to = cc in sym (ap holds here) ∙ k.0)
+    (λ other. right_side rows holds key to k.1 (sym (rw other refl) ∙ is))
+
+is_alias_target : Fields → Bool
+is_alias_target to = not (are_alike (codes "Zzzz") to.script) && not (are_alike (codes "ZZ") to.region)
+
+leads : Fields → Bool
+leads to = ltb 0 (length to.language)
+
+language_of : List ℕ → Option Fields → List ℕ
+language_of language o = option_map_or (λ to. to.language) o language
+
+language_by : (f : Fields) (o : Option Fields) → (option_map_or (with_language_from f) o f).language ≡ language_of f.language o
+unfolding language_of
+language_by f None = refl
+language_by f (Some to) = refl
+
+region_keeps : (f : Fields) → ((region_replaced f).language ≡ f.language) × ((region_replaced f).script ≡ f.script)
+unfolding region_replaced
+region_keeps f = by_row (likely_for region_aliases (region_alone f))
+  where
+    by_row : (o : Option Fields) → ((option_map_or (with_region_from f) o f).language ≡ f.language) × ((option_map_or (with_region_from f) o f).script ≡ f.script)
+    by_row None = (refl, refl)
+    by_row (Some to) = (refl, refl)
+
+canonical_language : (f : Fields) → (canonical_fields f).language ≡ language_of f.language (likely_for language_aliases (language_alone f))
+unfolding language_replaced
+canonical_language f = (region_keeps (language_replaced f)).0 ∙ language_by f (likely_for language_aliases (language_alone f))
+
+same_language : (f g : Fields) → f.language ≡ g.language → (canonical_fields f).language ≡ (canonical_fields g).language
+same_language f g same =
+    canonical_language f ∙ ap (λ l. language_of l (likely_for language_aliases (record { language = l; script = []; region = [] }))) same ∙ sym (canonical_language g)
+
+canonical_there : (f : Fields) → is_there f.language ≡ true → is_there (canonical_fields f).language ≡ true
+unfolding language_of leads
+canonical_there f there = ap is_there (canonical_language f) ∙ by_row (likely_for language_aliases (language_alone f)) refl
+  where
+    by_row : (o : Option Fields) → likely_for language_aliases (language_alone f) ≡ o → is_there (language_of f.language o) ≡ true
+    by_row None none = there
+    by_row (Some to) found = some_there to.language (right_side language_aliases leads (language_alone f) to aliases_listed.lead found)
+      where
+        some_there : (l : List ℕ) → ltb 0 (length l) ≡ true → is_there l ≡ true
+        some_there [] h = absurd cc
+        some_there (b ∷ l) h = refl
+
+canonical_none : (f : Fields) → f.language ≡ [] → (canonical_fields f ≡ region_replaced f)
+canonical_none f none = ap region_replaced (language_stays f (no_language f none))
+
+-- ---- no field becomes unknown
+
+known_not : (unknown a : List ℕ) → are_alike unknown [] ≡ false → are_alike unknown (known unknown a) ≡ false
+known_not unknown a none = grind arith
+
+language-known : (f : Fields) → AreKnown f → AreKnown (language_replaced f)
+unfolding language_replaced is_alias_target
+language-known f are = by_row (likely_for language_aliases (language_alone f)) refl
+  where
+    by_row : (o : Option Fields) → likely_for language_aliases (language_alone f) ≡ o → AreKnown (option_map_or (with_language_from f) o f)
+    by_row None none = are
+    by_row (Some to) found =
+        let k = and_parts (not (are_alike (codes "Zzzz") to.script)) (not (are_alike (codes "ZZ") to.region)) (right_side language_aliases is_alias_target (language_alone f) to aliases_listed.known found) in
+        record {
+          script = other_test (codes "Zzzz") f.script to.script are.script (not_true _ k.0);
+          region = other_test (codes "ZZ") f.region to.region are.region (not_true _ k.1);
+        }
+      where
+        not_true : (b : Bool) → not b ≡ true → b ≡ false
+        not_true b h = grind arith
+
+region-known : (f : Fields) → AreKnown f → AreKnown (region_replaced f)
+unfolding region_replaced
+region-known f are = by_row (likely_for region_aliases (region_alone f))
+  where
+    by_row : (o : Option Fields) → AreKnown (option_map_or (with_region_from f) o f)
+    by_row None = are
+    by_row (Some to) = record { script = are.script; region = known_not (codes "ZZ") to.region refl }
+
+canonical-known : (f : Fields) → AreKnown f → AreKnown (canonical_fields f)
+canonical-known f are = region-known (language_replaced f) (language-known f are)
+
+-- ---- what is added
+
+-- fields that are all there stay, if something is looked up
+whole_again : (m : Fields) → is_there m.language ≡ true → is_there m.script ≡ true → is_there m.region ≡ true → is_some (likely_for likely_subtags (language_alone (canonical_fields m))) ≡ true → add_likely_subtags m ≡ Some m
+unfolding add_likely_subtags
+whole_again m l s r alone = some_last (likely_for likely_subtags (canonical_fields m)) _ _ (likely_for likely_subtags (language_alone (canonical_fields m))) alone
+  where
+    filled_whole : (v : Fields) → filled m v ≡ m
+    filled_whole v = rw (or_other_there m.language v.language l, or_other_there m.script v.script s, or_other_there m.region v.region r) refl
+
+    some_last : (a b c d : Option Fields) → is_some d ≡ true → option_map (filled m) (option_map (filled (canonical_fields m)) (or_else a (or_else b (or_else c d)))) ≡ Some m
+    some_last (Some v) b c d some = ap Some (filled_whole _)
+    some_last None (Some v) c d some = ap Some (filled_whole _)
+    some_last None None (Some v) d some = ap Some (filled_whole _)
+    some_last None None None (Some v) some = ap Some (filled_whole _)
+    some_last None None None None some = absurd cc
+
+module _ (f w : Fields) (are : AreKnown f) (is : add_likely likely_subtags (canonical_fields f) ≡ Some w) where
+  abbrev c : Fields
+  c = canonical_fields f
+
+  abbrev m : Fields
+  m = filled f w
+
+  abbrev plain : IsAdded c w
+  plain = added c w (canonical-known f are) is
+
+  abbrev v : Fields
+  v = plain.to
+
+  -- ---- the fields that are made
+
+  script_there : is_there m.script ≡ true
+  script_there = there_other f.script w.script (ap (λ x. is_there x.script) (sym plain.filled_is) ∙ there_other c.script v.script plain.facts.script)
+
+  region_there : is_there m.region ≡ true
+  region_there = there_other f.region w.region (ap (λ x. is_there x.region) (sym plain.filled_is) ∙ there_other c.region v.region plain.facts.region)
+
+  script_known : are_alike (codes "Zzzz") m.script ≡ false
+  script_known =
+      let of_w = ap (λ x. are_alike (codes "Zzzz") x.script) (sym plain.filled_is) ∙ other_test (codes "Zzzz") c.script v.script (canonical-known f are).script plain.facts.script_known in
+      other_test (codes "Zzzz") f.script w.script are.script of_w
+
+  region_known : are_alike (codes "ZZ") m.region ≡ false
+  region_known =
+      let of_w = ap (λ x. are_alike (codes "ZZ") x.region) (sym plain.filled_is) ∙ other_test (codes "ZZ") c.region v.region (canonical-known f are).region plain.facts.region_known in
+      other_test (codes "ZZ") f.region w.region are.region of_w
+
+  known_same : known_fields m ≡ m
+  known_same = rw (known_stays (codes "Zzzz") m.script script_known, known_stays (codes "ZZ") m.region region_known) refl
+
+  -- ---- a language is known
+
+  alone : is_there w.language ≡ true → is_some (likely_for likely_subtags (language_alone w)) ≡ true
+  alone = subst (λ x. is_there x.language ≡ true → is_some (likely_for likely_subtags (language_alone x)) ≡ true) plain.filled_is plain.facts.alone
+
+  current : is_there w.language ≡ true → likely_for language_aliases (language_alone w) ≡ None
+  current there = by_row (likely_for likely_subtags (language_alone w)) refl (alone there)
+    where
+      by_row : (o : Option Fields) → likely_for likely_subtags (language_alone w) ≡ o → is_some o ≡ true → likely_for language_aliases (language_alone w) ≡ None
+      by_row None is some = absurd cc
+      by_row (Some to) is some = listed_current (language_alone w) to is there
+
+  -- the canonical fields of what is made have the language of those that were looked up
+  language_again : is_there m.language ≡ true → (canonical_fields m).language ≡ w.language
+  unfolding language_of
+  language_again there =
+      either_way (is_there f.language)
+      (λ written.
+      same_language m f (or_other_there f.language w.language written)
+      ∙ sym (or_other_there c.language v.language (canonical_there f written)) ∙ ap (λ x. x.language) plain.filled_is)
+      (λ none.
+      let same : m.language ≡ w.language = or_other_absent f.language w.language none in
+      let none_for : likely_for language_aliases (language_alone m) ≡ None =
+      ap (λ l. likely_for language_aliases (record { language = l; script = []; region = [] })) same ∙ current (sym (ap is_there same) ∙ there) in
+      canonical_language m ∙ ap (language_of m.language) none_for ∙ same)
+
+  known_again : is_there m.language ≡ true → add_likely_subtags m ≡ Some m
+  known_again there =
+      let same = language_again there in
+      let row : is_some (likely_for likely_subtags (language_alone (canonical_fields m))) ≡ true =
+      ap (λ l. is_some (likely_for likely_subtags (record { language = l; script = []; region = [] }))) same ∙ alone (ap is_there (sym same) ∙ canonical_there m there) in
+      whole_again m there script_there region_there row
+
+  -- ---- no language is known
+
+  unknown_again : is_there m.language ≡ false → add_likely_subtags f ≡ Some m → add_likely_subtags m ≡ Some m
+  unknown_again none made = either_way (is_there f.region) written unwritten
+    where
+      f_none : is_there f.language ≡ false
+      f_none = not_first f.language w.language none
+
+      w_none : is_there w.language ≡ false
+      w_none = sym (ap is_there (or_other_absent f.language w.language f_none)) ∙ none
+
+      canonical_is : c ≡ region_replaced f
+      canonical_is = canonical_none f (absent f.language f_none)
+
+      facts : (is_there c.script ≡ true) × (is_none (likely_for region_aliases (region_alone v)) ≡ true)
+      facts = plain.facts.unknown (ap (λ x. is_there x.language) plain.filled_is ∙ w_none)
+
+      script_written : is_there f.script ≡ true
+      script_written = ap is_there (sym (ap (λ x. x.script) canonical_is ∙ (region_keeps f).1)) ∙ facts.0
+
+      written : is_there f.region ≡ true → add_likely_subtags m ≡ Some m
+      written there =
+          let same : m ≡ f =
+          ap (λ l. record { language = l; script = m.script; region = m.region }) (absent m.language none ∙ sym (absent f.language f_none))
+          ∙ ap (λ s. record { language = f.language; script = s; region = m.region }) (or_other_there f.script w.script script_written)
+          ∙ ap (λ r. record { language = f.language; script = f.script; region = r }) (or_other_there f.region w.region there) in
+          ap add_likely_subtags same ∙ made
+
+      unwritten : is_there f.region ≡ false → add_likely_subtags m ≡ Some m
+      unwritten absent_region =
+          let stays : c ≡ f = canonical_is ∙ region_stays f (no_region f (ap length (absent f.region absent_region))) in
+          let same : m ≡ w =
+          ap (filled f) (sym plain.filled_is ∙ ap (λ x. filled x v) stays) ∙ filled-twice f v ∙ ap (λ x. filled x v) (sym stays) ∙ plain.filled_is in
+          let region : m.region ≡ v.region =
+          or_other_absent f.region w.region absent_region ∙ ap (λ x. x.region) (sym plain.filled_is) ∙ or_other_absent c.region v.region (ap (λ x. is_there x.region) stays ∙ absent_region) in
+          let none_for : likely_for region_aliases (region_alone m) ≡ None =
+          ap (λ r. likely_for region_aliases (record { language = []; script = []; region = r })) region ∙ none_is (likely_for region_aliases (region_alone v)) facts.1 in
+          let again : add_likely likely_subtags (known_fields m) ≡ Some m = subst (λ x. add_likely likely_subtags (known_fields x) ≡ Some x) (sym same) plain.again in
+          canonical_added m m (canonical_stays m (no_language m (absent m.language none)) none_for) (ap (add_likely likely_subtags) (sym known_same) ∙ again)
+
+  made_again : add_likely_subtags f ≡ Some m → add_likely_subtags (known_fields m) ≡ Some m
+  made_again made = ap add_likely_subtags known_same ∙ either_way (is_there m.language) known_again (λ none. unknown_again none made)
+
+  language_not_und : are_alike (codes "und") v.language ≡ false
+  language_not_und = plain.language
+
+  -- what is added, with the language of the row
+  filled_is : filled f (record { language = v.language; script = w.script; region = w.region }) ≡ m
+  filled_is = ap (λ l. record { language = l; script = m.script; region = m.region }) (either_way (is_there f.language) written unwritten)
+    where
+      written : is_there f.language ≡ true → or_other f.language v.language ≡ or_other f.language w.language
+      written there = or_other_there f.language v.language there ∙ sym (or_other_there f.language w.language there)
+
+      unwritten : is_there f.language ≡ false → or_other f.language v.language ≡ or_other f.language w.language
+      unwritten none =
+          let c_none : is_there c.language ≡ false = ap (λ x. is_there x.language) (canonical_none f (absent f.language none)) ∙ ap is_there (region_keeps f).0 ∙ none in
+          ap (or_other f.language) (sym (or_other_absent c.language v.language c_none) ∙ ap (λ x. x.language) plain.filled_is)
+
+-- what was added: fields whose language is not `und`
+pub record IsAddedTo (f m : Fields) : Type 0 where
+  pub to : Fields
+  pub filled_is : filled f to ≡ m
+  pub language : are_alike (codes "und") to.language ≡ false
+  pub again : add_likely_subtags (known_fields m) ≡ Some m
+
+pub likely_added : (f m : Fields) → AreKnown f → add_likely_subtags f ≡ Some m → IsAddedTo f m
+unfolding add_likely_subtags
+likely_added f m are made = by_canonical (add_likely likely_subtags (canonical_fields f)) refl made
+  where
+    by_canonical : (o : Option Fields) → add_likely likely_subtags (canonical_fields f) ≡ o → option_map (filled f) o ≡ Some m → IsAddedTo f m
+    by_canonical None is none = absurd cc
+    by_canonical (Some w) is some =
+        let same : filled f w ≡ m = cc in
+        let it : IsAddedTo f (filled f w) = record {
+          to = record { language = (plain f w are is).to.language; script = w.script; region = w.region };
+          filled_is = filled_is f w are is;
+          language = language_not_und f w are is;
+          again = made_again f w are is (made ∙ ap Some (sym same));
+        } in
+        subst (IsAddedTo f) same it

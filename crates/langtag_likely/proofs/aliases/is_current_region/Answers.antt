@@ -1,0 +1,10 @@
+use Rattle.std.proofs.Common.{sym, ap, ◌∙◌}
+use Rattle.std.proofs.lemmas.Bool.{eqb-true}
+use Rattle.std.specs.Option.{is_none}
+use Rattle.langtag_likely.specs.Texts.{field_texts}
+use Rattle.langtag_likely.proofs.CanonicalFields.{no_region}
+use Rattle.langtag_likely.proofs.aliases.is_current_region.Goals as goal
+
+pub returns-then-is_empty : goal.returns-then-is_empty
+returns-then-is_empty c =
+    c.if-is_empty.true ∙ sym (ap is_none (no_region (field_texts c.args.fields) (eqb-true _ _ (sym c.is_empty.ensures ∙ c.if-is_empty.true))))

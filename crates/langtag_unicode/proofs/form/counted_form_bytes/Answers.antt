@@ -1,0 +1,22 @@
+use Rattle.std.proofs.Common.{◌≡◌, ◌++◌, [], append-nil, drop, length, sym, ap, subst, ◌∙◌, arith}
+use Rattle.std.proofs.lemmas.List.{drop_all, take_at}
+use Rattle.langtag.specs.Text.{lang_tag_text}
+use Rattle.langtag.specs.Form.{IsForm}
+use Rattle.langtag.proofs.FormLaws.{one_form}
+use Rattle.langtag_keyword.specs.Form.{extensions_record}
+use Rattle.langtag_unicode.proofs.form.counted_form_bytes.Goals as goal
+
+-- both calls write the one form, and the second one has just the room for it
+pub returns : goal.returns
+returns c =
+    let before = c.deref_mut.result.now in
+    let after = c.write_extensions_form-2.new.buffer in
+    let n = c.in_ok-bytes.bytes.len in
+    let first = c.write_extensions_form.ensures.form in
+    let second = c.write_extensions_form-2.ensures.form in
+    let one = one_form extensions_record (lang_tag_text c.args.tag) first.text second.text first.is_so second.is_so in
+    let same : n ≡ length second.text = omega (arith, first.whole, c.in_ok-bytes.ensures.len, c.in_ok-bytes.bytes.ok, ap length one) in
+    let room : length before ≡ length second.text = omega (arith, same, ap length c.deref_mut.ensures.value, c.in_ok-bytes.bytes.ok) in
+    let none : drop (length second.text) before ≡ [] = drop_all (length second.text) before (omega (arith, room)) in
+    let whole : after ≡ second.text = second.written (omega (arith, room)) ∙ ap (λ t. second.text ++ t) none ∙ append-nil second.text in
+    subst (IsForm extensions_record (lang_tag_text c.args.tag)) (sym (take_at after _ n (omega (arith, ap length whole, same)) ∙ whole)) second.is_so

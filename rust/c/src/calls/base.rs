@@ -1,0 +1,16 @@
+// Made by rust/erase from crates/langtag_c/src/base.rt. Change that file, not this one.
+
+//! The part of a tag before its extensions and private use.
+
+use crate::spans::tag_of;
+
+/// Returns the length of a tag without its extensions and private use: 10 for
+/// `de-CH-1996-u-co-phonebk`. A private-use tag and an irregular tag have no extensions, so this is
+/// their whole length. Returns 0 if the bytes are not a tag.
+#[inline]
+pub fn langtag_base_len(bytes: &[u8]) -> usize {
+    match tag_of(bytes) {
+        Some(tag) => tag.base().as_str().len(),
+        None => 0,
+    }
+}

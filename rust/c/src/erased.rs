@@ -1,0 +1,36 @@
+//! The modules that rust/erase makes, which are those of the Rust crate.
+
+#[path = "../../src/erased/case/mod.rs"]
+pub mod case;
+#[path = "../../src/erased/choice/mod.rs"]
+pub mod choice;
+#[path = "../../src/erased/extension/mod.rs"]
+pub mod extension;
+#[path = "../../src/erased/keyword/mod.rs"]
+pub mod keyword;
+#[path = "../../src/erased/language/mod.rs"]
+pub mod language;
+#[path = "../../src/erased/likely/mod.rs"]
+pub mod likely;
+#[path = "../../src/erased/locale/mod.rs"]
+pub mod locale;
+#[path = "../../src/erased/matching/mod.rs"]
+pub mod matching;
+#[path = "../../src/erased/output/mod.rs"]
+pub mod output;
+#[path = "../../src/erased/place/mod.rs"]
+pub mod place;
+#[path = "../../src/erased/private/mod.rs"]
+pub mod private;
+#[path = "../../src/erased/range/mod.rs"]
+pub mod range;
+#[path = "../../src/erased/registry/mod.rs"]
+pub mod registry;
+#[path = "../../src/erased/scan/mod.rs"]
+pub mod scan;
+#[path = "../../src/erased/tables/mod.rs"]
+pub mod tables;
+#[path = "../../src/erased/tag/mod.rs"]
+pub mod tag;
+#[path = "../../src/erased/unicode/mod.rs"]
+pub mod unicode;

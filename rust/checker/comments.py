@@ -1,0 +1,113 @@
+"""Compares the comments of a source with those of the module that is made from it, as words. Each doc comment of the source is in the
+module, in the same order, with the same code blocks and as many assertions. Each other comment of the module is in the source."""
+import re
+
+from compare import Difference
+
+# What the eraser adds to the doc comments of functions that have a condition in Rattle.
+ADDED = (
+    "Panics if `index` is not less than `len()`.",
+    "A source that counts wrongly or that changes its bytes gets a wrong answer or a panic, and nothing worse.",
+)
+SECTION = r"RFC\s+(\d+)\s+section\s+([\d.]*\d)"
+TARGET = re.compile(rf"\[{SECTION}\]: (\S+)")
+PATH = re.compile(r"(?:\b(?:crate|langtag\w*)::)(?:[a-z_]+::)*(?=[\w{])")
+# A claim that becomes an assertion if the doc comment has no code block: `: \`call\` is \`value\`.`
+CLAIM = re.compile(r":\s`([A-Z]\w*::[^`]+)`\sis\s`([^`]+)`\.")
+# A value in a comment behind an expression becomes an assertion.
+VALUE = re.compile(r"""^(?!\s*let )[^"]*(?:"[^"]*"[^"]*)*;\s+// (?:b?["']|\d|true\b|false\b|None\b|(?:Some|Ok|Err)?\(|[A-Z]\w*::\w)""")
+ASSERTION = re.compile(r"\bassert(?:_eq|_ne)?!|\bmatches!\(rt;")
+
+
+class Doc:
+    """A doc comment: its words outside of code blocks, and the words after ``` and the number of assertions of each code block."""
+
+    def __init__(self, line):
+        self.line, self.text, self.fences, self.is_code = line, [], [], False
+
+    def add(self, text):
+        if text.strip().startswith("```"):
+            self.is_code = not self.is_code
+            if self.is_code:
+                self.fences.append([text.strip()[3:], 0])
+        elif self.is_code:
+            self.fences[-1][1] += bool(ASSERTION.search(text) or VALUE.match(text))
+        else:
+            self.text.append(text.strip())
+
+    def words(self):
+        return words_in("\n".join(self.text))
+
+    def take_claims(self):
+        """Removes the claims of a doc comment without a code block, which become one."""
+        text, count = "\n".join(self.text), 0
+        if not self.fences:
+            text, count = CLAIM.subn(".", text)
+        if count:
+            self.text, self.fences = [text], [["", count]]
+
+
+def words_in(text):
+    text = re.sub(r"\btry_(from_parts|lenient)\b", r"\1", text)
+    text = re.sub(rf"\[({SECTION})\]", r"\1", PATH.sub("", text))
+    return re.sub(r"\balloc, |, alloc\b(?=\))|(?<=\()alloc(?=\))", "", text).split()
+
+
+def docs_of(text):
+    """Returns the doc comments of a file, and the words of its other comments with their lines."""
+    docs, others, last = [], [], 0
+    for number, line in enumerate(text.splitlines(), 1):
+        mark = re.match(r"\s*(//[/!])(?!/)(.*)", line)
+        if mark:
+            if last != number - 1 or not docs or docs[-1].mark != mark[1]:
+                docs.append(Doc(number))
+                docs[-1].mark = mark[1]
+            docs[-1].add(mark[2])
+            last = number
+        elif comment := comment_of(line):
+            others.append((number, comment))
+    return docs, others
+
+
+def comment_of(line):
+    """Returns the text of a `//` comment, which is not within a string."""
+    found = re.match(r"""(?:"(?:\\.|[^"\\])*"|b?'(?:\\.[^']*|[^'\\])'|[^"/]|/(?!/))*//(?![/!])(.*)""", line)
+    return found and found[1].strip()
+
+
+def compare_comments(source, module):
+    if "/*" in re.sub(r"""//[^\n]*|"(?:\\.|[^"\\])*"|b?'(?:\\.|[^'\\])'""", "", module):
+        raise Difference("a comment that begins with `/*`")
+    old, old_others = docs_of(source)
+    new, new_others = docs_of(module)
+    for doc in old:
+        doc.take_claims()
+    for doc in new:
+        without_additions(doc)
+    for before, after in zip(old, new):
+        compare_docs(before, after)
+    if len(old) != len(new):
+        raise Difference(f"{len(old)} doc comments are {len(new)}")
+    known = {tuple(words_in(text)) for _, text in old_others}
+    for line, text in new_others:
+        if line > 1 and tuple(words_in(text)) not in known:
+            raise Difference(f"a comment that the source has not: `{text}` line {line}")
+
+
+def without_additions(doc):
+    """Removes the targets of links to RFCs, which have to be right, and the sentences that the eraser adds."""
+    for line in doc.text:
+        if (found := TARGET.fullmatch(line)) and found[3] != f"https://www.rfc-editor.org/rfc/rfc{found[1]}#section-{found[2]}":
+            raise Difference(f"a link to another section: {line}")
+    text = "\n".join(line for line in doc.text if not TARGET.fullmatch(line))
+    for sentence in ADDED:
+        text = re.sub(r"\s+".join(map(re.escape, sentence.split())), "", text)
+    doc.text = [text]
+
+
+def compare_docs(old, new):
+    if old.words() != new.words():
+        at = next((at for at, (a, b) in enumerate(zip(old.words(), new.words())) if a != b), min(len(old.words()), len(new.words())))
+        raise Difference(f"line {old.line}: the comment `{' '.join(old.words()[at:at + 8])}` is `{' '.join(new.words()[at:at + 8])}` line {new.line}")
+    if old.fences != new.fences:
+        raise Difference(f"line {old.line}: the examples {old.fences} are {new.fences} line {new.line}: each has its marks and its assertions")

@@ -1,0 +1,94 @@
+"""Adds what users of a Rust crate expect and a Rattle source has not: derives, `#[must_use]`, `#[non_exhaustive]`, `const`, and names
+that say that a call returns an AllocError."""
+
+# Types that may get more fields or variants.
+GROWING = {
+    "AcceptLanguageError", "BestMatch", "EditError", "ElementPart", "InvalidSubtag", "KeywordError", "PosixError",
+    "Refusal", "RefusalKind", "SetKeywordError",
+}
+
+# Derives of types that a neighbour has, too. A derived comparison compares the fields as their own types do.
+DERIVED = {
+    "AcceptLanguage": "Clone, PartialEq, Eq",
+    "AcceptLanguageError": "Clone, PartialEq, Eq",
+    "BestMatch": "PartialEq, Eq, Hash",
+    "EditError": "Hash",
+    "ElementPart": "Clone, Copy, PartialEq, Eq, Hash",
+    "Ends": "Hash",
+    "InRecommendedCase": "PartialEq, Eq, Hash",
+    "KeyValue": "PartialEq, Eq, Hash",
+    "KeywordError": "Hash",
+    "PosixError": "Clone, PartialEq, Eq",
+    "Refusal": "Hash",
+    "RefusalKind": "Hash",
+    "SetKeywordError": "Hash",
+    "Transformation": "PartialEq, Eq",
+    "WantedRange": "PartialEq, Eq, Hash",
+    "WantedRanges": "Clone",
+    "WeightedRange": "Hash",
+}
+
+# Functions that rustc can also call when it compiles, and on which the constant LangTag::UND rests.
+CONST = {"with_ends", "with_found", "as_str", "as_lang_tag"}
+CONST_IN = {"lang_tag", "normal_lang_tag"}
+
+# Methods that return an error if allocation fails: as in `try_to_owned`, their names say so. And a method for which one of the
+# same name is written by hand, which takes more types.
+RENAMED = {"from_parts": "try_from_parts", "lenient": "try_lenient"}
+GETTER = [
+    ("pub fn get(&self, singleton: Singleton)", "pub(crate) fn get_singleton(&self, singleton: Singleton)"),
+    ("self.get(singleton)", "self.get_singleton(singleton)"),
+    ("extensions.get(singleton)", "extensions.get_singleton(singleton)"),
+    ("extensions().get(singleton)", "extensions().get_singleton(singleton)"),
+]
+
+
+def rename_calls(code):
+    for place in range(len(code)):
+        if code[place] in RENAMED and code[place + 1] == "(" and code[place - 1] in ("fn", ":"):
+            code.replace(place, place + 1, RENAMED[code[place]])
+    for old, new in GETTER:
+        code.rewrite(old, new)
+
+
+def add_attributes(code, source):
+    place = 0
+    while (place := code.find("pub fn", place)) >= 0:
+        if should_be_used(code, place):
+            place = code.replace(place, place, "#[must_use]\n")
+        place += 1
+    place = 0
+    while place < len(code):
+        if code[place] == "pub" and code[place + 1] in ("struct", "enum"):
+            place = add_to_type(code, place)
+        elif code[place] == "fn" and source.stem in CONST_IN and code[place + 1] in CONST and can_be_const(code, place):
+            place = code.replace(place, place + 1, "const fn")
+        place += 1
+
+
+def add_to_type(code, place):
+    """Adds attributes before a public type, and returns its new place."""
+    name = code[place + 2]
+    new = f"#[derive({DERIVED[name]})]\n" if name in DERIVED else ""
+    new += "#[non_exhaustive]\n" if name in GROWING else ""
+    return code.replace(place, place, new) if new else place
+
+
+def can_be_const(code, place):
+    """Returns whether a function is a method of a borrowed type, and not of a trait."""
+    return code[place - 1] in ("pub", ")")
+
+
+def should_be_used(code, place):
+    """Returns whether a function returns a value that is no Result, and does nothing else."""
+    body = next(at for at in range(place, len(code)) if code[at] in ("{", ";"))
+    arrow = next((at for at in range(place, body) if code.at(at, "-", ">") and at > code.after(parameters(code, place)) - 1), None)
+    if arrow is None or code[arrow + 2] in ("Result", "!"):
+        return False
+    return not any(code.at(at, "&", "mut") or (code.at(at, "mut") and code[at - 1] != "(") for at in range(place, arrow))
+
+
+def parameters(code, place):
+    while code[place] != "(":
+        place += 1
+    return place

@@ -1,0 +1,154 @@
+//! The best tag for an `Accept-Language` header or for a list of language ranges, and the distance
+//! of two tags (UTS #35, part 1, section 'Language Matching').
+//!
+//! ```
+//! use langtag::choice::{best_for_header, match_for_header};
+//! use langtag::LangTagBuf;
+//!
+//! let site = ["en", "zh-Hans", "zh-Hant"];
+//! assert_eq!(best_for_header("zh-TW,zh;q=0.9,en;q=0.8", &site), Some(2));
+//!
+//! let site: Vec<LangTagBuf> = vec!["en".parse()?, "de".parse()?];
+//! let found = match_for_header("tlh, gsw", &site).unwrap();
+//! assert_eq!((found.index, found.range, found.distance), (1, &b"gsw"[..], 8));
+//! # Ok::<(), Box<dyn std::error::Error>>(())
+//! ```
+//!
+//! The tags are a slice, an array or a `Vec` of [`LangTag`], `LangTagBuf`, `&str` or `String`, or
+//! another [`TagList`]. An entry that is not a tag is never chosen.
+use crate::erased::choice;
+#[cfg(feature = "alloc")]
+use crate::matching::AcceptLanguage;
+use crate::LangTag;
+
+pub use crate::erased::choice::{BestMatch, RangeList, TagList, FORMLESS_DISTANCE};
+use crate::lists::Ranges;
+pub use crate::lists::TagEntry;
+
+/// Returns the index of the best tag for an `Accept-Language` header ([RFC 9110 section 12.5.4]),
+/// or `None` if no tag is suitable. A malformed element is read as far as possible: `de_CH` as
+/// `de-CH`.
+///
+/// ```
+/// use langtag::choice::best_for_header;
+///
+/// let site = ["en", "zh-Hans", "zh-Hant"];
+/// assert_eq!(best_for_header("zh-TW,zh;q=0.9,en;q=0.8", &site), Some(2));
+/// assert_eq!(best_for_header("ja", &site), None);
+/// ```
+///
+/// [RFC 9110 section 12.5.4]: https://www.rfc-editor.org/rfc/rfc9110#section-12.5.4
+#[must_use]
+pub fn best_for_header(
+    header: &(impl AsRef<[u8]> + ?Sized),
+    tags: &(impl TagList + ?Sized),
+) -> Option<usize> {
+    choice::best_among(header.as_ref(), &tags)
+}
+
+/// Returns the index of the best tag for a parsed header, as [`best_for_header`] does. A tag that
+/// the header excludes by the weight 0 can be chosen, since [`AcceptLanguage`] has no such ranges.
+///
+/// ```
+/// use langtag::choice::best_for_accept_language;
+/// use langtag::matching::AcceptLanguage;
+///
+/// let accepted = AcceptLanguage::lenient("zh-TW,zh;q=0.9,en;q=0.8");
+/// assert_eq!(best_for_accept_language(&accepted, &["en", "zh-Hant"]), Some(1));
+/// ```
+#[cfg(feature = "alloc")]
+#[must_use]
+pub fn best_for_accept_language(
+    accepted: &AcceptLanguage<'_>,
+    tags: &(impl TagList + ?Sized),
+) -> Option<usize> {
+    choice::best_among(accepted.ranges(), &tags)
+}
+
+/// Returns the index of the best tag for a list of language ranges in order of preference, as
+/// [`best_for_header`] does. A string that is not a language range is skipped. An extended range is
+/// read without its `*`: `zh-*-Hant` as `zh-Hant`.
+///
+/// ```
+/// use langtag::choice::best_for_ranges;
+///
+/// assert_eq!(best_for_ranges(&["nn", "de"], &["en", "nb"]), Some(1));
+/// ```
+#[must_use]
+pub fn best_for_ranges(
+    ranges: &[impl AsRef<str>],
+    tags: &(impl TagList + ?Sized),
+) -> Option<usize> {
+    choice::best_among(Ranges(ranges), &tags)
+}
+
+/// Returns the best tag for an `Accept-Language` header, as [`best_for_header`] chooses it, with
+/// the range that it serves and its distance from that range. If the distance is 50 or more, only
+/// lookup (RFC 4647 section 3.4) finds the tag.
+///
+/// ```
+/// use langtag::choice::match_for_header;
+///
+/// let found = match_for_header("tlh, gsw", &["en", "de"]).unwrap();
+/// assert_eq!((found.index, found.range, found.distance), (1, &b"gsw"[..], 8));
+/// ```
+#[must_use]
+pub fn match_for_header<'a>(
+    header: &'a (impl AsRef<[u8]> + ?Sized),
+    tags: &(impl TagList + ?Sized),
+) -> Option<BestMatch<'a>> {
+    choice::match_among(header.as_ref(), &tags)
+}
+
+/// Returns the index of the best tag, as [`best_for_header`] does, for any list of ranges.
+///
+/// ```
+/// use langtag::choice::best_among;
+/// use langtag::matching::AcceptLanguage;
+///
+/// let accepted = AcceptLanguage::lenient("nn, de;q=0.5");
+/// assert_eq!(best_among(accepted.ranges(), &["en", "nb"]), Some(1));
+/// ```
+#[must_use]
+pub fn best_among<'a>(ranges: impl RangeList<'a>, tags: &(impl TagList + ?Sized)) -> Option<usize> {
+    choice::best_among(ranges, &tags)
+}
+
+/// Returns the best tag with the range that it serves, as [`match_for_header`] does, for any list
+/// of ranges.
+///
+/// ```
+/// use langtag::choice::match_among;
+/// use langtag::matching::LanguageRange;
+///
+/// let ranges = [LanguageRange::new("tlh")?, LanguageRange::new("gsw")?];
+/// assert_eq!(match_among(&ranges[..], &["en", "de"]).unwrap().distance, 8);
+/// # Ok::<(), Box<dyn std::error::Error>>(())
+/// ```
+#[must_use]
+pub fn match_among<'a>(
+    ranges: impl RangeList<'a>,
+    tags: &(impl TagList + ?Sized),
+) -> Option<BestMatch<'a>> {
+    choice::match_among(ranges, &tags)
+}
+
+/// Returns the distance from the tag that a user wants to the tag that a site has. It is 0 if
+/// language, script and region are equal, and [`FORMLESS_DISTANCE`] if the tags differ and one of
+/// them has no known language.
+///
+/// The distance is not symmetric: users of `gsw` read `de`, but not the reverse.
+///
+/// ```
+/// use langtag::choice::distance;
+/// use langtag::LangTag;
+///
+/// let (swiss, german) = (LangTag::new("gsw")?, LangTag::new("de")?);
+/// assert_eq!(distance(swiss, german), 8);
+/// assert!(distance(german, swiss) > 50);
+/// # Ok::<(), Box<dyn std::error::Error>>(())
+/// ```
+#[must_use]
+pub fn distance<'a, 'b>(desired: impl Into<LangTag<'a>>, supported: impl Into<LangTag<'b>>) -> u8 {
+    choice::distance(desired.into(), supported.into())
+}

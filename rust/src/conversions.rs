@@ -1,0 +1,236 @@
+//! Conversions between tags, ranges, singletons and strings, the tag `und`, and what follows from
+//! the renamed calls of the proved modules.
+#[cfg(feature = "alloc")]
+use alloc::boxed::Box;
+
+use crate::erased::tag::*;
+use crate::matching::LanguageRange;
+#[cfg(feature = "alloc")]
+use crate::matching::{AcceptLanguage, LanguageRangeBuf};
+#[cfg(feature = "alloc")]
+use crate::memory::{or_abort, AllocError};
+
+impl LangTag<'static> {
+    /// The tag `und`, for an undetermined language. It is the default.
+    ///
+    /// ```
+    /// use langtag::LangTag;
+    ///
+    /// assert_eq!(LangTag::UND.as_str(), "und");
+    /// assert_eq!(LangTag::default(), LangTag::UND);
+    /// ```
+    pub const UND: LangTag<'static> = NormalLangTag::with_ends(
+        "und",
+        Ends {
+            language: 3,
+            script: 3,
+            region: 3,
+            variants: 3,
+            extensions: 3,
+            whole: 3,
+        },
+    )
+    .as_lang_tag();
+}
+
+impl Default for LangTag<'_> {
+    fn default() -> Self {
+        LangTag::UND
+    }
+}
+
+#[cfg(feature = "alloc")]
+impl Default for LangTagBuf {
+    fn default() -> Self {
+        LangTag::UND.to_owned()
+    }
+}
+
+impl<'a> From<&LangTag<'a>> for LangTag<'a> {
+    #[inline]
+    fn from(tag: &LangTag<'a>) -> Self {
+        *tag
+    }
+}
+
+/// Every tag is a language range.
+///
+/// ```
+/// use langtag::{matching::LanguageRange, LangTag};
+///
+/// assert!(LanguageRange::from(LangTag::new("x-mine")?).is_basic());
+/// # Ok::<(), Box<dyn std::error::Error>>(())
+/// ```
+impl<'a> From<LangTag<'a>> for LanguageRange<'a> {
+    #[inline]
+    fn from(tag: LangTag<'a>) -> Self {
+        LanguageRange::from_checked(tag.as_str())
+    }
+}
+
+impl<'a> From<&LangTag<'a>> for LanguageRange<'a> {
+    #[inline]
+    fn from(tag: &LangTag<'a>) -> Self {
+        LanguageRange::from(*tag)
+    }
+}
+
+#[cfg(feature = "alloc")]
+impl<'a> From<&'a LangTagBuf> for LanguageRange<'a> {
+    #[inline]
+    fn from(tag: &'a LangTagBuf) -> Self {
+        LanguageRange::from(tag.as_lang_tag())
+    }
+}
+
+#[cfg(feature = "alloc")]
+impl From<LangTagBuf> for LanguageRangeBuf {
+    #[inline]
+    fn from(tag: LangTagBuf) -> Self {
+        LanguageRange::from(&tag).to_owned()
+    }
+}
+
+#[cfg(feature = "alloc")]
+impl From<LangTag<'_>> for Box<str> {
+    #[inline]
+    fn from(tag: LangTag<'_>) -> Self {
+        tag.as_str().into()
+    }
+}
+
+#[cfg(feature = "alloc")]
+impl From<LangTagBuf> for Box<str> {
+    #[inline]
+    fn from(tag: LangTagBuf) -> Self {
+        tag.into_string().into()
+    }
+}
+
+impl From<Singleton> for u8 {
+    #[inline]
+    fn from(singleton: Singleton) -> u8 {
+        singleton.unwrap()
+    }
+}
+
+impl<'a> Extensions<'a> {
+    /// Returns the extension with a singleton, which may be a [`Singleton`], a `char` or a `u8`, or
+    /// `None` if there is none. Case is ignored, and the first of repeated singletons counts.
+    ///
+    /// ```
+    /// use langtag::LangTag;
+    ///
+    /// let extensions = LangTag::new("de-a-bb-u-co-phonebk")?.extensions();
+    /// assert_eq!(extensions.get('u').unwrap(), "u-co-phonebk");
+    /// assert_eq!(extensions.get(b't'), None);
+    /// # Ok::<(), Box<dyn std::error::Error>>(())
+    /// ```
+    #[must_use]
+    pub fn get(&self, singleton: impl TryInto<Singleton>) -> Option<Extension<'a>> {
+        self.get_singleton(singleton.try_into().ok()?)
+    }
+}
+
+#[cfg(feature = "alloc")]
+impl NormalLangTagBuf {
+    /// Returns the tag with a language, a script and a region.
+    ///
+    /// ```
+    /// use langtag::{Language, NormalLangTagBuf, Region};
+    ///
+    /// let region = Region::new("AT")?;
+    /// let tag = NormalLangTagBuf::from_parts(Language::new("de")?, None, Some(region));
+    /// assert_eq!(tag, "de-AT");
+    /// # Ok::<(), Box<dyn std::error::Error>>(())
+    /// ```
+    #[must_use]
+    pub fn from_parts(
+        language: Language<'_>,
+        script: Option<Script<'_>>,
+        region: Option<Region<'_>>,
+    ) -> NormalLangTagBuf {
+        or_abort(Self::try_from_parts(language, script, region))
+    }
+}
+
+#[cfg(feature = "alloc")]
+impl LangTagBuf {
+    /// Returns the tag with a language, a script and a region.
+    ///
+    /// ```
+    /// use langtag::{LangTagBuf, Language, Script};
+    ///
+    /// let script = Script::new("Hant")?;
+    /// let tag = LangTagBuf::from_parts(Language::new("zh")?, Some(script), None);
+    /// assert_eq!(tag, "zh-Hant");
+    /// # Ok::<(), Box<dyn std::error::Error>>(())
+    /// ```
+    #[must_use]
+    pub fn from_parts(
+        language: Language<'_>,
+        script: Option<Script<'_>>,
+        region: Option<Region<'_>>,
+    ) -> LangTagBuf {
+        NormalLangTagBuf::from_parts(language, script, region).into()
+    }
+
+    /// Returns the tag with a language, a script and a region, as [`from_parts`](Self::from_parts)
+    /// does.
+    ///
+    /// # Errors
+    ///
+    /// Returns an error if allocation fails.
+    pub fn try_from_parts(
+        language: Language<'_>,
+        script: Option<Script<'_>>,
+        region: Option<Region<'_>>,
+    ) -> Result<LangTagBuf, AllocError> {
+        NormalLangTagBuf::try_from_parts(language, script, region).map(Into::into)
+    }
+}
+
+#[cfg(feature = "alloc")]
+impl<'a> AcceptLanguage<'a> {
+    /// Parses an `Accept-Language` header, and skips malformed elements.
+    ///
+    /// ```
+    /// use langtag::matching::AcceptLanguage;
+    ///
+    /// let accepted = AcceptLanguage::lenient("de_CH, fr;q=0.5, en");
+    /// assert!(accepted.ranges().iter().map(|it| it.range).eq(["en", "fr"]));
+    /// ```
+    #[must_use]
+    pub fn lenient(header: &'a str) -> AcceptLanguage<'a> {
+        or_abort(Self::try_lenient(header))
+    }
+}
+
+/// Writes the call that returns a tag in its recommended case, for each type of tags.
+#[cfg(feature = "alloc")]
+macro_rules! recommended {
+    ($($name:ident => $owned:ident;)+) => {$(
+        impl $name<'_> {
+            /// Returns the tag in the case that RFC 5646 section 2.1.1 recommends, such as
+            /// `zh-Hant-TW`.
+            ///
+            /// ```
+            #[doc = concat!("use langtag::", stringify!($name), ";")]
+            ///
+            #[doc = concat!("let tag = ", stringify!($name), "::new(\"ZH-hant-tw\")?;")]
+            /// assert_eq!(tag.to_recommended_case().as_str(), "zh-Hant-TW");
+            /// # Ok::<(), Box<dyn std::error::Error>>(())
+            /// ```
+            #[must_use]
+            pub fn to_recommended_case(&self) -> $owned {
+                or_abort(self.try_to_recommended_case())
+            }
+        }
+    )+};
+}
+
+#[cfg(feature = "alloc")]
+recommended! {
+    LangTag => LangTagBuf;
+    NormalLangTag => NormalLangTagBuf;
+}

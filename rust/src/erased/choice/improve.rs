@@ -1,0 +1,90 @@
+// Made by rust/erase from crates/langtag_choice/src/improve.rt. Change that file, not this one.
+
+//! Improving the candidate by one more tag.
+
+use crate::erased::choice::candidate::{Candidate, Rank, Service};
+use crate::erased::choice::nearness::measured;
+use crate::erased::choice::wish::Wish;
+
+/// Returns the distance below which a tag may be better than the candidate, for a range with this
+/// `weight` and `place`. It is 0 if no tag can be better, and 51 if even a tag that only look-up
+/// finds may be better.
+pub(crate) fn limit(found: &Option<Candidate<'_, '_>>, weight: u32, place: usize) -> u8 {
+    match found {
+        Some(found) if found.rank.is_wanted_more(lack(weight), place) => {
+            found.rank.service.least_distance()
+        }
+        _ => 51,
+    }
+}
+
+/// Returns 1 minus a weight, in thousandths.
+#[inline]
+fn lack(weight: u32) -> u32 {
+    1000_u32.saturating_sub(weight)
+}
+
+/// Replaces the candidate by the text at an index, if the text may serve a range and is better. It
+/// does not check that the text is a tag.
+#[inline]
+pub(crate) fn improve<'a, 't>(
+    found: &mut Option<Candidate<'a, 't>>,
+    wish: &Wish<'a>,
+    tag: &'t [u8],
+    index: usize,
+) {
+    if !wish.is_far_from(tag) {
+        improve_near(found, wish, tag, index);
+    }
+}
+
+/// Does what [`improve`] does, without testing the first letters. It is a separate function, so
+/// that this test can be inlined in the loops over tags.
+#[inline(never)]
+fn improve_near<'a, 't>(
+    found: &mut Option<Candidate<'a, 't>>,
+    wish: &Wish<'a>,
+    tag: &'t [u8],
+    index: usize,
+) {
+    let limit = limit(found, wish.weight, wish.place);
+    let Some(next) = as_candidate(limit, wish, tag, index) else {
+        return;
+    };
+    if is_first(&next, found) {
+        *found = Some(next);
+    }
+}
+
+/// Returns whether a candidate is better than the found candidate, or no candidate was found.
+#[inline]
+fn is_first(next: &Candidate<'_, '_>, found: &Option<Candidate<'_, '_>>) -> bool {
+    match found {
+        Some(found) => next.goes_before(found),
+        None => true,
+    }
+}
+
+/// Returns the text at an index as a candidate for a range, if the text may serve the range and is
+/// nearer than a limit.
+fn as_candidate<'a, 't>(
+    limit: u8,
+    wish: &Wish<'a>,
+    tag: &'t [u8],
+    index: usize,
+) -> Option<Candidate<'a, 't>> {
+    let near = measured(limit, wish, tag)?;
+    let rank = Rank {
+        service: Service::at(near.distance),
+        lack: lack(wish.weight),
+        place: wish.place,
+        distance: near.distance,
+    };
+    Some(Candidate {
+        rank,
+        range: wish.range,
+        tag,
+        form: near.form,
+        index,
+    })
+}

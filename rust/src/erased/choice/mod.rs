@@ -1,0 +1,44 @@
+// Made by rust/erase from crates/langtag_choice/src/lib.rt. Change that file, not this one.
+
+//! The choice of the best tag for an Accept-Language header (RFC 9110 section 12.5.4) or for
+//! language ranges (RFC 4647). It uses the distance of tags (UTS #35, part 1, section 'Language
+//! Matching') and, if no tag is near, look-up.
+//!
+//! ```
+//! # fn main() -> Result<(), Box<dyn std::error::Error>> {
+//! use langtag::LangTag;
+//! use langtag::choice::{best_for_header, distance};
+//!
+//! let tags = [LangTag::new("en")?, LangTag::new("zh-Hans")?, LangTag::new("zh-Hant")?];
+//! assert_eq!(best_for_header(b"zh-TW,zh;q=0.9,en;q=0.8", &tags), Some(2));
+//! assert_eq!(distance(LangTag::new("zh-TW")?, tags[2]), 0);
+//! # Ok(())
+//! # }
+//! ```
+
+mod best;
+mod best_match;
+mod by_ranges;
+mod by_tags;
+mod candidate;
+mod improve;
+mod likely_region;
+mod lone;
+mod matching_tables;
+mod nearness;
+mod range_list;
+mod read_range;
+mod refused;
+mod region_distance;
+mod rule_distance;
+mod tag_distance;
+mod tag_list;
+mod wish;
+
+#[cfg(feature = "alloc")]
+pub use best::best_for_accept_language;
+pub use best::{best_among, best_for_header, best_for_ranges, match_among, match_for_header};
+pub use best_match::BestMatch;
+pub use range_list::RangeList;
+pub use tag_distance::{distance, FORMLESS_DISTANCE};
+pub use tag_list::TagList;

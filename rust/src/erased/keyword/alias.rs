@@ -1,0 +1,112 @@
+// Made by rust/erase from crates/langtag_keyword/src/alias.rt. Change that file, not this one.
+
+//! Replacing types and subdivisions (UTS #35, part 1, Annex C).
+
+use crate::erased::keyword::alias_tables as tables;
+use crate::erased::keyword::keys::Keys;
+use crate::erased::scan::case_insensitive_eq;
+
+/// Returns the canonical value of a key, except that its case may differ.
+#[inline]
+pub(crate) fn canonical_value<'a>(keys: Keys, key: &[u8], value: &'a str) -> &'a str {
+    match keys {
+        Keys::Unicode => without_true(unicode_value(key, value)),
+        Keys::Transform => transform_value(key, value),
+    }
+}
+
+/// Returns a value of `u`, or its replacement.
+#[inline]
+fn unicode_value<'a>(key: &[u8], value: &'a str) -> &'a str {
+    if has_subdivision(key) {
+        return subdivision(value);
+    }
+    unicode_type(key, value)
+}
+
+/// Returns whether the values of a key are subdivisions.
+#[inline]
+fn has_subdivision(key: &[u8]) -> bool {
+    case_insensitive_eq(key, b"rg") || case_insensitive_eq(key, b"sd")
+}
+
+/// Returns a value, or the empty text for `true`.
+#[inline]
+fn without_true(value: &str) -> &str {
+    if case_insensitive_eq(value.as_bytes(), b"true") {
+        return "";
+    }
+    value
+}
+
+#[inline]
+fn subdivision(value: &str) -> &str {
+    match alias_for(subdivision_aliases(), value.as_bytes()) {
+        Some(other) => other,
+        None => value,
+    }
+}
+
+#[inline]
+fn unicode_type<'a>(key: &[u8], value: &'a str) -> &'a str {
+    match type_alias_for(unicode_type_aliases(), key, value.as_bytes()) {
+        Some(other) => other,
+        None => value,
+    }
+}
+
+#[inline]
+fn transform_value<'a>(key: &[u8], value: &'a str) -> &'a str {
+    match type_alias_for(transform_type_aliases(), key, value.as_bytes()) {
+        Some(other) => other,
+        None => value,
+    }
+}
+
+/// Returns the replacement of a text, if there is one.
+#[must_use]
+pub fn alias_for(
+    rows: &'static [(&'static str, &'static str)],
+    text: &[u8],
+) -> Option<&'static str> {
+    let mut rows = rows;
+    while let [(old, new), others @ ..] = rows {
+        if case_insensitive_eq(old.as_bytes(), text) {
+            return Some(new);
+        }
+        rows = others;
+    }
+    None
+}
+
+/// Returns the replacement of a type of a key, if there is one.
+#[must_use]
+pub fn type_alias_for(
+    rows: &'static [(&'static str, &'static str, &'static str)],
+    key: &[u8],
+    text: &[u8],
+) -> Option<&'static str> {
+    let mut rows = rows;
+    while let [(of, old, new), others @ ..] = rows {
+        if case_insensitive_eq(of.as_bytes(), key) && case_insensitive_eq(old.as_bytes(), text) {
+            return Some(new);
+        }
+        rows = others;
+    }
+    None
+}
+
+#[inline]
+fn unicode_type_aliases() -> &'static [(&'static str, &'static str, &'static str)] {
+    &tables::UNICODE_TYPE_ALIASES
+}
+
+#[inline]
+fn transform_type_aliases() -> &'static [(&'static str, &'static str, &'static str)] {
+    &tables::TRANSFORM_TYPE_ALIASES
+}
+
+#[inline]
+fn subdivision_aliases() -> &'static [(&'static str, &'static str)] {
+    &tables::SUBDIVISION_ALIASES
+}

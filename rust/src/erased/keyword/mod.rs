@@ -1,0 +1,34 @@
+// Made by rust/erase from crates/langtag_keyword/src/lib.rt. Change that file, not this one.
+
+//! The subtags of Unicode's extensions `u` (RFC 6067) and `t` (RFC 6497): keywords, what replaces
+//! their values, how they are edited, and their canonical form (UTS #35, part 1). langtag_unicode
+//! has the same for tags.
+
+mod alias;
+mod alias_tables;
+mod alphabet;
+mod extension_form;
+mod keys;
+mod keyword_check;
+mod keyword_edit;
+mod keyword_error;
+mod keyword_form;
+mod language_id;
+mod subtags;
+mod transform_form;
+
+pub use keys::Keys;
+pub use keyword_error::KeywordError;
+
+// For langtag_unicode, langtag_locale and langtag_span.
+pub(crate) use alias::{alias_for, type_alias_for};
+pub(crate) use alphabet::{is_after, is_before_best, push_lowercase};
+pub(crate) use extension_form::{is_of, push_extensions, push_unicode, subtags_of};
+pub(crate) use keyword_check::{invalid_type, is_unicode_key};
+pub(crate) use keyword_edit::{push_edited, KeywordEdit};
+pub(crate) use keyword_form::push_keywords;
+pub(crate) use language_id::{is_among, is_unicode_language, take_region, take_script};
+pub(crate) use subtags::{
+    before_key, is_earlier_subtag, nonempty, preceding, split_first, value_in,
+};
+pub(crate) use transform_form::is_transform;

@@ -1,0 +1,267 @@
+// Made by rust/erase from crates/langtag_language/src/primary_language.rt. Change that file, not this one.
+
+//! The primary language subtag (RFC 5646 section 2.2.1).
+
+use crate::erased::scan::{is_primary, Caseless};
+#[cfg(feature = "alloc")]
+use crate::shim::{try_string, AllocError};
+#[cfg(feature = "alloc")]
+use alloc::string::String;
+use core::fmt;
+
+/// The error for a text that is not a primary language subtag. It contains the text.
+///
+/// ```
+/// use langtag::PrimaryLanguage;
+///
+/// let error = PrimaryLanguage::new("f").err();
+/// assert_eq!(error.map(|error| error.0), Some("f"));
+/// ```
+#[derive(Debug)]
+pub struct InvalidPrimaryLanguage<T>(pub T);
+
+impl<T: AsRef<[u8]>> fmt::Display for InvalidPrimaryLanguage<T> {
+    #[inline]
+    fn fmt(&self, f: &mut fmt::Formatter<'_>) -> fmt::Result {
+        f.write_str("invalid primary language")?;
+        crate::message::write_text(f, self.0.as_ref())
+    }
+}
+
+impl<T: fmt::Debug + AsRef<[u8]>> core::error::Error for InvalidPrimaryLanguage<T> {}
+
+/// A primary language subtag ([RFC 5646 section 2.2.1]): two to eight letters, such as `fr`.
+///
+/// Two primary language subtags are equal if their texts differ only in the case of ASCII letters,
+/// such as `fr` and `FR`.
+///
+/// ```
+/// # fn main() -> Result<(), Box<dyn std::error::Error>> {
+/// use langtag::PrimaryLanguage;
+///
+/// let language = PrimaryLanguage::new("fr")?;
+/// assert_eq!(language.as_str(), "fr");
+/// assert!(language == PrimaryLanguage::new("FR")?);
+/// # Ok(())
+/// # }
+/// ```
+///
+/// [RFC 5646 section 2.2.1]: https://www.rfc-editor.org/rfc/rfc5646#section-2.2.1
+#[derive(Clone, Copy, Debug, PartialEq, Eq, PartialOrd, Ord, Hash)]
+pub struct PrimaryLanguage<'a> {
+    text: Caseless<&'a str>,
+}
+
+impl<'a> PrimaryLanguage<'a> {
+    /// Parses a text as a primary language subtag.
+    ///
+    /// # Errors
+    ///
+    /// Returns the text if it is not two to eight letters.
+    ///
+    /// ```
+    /// use langtag::{InvalidPrimaryLanguage, PrimaryLanguage};
+    ///
+    /// assert!(PrimaryLanguage::new("fr").is_ok());
+    /// assert_eq!(PrimaryLanguage::new("f"), Err(InvalidPrimaryLanguage("f")));
+    /// ```
+    #[inline]
+    pub fn new(text: &'a str) -> Result<PrimaryLanguage<'a>, InvalidPrimaryLanguage<&'a str>> {
+        if !is_primary(text.as_bytes()) {
+            return Err(InvalidPrimaryLanguage(text));
+        }
+        Ok(PrimaryLanguage::from_checked(text))
+    }
+
+    /// Wraps a text that is known to be a primary language subtag, without checking it.
+    /// `PrimaryLanguage::from_checked(primary.as_str())` is equal to `primary`.
+    #[inline]
+    pub(crate) fn from_checked(text: &'a str) -> PrimaryLanguage<'a> {
+        PrimaryLanguage {
+            text: Caseless(text),
+        }
+    }
+
+    /// Returns the text, in its original case.
+    ///
+    /// ```
+    /// # fn main() -> Result<(), Box<dyn std::error::Error>> {
+    /// use langtag::PrimaryLanguage;
+    ///
+    /// assert_eq!(PrimaryLanguage::new("FR")?.as_str(), "FR");
+    /// # Ok(())
+    /// # }
+    /// ```
+    #[inline]
+    #[must_use]
+    pub fn as_str(&self) -> &'a str {
+        self.text.0
+    }
+
+    /// Returns the text as bytes.
+    ///
+    /// ```
+    /// # fn main() -> Result<(), Box<dyn std::error::Error>> {
+    /// use langtag::PrimaryLanguage;
+    ///
+    /// assert_eq!(PrimaryLanguage::new("FR")?.as_bytes(), b"FR");
+    /// # Ok(())
+    /// # }
+    /// ```
+    #[inline]
+    #[must_use]
+    pub fn as_bytes(&self) -> &'a [u8] {
+        self.as_str().as_bytes()
+    }
+
+    /// Returns whether another text equals this text, ignoring the case of ASCII letters. It is
+    /// proved that comparisons and hashes also ignore case, and that a clone is the same value.
+    ///
+    /// ```
+    /// # fn main() -> Result<(), Box<dyn std::error::Error>> {
+    /// use langtag::PrimaryLanguage;
+    ///
+    /// assert!(PrimaryLanguage::new("fr")?.eq_str("FR"));
+    /// # Ok(())
+    /// # }
+    /// ```
+    #[inline]
+    #[must_use]
+    pub fn eq_str(&self, other: &str) -> bool {
+        self.text == Caseless(other)
+    }
+
+    /// Copies the text into an owned value.
+    ///
+    /// # Errors
+    ///
+    /// Returns an error if allocation fails.
+    ///
+    /// ```
+    /// # fn main() -> Result<(), Box<dyn std::error::Error>> {
+    /// use langtag::PrimaryLanguage;
+    ///
+    /// assert_eq!(PrimaryLanguage::new("FR")?.try_to_owned()?.as_str(), "FR");
+    /// # Ok(())
+    /// # }
+    /// ```
+    #[cfg(feature = "alloc")]
+    #[inline]
+    pub fn try_to_owned(&self) -> Result<PrimaryLanguageBuf, AllocError> {
+        let text = try_string(self.as_str())?;
+        Ok(PrimaryLanguageBuf {
+            text: Caseless(text),
+        })
+    }
+}
+
+impl fmt::Display for PrimaryLanguage<'_> {
+    #[inline]
+    fn fmt(&self, f: &mut fmt::Formatter<'_>) -> fmt::Result {
+        f.pad(self.as_str())
+    }
+}
+
+/// A primary language subtag that owns its text.
+///
+/// ```
+/// # fn main() -> Result<(), Box<dyn std::error::Error>> {
+/// use langtag::PrimaryLanguage;
+///
+/// let owned = PrimaryLanguage::new("fr")?.to_owned();
+/// assert!(owned.as_primary_language() == PrimaryLanguage::new("FR")?);
+/// assert_eq!(owned.into_string().as_str(), "fr");
+/// # Ok(())
+/// # }
+/// ```
+#[cfg(feature = "alloc")]
+#[derive(Debug, PartialEq, Eq, PartialOrd, Ord, Hash)]
+pub struct PrimaryLanguageBuf {
+    text: Caseless<String>,
+}
+
+#[cfg(feature = "alloc")]
+impl PrimaryLanguageBuf {
+    /// Parses a `String` as a subtag and keeps it, without copying.
+    ///
+    /// # Errors
+    ///
+    /// Returns the same `String` if it is not two to eight letters, such as `f`.
+    ///
+    /// ```
+    /// # fn main() -> Result<(), Box<dyn std::error::Error>> {
+    /// use langtag::PrimaryLanguageBuf;
+    /// use std::str::FromStr;
+    ///
+    /// assert_eq!(PrimaryLanguageBuf::new("fr".to_string())?.as_str(), "fr");
+    /// assert!(PrimaryLanguageBuf::new("f".to_string()).is_err());
+    /// # Ok(())
+    /// # }
+    /// ```
+    #[inline]
+    pub fn new(text: String) -> Result<PrimaryLanguageBuf, InvalidPrimaryLanguage<String>> {
+        if !is_primary(text.as_bytes()) {
+            return Err(InvalidPrimaryLanguage(text));
+        }
+        Ok(PrimaryLanguageBuf {
+            text: Caseless(text),
+        })
+    }
+
+    /// Borrows the subtag. It is proved that comparisons and hashes of owned primary languages
+    /// ignore case.
+    ///
+    /// ```
+    /// # fn main() -> Result<(), Box<dyn std::error::Error>> {
+    /// use langtag::PrimaryLanguage;
+    ///
+    /// assert_eq!(PrimaryLanguage::new("FR")?.to_owned().as_primary_language().as_str(), "FR");
+    /// # Ok(())
+    /// # }
+    /// ```
+    #[inline]
+    #[must_use]
+    pub fn as_primary_language(&self) -> PrimaryLanguage<'_> {
+        PrimaryLanguage::from_checked(self.as_str())
+    }
+
+    /// Returns the text, in its original case.
+    ///
+    /// ```
+    /// # fn main() -> Result<(), Box<dyn std::error::Error>> {
+    /// use langtag::PrimaryLanguage;
+    ///
+    /// assert_eq!(PrimaryLanguage::new("FR")?.to_owned().as_str(), "FR");
+    /// # Ok(())
+    /// # }
+    /// ```
+    #[inline]
+    #[must_use]
+    pub fn as_str(&self) -> &str {
+        self.text.0.as_str()
+    }
+
+    /// Returns the `String`, without copying it.
+    ///
+    /// ```
+    /// # fn main() -> Result<(), Box<dyn std::error::Error>> {
+    /// use langtag::PrimaryLanguage;
+    ///
+    /// assert_eq!(PrimaryLanguage::new("FR")?.to_owned().into_string(), "FR");
+    /// # Ok(())
+    /// # }
+    /// ```
+    #[inline]
+    #[must_use]
+    pub fn into_string(self) -> String {
+        self.text.0
+    }
+}
+
+#[cfg(feature = "alloc")]
+impl fmt::Display for PrimaryLanguageBuf {
+    #[inline]
+    fn fmt(&self, f: &mut fmt::Formatter<'_>) -> fmt::Result {
+        f.pad(self.as_str())
+    }
+}

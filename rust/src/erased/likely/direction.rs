@@ -1,0 +1,43 @@
+// Made by rust/erase from crates/langtag_likely/src/direction.rt. Change that file, not this one.
+
+//! Whether a tag is written from right to left.
+
+use crate::erased::likely::matching::matching_form;
+use crate::erased::likely::tables;
+use crate::erased::tag::{case_insensitive_eq, LangTag};
+
+/// Returns whether a tag's language is written from right to left: `true` for `he`, `pa-PK`,
+/// `az-Arab` and `und-Thaa`, `false` for `ar-Latn`.
+///
+/// The script of the tag decides. If the tag has no script, the most likely script of its language
+/// and region is used. Deprecated subtags such as `iw` count as their replacements. The result is
+/// `false` for private-use tags, irregular tags and `und`.
+///
+/// ```
+/// # fn main() -> Result<(), Box<dyn std::error::Error>> {
+/// use langtag::LangTag;
+/// use langtag::likely::is_right_to_left;
+///
+/// assert!(is_right_to_left(LangTag::new("az-IR")?));
+/// assert!(!is_right_to_left(LangTag::new("az")?));
+/// # Ok(())
+/// # }
+/// ```
+#[inline]
+#[must_use]
+pub fn is_right_to_left(tag: LangTag<'_>) -> bool {
+    match matching_form(tag.as_bytes()) {
+        Some(form) => is_right_to_left_script(form.script),
+        None => false,
+    }
+}
+
+/// Returns whether a script is written from right to left.
+#[inline]
+fn is_right_to_left_script(script: &[u8]) -> bool {
+    scripts().iter().any(|it| case_insensitive_eq(it, script))
+}
+
+fn scripts() -> &'static [[u8; 4]] {
+    &tables::RIGHT_TO_LEFT_SCRIPTS
+}

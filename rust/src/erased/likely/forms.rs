@@ -1,0 +1,135 @@
+// Made by rust/erase from crates/langtag_likely/src/forms.rt. Change that file, not this one.
+
+//! The maximal and minimal forms of a tag (UTS #35, part 1, section 'Likely Subtags').
+
+use crate::erased::likely::likely::{add_likely_subtags, remove_likely_subtags};
+use crate::erased::likely::put::write_changed;
+use crate::erased::likely::tag_fields::TagFields;
+use crate::erased::output::write_text;
+use crate::erased::tag::LangTag;
+#[cfg(feature = "alloc")]
+use crate::erased::tag::{tag_of, LangTagBuf};
+#[cfg(feature = "alloc")]
+use crate::shim::{try_vec, AllocError};
+#[cfg(feature = "alloc")]
+use alloc::vec::Vec;
+
+/// Adds the likely subtags to a tag (UTS #35, Add Likely Subtags): `zh-TW` becomes `zh-Hant-TW`,
+/// `en` and `und` become `en-Latn-US`, and `de-1996` becomes `de-Latn-DE-1996`.
+///
+/// Subtags of the tag stay, with their case. Only `und`, `Zzzz` and `ZZ`, which mean an unknown
+/// language, script or region, are replaced. Deprecated subtags stay, too, and get the likely
+/// subtags of their replacements: `iw` becomes `iw-Hebr-IL`. To replace them, call
+/// `langtag::unicode::locale_form` first. Variants, extensions and private use stay. A tag without
+/// known likely subtags, such as `x-a` or `qaa`, stays unchanged.
+///
+/// # Errors
+///
+/// Returns an error if allocation fails.
+///
+/// ```
+/// # fn main() -> Result<(), Box<dyn std::error::Error>> {
+/// use langtag::erased::tag::LangTag;
+/// use langtag::erased::likely::maximized;
+///
+/// assert_eq!(maximized(LangTag::new("zh-TW")?)?.as_str(), "zh-Hant-TW");
+/// # Ok(())
+/// # }
+/// ```
+#[cfg(feature = "alloc")]
+#[inline]
+pub fn maximized(tag: LangTag<'_>) -> Result<LangTagBuf, AllocError> {
+    Ok(tag_of(maximal_bytes(tag)?))
+}
+
+/// Removes the likely subtags from a tag (UTS #35, Remove Likely Subtags): `zh-Hant-TW` becomes
+/// `zh-TW`, and `en-Latn-US` becomes `en`. If it is enough to keep either the script or the region,
+/// the region is kept.
+///
+/// # Errors
+///
+/// Returns an error if allocation fails.
+///
+/// ```
+/// # fn main() -> Result<(), Box<dyn std::error::Error>> {
+/// use langtag::erased::tag::LangTag;
+/// use langtag::erased::likely::minimized;
+///
+/// assert_eq!(minimized(LangTag::new("zh-Hant-TW")?)?.as_str(), "zh-TW");
+/// # Ok(())
+/// # }
+/// ```
+#[cfg(feature = "alloc")]
+#[inline]
+pub fn minimized(tag: LangTag<'_>) -> Result<LangTagBuf, AllocError> {
+    Ok(tag_of(minimal_bytes(tag)?))
+}
+
+/// Writes a tag with its likely subtags to a buffer, as [`maximized`] returns it, and returns its
+/// length in bytes. If the buffer is too short, it stays unchanged, and the length says how long a
+/// buffer must be. It does not allocate.
+///
+/// ```
+/// # fn main() -> Result<(), Box<dyn std::error::Error>> {
+/// use langtag::erased::tag::LangTag;
+/// use langtag::erased::likely::write_maximized;
+///
+/// let mut buffer = [0; 16];
+/// let length = write_maximized(LangTag::new("zh-TW")?, &mut buffer);
+/// assert_eq!(buffer.get(..length), Some(&b"zh-Hant-TW"[..]));
+/// # Ok(())
+/// # }
+/// ```
+pub fn write_maximized(tag: LangTag<'_>, buffer: &mut [u8]) -> usize {
+    let Some(normal) = tag.as_normal() else {
+        return write_text(tag.as_bytes(), buffer);
+    };
+    write_changed(normal, add_likely_subtags(TagFields::of(normal)), buffer)
+}
+
+/// Writes a tag without its likely subtags to a buffer, as [`minimized`] returns it, and returns
+/// its length in bytes. If the buffer is too short, it stays unchanged. It does not allocate.
+///
+/// ```
+/// # fn main() -> Result<(), Box<dyn std::error::Error>> {
+/// use langtag::erased::tag::LangTag;
+/// use langtag::erased::likely::write_minimized;
+///
+/// let mut buffer = [0; 16];
+/// let length = write_minimized(LangTag::new("zh-Hant-TW")?, &mut buffer);
+/// assert_eq!(buffer.get(..length), Some(&b"zh-TW"[..]));
+/// # Ok(())
+/// # }
+/// ```
+pub fn write_minimized(tag: LangTag<'_>, buffer: &mut [u8]) -> usize {
+    let Some(normal) = tag.as_normal() else {
+        return write_text(tag.as_bytes(), buffer);
+    };
+    write_changed(normal, remove_likely_subtags(TagFields::of(normal)), buffer)
+}
+
+/// Returns a buffer that is long enough for the maximal and the minimal form of a tag.
+#[cfg(feature = "alloc")]
+#[inline]
+fn form_buffer(tag: LangTag<'_>) -> Result<Vec<u8>, AllocError> {
+    // A language has at most 8 letters, a script has 4, and a region 3, with a hyphen before each of the last two.
+    try_vec(0, tag.as_bytes().len().saturating_add(17))
+}
+
+#[cfg(feature = "alloc")]
+#[inline]
+fn maximal_bytes(tag: LangTag<'_>) -> Result<Vec<u8>, AllocError> {
+    let mut bytes = form_buffer(tag)?;
+    let len = write_maximized(tag, &mut bytes);
+    bytes.truncate(len);
+    Ok(bytes)
+}
+
+#[cfg(feature = "alloc")]
+#[inline]
+fn minimal_bytes(tag: LangTag<'_>) -> Result<Vec<u8>, AllocError> {
+    let mut bytes = form_buffer(tag)?;
+    let len = write_minimized(tag, &mut bytes);
+    bytes.truncate(len);
+    Ok(bytes)
+}

@@ -1,0 +1,119 @@
+// Made by rust/erase from crates/langtag_likely/src/modifiers.rt. Change that file, not this one.
+
+//! What the modifiers of locale names mean.
+
+use crate::erased::likely::tables;
+use crate::erased::place::Script;
+use crate::erased::scan::{is_script, split_at_byte};
+use crate::erased::tag::case_insensitive_eq;
+
+/// Returns the modifier of a locale name if [`write_from_posix`] and [`from_posix`] drop it because
+/// they do not know it: `b"foo"` for `de_DE@foo`.
+///
+/// Returns `None` if there is no modifier, if the modifier names a script or a variant, or if it is
+/// not about the language, such as `euro`.
+///
+/// ```
+/// use langtag::likely::unknown_modifier;
+///
+/// assert_eq!(unknown_modifier(b"de_DE@foo"), Some(&b"foo"[..]));
+/// assert_eq!(unknown_modifier(b"sr_RS@latin"), None);
+/// ```
+///
+/// [`write_from_posix`]: crate::likely::write_from_posix
+/// [`from_posix`]: crate::likely::from_posix
+#[inline]
+#[must_use]
+pub fn unknown_modifier(name: &[u8]) -> Option<&[u8]> {
+    let (_, modifier) = split_at_byte(name, b'@');
+    if is_known(modifier) {
+        None
+    } else {
+        Some(modifier)
+    }
+}
+
+#[inline]
+fn is_known(modifier: &[u8]) -> bool {
+    modifier.is_empty()
+        || modifier_script(modifier).is_some()
+        || modifier_variant(modifier).is_some()
+        || says_nothing(modifier)
+}
+
+/// Returns the script that a modifier names.
+pub(crate) fn modifier_script(modifier: &[u8]) -> Option<Script<'_>> {
+    if says_latin(modifier) {
+        return script_of(b"Latn");
+    }
+    if case_insensitive_eq(b"cyrillic", modifier) {
+        return script_of(b"Cyrl");
+    }
+    if case_insensitive_eq(b"devanagari", modifier) {
+        return script_of(b"Deva");
+    }
+    if is_script_code(modifier) {
+        return script_of(modifier);
+    }
+    None
+}
+
+#[inline]
+fn says_latin(modifier: &[u8]) -> bool {
+    case_insensitive_eq(b"latin", modifier)
+        || case_insensitive_eq(b"iqtelif", modifier)
+        || case_insensitive_eq(b"ijekavianlatin", modifier)
+}
+
+/// Returns whether a text is the code of a script.
+#[inline]
+fn is_script_code(text: &[u8]) -> bool {
+    is_script(text) && is_listed(text)
+}
+
+#[inline]
+fn is_listed(text: &[u8]) -> bool {
+    scripts().iter().any(|code| case_insensitive_eq(code, text))
+}
+
+fn scripts() -> &'static [[u8; 4]] {
+    &tables::SCRIPT_NAMES
+}
+
+/// Returns a text as a script, or `None` if it is not one.
+#[inline]
+pub(crate) fn script_of(text: &[u8]) -> Option<Script<'_>> {
+    let text = core::str::from_utf8(text).ok()?;
+    Script::new(text).ok()
+}
+
+/// Returns the variant that a modifier names.
+pub(crate) fn modifier_variant(modifier: &[u8]) -> Option<&'static str> {
+    if case_insensitive_eq(b"ijekavian", modifier)
+        || case_insensitive_eq(b"ijekavianlatin", modifier)
+    {
+        return Some("ijekavsk");
+    }
+    if case_insensitive_eq(b"tarask", modifier) {
+        return Some("tarask");
+    }
+    if case_insensitive_eq(b"valencia", modifier) {
+        return Some("valencia");
+    }
+    None
+}
+
+/// Returns whether a modifier is about sorting, quotation marks or currency, and not about the
+/// language.
+fn says_nothing(modifier: &[u8]) -> bool {
+    case_insensitive_eq(b"euro", modifier)
+        || case_insensitive_eq(b"preeuro", modifier)
+        || case_insensitive_eq(b"abegede", modifier)
+        || case_insensitive_eq(b"phonebook", modifier)
+        || case_insensitive_eq(b"pinyin", modifier)
+        || case_insensitive_eq(b"radical", modifier)
+        || case_insensitive_eq(b"stroke", modifier)
+        || case_insensitive_eq(b"cjknarrow", modifier)
+        || case_insensitive_eq(b"quot", modifier)
+        || case_insensitive_eq(b"boldquot", modifier)
+}

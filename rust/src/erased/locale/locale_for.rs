@@ -1,0 +1,45 @@
+// Made by rust/erase from crates/langtag_locale/src/locale_for.rt. Change that file, not this one.
+
+//! The Unicode locale identifier whose form is the form of a tag (UTS #35, part 1, Annex C).
+
+use crate::erased::locale::locale::is_locale_record;
+use crate::erased::registry::{is_registered_extlang, preferred_tag};
+use crate::erased::tag::{ExtendedLangTag, LangTag, NormalLangTag};
+
+/// Returns the Unicode locale identifier whose form is the form of a tag: the tag itself, its
+/// Preferred-Value, or the tag from its extended language on. Returns `None` if the tag has no
+/// form.
+pub(crate) fn locale_for<'a>(tag: LangTag<'a>) -> Option<NormalLangTag<'a>> {
+    if let Some(locale) = as_locale(tag) {
+        return Some(locale);
+    }
+    if let Some(value) = preferred_tag(tag) {
+        return as_locale(value);
+    }
+    if tag.is_grandfathered() {
+        return None;
+    }
+    as_locale(from_extlang(tag.as_normal()?)?)
+}
+
+/// Returns a tag as a normal tag if it is a Unicode locale identifier.
+#[inline]
+fn as_locale<'a>(tag: LangTag<'a>) -> Option<NormalLangTag<'a>> {
+    let normal = tag.as_normal()?;
+    if !is_locale_record(normal) {
+        return None;
+    }
+    Some(normal)
+}
+
+/// Returns a tag from its extended language on: `yue-HK` for `zh-yue-HK`. Returns `None` if the
+/// extended language is not registered, or not the only one.
+fn from_extlang<'a>(tag: NormalLangTag<'a>) -> Option<LangTag<'a>> {
+    let language = tag.language();
+    let extlang = ExtendedLangTag::new(language.extension()?.as_str()).ok()?;
+    if !is_registered_extlang(extlang) {
+        return None;
+    }
+    let start = language.primary().as_str().len() + 1;
+    Some(LangTag::from_checked(&tag.as_str()[start..]))
+}

@@ -1,0 +1,111 @@
+// Made by rust/erase from crates/langtag_locale/src/locale_variants.rt. Change that file, not this one.
+
+//! The variants in the form of a Unicode locale identifier (UTS #35, part 1, Annex C).
+
+use crate::erased::keyword::{
+    alias_for, is_after, is_among, is_before_best, push_lowercase, split_first, type_alias_for,
+};
+use crate::erased::locale::locale_tables as tables;
+use crate::erased::output::Output;
+use crate::erased::tag::case_insensitive_eq;
+
+/// Appends the variants of a language identifier in their forms, each once, in lowercase and in
+/// alphabetical order.
+///
+/// Each variant is found by a walk over all variants, so the time is quadratic in the number of
+/// variants.
+#[inline]
+pub(crate) fn push_variants(out: &mut Output<'_>, language: &[u8], variants: Option<&str>) {
+    let mut last = None;
+    while let Some(next) = first_form_after(language, variants, last) {
+        push_lowercase(out, next);
+        last = Some(next);
+    }
+}
+
+/// Returns the first form of a variant, in alphabetical order, that comes after `last`.
+fn first_form_after<'a>(
+    language: &[u8],
+    variants: Option<&'a str>,
+    last: Option<&str>,
+) -> Option<&'a str> {
+    let mut best = None;
+    let mut rest = variants;
+    while let Some(text) = rest {
+        let (variant, others) = split_first(text);
+        let form = variant_form(language, variants, variant);
+        if is_better(form, last, best) {
+            best = Some(form);
+        }
+        rest = others;
+    }
+    best
+}
+
+/// Returns whether a form is not empty, comes after `last`, and comes before `best`.
+#[inline]
+fn is_better(form: &str, last: Option<&str>, best: Option<&str>) -> bool {
+    !form.is_empty() && is_after(form, last) && is_before_best(form, best)
+}
+
+/// Returns a variant, the variant that replaces it, or the empty text if it is left out.
+fn variant_form<'a>(language: &[u8], variants: Option<&str>, variant: &'a str) -> &'a str {
+    if type_alias_for(variant_languages(), language, variant.as_bytes()).is_some()
+        || is_dropped(variant)
+    {
+        return "";
+    }
+    if let Some(new) = replaced_pair(variant, variants) {
+        return new;
+    }
+    match alias_for(variant_aliases(), variant.as_bytes()) {
+        Some(new) => new,
+        None => variant,
+    }
+}
+
+/// Returns the variant that replaces a variant together with another variant.
+fn replaced_pair(variant: &str, variants: Option<&str>) -> Option<&'static str> {
+    let mut rows = variant_pairs();
+    while let [(first, second, new), others @ ..] = rows {
+        if case_insensitive_eq(first.as_bytes(), variant.as_bytes())
+            && is_among(variants, second.as_bytes())
+        {
+            return Some(new);
+        }
+        rows = others;
+    }
+    None
+}
+
+/// Returns whether a variant is left out of the form.
+fn is_dropped(variant: &str) -> bool {
+    let mut rows = dropped_variants();
+    while let [dropped, others @ ..] = rows {
+        if case_insensitive_eq(variant.as_bytes(), dropped.as_bytes()) {
+            return true;
+        }
+        rows = others;
+    }
+    false
+}
+
+#[inline]
+pub(crate) fn variant_languages() -> &'static [(&'static str, &'static str, &'static str)] {
+    &tables::VARIANT_LANGUAGES
+}
+
+#[inline]
+fn variant_pairs() -> &'static [(&'static str, &'static str, &'static str)] {
+    &tables::VARIANT_PAIRS
+}
+
+#[inline]
+fn variant_aliases() -> &'static [(&'static str, &'static str)] {
+    &tables::VARIANT_ALIASES
+}
+
+#[inline]
+fn dropped_variants() -> &'static [&'static str] {
+    &tables::DROPPED_VARIANTS
+}

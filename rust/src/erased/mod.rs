@@ -1,0 +1,26 @@
+//! The modules that rust/erase makes from the proved sources, with all their items. They are public only for the examples of their own
+//! documentation, which run as tests. Programs use the modules of the root, which are the API.
+
+pub mod case;
+#[cfg(feature = "data")]
+pub mod choice;
+pub mod extension;
+#[cfg(feature = "data")]
+pub mod keyword;
+pub mod language;
+#[cfg(feature = "data")]
+pub mod likely;
+#[cfg(feature = "data")]
+pub mod locale;
+pub mod matching;
+pub mod output;
+pub mod place;
+pub mod private;
+pub mod range;
+#[cfg(feature = "data")]
+pub mod registry;
+pub mod scan;
+pub mod tables;
+pub mod tag;
+#[cfg(feature = "data")]
+pub mod unicode;

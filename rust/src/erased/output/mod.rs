@@ -1,0 +1,11 @@
+// Made by rust/erase from crates/langtag_output/src/lib.rt. Change that file, not this one.
+
+//! Writes a text piece by piece into the caller's buffer: the pieces `en`, `-` and `MM` give the 5
+//! bytes `en-MM`. No function allocates.
+
+mod output;
+mod write;
+
+// For langtag_registry, langtag_likely, langtag_unicode and langtag_c.
+pub(crate) use output::Output;
+pub(crate) use write::{write_pieces, write_text};

@@ -1,0 +1,108 @@
+// Made by rust/erase from crates/langtag_registry/src/misplaced.rt. Change that file, not this one.
+
+//! Variants and extended languages that follow none of their prefixes (RFC 5646 section 3.1.8).
+
+use crate::erased::language::ExtendedLangTag;
+use crate::erased::place::Variant;
+use crate::erased::range::matches_extended;
+use crate::erased::registry::prefixes::extlang_prefix;
+use crate::erased::registry::tables::VARIANT_PREFIXES;
+use crate::erased::scan::folded_number;
+use crate::erased::tag::NormalLangTag;
+
+/// Returns the first variant of a tag that follows none of its prefixes (the field Prefix, [RFC
+/// 5646 section 3.1.8]). Such a variant is `nedis` in `fr-nedis`, because its prefix is `sl`, and
+/// `1994` in `sl-1994-rozaj`, because its prefix is `sl-rozaj`. Returns `None` for `sl-IT-nedis`,
+/// and for `fr-fonipa`, because `fonipa` has no prefix.
+///
+/// A prefix is compared with the subtags before the variant by extended filtering ([RFC 4647
+/// section 3.3.2]). The RFC only recommends prefixes, so a tag may be valid without them. It does
+/// not allocate. The time may be quadratic in the number of variants.
+///
+/// ```
+/// # fn main() -> Result<(), Box<dyn std::error::Error>> {
+/// use langtag::NormalLangTag;
+/// use langtag::registry::misplaced_variant;
+///
+/// assert_eq!(
+///     misplaced_variant(NormalLangTag::new("fr-nedis")?).map(|variant| variant.as_str()),
+///     Some("nedis")
+/// );
+/// assert!(misplaced_variant(NormalLangTag::new("sl-IT-nedis")?).is_none());
+/// # Ok(())
+/// # }
+/// ```
+///
+/// [RFC 5646 section 3.1.8]: https://www.rfc-editor.org/rfc/rfc5646#section-3.1.8
+/// [RFC 4647 section 3.3.2]: https://www.rfc-editor.org/rfc/rfc4647#section-3.3.2
+#[must_use]
+pub fn misplaced_variant<'a>(tag: NormalLangTag<'a>) -> Option<Variant<'a>> {
+    let mut end = tag.ends().region;
+    for variant in tag.variants().iter() {
+        if !fits_after(&tag.as_str()[..end], variant) {
+            return Some(variant);
+        }
+        end += 1 + variant.as_str().len();
+    }
+    None
+}
+
+/// Returns the extended language of a tag if it follows a language other than its prefix (the field
+/// Prefix, [RFC 5646 section 3.1.8]): `yue` in `de-yue`, because its prefix is `zh`. Returns `None`
+/// for `zh-yue`, and for `zh-fra`, because `fra` is not registered.
+///
+/// A tag may be valid even if its extended language follows another language. A second extended
+/// language, which no valid tag has, is ignored.
+///
+/// ```
+/// # fn main() -> Result<(), Box<dyn std::error::Error>> {
+/// use langtag::NormalLangTag;
+/// use langtag::registry::misplaced_extlang;
+///
+/// assert_eq!(
+///     misplaced_extlang(NormalLangTag::new("de-yue")?).map(|extended| extended.as_str()),
+///     Some("yue")
+/// );
+/// # Ok(())
+/// # }
+/// ```
+///
+/// [RFC 5646 section 3.1.8]: https://www.rfc-editor.org/rfc/rfc5646#section-3.1.8
+#[must_use]
+pub fn misplaced_extlang<'a>(tag: NormalLangTag<'a>) -> Option<ExtendedLangTag<'a>> {
+    let language = tag.language();
+    let mut extlangs = language.extension_subtags();
+    let extlang = extlangs.next()?;
+    let prefix = extlang_prefix(extlang)?;
+    if prefix == language.primary() {
+        return None;
+    }
+    Some(extlang)
+}
+
+/// Returns whether a variant may follow the text before it: one of its prefixes matches this text,
+/// or it has no prefix.
+fn fits_after(before: &str, variant: Variant<'_>) -> bool {
+    let number = folded_number(variant.as_bytes());
+    let mut has_none = true;
+    for (key, prefix) in variant_prefixes() {
+        if number == *key {
+            if matches_prefix(prefix, before) {
+                return true;
+            }
+            has_none = false;
+        }
+    }
+    has_none
+}
+
+/// Returns whether a prefix matches the text before a variant by extended filtering.
+#[inline]
+fn matches_prefix(prefix: &str, before: &str) -> bool {
+    matches_extended(prefix, before)
+}
+
+#[inline]
+fn variant_prefixes() -> &'static [(u64, &'static str)] {
+    &VARIANT_PREFIXES
+}

@@ -1,0 +1,24 @@
+// Made by rust/erase from crates/langtag_registry/src/table.rt. Change that file, not this one.
+
+//! Tables of subtags, which are searched for a text, ignoring case.
+
+use crate::erased::scan::folded_number;
+
+/// Returns whether a text is in a table, whose keys are the numbers of its texts.
+#[inline]
+pub(crate) fn is_among(keys: &[u64], text: &[u8]) -> bool {
+    keys.binary_search(&folded_number(text)).is_ok()
+}
+
+/// Returns the value for a text, which is at the same index as the text's key.
+#[inline]
+pub(crate) fn value_of(
+    keys: &[u64],
+    values: &'static [&'static str],
+    text: &[u8],
+) -> Option<&'static str> {
+    match keys.binary_search(&folded_number(text)) {
+        Ok(index) => Some(values[index]),
+        Err(_) => None,
+    }
+}

@@ -1,0 +1,46 @@
+// Made by rust/erase from crates/langtag_scan/src/viable.rt. Change that file, not this one.
+
+//! The length of the longest prefix of a text with which some tag begins.
+
+use crate::erased::scan::metered::Metered;
+use crate::erased::scan::recogniser::recognise;
+use crate::erased::scan::source::ByteSource;
+
+/// Returns the length in bytes of the longest prefix with which some tag begins ([RFC 5646 section
+/// 2.1]). For example, a program can use it to complete what a user types.
+///
+/// For a tag, this is the whole length. Otherwise it is the index of the first wrong byte, or the
+/// whole length if the bytes end too soon. The function does not allocate.
+///
+/// ```
+/// use langtag::scan::viable_len;
+///
+/// assert_eq!(viable_len(b"zh-TW"), 5);
+/// assert_eq!(viable_len(b"zh_Hant"), 2);
+/// assert_eq!(viable_len(b"i-notexist"), 3);
+/// assert_eq!(viable_len(b"de-x"), 4);
+/// assert_eq!(viable_len(b""), 0);
+/// ```
+///
+/// [RFC 5646 section 2.1]: https://www.rfc-editor.org/rfc/rfc5646#section-2.1
+#[inline]
+#[must_use]
+pub fn viable_len(bytes: &[u8]) -> usize {
+    len_before_stop(&mut Metered::followed(bytes, b"\xFF"))
+}
+
+/// Returns what [`viable_len`] returns for the bytes followed by a hyphen: 3 for `zh`. The result
+/// shows whether another subtag may follow.
+#[inline]
+#[must_use]
+pub fn viable_len_with_hyphen(bytes: &[u8]) -> usize {
+    len_before_stop(&mut Metered::followed(bytes, b"-\xFF"))
+}
+
+/// Returns the index of the byte at which the recogniser stops. The source has to end with a byte
+/// that no tag contains, so that the recogniser stops.
+#[inline]
+fn len_before_stop<'a>(source: &mut Metered<'a>) -> usize {
+    let _ = recognise(source);
+    source.reach() - 1
+}

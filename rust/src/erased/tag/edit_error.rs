@@ -1,0 +1,51 @@
+// Made by rust/erase from crates/langtag/src/edit_error.rt. Change that file, not this one.
+
+//! Why a tag could not be edited.
+
+#[cfg(feature = "alloc")]
+use crate::shim::AllocError;
+use core::fmt;
+
+/// The error of a setter: why the part was neither set nor removed. The tag is unchanged.
+///
+/// ```
+/// # fn main() -> Result<(), Box<dyn std::error::Error>> {
+/// use langtag::{EditError, LangTag};
+///
+/// let mut tag = LangTag::new("x-a")?.to_owned();
+/// assert_eq!(tag.set_script(None), Err(EditError::NotNormal));
+/// # Ok(())
+/// # }
+/// ```
+#[cfg(feature = "alloc")]
+#[derive(Clone, Copy, Debug, PartialEq, Eq, Hash)]
+#[non_exhaustive]
+pub enum EditError {
+    /// The tag is not a normal tag, so it has no parts: `x-a` and `i-klingon`, for example (RFC
+    /// 5646 section 2.1).
+    NotNormal,
+    /// Allocation failed.
+    Memory(AllocError),
+}
+
+#[cfg(feature = "alloc")]
+impl fmt::Display for EditError {
+    #[inline]
+    fn fmt(&self, f: &mut fmt::Formatter<'_>) -> fmt::Result {
+        match self {
+            EditError::NotNormal => f.write_str("not a normal language tag"),
+            EditError::Memory(_) => f.write_str("out of memory"),
+        }
+    }
+}
+
+#[cfg(feature = "alloc")]
+impl core::error::Error for EditError {}
+
+#[cfg(feature = "alloc")]
+impl From<AllocError> for EditError {
+    #[inline]
+    fn from(error: AllocError) -> Self {
+        EditError::Memory(error)
+    }
+}

@@ -1,0 +1,14 @@
+// Made by rust/erase from crates/langtag/src/push.rt. Change that file, not this one.
+
+//! Parts of a tag that are appended to an output.
+
+use crate::erased::output::Output;
+use crate::erased::private::PrivateUse;
+
+/// Appends the private use part, if there is one.
+#[inline]
+pub fn push_private_use(out: &mut Output<'_>, private_use: Option<PrivateUse<'_>>) {
+    if let Some(private_use) = private_use {
+        out.push_subtag(private_use.as_bytes());
+    }
+}

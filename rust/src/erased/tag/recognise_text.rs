@@ -1,0 +1,41 @@
+// Made by rust/erase from crates/langtag/src/recognise_text.rt. Change that file, not this one.
+
+//! The only file in which this crate calls a recogniser.
+
+use crate::erased::scan::{recognise, Ends, Found, Metered};
+use crate::erased::tag::grandfathered::GrandfatheredLangTag;
+use crate::erased::tag::recognised::Recognised;
+
+/// Returns what the recogniser finds in bytes, or `None` if they are not a tag.
+///
+/// Every constructor that parses a tag calls this function. It is inlined, since the recogniser is
+/// only one short loop.
+#[inline(always)]
+pub(crate) fn recognise_bytes(bytes: &[u8]) -> Option<Recognised> {
+    let found = found_in(bytes)?;
+    if let Some(ends) = found.ends() {
+        return Some(Recognised::Normal(ends));
+    }
+    match found.irregular() {
+        Some(index) => Some(Recognised::Irregular(GrandfatheredLangTag::at(index))),
+        None => Some(Recognised::PrivateUse),
+    }
+}
+
+/// Returns what the recogniser finds in bytes, as langtag_scan returns it.
+#[inline]
+fn found_in(bytes: &[u8]) -> Option<Found> {
+    recognise(&mut Metered::of_bytes(bytes))
+}
+
+/// Returns what the recogniser finds in a text, or `None` if it is not a tag.
+#[inline]
+pub(crate) fn recognise_text(text: &str) -> Option<Recognised> {
+    recognise_bytes(text.as_bytes())
+}
+
+/// Returns where the parts of a normal tag end, or `None` if the text is not a normal tag.
+#[inline]
+pub(crate) fn normal_ends(text: &str) -> Option<Ends> {
+    recognise_text(text)?.ends()
+}

@@ -1,0 +1,17 @@
+// Made by rust/erase from crates/langtag/src/recommended_case.rt. Change that file, not this one.
+
+//! The text of a tag in its recommended case.
+
+use crate::erased::case::make_recommended_case;
+#[cfg(feature = "alloc")]
+use alloc::string::String;
+use core::mem;
+
+/// Changes an ASCII text to its recommended case, in place.
+#[cfg(feature = "alloc")]
+pub(crate) fn put_recommended_case(text: &mut String) {
+    let empty = String::new();
+    let mut bytes = mem::replace(text, empty).into_bytes();
+    make_recommended_case(bytes.as_mut_slice());
+    *text = String::from_utf8(bytes).unwrap_or_default();
+}

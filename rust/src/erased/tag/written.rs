@@ -1,0 +1,23 @@
+// Made by rust/erase from crates/langtag/src/written.rt. Change that file, not this one.
+
+//! Tags whose bytes were written.
+
+#[cfg(feature = "alloc")]
+use crate::erased::tag::lang_tag_buf::LangTagBuf;
+#[cfg(feature = "alloc")]
+use alloc::string::String;
+#[cfg(feature = "alloc")]
+use alloc::vec::Vec;
+
+/// Converts bytes that are known to be a tag into that tag.
+#[cfg(feature = "alloc")]
+#[must_use]
+pub fn tag_of(bytes: Vec<u8>) -> LangTagBuf {
+    let Ok(text) = String::from_utf8(bytes) else {
+        unreachable!()
+    };
+    let Ok(tag) = LangTagBuf::new(text) else {
+        unreachable!()
+    };
+    tag
+}

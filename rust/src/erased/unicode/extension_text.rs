@@ -1,0 +1,24 @@
+// Made by rust/erase from crates/langtag_unicode/src/extension_text.rt. Change that file, not this one.
+
+//! The subtags of an extension of a tag, as one text.
+
+use crate::erased::tag::{LangTag, Singleton};
+
+/// Returns the subtags of the first extension with a singleton, joined by hyphens, or the empty
+/// text if there is no such extension.
+#[inline]
+pub(crate) fn extension_text<'a>(tag: LangTag<'a>, singleton: Singleton) -> &'a str {
+    match tag.extensions().get_singleton(singleton) {
+        Some(extension) => &extension.as_str()[2..],
+        None => "",
+    }
+}
+
+/// Returns the subtags of the first extension `u` of a tag, joined by hyphens.
+#[inline]
+pub(crate) fn unicode_text<'a>(tag: LangTag<'a>) -> &'a str {
+    match Singleton::new(b'u') {
+        Ok(singleton) => extension_text(tag, singleton),
+        Err(_) => "",
+    }
+}

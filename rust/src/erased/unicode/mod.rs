@@ -1,0 +1,48 @@
+// Made by rust/erase from crates/langtag_unicode/src/lib.rt. Change that file, not this one.
+
+//! Unicode's extensions of language tags: the attributes and keywords of `u` (RFC 6067), and the
+//! language and fields of `t` (RFC 6497). UTS #35, part 1, defines both.
+//!
+//! ```
+//! # fn main() -> Result<(), Box<dyn std::error::Error>> {
+//! use langtag::LangTag;
+//! use langtag::unicode::{keyword, transform};
+//!
+//! assert_eq!(
+//!     keyword(LangTag::new("ar-u-ca-islamic-civil-nu-latn")?, "ca"),
+//!     Some("islamic-civil")
+//! );
+//! assert_eq!(
+//!     transform(LangTag::new("und-t-ja-latn-m0-hepburn")?).and_then(|it| it.language()),
+//!     Some("ja-latn")
+//! );
+//! # Ok(())
+//! # }
+//! ```
+
+mod attributes_iter;
+mod extension_text;
+mod form;
+mod keyword_setters;
+mod keywords_iter;
+mod owned_keywords;
+mod set_keyword_error;
+mod transformation;
+mod unicode_extension;
+
+pub use crate::erased::keyword::{Keys, KeywordError};
+#[cfg(feature = "alloc")]
+pub use crate::erased::locale::locale_form;
+pub use crate::erased::locale::{is_locale, write_locale_form};
+pub use attributes_iter::AttributesIter;
+#[cfg(feature = "alloc")]
+pub use form::extensions_form;
+pub use form::write_extensions_form;
+pub use keyword_setters::{write_with_keyword, write_without_keyword};
+pub use keywords_iter::KeywordsIter;
+#[cfg(feature = "alloc")]
+pub use owned_keywords::{remove_keyword, set_keyword};
+#[cfg(feature = "alloc")]
+pub use set_keyword_error::SetKeywordError;
+pub use transformation::{transform, Transformation};
+pub use unicode_extension::{attributes, keyword, keywords, KeyValue};

@@ -1,0 +1,57 @@
+// Made by rust/erase from crates/langtag_unicode/src/set_keyword_error.rt. Change that file, not this one.
+
+//! Why a keyword of an owned tag could not be set.
+
+use crate::erased::keyword::KeywordError;
+#[cfg(feature = "alloc")]
+use crate::shim::AllocError;
+use core::fmt;
+
+/// The error of [`set_keyword`](crate::unicode::set_keyword) and
+/// [`remove_keyword`](crate::unicode::remove_keyword): why a keyword was neither set nor removed.
+/// The tag is unchanged.
+///
+/// ```
+/// # fn main() -> Result<(), Box<dyn std::error::Error>> {
+/// use langtag::LangTag;
+/// use langtag::unicode::{KeywordError, SetKeywordError, set_keyword};
+///
+/// let mut tag = LangTag::new("x-a")?.to_owned();
+/// assert_eq!(
+///     set_keyword(&mut tag, "ca", "roc"),
+///     Err(SetKeywordError::Keyword(KeywordError::NotNormal))
+/// );
+/// # Ok(())
+/// # }
+/// ```
+#[cfg(feature = "alloc")]
+#[derive(Clone, Copy, Debug, PartialEq, Eq, Hash)]
+#[non_exhaustive]
+pub enum SetKeywordError {
+    /// The key or the value cannot be in a keyword, or the tag is not normal.
+    Keyword(KeywordError),
+    /// Allocation failed.
+    Memory(AllocError),
+}
+
+#[cfg(feature = "alloc")]
+impl fmt::Display for SetKeywordError {
+    #[inline]
+    fn fmt(&self, f: &mut fmt::Formatter<'_>) -> fmt::Result {
+        match self {
+            SetKeywordError::Keyword(value) => write!(f, "{value}"),
+            SetKeywordError::Memory(_) => f.write_str("out of memory"),
+        }
+    }
+}
+
+#[cfg(feature = "alloc")]
+impl core::error::Error for SetKeywordError {}
+
+#[cfg(feature = "alloc")]
+impl From<AllocError> for SetKeywordError {
+    #[inline]
+    fn from(error: AllocError) -> Self {
+        SetKeywordError::Memory(error)
+    }
+}

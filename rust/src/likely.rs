@@ -1,0 +1,165 @@
+//! Likely subtags (UTS #35, part 1, section 'Likely Subtags') from Unicode's CLDR: the most likely
+//! script and region of a language, which can be added to a tag or removed from it. Also the
+//! writing direction of a tag, and tags for POSIX locale names.
+//!
+//! ```
+//! # #[cfg(feature = "alloc")] {
+//! use langtag::likely::{from_posix, maximized, minimized};
+//! use langtag::LangTag;
+//!
+//! assert_eq!(maximized(LangTag::new("zh-TW")?), "zh-Hant-TW");
+//! assert_eq!(minimized(LangTag::new("zh-Hant-TW")?), "zh-TW");
+//! assert_eq!(from_posix("pt_BR.UTF-8")?, "pt-BR");
+//! # }
+//! # Ok::<(), Box<dyn std::error::Error>>(())
+//! ```
+use crate::erased::likely;
+use crate::too_short::written;
+#[cfg(feature = "alloc")]
+use crate::{memory::or_abort, AllocError, LangTagBuf};
+use crate::{LangTag, TooShort};
+
+#[cfg(feature = "alloc")]
+pub use crate::erased::likely::{from_posix, PosixError};
+pub use crate::erased::likely::{unknown_modifier, CLDR_VERSION};
+#[cfg(feature = "alloc")]
+pub use crate::owned_errors::PosixErrorBuf;
+
+/// Returns a tag with its likely script and region: `zh-Hant-TW` for `zh-TW`. If there are none, or
+/// the tag has both, it returns the tag.
+///
+/// ```
+/// use langtag::likely::maximized;
+/// use langtag::LangTag;
+///
+/// assert_eq!(maximized(LangTag::new("zh-TW")?), "zh-Hant-TW");
+/// assert_eq!(maximized(LangTag::new("und-Grek")?), "el-Grek-GR");
+/// # Ok::<(), Box<dyn std::error::Error>>(())
+/// ```
+#[cfg(feature = "alloc")]
+#[must_use]
+pub fn maximized<'a>(tag: impl Into<LangTag<'a>>) -> LangTagBuf {
+    or_abort(try_maximized(tag))
+}
+
+/// Returns a tag with its likely script and region, as [`maximized`] does.
+///
+/// # Errors
+///
+/// Returns an error if allocation fails.
+#[cfg(feature = "alloc")]
+pub fn try_maximized<'a>(tag: impl Into<LangTag<'a>>) -> Result<LangTagBuf, AllocError> {
+    likely::maximized(tag.into())
+}
+
+/// Returns a tag without the script and the region that [`maximized`] would add again: `zh-TW` for
+/// `zh-Hant-TW`.
+///
+/// ```
+/// use langtag::likely::minimized;
+/// use langtag::LangTag;
+///
+/// assert_eq!(minimized(LangTag::new("zh-Hant-TW")?), "zh-TW");
+/// assert_eq!(minimized(LangTag::new("de-Latn-DE-1996")?), "de-1996");
+/// # Ok::<(), Box<dyn std::error::Error>>(())
+/// ```
+#[cfg(feature = "alloc")]
+#[must_use]
+pub fn minimized<'a>(tag: impl Into<LangTag<'a>>) -> LangTagBuf {
+    or_abort(try_minimized(tag))
+}
+
+/// Returns a tag without the script and the region that are likely anyway, as [`minimized`] does.
+///
+/// # Errors
+///
+/// Returns an error if allocation fails.
+#[cfg(feature = "alloc")]
+pub fn try_minimized<'a>(tag: impl Into<LangTag<'a>>) -> Result<LangTagBuf, AllocError> {
+    likely::minimized(tag.into())
+}
+
+/// Writes a tag with its likely script and region to a buffer, as `maximized` returns it, and
+/// returns what was written. It does not allocate.
+///
+/// # Errors
+///
+/// Returns the length of the result if the buffer is too short.
+///
+/// ```
+/// use langtag::likely::write_maximized;
+/// use langtag::LangTag;
+///
+/// assert_eq!(write_maximized(LangTag::new("zh-TW")?, &mut [0; 16])?, "zh-Hant-TW");
+/// # Ok::<(), Box<dyn std::error::Error>>(())
+/// ```
+pub fn write_maximized<'a, 'b>(
+    tag: impl Into<LangTag<'a>>,
+    buffer: &'b mut [u8],
+) -> Result<&'b str, TooShort> {
+    let len = likely::write_maximized(tag.into(), buffer);
+    written(buffer, len)
+}
+
+/// Writes a tag without the script and the region that are likely anyway to a buffer, as
+/// `minimized` returns it, and returns what was written. It does not allocate.
+///
+/// # Errors
+///
+/// Returns the length of the result if the buffer is too short.
+///
+/// ```
+/// use langtag::likely::write_minimized;
+/// use langtag::LangTag;
+///
+/// assert_eq!(write_minimized(LangTag::new("zh-Hant-TW")?, &mut [0; 16])?, "zh-TW");
+/// # Ok::<(), Box<dyn std::error::Error>>(())
+/// ```
+pub fn write_minimized<'a, 'b>(
+    tag: impl Into<LangTag<'a>>,
+    buffer: &'b mut [u8],
+) -> Result<&'b str, TooShort> {
+    let len = likely::write_minimized(tag.into(), buffer);
+    written(buffer, len)
+}
+
+/// Writes the tag for a POSIX locale name to a buffer, as `from_posix` returns it, and returns what
+/// was written, or `None` if the name has no tag. It does not allocate.
+///
+/// # Errors
+///
+/// Returns the length of the tag if the buffer is too short.
+///
+/// ```
+/// use langtag::likely::write_from_posix;
+///
+/// let mut buffer = [0; 16];
+/// assert_eq!(write_from_posix("pt_BR.UTF-8", &mut buffer)?, Some("pt-BR"));
+/// assert_eq!(write_from_posix("C", &mut buffer)?, None);
+/// # Ok::<(), langtag::TooShort>(())
+/// ```
+pub fn write_from_posix(
+    name: impl AsRef<[u8]>,
+    buffer: &mut [u8],
+) -> Result<Option<&str>, TooShort> {
+    match likely::write_from_posix(name.as_ref(), buffer) {
+        Some(len) => written(buffer, len).map(Some),
+        None => Ok(None),
+    }
+}
+
+/// Returns whether a tag's language is written from right to left, in the script of the tag or else
+/// in its likely script.
+///
+/// ```
+/// use langtag::likely::is_right_to_left;
+/// use langtag::LangTag;
+///
+/// assert!(is_right_to_left(LangTag::new("ar-EG")?));
+/// assert!(!is_right_to_left(LangTag::new("ar-Latn")?));
+/// # Ok::<(), Box<dyn std::error::Error>>(())
+/// ```
+#[must_use]
+pub fn is_right_to_left<'a>(tag: impl Into<LangTag<'a>>) -> bool {
+    likely::is_right_to_left(tag.into())
+}

@@ -1,0 +1,106 @@
+//! Matching by RFC 4647: language ranges, the tags that they match, lookup, and `Accept-Language`
+//! headers (RFC 9110 section 12.5.4).
+//!
+//! ```
+//! use langtag::matching::{look_up, tag_for_header, LanguageRange};
+//! use langtag::LangTag;
+//!
+//! let range = LanguageRange::new("de-*-DE")?;
+//! assert!(range.matches_extended(&LangTag::new("de-Latn-DE-1996")?));
+//! assert!(!range.matches_extended(&LangTag::new("de-x-DE")?)); // no singleton may be left out
+//!
+//! assert_eq!(look_up(&["de-CH"], &["en", "de"], &"en"), &"de");
+//! # #[cfg(feature = "alloc")]
+//! assert_eq!(tag_for_header("en;q=0.5, de-CH", &["en", "de"], &"en")?, &"de");
+//! # Ok::<(), Box<dyn std::error::Error>>(())
+//! ```
+//!
+//! Lookup finds `zh` for `zh-TW`, but not `zh-Hant`. Most sites want
+#![cfg_attr(
+    feature = "data",
+    doc = "[`choice::best_for_header`](crate::choice::best_for_header)."
+)]
+#![cfg_attr(not(feature = "data"), doc = "`choice::best_for_header`.")]
+use crate::erased::range::is_range;
+use crate::lists::Ranges;
+pub use crate::lists::TagEntry;
+
+pub use crate::erased::matching::{
+    filter_basic, filter_extended, wanted_ranges, ElementPart, Fallbacks, Filtered,
+    InvalidLanguageRange, LanguageRange, WantedRange, WantedRanges, WeightedRange,
+};
+#[cfg(feature = "alloc")]
+pub use crate::erased::matching::{AcceptLanguage, AcceptLanguageError, LanguageRangeBuf};
+#[cfg(feature = "alloc")]
+pub use crate::owned_errors::AcceptLanguageErrorBuf;
+
+/// Returns the tag that lookup finds for a list of language ranges in order of preference, or the
+/// default if no range finds a tag ([RFC 4647 section 3.4]).
+///
+/// A range finds the first tag that equals it. If no tag equals it, its
+/// [`fallbacks`](LanguageRange::fallbacks) are tried, the longest first: after `zh-Hant-CN`, these
+/// are `zh-Hant` and `zh`. A string that is not a language range is skipped. An extended range is
+/// looked up without its `*`: `de-*-DE` as `de-DE`.
+///
+/// ```
+/// use langtag::matching::look_up;
+///
+/// let tags = ["zh", "zh-Hant", "fr"];
+/// assert_eq!(look_up(&["nl", "zh-Hant-CN"], &tags, &"en"), &"zh-Hant");
+/// assert_eq!(look_up(&["nl"], &tags, &"en"), &"en");
+/// ```
+///
+/// [RFC 4647 section 3.4]: https://www.rfc-editor.org/rfc/rfc4647#section-3.4
+#[must_use]
+pub fn look_up<'t, T: TagEntry>(
+    ranges: &[impl AsRef<str>],
+    tags: &'t [T],
+    default: &'t T,
+) -> &'t T {
+    found(Ranges(ranges), tags).unwrap_or(default)
+}
+
+/// Returns the tag that lookup finds for an `Accept-Language` header, or the default ([RFC 4647
+/// section 3.4]).
+///
+/// # Errors
+///
+/// Returns the errors of [`AcceptLanguage::new`].
+///
+/// ```
+/// use langtag::matching::tag_for_header;
+/// use langtag::LangTagBuf;
+///
+/// let tags: Vec<LangTagBuf> = vec!["de-CH".parse()?, "fr".parse()?];
+/// let found = tag_for_header("fr;q=0.3, DE-ch-1996;q=0.9", &tags, &tags[1]);
+/// assert_eq!(found.unwrap(), "de-CH");
+/// assert!(tag_for_header("de_CH", &tags, &tags[1]).is_err());
+/// # Ok::<(), Box<dyn std::error::Error>>(())
+/// ```
+///
+/// [RFC 4647 section 3.4]: https://www.rfc-editor.org/rfc/rfc4647#section-3.4
+#[cfg(feature = "alloc")]
+pub fn tag_for_header<'h, 't, T: TagEntry>(
+    header: &'h str,
+    tags: &'t [T],
+    default: &'t T,
+) -> Result<&'t T, AcceptLanguageError<'h>> {
+    let accepted = AcceptLanguage::new(header)?;
+    let ranges = accepted.ranges().iter().map(|weighted| weighted.range);
+    Ok(found(ranges, tags).unwrap_or(default))
+}
+
+/// Returns the tag that lookup finds.
+fn found<'r, 't, T: TagEntry>(
+    mut ranges: impl Iterator<Item = LanguageRange<'r>>,
+    tags: &'t [T],
+) -> Option<&'t T> {
+    ranges.find_map(|range| range.fallbacks().find_map(|it| equal(it, tags)))
+}
+
+/// Returns the first tag that equals a range, ignoring case and each `-*`.
+fn equal<'t, T: TagEntry>(range: LanguageRange<'_>, tags: &'t [T]) -> Option<&'t T> {
+    let range = range.as_bytes();
+    tags.iter()
+        .find(|entry| is_range(entry.tag_bytes(), range) && entry.tag().is_some())
+}

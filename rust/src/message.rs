@@ -1,0 +1,83 @@
+//! The end of the message of an error for a refused text: the text, and where it is wrong.
+use core::fmt;
+use core::fmt::Write as _;
+
+use crate::erased::tag::{Refusal, RefusalKind};
+
+/// The greatest number of characters of a refused text in a message.
+const MOST: usize = 80;
+
+/// Writes a space, and the text between backticks.
+pub(crate) fn write_text(f: &mut fmt::Formatter<'_>, text: &[u8]) -> fmt::Result {
+    write!(f, " `{}`", Escaped(text))
+}
+
+/// Writes a space, the text, and why it is not a tag.
+pub(crate) fn write_tag(f: &mut fmt::Formatter<'_>, text: &[u8]) -> fmt::Result {
+    write!(f, " `{}`: {}", Escaped(text), Reason(text))
+}
+
+/// The characters of a text, and its bytes that are not UTF-8, with escapes as in a string of Rust.
+/// A long text is cut, and ends with `...`.
+struct Escaped<'a>(&'a [u8]);
+
+impl fmt::Display for Escaped<'_> {
+    fn fmt(&self, f: &mut fmt::Formatter<'_>) -> fmt::Result {
+        let mut left = MOST;
+        for chunk in self.0.utf8_chunks() {
+            for character in chunk.valid().chars() {
+                if left == 0 {
+                    return f.write_str("...");
+                }
+                left -= 1;
+                write_escaped(f, character)?;
+            }
+            for byte in chunk.invalid() {
+                if left == 0 {
+                    return f.write_str("...");
+                }
+                left -= 1;
+                write!(f, "\\x{byte:02x}")?;
+            }
+        }
+        Ok(())
+    }
+}
+
+/// Writes a character. Quotes are not escaped, since they are only within backticks.
+fn write_escaped(f: &mut fmt::Formatter<'_>, character: char) -> fmt::Result {
+    match character {
+        '"' | '\'' => f.write_char(character),
+        '`' => f.write_str("\\`"),
+        _ => write!(f, "{}", character.escape_debug()),
+    }
+}
+
+/// Why a text is not a tag.
+pub(crate) struct Reason<'a>(pub(crate) &'a [u8]);
+
+impl fmt::Display for Reason<'_> {
+    fn fmt(&self, f: &mut fmt::Formatter<'_>) -> fmt::Result {
+        let Some(refusal) = Refusal::of(self.0) else {
+            return f.write_str("it is a tag");
+        };
+        let subtag = &self.0[refusal.start..refusal.end];
+        match refusal.kind {
+            RefusalKind::Subtag if subtag.is_empty() => f.write_str("empty subtag"),
+            RefusalKind::Subtag => write!(f, "unexpected subtag `{}`", Escaped(subtag)),
+            RefusalKind::Byte => write!(
+                f,
+                "invalid character `{}`: expected a letter, a digit or a hyphen",
+                Escaped(first_character(&self.0[refusal.offset..]))
+            ),
+            RefusalKind::End => f.write_str("unexpected end: expected a subtag"),
+        }
+    }
+}
+
+/// Returns the first character, or the first byte if it does not begin a character.
+fn first_character(text: &[u8]) -> &[u8] {
+    let valid = text.utf8_chunks().next().map_or("", |chunk| chunk.valid());
+    let len = valid.chars().next().map_or(1, char::len_utf8);
+    &text[..len.min(text.len())]
+}

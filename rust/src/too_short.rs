@@ -1,0 +1,45 @@
+//! The error of a buffer that is too short.
+use core::fmt;
+
+/// The error of a call that writes to a buffer, if the buffer is too short. It has the length that
+/// the result needs. The buffer is unchanged, except that the bytes after
+/// `unicode::write_extensions_form` and `unicode::write_locale_form` are unspecified.
+///
+#[cfg_attr(feature = "data", doc = "```")]
+#[cfg_attr(not(feature = "data"), doc = "```ignore")]
+/// use langtag::registry::write_canonical;
+/// use langtag::LangTag;
+///
+/// let error = write_canonical(LangTag::new("iw-IL")?, &mut [0; 3]).unwrap_err();
+/// assert_eq!(error.needed(), 5);
+/// assert_eq!(error.to_string(), "buffer is too short: 5 bytes are needed");
+/// # Ok::<(), Box<dyn std::error::Error>>(())
+/// ```
+#[derive(Clone, Copy, Debug, PartialEq, Eq, Hash)]
+pub struct TooShort {
+    needed: usize,
+}
+
+impl TooShort {
+    /// Returns the number of bytes that the result needs.
+    #[must_use]
+    pub fn needed(&self) -> usize {
+        self.needed
+    }
+}
+
+impl fmt::Display for TooShort {
+    fn fmt(&self, f: &mut fmt::Formatter<'_>) -> fmt::Result {
+        write!(f, "buffer is too short: {} bytes are needed", self.needed)
+    }
+}
+
+impl core::error::Error for TooShort {}
+
+/// Returns what was written to a buffer, if it has room for it. `len` is the length of the result, whether it was written or not.
+#[cfg(feature = "data")]
+pub(crate) fn written(buffer: &[u8], len: usize) -> Result<&str, TooShort> {
+    let bytes = buffer.get(..len).ok_or(TooShort { needed: len })?;
+    // Each form of a tag is ASCII.
+    core::str::from_utf8(bytes).map_err(|_| TooShort { needed: len })
+}

@@ -1,0 +1,121 @@
+//! What programmers write who know Rust and not this crate: each compiles, and does what it says. docs/DECISIONS.md names the few
+//! guesses that do not compile.
+#![cfg(all(feature = "alloc", feature = "data"))]
+#![allow(clippy::needless_borrows_for_generic_args)] // references are taken, too
+use std::borrow::Cow;
+use std::collections::HashSet;
+use std::sync::Arc;
+
+use langtag::choice::{best_among, best_for_header, BestMatch};
+use langtag::matching::{tag_for_header, AcceptLanguage, LanguageRange};
+use langtag::*;
+
+fn tag(text: &str) -> LangTag<'_> {
+    LangTag::new(text).unwrap()
+}
+
+fn owned_slice(tags: &[LangTagBuf], header: &str) -> Option<usize> {
+    best_for_header(header.as_bytes(), tags)
+}
+
+fn string_header(tags: &[LangTag], header: &str) -> Option<usize> {
+    best_for_header(header, tags)
+}
+
+fn among_slice(tags: &[LangTag], header: &[u8]) -> Option<usize> {
+    best_among(header, tags)
+}
+
+#[allow(clippy::ptr_arg)]
+fn among_vec(tags: &Vec<LangTagBuf>, header: &[u8]) -> Option<usize> {
+    best_among(header, tags)
+}
+
+fn tag_for_owned<'a>(tags: &'a [LangTagBuf], header: &'a str) -> &'a LangTagBuf {
+    tag_for_header(header, tags, &tags[0]).unwrap()
+}
+
+#[test]
+fn lists() {
+    let tags = ["en", "zh-Hans", "zh-Hant"].map(tag);
+    let owned: Vec<LangTagBuf> = tags.iter().map(|tag| tag.to_owned()).collect();
+    let header = "zh-TW,zh;q=0.9,en;q=0.8";
+    assert_eq!(owned_slice(&owned, header), Some(2));
+    assert_eq!(string_header(&tags, header), Some(2));
+    assert_eq!(among_slice(&tags, header.as_bytes()), Some(2));
+    assert_eq!(among_vec(&owned, header.as_bytes()), Some(2));
+    assert_eq!(tag_for_owned(&owned, "zh-Hant-TW"), "zh-Hant");
+}
+
+fn range_from_tag(tag: LangTag) -> LanguageRange {
+    tag.into()
+}
+
+fn clone_of(accepted: &AcceptLanguage<'static>) -> AcceptLanguage<'static> {
+    accepted.clone()
+}
+
+fn is_same(a: BestMatch, b: BestMatch) -> bool {
+    a == b
+}
+
+fn byte_of(singleton: Singleton) -> u8 {
+    singleton.into()
+}
+
+fn cow<'a>(tag: LangTag<'a>) -> Cow<'a, str> {
+    tag.as_str().into()
+}
+
+fn arc(tag: LangTag) -> Arc<str> {
+    tag.as_str().into()
+}
+
+#[test]
+fn conversions() {
+    assert_eq!(range_from_tag(tag("de-CH")).as_str(), "de-CH");
+    let accepted = AcceptLanguage::lenient("de");
+    assert_eq!(clone_of(&accepted), accepted);
+    let found = langtag::choice::match_for_header("de", &["de"]).unwrap();
+    assert!(is_same(found, found));
+    assert_eq!(byte_of(Singleton::new(b'u').unwrap()), b'u');
+    assert_eq!(
+        (&*cow(tag("de-CH")), &*arc(tag("de-CH"))),
+        ("de-CH", "de-CH")
+    );
+    assert_eq!(&*Box::<str>::from(tag("de-CH")), "de-CH");
+    let default: LangTagBuf = Default::default();
+    assert_eq!(default, LangTag::UND);
+}
+
+#[test]
+fn comparisons() {
+    let german = tag("de-CH");
+    assert!(german.language().is_some_and(|language| language == "DE"));
+    assert!(matches!(
+        german.language().map(|language| language.as_str()),
+        Some("de")
+    ));
+    assert!(german.starts_with("de"));
+    assert!(HashSet::from([german]).contains(&tag("DE-ch")));
+    let variants: Vec<Variant> = german.variants().into_iter().collect();
+    assert!(variants.is_empty());
+    assert!(tag("de-u-co-phonebk").extensions().get('u').is_some());
+    assert_eq!(german.kind().to_string(), "normal");
+}
+
+#[test]
+fn methods() {
+    let old = tag("iw-BU");
+    let owned = old.to_owned();
+    assert_eq!(old.canonical(), "he-MM");
+    assert!(
+        old.validate().is_ok()
+            && registry::validate(&old).is_ok()
+            && registry::validate(&owned).is_ok()
+    );
+    let (language, script) = (Language::new("zh").unwrap(), Script::new("Hant").ok());
+    assert_eq!(LangTagBuf::from_parts(language, script, None), "zh-Hant");
+    let british: Option<LangTagBuf> = Some("en-GB".parse().unwrap());
+    assert!(british.is_some_and(|tag| tag == "EN-gb"));
+}

@@ -1,0 +1,200 @@
+//! Methods of tags, conversions, and lists with entries that are not tags or ranges.
+#![cfg(all(feature = "alloc", feature = "data"))]
+#![allow(clippy::needless_borrows_for_generic_args)] // references are taken, too
+use langtag::choice::{best_for_header, best_for_ranges, distance};
+use langtag::likely::{is_right_to_left, maximized, minimized};
+use langtag::matching::{look_up, tag_for_header, LanguageRange, LanguageRangeBuf};
+use langtag::registry::{canonical, extlang_form, is_canonical, validate};
+use langtag::unicode::{attributes, extensions_form, keyword, keywords, locale_form, transform};
+use langtag::*;
+
+const TEXTS: [&str; 9] = [
+    "iw-BU",
+    "zh-TW",
+    "de-Latn-AT-1996-u-ca-roc-foo-x-a",
+    "en-u-foo-bar-nu-thai-ca-gregory-t-ja-m0-hepburn",
+    "ar",
+    "qt-FR",
+    "x-mine",
+    "i-klingon",
+    "zh-min-nan",
+];
+
+/// A method returns what the function of its name returns, for a tag, an owned tag and references to both.
+#[test]
+fn methods_return_what_functions_return() {
+    for text in TEXTS {
+        let tag = LangTag::new(text).unwrap();
+        let owned = tag.to_owned();
+        assert_eq!(
+            [tag.canonical(), owned.canonical(), canonical(&owned)],
+            [(); 3].map(|()| canonical(tag)),
+            "{text}"
+        );
+        assert_eq!(
+            [tag.extlang_form(), owned.extlang_form()],
+            [extlang_form(&tag), extlang_form(tag)]
+        );
+        assert_eq!(
+            [tag.maximized(), owned.maximized()],
+            [maximized(&tag), maximized(&owned)]
+        );
+        assert_eq!(
+            [tag.minimized(), owned.minimized()],
+            [minimized(&tag), minimized(&owned)]
+        );
+        assert_eq!(
+            [tag.extensions_form(), owned.extensions_form()],
+            [extensions_form(&tag), extensions_form(&owned)]
+        );
+        assert_eq!(
+            [tag.locale_form(), owned.locale_form()],
+            [locale_form(&tag), locale_form(&owned)]
+        );
+        assert_eq!(
+            [tag.validate(), owned.validate()],
+            [validate(&tag), validate(&owned)]
+        );
+        assert_eq!(
+            [tag.is_valid(), owned.is_valid()],
+            [validate(tag).is_ok(); 2],
+            "{text}"
+        );
+        assert_eq!(
+            [tag.keyword("CA"), owned.keyword("ca")],
+            [keyword(tag, "ca"), keyword(&owned, "ca")]
+        );
+        assert!(tag.keywords().eq(keywords(&owned)) && owned.keywords().eq(keywords(tag)));
+        assert!(tag.attributes().eq(attributes(&owned)) && owned.attributes().eq(attributes(tag)));
+        assert_eq!(
+            [tag.transform(), owned.transform()],
+            [transform(tag), transform(&owned)]
+        );
+        assert_eq!(
+            [tag.is_right_to_left(), owned.is_right_to_left()],
+            [is_right_to_left(tag), is_right_to_left(&owned)]
+        );
+        assert_eq!(is_canonical(&owned), tag == canonical(tag));
+        for other in TEXTS {
+            let other = LangTag::new(other).unwrap();
+            let far = distance(tag, other);
+            assert_eq!(
+                [
+                    tag.distance(other),
+                    owned.distance(other),
+                    tag.distance(&other.to_owned())
+                ],
+                [far; 3]
+            );
+        }
+        assert_eq!(
+            tag.to_recommended_case(),
+            tag.try_to_recommended_case().unwrap()
+        );
+    }
+}
+
+#[test]
+fn valid_and_base() {
+    let tag = |text| LangTag::new(text).unwrap();
+    assert!(tag("de-CH-1996").is_valid() && !tag("qt").is_valid());
+    for (text, base) in [
+        ("de-Latn-AT-1996-u-ca-roc-x-a", "de-Latn-AT-1996"),
+        ("zh-min-nan-x-a", "zh-min-nan"),
+        ("de", "de"),
+        ("x-mine", "x-mine"),
+        ("i-klingon", "i-klingon"),
+    ] {
+        assert_eq!(tag(text).base().as_str(), base);
+        assert_eq!(tag(text).base().as_typed(), tag(base).as_typed());
+        assert_eq!(tag(text).to_owned().base().as_str(), base);
+    }
+    let range = |text| LanguageRange::new(text).unwrap();
+    assert!(tag("de-Latn-DE").matches(range("de-DE")) && tag("de-Latn-DE").matches(tag("de-DE")));
+    assert!(!tag("de-x-DE").to_owned().matches(range("de-DE")));
+    assert_eq!(
+        [Kind::Normal, Kind::PrivateUse, Kind::Grandfathered].map(|kind| kind.to_string()),
+        ["normal", "private use", "grandfathered"]
+    );
+}
+
+#[test]
+fn conversions() {
+    let tag = LangTag::new("DE-a-bb-U-co-phonebk").unwrap();
+    let extensions = tag.extensions();
+    let found = extensions.get('u').map(|it| it.as_str());
+    assert_eq!(found, Some("U-co-phonebk"));
+    assert_eq!(extensions.get(b'U').map(|it| it.as_str()), found);
+    let owned = extensions.to_owned();
+    assert_eq!(owned.get('U').map(|it| it.as_str()), found);
+    assert_eq!(
+        extensions
+            .get(Singleton::new(b'u').unwrap())
+            .map(|it| it.as_str()),
+        found
+    );
+    assert_eq!(
+        (
+            extensions.get('x'),
+            extensions.get('\u{e9}'),
+            extensions.get('t')
+        ),
+        (None, None, None)
+    );
+    assert_eq!(
+        (
+            u8::from(Singleton::new(b'U').unwrap()),
+            char::from(Singleton::new(b'U').unwrap())
+        ),
+        (b'U', 'U')
+    );
+    assert_eq!(LanguageRange::from(tag).as_str(), tag.as_str());
+    assert_eq!(
+        LanguageRangeBuf::from(tag.to_owned()).as_str(),
+        tag.as_str()
+    );
+    assert_eq!(
+        (&*Box::<str>::from(tag), &*Box::<str>::from(tag.to_owned())),
+        (tag.as_str(), tag.as_str())
+    );
+    const UND: LangTag<'static> = LangTag::UND;
+    assert_eq!(
+        (UND.as_str(), UND.as_typed()),
+        ("und", LangTag::new("und").unwrap().as_typed())
+    );
+    assert_eq!(
+        (LangTag::default(), LangTagBuf::default()),
+        (UND, UND.to_owned())
+    );
+}
+
+/// `for` goes over a list, borrowed or owned.
+#[test]
+fn lists_are_walked() {
+    let variants = Variants::new("rozaj-1994").unwrap();
+    let mut found = Vec::new();
+    for (lent, owned) in variants.into_iter().zip(&variants.to_owned()) {
+        found.push((lent.to_string(), owned.to_string()));
+    }
+    assert_eq!(found, ["rozaj", "1994"].map(|it| (it.into(), it.into())));
+}
+
+/// Entries that are not tags are never chosen, and strings that are not ranges are skipped.
+#[test]
+fn lists_with_other_texts() {
+    let site = ["not a tag", "en_US", "de", ""];
+    assert_eq!(best_for_header("en-US, de;q=0.5", &site), Some(2));
+    assert_eq!(best_for_header("fr", &site), None);
+    assert_eq!(
+        best_for_header(&String::from("de"), &Vec::from(site.map(String::from))),
+        Some(2)
+    );
+    assert_eq!(best_for_header("*", &["en_US"]), None);
+    assert_eq!(best_for_ranges(&["d!", "de"], &["en", "de"]), Some(1));
+    assert_eq!(best_for_ranges(&[""; 0], &["en", "de"]), None);
+    assert_eq!(look_up(&["d!", "en_US", "de-CH"], &site, &"none"), &"de");
+    assert_eq!(look_up(&["en"], &site, &"none"), &"none");
+    assert_eq!(tag_for_header("de-CH", &site, &"none").unwrap(), &"de");
+    let none: [LangTagBuf; 0] = [];
+    assert_eq!(best_for_header("de", &none), None);
+}
