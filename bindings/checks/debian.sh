@@ -9,7 +9,7 @@ debian_built() {
 }
 debian_lintian() { ls "$work"/debian/*.deb >/dev/null && ! lintian --tag-display-limit 0 --allow-root --info --display-info "$work"/debian/*.deb | grep .; }
 
-# What a user does with the packages, in the copy.
+# What a user does with the packages, in the copy, without a variable of these checks.
 cat >"$work/debian_used.sh" <<'END_OF_USE'
 set -euo pipefail
 cd /tmp && cp "$1/examples/parts.c" "$1/examples/parts.cc" .
@@ -32,7 +32,7 @@ debian_installed() {
     local room=$work/overlay said proved
     mkdir -p "$room/upper" "$room/work" "$room/merged" || return 1
     said=$(unshare -m bash -ec 'mount -t overlay overlay -o "lowerdir=/,upperdir=$1/upper,workdir=$1/work" "$1/merged"
-        mount -t proc proc "$1/merged/proc"; mount --rbind /dev "$1/merged/dev"; exec chroot "$1/merged" bash "$2" "$3" "$4"' \
+        mount -t proc proc "$1/merged/proc"; mount --rbind /dev "$1/merged/dev"; exec env -i PATH=/usr/sbin:/usr/bin:/sbin:/bin HOME=/root chroot "$1/merged" bash "$2" "$3" "$4"' \
         bash "$room" "$work/debian_used.sh" "$work/bindings" "$work/debian" 2>"$work/log") || { tail -20 "$work/log"; return 1; }
     if [ -n "$prover" ]; then proved="True t"; else proved="False f"; fi
     diff <(echo "$said") <(wanted; wanted; echo "zh Hant TW ${proved% *}"
