@@ -10,7 +10,7 @@ HERE = pathlib.Path(__file__).resolve().parent
 DOCS = HERE.parent / "docs"
 
 # The page of each package.
-PAGES = {"c": "C.md", "python": "PYTHON.md", "js": "JAVASCRIPT.md", "postgresql": "SQL.md"}
+PAGES = {"c": "C.md", "python": "PYTHON.md", "js": "JAVASCRIPT.md", "postgresql": "POSTGRESQL.md"}
 LICENCES = """
 ## Licence
 

@@ -32,7 +32,7 @@ postgresql_released() {
     [ "$exported" = 0 ] || { echo "$module exports $exported functions of the library"; return 1; }
 }
 
-# The first table of docs/SQL.md.
+# The first table of docs/POSTGRESQL.md.
 cat >"$work/first.sql" <<'END'
 CREATE EXTENSION langtag;
 CREATE TABLE texts (tag langtag NOT NULL, t text);

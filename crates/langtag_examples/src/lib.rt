@@ -1,4 +1,4 @@
-//! Proved examples of what programs do with `langtag` and `langtag_match`: one file for each use. docs/CALLING.md lists
+//! Proved examples of what programs do with `langtag` and `langtag_match`: one file for each use. docs/RATTLE.md lists
 //! them.
 #![tactic(auto)]
 
