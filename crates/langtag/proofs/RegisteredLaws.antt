@@ -90,7 +90,7 @@ index_from_fold k lt = subst (λ i. first_index (fold_text (text_at i)) ≡ i) (
 pub one_index : (j k : ℕ) (t : List ℕ) → IsGrandfatheredAt j t → IsGrandfatheredAt k t → j ≡ k
 one_index j k t h g = grind (arith, common_steps, alike_at j t h, alike_at k t g, index_from_fold j, index_from_fold k)
 
--- ---- the look-up
+-- ---- the lookup
 
 past_end : (n m : ℕ) → cond (ltb n m) (Some n) None ≡ None → m ≤ n
 past_end n m none = grind (arith, common_steps, cases_lt n m, lt-ltb n m)

@@ -1,4 +1,4 @@
-//! How a part of a tag's text is replaced, and where the parts of the new text end.
+//! How a part of a tag's string is replaced, and where the parts of the new string end.
 #![tactic(auto, using(langtag_scan::proofs::SpelledTexts::offsets_kept))]
 
 ghost use Rattle.std.specs.Prelude.{◌≡◌, ◌++◌, ◌≤◌, [], length, IfOk, OnOk, OnErr, IsOk, IsAscii, string_bytes, string_capacity};
@@ -12,8 +12,8 @@ use crate::part::{Part, Replacement};
 use langtag_scan::Ends;
 use std::alloc::{AllocError, Global};
 
-/// Sets or removes a part in the text of a normal tag whose parts end at these offsets. Returns where the parts of the
-/// new text end, without parsing it.
+/// Sets or removes a part in the string of a normal tag whose parts end at these offsets. Returns where the parts of
+/// the new string end, without parsing it.
 pub(crate) fn set_part(
     text: &mut String,
     ends: Ends,
@@ -32,10 +32,10 @@ pub(crate) fn set_part(
     Ok(Lengths::of(ends).with(&part, len).ends())
 }
 
-/// Replaces the bytes of a text from `new.start` up to `new.end`.
+/// Replaces the bytes of a string from `new.start` up to `new.end`.
 ///
-/// If there are new bytes, the new text is complete before the old text is dropped. If there are none, the old bytes
-/// are removed in place, without allocating.
+/// If there are new bytes, the new string is complete before the old string is dropped. If there are none, the old
+/// bytes are removed in place, without allocating.
 fn replace(text: &mut String, alloc: Global, new: Replacement<'_>) -> Result<(), AllocError>
     requires order { new.start ≤ new.end }
     requires within { new.end ≤ length (string_bytes text.old) }
@@ -53,7 +53,7 @@ fn replace(text: &mut String, alloc: Global, new: Replacement<'_>) -> Result<(),
     Ok(())
 }
 
-/// Returns a new text in which these bytes are replaced. It allocates once, exactly the length of the new text.
+/// Returns a new string in which these bytes are replaced. It allocates once, exactly the length of the new string.
 fn join(alloc: Global, text: &str, new: Replacement<'_>) -> Result<String, AllocError>
     requires order { new.start ≤ new.end }
     requires within { new.end ≤ length text.now }

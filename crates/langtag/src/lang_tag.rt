@@ -32,7 +32,7 @@ use std::fmt;
 use std::fmt::Debug;
 use thiserror::Error;
 
-/// The error for a text that is not a language tag. It contains the text.
+/// The error for a string that is not a language tag. It contains the string.
 ///
 /// ```
 /// use langtag::LangTag;
@@ -48,8 +48,8 @@ pub struct InvalidLangTag<T>(pub T);
 /// A language tag (RFC 5646 section 2.1). It is a normal tag, such as `zh-Hant-TW`, a private-use tag, such as
 /// `x-fr-CH`, or an irregular grandfathered tag, such as `i-klingon`.
 ///
-/// It stores its kind, and where the parts of a normal tag end, so no call parses the text again. Two tags are equal if
-/// their texts differ only in the case of ASCII letters.
+/// It stores its kind, and where the parts of a normal tag end, so no call parses the string again. Two tags are equal
+/// if their strings differ only in the case of ASCII letters.
 ///
 /// ```
 /// use langtag::LangTag;
@@ -77,12 +77,12 @@ impl<'a> LangTag<'a> {
     ghost use Rattle.langtag.specs.Text.{normal_lang_tag_text, lang_tag_text, lang_tag_buf_text};
     ghost use Rattle.langtag.specs.Typed.{IsTypedAs};
 
-    /// Parses a text as a language tag. Case does not matter, and the text keeps its case. It is proved that no text is
-    /// of two kinds.
+    /// Parses a string as a language tag. Case does not matter, and the string keeps its case. It is proved that no
+    /// string is of two kinds.
     ///
     /// # Errors
     ///
-    /// Returns the text if it is not a tag, such as `zh_Hant` or the empty text.
+    /// Returns the string if it is not a tag, such as `zh_Hant` or the empty string.
     ///
     /// ```
     /// use langtag::LangTag;
@@ -134,8 +134,8 @@ impl<'a> LangTag<'a> {
         Ok(LangTag::with_found(ascii, found))
     }
 
-    /// Wraps a text that is known to be a language tag: `LangTag::from_checked(tag.as_str())` equals `tag`. It parses
-    /// the text again to find the parts.
+    /// Wraps a string that is known to be a language tag: `LangTag::from_checked(tag.as_str())` equals `tag`. It parses
+    /// the string again to find the parts.
     pub fn from_checked(text: &'a str) -> LangTag<'a>
         requires { IsTag text.now }
         ensures { lang_tag_text result ≡ text.now }
@@ -146,7 +146,7 @@ impl<'a> LangTag<'a> {
         LangTag::with_found(text, found)
     }
 
-    /// Makes a tag from a text and what the parser found in the text, without parsing the text again.
+    /// Makes a tag from a string and what the parser found in the string, without parsing the string again.
     pub(crate) fn with_found(text: &'a str, found: Recognised) -> LangTag<'a>
         requires { ∥ IsFoundOf text.now (finding_of found) ∥₁ }
         ensures { lang_tag_text result ≡ text.now }
@@ -157,7 +157,7 @@ impl<'a> LangTag<'a> {
         }
     }
 
-    /// Returns the text, in its original case.
+    /// Returns the string, in its original case.
     ///
     /// ```
     /// use langtag::LangTag;
@@ -171,7 +171,7 @@ impl<'a> LangTag<'a> {
         self.text.0
     }
 
-    /// Returns the text as bytes.
+    /// Returns the string as bytes.
     ///
     /// ```
     /// use langtag::LangTag;
@@ -206,7 +206,7 @@ impl<'a> LangTag<'a> {
         Subtags::new(self.as_str())
     }
 
-    /// Returns whether another text equals this tag, ignoring the case of ASCII letters. A text that is equal is a
+    /// Returns whether another string equals this tag, ignoring the case of ASCII letters. A string that is equal is a
     /// tag of the same kind. If both are normal tags, their parts are equal, ignoring case, and are at the same
     /// offsets.
     ///
@@ -502,7 +502,7 @@ impl<'a> LangTag<'a> {
         self.as_normal()?.region()
     }
 
-    /// Returns the variants: `rozaj-1994` for `sl-rozaj-1994`, and the empty text for `sl` and `x-a`.
+    /// Returns the variants: `rozaj-1994` for `sl-rozaj-1994`, and the empty string for `sl` and `x-a`.
     ///
     /// ```
     /// use langtag::LangTag;
@@ -519,7 +519,7 @@ impl<'a> LangTag<'a> {
         tag.variants()
     }
 
-    /// Returns the extensions: `a-bb-u-co` for `en-a-bb-u-co-x-y`, and the empty text for `en` and `x-a`.
+    /// Returns the extensions: `a-bb-u-co` for `en-a-bb-u-co-x-y`, and the empty string for `en` and `x-a`.
     ///
     /// ```
     /// use langtag::LangTag;

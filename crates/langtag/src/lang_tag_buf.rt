@@ -80,7 +80,7 @@ impl LangTagBuf {
         Ok(LangTagBuf::with_found(text, found))
     }
 
-    /// Makes a tag from a text and what the parser found in the text, without parsing the text again.
+    /// Makes a tag from a string and what the parser found in the string, without parsing the string again.
     pub(crate) fn with_found(text: String, found: Recognised) -> LangTagBuf
         requires { ∥ IsFoundOf (string_bytes text) (finding_of found) ∥₁ }
         ensures { lang_tag_buf_string result ≡ text }
@@ -103,7 +103,7 @@ impl LangTagBuf {
         LangTag::with_found(self.as_str(), self.found)
     }
 
-    /// Returns the text, in its original case: `LangTag::new("x-A")?.try_to_owned(alloc)?.as_str()` is `"x-A"`.
+    /// Returns the string, in its original case: `LangTag::new("x-A")?.try_to_owned(alloc)?.as_str()` is `"x-A"`.
     pub fn as_str(&self) -> &str
         ensures same_text { result.now ≡ lang_tag_buf_text self.now }
         ensures in_class { IsTag result.now }
@@ -150,7 +150,7 @@ impl LangTagBuf {
     ///
     /// In a normal tag, the script becomes titlecase, the region uppercase, and everything else lowercase. The tag
     /// still equals the old tag, and its parts keep their offsets. It neither allocates nor parses. Equal tags become
-    /// the same bytes, so the text can be a key in a store that compares bytes.
+    /// the same bytes, so the string can be a key in a store that compares bytes.
     ///
     /// ```
     /// use langtag::LangTag;

@@ -14,7 +14,7 @@
 //! ```
 //!
 //! A [`NormalLangTag`] is a tag that is made of parts. It stores where the parts end, so each part is a slice of the
-//! text:
+//! string:
 //!
 //! ```
 //! use langtag::{NormalLangTag, Script};

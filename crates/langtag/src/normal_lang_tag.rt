@@ -30,7 +30,7 @@ use std::fmt;
 use std::fmt::Debug;
 use thiserror::Error;
 
-/// The error for a text that is not a normal tag. It contains the text.
+/// The error for a string that is not a normal tag. It contains the string.
 ///
 /// ```
 /// use langtag::NormalLangTag;
@@ -46,8 +46,8 @@ pub struct InvalidNormalLangTag<T>(pub T);
 /// A normal language tag, which follows the rule `langtag` of RFC 5646 section 2.1. It has a language, and may have a
 /// script, a region, variants, extensions and a private use part, as `sl-Latn-IT-rozaj-u-co-phonebk-x-mine` does.
 ///
-/// It stores where its parts end, so each part is a slice of the text. Two tags are equal if their texts differ only in
-/// the case of ASCII letters.
+/// It stores where its parts end, so each part is a slice of the string. Two tags are equal if their strings differ
+/// only in the case of ASCII letters.
 ///
 /// ```
 /// use langtag::NormalLangTag;
@@ -75,14 +75,14 @@ impl<'a> NormalLangTag<'a> {
     ghost use Rattle.langtag.specs.Compared.{NormalLangTagsCompareByCase};
     ghost use Rattle.langtag.specs.Text.{lang_tag_text, normal_lang_tag_text, normal_lang_tag_buf_text};
 
-    /// Parses a text as a normal tag.
+    /// Parses a string as a normal tag.
     ///
     /// It is proved that a normal tag splits into its parts in only one way, and that the parts, joined by hyphens, are
-    /// the whole text.
+    /// the whole string.
     ///
     /// # Errors
     ///
-    /// Returns the text if it is not a normal tag, such as `sl_IT`, or `x-a`, which is a tag of another kind.
+    /// Returns the string if it is not a normal tag, such as `sl_IT`, or `x-a`, which is a tag of another kind.
     ///
     /// ```
     /// use langtag::NormalLangTag;
@@ -105,8 +105,8 @@ impl<'a> NormalLangTag<'a> {
         Ok(NormalLangTag::with_ends(text, ends))
     }
 
-    /// Wraps a text that is known to be a normal tag: `NormalLangTag::from_checked(tag.as_str())` equals `tag`. It
-    /// parses the text again to find the parts.
+    /// Wraps a string that is known to be a normal tag: `NormalLangTag::from_checked(tag.as_str())` equals `tag`. It
+    /// parses the string again to find the parts.
     pub fn from_checked(text: &'a str) -> NormalLangTag<'a>
         requires { IsNormal text.now }
         ensures { normal_lang_tag_text result ≡ text.now }
@@ -117,7 +117,8 @@ impl<'a> NormalLangTag<'a> {
         NormalLangTag::with_ends(text, ends)
     }
 
-    /// Makes a normal tag from a text whose parts are known to end at these offsets, without parsing the text again.
+    /// Makes a normal tag from a string whose parts are known to end at these offsets, without parsing the string
+    /// again.
     pub(crate) fn with_ends(text: &'a str, ends: Ends) -> NormalLangTag<'a>
         requires { ∥ HasEnds text.now ends ∥₁ }
         ensures { normal_lang_tag_text result ≡ text.now }
@@ -128,7 +129,7 @@ impl<'a> NormalLangTag<'a> {
         }
     }
 
-    /// Returns the text, in its original case.
+    /// Returns the string, in its original case.
     ///
     /// ```
     /// use langtag::NormalLangTag;
@@ -142,7 +143,7 @@ impl<'a> NormalLangTag<'a> {
         self.text.0
     }
 
-    /// Returns the text as bytes.
+    /// Returns the string as bytes.
     ///
     /// ```
     /// use langtag::NormalLangTag;
@@ -174,7 +175,7 @@ impl<'a> NormalLangTag<'a> {
         Subtags::new(self.as_str())
     }
 
-    /// Returns whether another text equals this tag, ignoring the case of ASCII letters. A text that is equal is a
+    /// Returns whether another string equals this tag, ignoring the case of ASCII letters. A string that is equal is a
     /// normal tag, too. The parts of both are equal, ignoring case, and are at the same offsets.
     ///
     /// It is proved that comparisons and hashes of normal tags also ignore case, and that a clone is the same tag. A
@@ -212,7 +213,7 @@ impl<'a> NormalLangTag<'a> {
         LangTag::with_found(self.as_str(), Recognised::Normal(self.ends))
     }
 
-    /// Returns where the parts end, in bytes from the start of the text. In `sl-IT`, the language and the absent
+    /// Returns where the parts end, in bytes from the start of the string. In `sl-IT`, the language and the absent
     /// script end at 2, and all other ends are 5.
     ///
     /// ```
@@ -277,7 +278,7 @@ impl<'a> NormalLangTag<'a> {
         Some(Region::from_checked(region))
     }
 
-    /// Returns the variants: `rozaj-1994` for `sl-rozaj-1994`, and the empty text for `sl`.
+    /// Returns the variants: `rozaj-1994` for `sl-rozaj-1994`, and the empty string for `sl`.
     ///
     /// ```
     /// use langtag::NormalLangTag;
@@ -292,7 +293,7 @@ impl<'a> NormalLangTag<'a> {
         Variants::from_checked(self.part_or_empty(self.ends.region, self.ends.variants))
     }
 
-    /// Returns the extensions: `a-bb-u-co` for `en-a-bb-u-co-x-y`, and the empty text for `en-x-y`.
+    /// Returns the extensions: `a-bb-u-co` for `en-a-bb-u-co-x-y`, and the empty string for `en-x-y`.
     ///
     /// ```
     /// use langtag::NormalLangTag;
@@ -406,7 +407,7 @@ impl<'a> NormalLangTag<'a> {
     }
 
     /// Returns the first singleton that equals an earlier singleton, ignoring case: the `A` in `fr-a-bb-A-cc`. It is
-    /// returned in the case of the text.
+    /// returned in the case of the string.
     ///
     /// A tag with a repeated singleton is well formed but not valid (RFC 5646 section 2.2.6). This does not allocate.
     ///
@@ -510,15 +511,15 @@ impl<'a> NormalLangTag<'a> {
         Ok(owned)
     }
 
-    /// Returns the text of the language.
+    /// Returns the string of the language.
     fn language_str(&self) -> &'a str
         ensures { result.now ≡ take self.now.ends.language (normal_lang_tag_text self.now) }
     {
         &self.as_str()[..self.ends.language]
     }
 
-    /// Returns the text of a part, which begins after the hyphen at `before` and ends at `end`. Returns `None` if both
-    /// offsets are equal, since the part is then absent.
+    /// Returns the string of a part, which begins after the hyphen at `before` and ends at `end`. Returns `None` if
+    /// both offsets are equal, since the part is then absent.
     fn part(&self, before: usize, end: usize) -> Option<&'a str>
         requires ordered { before ≤ end }
         requires within { end ≤ length (normal_lang_tag_text self.now) }
@@ -530,7 +531,7 @@ impl<'a> NormalLangTag<'a> {
         Some(&self.as_str()[before + 1..end])
     }
 
-    /// Returns what [`part`](NormalLangTag::part) returns, or the empty text if there is no such part.
+    /// Returns what [`part`](NormalLangTag::part) returns, or the empty string if there is no such part.
     fn part_or_empty(&self, before: usize, end: usize) -> &'a str
         requires ordered { before ≤ end }
         requires within { end ≤ length (normal_lang_tag_text self.now) }

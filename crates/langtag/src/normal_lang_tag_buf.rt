@@ -83,7 +83,7 @@ impl NormalLangTagBuf {
     }
 
     /// Returns the normal tag with a language, a script and a region, and no other parts: `zh-Hant-TW` for `zh`, `Hant`
-    /// and `TW`. It allocates once, exactly the length of the text.
+    /// and `TW`. It allocates once, exactly the length of the string.
     ///
     /// # Errors
     ///
@@ -122,7 +122,8 @@ impl NormalLangTagBuf {
         Ok(NormalLangTagBuf::with_ends(whole, ends))
     }
 
-    /// Makes a normal tag from a text whose parts are known to end at these offsets, without parsing the text again.
+    /// Makes a normal tag from a string whose parts are known to end at these offsets, without parsing the string
+    /// again.
     pub(crate) fn with_ends(text: String, ends: Ends) -> NormalLangTagBuf
         requires { ∥ HasEnds (string_bytes text) ends ∥₁ }
         ensures { normal_lang_tag_buf_string result ≡ text }
@@ -145,7 +146,7 @@ impl NormalLangTagBuf {
         NormalLangTag::with_ends(self.as_str(), self.ends)
     }
 
-    /// Returns the text, in its original case: `NormalLangTag::new("ZH-tw")?.try_to_owned(alloc)?.as_str()` is
+    /// Returns the string, in its original case: `NormalLangTag::new("ZH-tw")?.try_to_owned(alloc)?.as_str()` is
     /// `"ZH-tw"`.
     pub fn as_str(&self) -> &str
         ensures same_text { result.now ≡ normal_lang_tag_buf_text self.now }
@@ -228,8 +229,8 @@ impl NormalLangTagBuf {
     /// Sets the script, or removes it if `None` is given (RFC 5646 section 2.2.3): with `Latn`, `sl-IT` becomes
     /// `sl-Latn-IT`.
     ///
-    /// The new text is complete before the old text is dropped. Removing the script does not allocate. The stored ends
-    /// of the parts are adjusted, so nothing is parsed again.
+    /// The new string is complete before the old string is dropped. Removing the script does not allocate. The stored
+    /// ends of the parts are adjusted, so nothing is parsed again.
     ///
     /// # Errors
     ///

@@ -1,4 +1,4 @@
-//! The parts of a normal tag (RFC 5646 section 2.1), and how a new part is put into the text of a tag.
+//! The parts of a normal tag (RFC 5646 section 2.1), and how a new part is put into the string of a tag.
 ghost use Rattle.std.specs.Prelude.{◌≡◌, ◌++◌, ◌≤◌, ◌+◌, length};
 ghost use Rattle.std.specs.List.{replace_range};
 ghost use Rattle.langtag_scan.specs.Tag.{IsNormal};
@@ -42,8 +42,8 @@ pub enum Part<'a> {
     PrivateUse(Option<PrivateUse<'a>>),
 }
 
-/// A change of a tag's text, which [`put_part`] returns: the bytes to replace, and the text that replaces them. Offsets
-/// are in bytes.
+/// A change of a tag's string, which [`put_part`] returns: the bytes to replace, and the string that replaces them.
+/// Offsets are in bytes.
 ///
 /// ```
 /// use langtag::{NormalLangTag, Part, put_part};
@@ -59,11 +59,11 @@ pub struct Replacement<'a> {
     pub end: usize,
     /// The hyphen before the part. It is empty for a language, and if the part is removed.
     pub hyphen: &'static str,
-    /// The text of the part, which is empty if the part is removed.
+    /// The string of the part, which is empty if the part is removed.
     pub part: &'a str,
 }
 
-/// Returns the change of a normal tag's text that sets this part (RFC 5646 sections 2.2.1 to 2.2.7). It does not
+/// Returns the change of a normal tag's string that sets this part (RFC 5646 sections 2.2.1 to 2.2.7). It does not
 /// allocate. The caller joins the bytes before `start`, the hyphen, the part, and the bytes from `end` on.
 ///
 /// To put the region `AT` into `de-DE-1996`, replace the bytes from 2 to 5 by a hyphen and `AT`. It is proved that a
@@ -92,8 +92,8 @@ pub fn put_part<'a>(tag: NormalLangTag<'_>, part: Part<'a>) -> Replacement<'a>
     part.replacement(&tag.ends())
 }
 
-/// Writes the text of a normal tag, changed as [`put_part`] says, to a buffer, and returns the length of the text in
-/// bytes. If the buffer is too short, it stays unchanged, and the length says how much room is needed. The function
+/// Writes the string of a normal tag, changed as [`put_part`] says, to a buffer, and returns the length of the string
+/// in bytes. If the buffer is too short, it stays unchanged, and the length says how much room is needed. The function
 /// does not allocate.
 pub fn write_part<'a>(tag: NormalLangTag<'a>, part: Part<'a>, buffer: &mut [u8]) -> usize
     ensures set { Writes (λ new. SetsPart part.entry (normal_lang_tag_text tag.entry) new × IsNormal new) buffer.old buffer.new result }
@@ -108,8 +108,8 @@ pub fn write_part<'a>(tag: NormalLangTag<'a>, part: Part<'a>, buffer: &mut [u8])
 }
 
 impl<'a> Part<'a> {
-    /// Returns the text of the part: `Part::Script(Script::new("Latn").ok()).as_str()` is `"Latn"`. An absent part has
-    /// the empty text.
+    /// Returns the string of the part: `Part::Script(Script::new("Latn").ok()).as_str()` is `"Latn"`. An absent part
+    /// has the empty string.
     pub fn as_str(&self) -> &'a str
         ensures { result.now ≡ part_text self.now }
     {
@@ -124,7 +124,7 @@ impl<'a> Part<'a> {
         }
     }
 
-    /// Returns the change of a text whose parts end at these offsets.
+    /// Returns the change of a string whose parts end at these offsets.
     pub(crate) fn replacement(&self, ends: &Ends) -> Replacement<'a>
         ensures start { result.start ≡ part_start self.now ends.now }
         ensures end { result.end ≡ part_end self.now ends.now }
@@ -157,7 +157,7 @@ impl<'a> Part<'a> {
         }
     }
 
-    /// Returns the hyphen before the text of this part, or nothing for a language or an empty text.
+    /// Returns the hyphen before the string of this part, or nothing for a language or an empty string.
     fn hyphen_before(&self, text: &str) -> &'static str
         requires { text.now ≡ part_text self.now }
         ensures one { length result.now ≤ 1 }

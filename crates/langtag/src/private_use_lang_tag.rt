@@ -1,7 +1,7 @@
 //! Private-use tags (RFC 5646 section 2.2.7).
 use langtag_private::{PrivateUse, PrivateUseBuf};
 
-/// A private-use tag, such as `x-fr-CH`. Its whole text is a private use part.
+/// A private-use tag, such as `x-fr-CH`. Its whole string is a private use part.
 ///
 /// ```
 /// use langtag::PrivateUseLangTag;

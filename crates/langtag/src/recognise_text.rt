@@ -34,14 +34,14 @@ fn found_in(bytes: &[u8]) -> Option<Found>
     recognise(&mut Metered::of_bytes(bytes))
 }
 
-/// Returns what the recogniser finds in a text, or `None` if it is not a tag.
+/// Returns what the recogniser finds in a string, or `None` if it is not a tag.
 pub(crate) fn recognise_text(text: &str) -> Option<Recognised>
     ensures { MatchOption result (IsTag text.now → ⊥) (λ found. IsFoundOf text.now (finding_of found)) }
 {
     recognise_bytes(text.as_bytes())
 }
 
-/// Returns where the parts of a normal tag end, or `None` if the text is not a normal tag.
+/// Returns where the parts of a normal tag end, or `None` if the string is not a normal tag.
 #[tactic(auto, using(langtag_scan::proofs::FoundLaws::found_ends, langtag_scan::proofs::TagLaws::tag_normal))]
 pub(crate) fn normal_ends(text: &str) -> Option<Ends>
     ensures { MatchOption result (IsNormal text.now → ⊥) (λ ends. HasEnds text.now ends) }

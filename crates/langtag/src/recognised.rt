@@ -6,7 +6,7 @@ ghost use Rattle.langtag.specs.Recognised.{finding_of};
 use crate::grandfathered::GrandfatheredLangTag;
 use langtag_scan::Ends;
 
-/// The kind of a tag (RFC 5646 section 2.1), with what was found in its text, so that no call has to parse the text
+/// The kind of a tag (RFC 5646 section 2.1), with what was found in its text, so that no call has to parse the string
 /// again.
 #[derive(Clone, Copy)]
 pub(crate) enum Recognised {

@@ -1,4 +1,4 @@
-//! The text of a tag in its recommended case.
+//! The string of a tag in its recommended case.
 ghost use Rattle.std.specs.Prelude.{◌≡◌, IsAscii};
 ghost use Rattle.std.specs.String.{string_bytes, string_vec};
 ghost use Rattle.std.specs.Vec.{SameBlock};

@@ -1,4 +1,4 @@
-//! Where the first fault is in a text that is not a tag (RFC 5646 section 2.1).
+//! Where the first fault is in a string that is not a tag (RFC 5646 section 2.1).
 ghost use Rattle.std.specs.Prelude.{◌≡◌, ◌↔◌, ◌≤◌, ◌<◌, ◌++◌, ◌∷◌, [], IsTrue, IsNone, IfSome, false, length, take, slice_index};
 ghost use Rattle.std.specs.List.{list_any};
 ghost use Rattle.langtag_scan.specs.Case.{are_alike};
@@ -195,7 +195,7 @@ fn begin_any(bytes: &[u8], tags: &[GrandfatheredLangTag]) -> bool
     tags.iter().any(|tag| begins(bytes, tag.as_bytes()))
 }
 
-/// Returns whether a text begins with the bytes, ignoring the case of letters.
+/// Returns whether a string begins with the bytes, ignoring the case of letters.
 fn begins(bytes: &[u8], text: &[u8]) -> bool
     ensures { result ≡ are_alike bytes.now (take (length bytes.now) text.now) }
 {

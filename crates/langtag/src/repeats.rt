@@ -15,7 +15,7 @@ use langtag_extension::Extensions;
 use langtag_place::{Variant, Variants};
 use langtag_scan::into_smallcase;
 
-/// If the text of the variants has at most this many bytes, and so at most 28 variants, each variant is compared with
+/// If the string of the variants has at most this many bytes, and so at most 28 variants, each variant is compared with
 /// all variants before it.
 const FEW: usize = 143;
 

@@ -1,11 +1,11 @@
-//! The text of a language, a script and a region.
+//! The string of a language, a script and a region.
 ghost use Rattle.std.specs.Prelude.{◌≡◌, ◌++◌, IfOk, OnOk, string_bytes};
 ghost use Rattle.langtag.specs.Lengths.{after_hyphen};
 
 use std::alloc::{AllocError, Global};
 
-/// Returns a new text that consists of a language, a script and a region, joined by hyphens. It first allocates `room`
-/// bytes. An empty script or region is left out.
+/// Returns a new string that consists of a language, a script and a region, joined by hyphens. It first allocates
+/// `room` bytes. An empty script or region is left out.
 pub(crate) fn join_parts(
     alloc: Global,
     room: usize,
@@ -22,7 +22,7 @@ pub(crate) fn join_parts(
     Ok(whole)
 }
 
-/// Appends a hyphen and a part to a text, or nothing if the part is empty.
+/// Appends a hyphen and a part to a string, or nothing if the part is empty.
 fn push_part(text: &mut String, part: &str) -> Result<(), AllocError>
     ensures { OnOk result (string_bytes text.new ≡ string_bytes text.old ++ after_hyphen part.now) }
 {

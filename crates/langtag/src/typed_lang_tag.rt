@@ -8,7 +8,7 @@ use crate::private_use_lang_tag::PrivateUseLangTag;
 use langtag_language::Language;
 
 /// A language tag as an enum with one variant for each kind (RFC 5646 section 2.1), as
-/// [`LangTag::as_typed`](crate::LangTag::as_typed) returns it. No method reads the text.
+/// [`LangTag::as_typed`](crate::LangTag::as_typed) returns it. No method reads the string.
 ///
 /// ```
 /// use langtag::{LangTag, TypedLangTag};
@@ -52,7 +52,7 @@ impl<'a> TypedLangTag<'a> {
     }
 
     /// Returns the kind of the tag: `LangTag::new("x-a")?.as_typed().kind()` is `Kind::PrivateUse`. It is proved that
-    /// typed tags are equal if they have the same kind and their texts are equal, ignoring case, and that a clone is
+    /// typed tags are equal if they have the same kind and their strings are equal, ignoring case, and that a clone is
     /// the same value.
     pub fn kind(&self) -> Kind
         ensures kind { result ≡ kind_of_tag self.now }

@@ -65,7 +65,7 @@ fn put_invalid<W: Write>(
     put_fault(what, subtag, form, page, output)
 }
 
-/// Returns the word for a fault, and its subtag. A singleton is written into `room` to make a text of it.
+/// Returns the word for a fault, and its subtag. A singleton is written into `room` to make a string of it.
 fn fault_words<'a>(invalid: InvalidSubtag<'a>, room: &'a mut [u8; 4]) -> (&'static str, &'a str)
     ensures { result.0.now ++ result.1.now ≡ fault_text (told invalid.entry) }
 {

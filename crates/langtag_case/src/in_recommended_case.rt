@@ -1,4 +1,4 @@
-//! A text that is displayed in its recommended case.
+//! A string that is displayed in its recommended case.
 ghost use Rattle.std.specs.Prelude.{◌≡◌, Some, IsAscii};
 ghost use Rattle.langtag_case.specs.RecommendedCase.{recommended_text};
 
@@ -9,7 +9,7 @@ use std::fmt;
 /// An ASCII text that is displayed in the case that RFC 5646 section 2.1.1 recommends for tags: `MN-cYRL-mn` is
 /// displayed as `mn-Cyrl-MN`.
 ///
-/// It does not allocate. A text that is already in its recommended case is written in one call, and any other text
+/// It does not allocate. A string that is already in its recommended case is written in one call, and any other string
 /// byte by byte.
 ///
 /// ```

@@ -1,4 +1,4 @@
-//! The pieces of a text in its recommended case. In each piece, the uppercase letters come before the lowercase
+//! The pieces of a string in its recommended case. In each piece, the uppercase letters come before the lowercase
 //! letters.
 ghost use Rattle.std.specs.Prelude.{◌≡◌};
 ghost use Rattle.langtag_case.specs.RecommendedCase.{recommended_text};
@@ -6,8 +6,8 @@ ghost use Rattle.langtag_case.specs.Walk.{BeginsWith, later_text};
 
 use langtag_scan::segment_end;
 
-/// A piece of a text in its recommended case (RFC 5646 section 2.1.1). Each subtag before the first single-byte subtag
-/// is a piece. The rest of the text is one more piece, which is all lowercase.
+/// A piece of a string in its recommended case (RFC 5646 section 2.1.1). Each subtag before the first single-byte
+/// subtag is a piece. The rest of the string is one more piece, which is all lowercase.
 #[derive(Clone, Copy, Debug)]
 pub(crate) struct Piece {
     /// The length of the piece in bytes.
@@ -18,7 +18,7 @@ pub(crate) struct Piece {
 }
 
 impl Piece {
-    /// Returns the piece at the start of a text. The first subtag is lowercase, whatever its length is.
+    /// Returns the piece at the start of a string. The first subtag is lowercase, whatever its length is.
     pub(crate) fn first(text: &[u8]) -> Piece
         ensures capitals { result.capitals ≡ 0 }
         ensures begins { BeginsWith text.now result.len 0 (recommended_text text.now) }
@@ -29,7 +29,7 @@ impl Piece {
         }
     }
 
-    /// Returns the piece at the start of `text`, which is the rest of a longer text after a hyphen. No subtag before
+    /// Returns the piece at the start of `text`, which is the rest of a longer string after a hyphen. No subtag before
     /// that hyphen may have a single byte.
     pub(crate) fn later(text: &[u8]) -> Piece
         ensures { BeginsWith text.now result.len result.capitals (later_text text.now) × BeginsWith text.now result.len 0 (recommended_text text.now) }

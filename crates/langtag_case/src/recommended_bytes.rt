@@ -1,4 +1,4 @@
-//! The bytes of a text in its recommended case, one by one.
+//! The bytes of a string in its recommended case, one by one.
 ghost use Rattle.std.specs.Prelude.{◌≡◌, ◌++◌, ℕ, List};
 ghost use Rattle.std.specs.Iterator.{YieldsFirst, item_count};
 ghost use Rattle.langtag_case.specs.RecommendedCase.{recommended_text};
@@ -7,7 +7,7 @@ ghost use Rattle.langtag_case.specs.Walk.{after_piece, cased};
 use crate::piece::Piece;
 use std::marker::Model;
 
-/// An iterator over the bytes of a text in its recommended case (RFC 5646 section 2.1.1): `m`, `n`, `-`, `M`, `N` for
+/// An iterator over the bytes of a string in its recommended case (RFC 5646 section 2.1.1): `m`, `n`, `-`, `M`, `N` for
 /// `MN-mn`.
 #[derive(Drop)]
 pub(crate) struct RecommendedBytes<'a> {
@@ -26,7 +26,7 @@ impl<'a> Model for RecommendedBytes<'a> {
 }
 
 impl<'a> RecommendedBytes<'a> {
-    /// Returns an iterator over all bytes of a text in its recommended case.
+    /// Returns an iterator over all bytes of a string in its recommended case.
     pub(crate) fn new(text: &'a [u8]) -> Self
         ensures { result ≡ recommended_text text.now }
     {

@@ -1,4 +1,4 @@
-//! Changes a text to its recommended case, or tests whether it has that case.
+//! Changes a string to its recommended case, or tests whether it has that case.
 ghost use Rattle.std.specs.Prelude.{◌≡◌, ◌↔◌, ℕ, List, Some, IsTrue, ◌≤◌, length, slice_get, take};
 ghost use Rattle.langtag_scan.specs.Case.{Alike, fold_text};
 ghost use Rattle.langtag_scan.specs.Record.{Record, IsWellFormed, spell};
@@ -9,14 +9,14 @@ ghost use Rattle.langtag_case.specs.Walk.{cased};
 use crate::piece::Piece;
 use crate::recommended_bytes::RecommendedBytes;
 
-/// Changes the letters of a text to the case that RFC 5646 section 2.1.1 recommends for a tag, as in `mn-Cyrl-MN`,
+/// Changes the letters of a string to the case that RFC 5646 section 2.1.1 recommends for a tag, as in `mn-Cyrl-MN`,
 /// `en-CA-x-ca` and `az-Latn-x-latn`.
 ///
 /// The first subtag, and every subtag anywhere after a single-byte subtag, becomes lowercase. Other subtags become
 /// uppercase if they have two bytes, titlecase if they have four bytes, and lowercase otherwise. A byte that is not an
 /// ASCII letter stays as it is.
 ///
-/// Texts that differ only in case become the same bytes, so the result can be a key in a store that compares bytes.
+/// Strings that differ only in case become the same bytes, so the result can be a key in a store that compares bytes.
 ///
 /// ```
 /// use langtag_case::make_recommended_case;
@@ -68,7 +68,7 @@ fn capitalise(text: &mut [u8], capitals: usize)
     }
 }
 
-/// Returns whether a text is in its recommended case, so that [`make_recommended_case`] would change nothing.
+/// Returns whether a string is in its recommended case, so that [`make_recommended_case`] would change nothing.
 ///
 /// ```
 /// use langtag_case::is_in_recommended_case;

@@ -7,7 +7,7 @@ use Rattle.langtag_match.specs.LookUp.{choice}
 use Rattle.langtag_match.specs.declared.accept_language_error.ElementPart.{ElementPart}
 use Rattle.langtag_match.specs.declared.weighted_range.WeightedRange.{WeightedRange}
 
--- the tag that look-up finds for the header, or the default if there is no header or it has a malformed element
+-- the tag that lookup finds for the header, or the default if there is no header or it has a malformed element
 abbrev pub IsTagFor : List LangTag → LangTag → Option (Bor (List ℕ)) → LangTag → Type 0
 IsTagFor tags default None tag = tag ≡ default
 IsTagFor tags default (Some header) tag =

@@ -1,4 +1,4 @@
-//! Where a text stops being a tag, as an error of the caller's own.
+//! Where a string stops being a tag, as an error of the caller's own.
 ghost use Rattle.std.specs.Prelude.{◌≡◌, ◌↔◌, IsTrue, IfOk, IfErr, is_ok};
 ghost use Rattle.langtag.specs.Tag.{IsTag};
 ghost use Rattle.langtag.specs.Text.{lang_tag_text};
@@ -8,7 +8,7 @@ use langtag::{InvalidLangTag, LangTag, viable_len};
 use std::fmt::Debug;
 use thiserror::Error;
 
-/// A text that is not a tag, and the length of its longest prefix with which some tag begins.
+/// A string that is not a tag, and the length of its longest prefix with which some tag begins.
 #[derive(Debug, Drop, Error)]
 #[error("no language tag can begin with more than the first {begun} bytes of '{text}'")]
 pub struct BrokenTag<'a> {
@@ -16,7 +16,7 @@ pub struct BrokenTag<'a> {
     pub begun: usize,
 }
 
-/// Returns a text as a tag, or the length of its longest prefix with which some tag begins. The length is 2 for
+/// Returns a string as a tag, or the length of its longest prefix with which some tag begins. The length is 2 for
 /// `zh_Hant`, and 3 for `en-`, which begins a tag but is not a tag.
 pub fn tag_or_break<'a>(text: &'a str) -> Result<LangTag<'a>, BrokenTag<'a>>
     ensures accepts { IsTrue (is_ok result) ↔ IsTag text.now }

@@ -1,4 +1,4 @@
-//! Texts by language tag.
+//! Strings by language tag.
 ghost use Rattle.std.specs.Prelude.{◌≡◌, ℕ, List, Some, None, OnOk, OnErr, IfOk, IsTrue, false, is_some};
 ghost use Rattle.std.specs.Option.{option_map, option_or};
 ghost use Rattle.std.specs.String.{string_bytes};
@@ -11,7 +11,7 @@ use langtag::LangTagBuf;
 use std::alloc::{AllocError, Global};
 use std::collections::HashMap;
 
-/// Texts by language tag. A text is found by its tag, ignoring case.
+/// Strings by language tag. A string is found by its tag, ignoring case.
 ///
 /// After `Salut` was inserted for `fr`, `find(alloc, "FR")` is `Ok(Some("Salut"))`.
 #[derive(Drop)]
@@ -22,7 +22,7 @@ pub struct Catalogue {
 impl Catalogue {
     ghost use Rattle.langtag_examples.specs.Catalogue.{text_for};
 
-    /// Returns a catalogue without texts: `Catalogue::new(alloc).find(alloc, "fr")` is `Ok(None)`.
+    /// Returns a catalogue without strings: `Catalogue::new(alloc).find(alloc, "fr")` is `Ok(None)`.
     pub fn new(alloc: Global) -> Self
         ensures { (tag : List ℕ) → text_for result tag ≡ None }
     {
@@ -31,7 +31,7 @@ impl Catalogue {
         }
     }
 
-    /// Inserts a text for a tag, and replaces any older text: `Hoi` for `DE-ch` replaces `Grüezi` for `de-CH`.
+    /// Inserts a string for a tag, and replaces any older text: `Hoi` for `DE-ch` replaces `Grüezi` for `de-CH`.
     ///
     /// # Errors
     ///
@@ -47,10 +47,10 @@ impl Catalogue {
         Ok(())
     }
 
-    /// Moves the text of a tag to another tag, whose text it replaces. After `rename(&iw, he)`, the tag `he` has the
-    /// text that `iw` had. Returns whether the first tag had a text.
+    /// Moves the string of a tag to another tag, whose text it replaces. After `rename(&iw, he)`, the tag `he` has the
+    /// string that `iw` had. Returns whether the first tag had a string.
     ///
-    /// It allocates before it removes the text, which would otherwise be lost if allocation failed.
+    /// It allocates before it removes the string, which would otherwise be lost if allocation failed.
     ///
     /// # Errors
     ///
@@ -76,7 +76,7 @@ impl Catalogue {
         Ok(true)
     }
 
-    /// Returns the text of a tag: the tag `FR` finds the text of `fr`, but `fr-CH` does not.
+    /// Returns the string of a tag: the tag `FR` finds the string of `fr`, but `fr-CH` does not.
     pub fn get(&self, tag: &LangTagBuf) -> Option<&str>
         ensures { option_map (λ text. text.now) result ≡ text_for self.now (lang_tag_buf_text tag.now) }
     {
@@ -84,8 +84,8 @@ impl Catalogue {
         Some(text.as_str())
     }
 
-    /// Returns the text of a tag, which is given as a string, ignoring case. Also returns `None` if the string is not a
-    /// tag, such as `de_CH`.
+    /// Returns the string of a tag, which is given as a string, ignoring case. Also returns `None` if the string is not
+    /// a tag, such as `de_CH`.
     ///
     /// # Errors
     ///

@@ -5,13 +5,13 @@ ghost use Rattle.langtag.specs.Text.{lang_tag_text};
 
 use langtag::LangTag;
 
-/// A text in a language (RDF 1.1 Concepts section 3.3).
+/// A string in a language (RDF 1.1 Concepts section 3.3).
 ///
-/// Two literals are the same if their texts are equal, byte for byte, and their tags are equal, ignoring case. A set
+/// Two literals are the same if their strings are equal, byte for byte, and their tags are equal, ignoring case. A set
 /// of literals keeps only one of two literals that are the same.
 #[derive(Clone, Copy, Debug, PartialEq, Eq, PartialOrd, Ord, Hash)]
 pub struct Literal<'a> {
-    /// The text, such as `color`.
+    /// The string, such as `color`.
     pub text: &'a str,
     /// The tag of its language, such as `en-US`.
     pub language: LangTag<'a>,

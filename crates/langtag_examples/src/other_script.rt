@@ -36,10 +36,10 @@ pub fn replace_script(
     Ok(old)
 }
 
-/// Returns the text that a catalogue has for a tag or, if it has none, for the tag in another script. Afterwards the
+/// Returns the string that a catalogue has for a tag or, if it has none, for the tag in another script. Afterwards the
 /// tag has its own script again.
 ///
-/// For `sr-Cyrl-RS` and the script `Latn`, it is the text of `sr-Cyrl-RS` or, if there is none, the text of
+/// For `sr-Cyrl-RS` and the script `Latn`, it is the string of `sr-Cyrl-RS` or, if there is none, the string of
 /// `sr-Latn-RS`.
 ///
 /// # Errors

@@ -37,7 +37,7 @@ fn longer<'a>(
     }
 }
 
-/// Returns whether a text begins with another text, by whole subtags and ignoring case.
+/// Returns whether a string begins with another string, by whole subtags and ignoring case.
 fn is_prefix(part: &str, text: &str) -> bool
     ensures { IsTrue result ↔ IsPrefix part.now text.now }
 {

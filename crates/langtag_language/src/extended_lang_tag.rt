@@ -11,7 +11,7 @@ use std::fmt;
 use std::fmt::Debug;
 use thiserror::Error;
 
-/// The error for a text that is not an extended language subtag. It contains the text.
+/// The error for a string that is not an extended language subtag. It contains the string.
 ///
 /// ```
 /// use langtag_language::ExtendedLangTag;
@@ -26,7 +26,7 @@ pub struct InvalidExtendedLangTag<T>(pub T);
 
 /// An extended language subtag (RFC 5646 section 2.2.2): three letters, such as `yue` in `zh-yue`.
 ///
-/// Two extended language subtags are equal if their texts differ only in the case of ASCII letters, such as `yue` and
+/// Two extended language subtags are equal if their strings differ only in the case of ASCII letters, such as `yue` and
 /// `YUE`.
 ///
 /// ```
@@ -46,11 +46,11 @@ impl<'a> ExtendedLangTag<'a> {
     ghost use Rattle.langtag_language.specs.Compared.{ExtendedLangTagsCompareByCase};
     ghost use Rattle.langtag_language.specs.Text.{extended_lang_tag_text, extended_lang_tag_buf_text};
 
-    /// Parses a text as an extended language subtag: `ExtendedLangTag::new("yue")` is `Ok`.
+    /// Parses a string as an extended language subtag: `ExtendedLangTag::new("yue")` is `Ok`.
     ///
     /// # Errors
     ///
-    /// Returns the text if it is not three letters: `ExtendedLangTag::new("yu")` is
+    /// Returns the string if it is not three letters: `ExtendedLangTag::new("yu")` is
     /// `Err(InvalidExtendedLangTag("yu"))`.
     #[tactic(auto, using(crate::proofs::Numbers::extended_numbers))]
     pub fn new(text: &'a str) -> Result<ExtendedLangTag<'a>, InvalidExtendedLangTag<&'a str>>
@@ -65,7 +65,7 @@ impl<'a> ExtendedLangTag<'a> {
         Ok(ExtendedLangTag::from_checked(text))
     }
 
-    /// Wraps a text that is known to be an extended language subtag, without checking it.
+    /// Wraps a string that is known to be an extended language subtag, without checking it.
     /// `ExtendedLangTag::from_checked(extended.as_str())` is equal to `extended`.
     pub fn from_checked(text: &'a str) -> ExtendedLangTag<'a>
         requires { IsTrue (class.is_extended text.now) }
@@ -76,7 +76,7 @@ impl<'a> ExtendedLangTag<'a> {
         }
     }
 
-    /// Returns the text, in its original case: `ExtendedLangTag::new("YUE")?.as_str()` is `"YUE"`.
+    /// Returns the string, in its original case: `ExtendedLangTag::new("YUE")?.as_str()` is `"YUE"`.
     pub fn as_str(&self) -> &'a str
         ensures same_text { result.now ≡ extended_lang_tag_text self.now }
         ensures in_class { IsTrue (class.is_extended result.now) }
@@ -84,14 +84,14 @@ impl<'a> ExtendedLangTag<'a> {
         self.text.0
     }
 
-    /// Returns the text as bytes: `ExtendedLangTag::new("YUE")?.as_bytes()` is `b"YUE"`.
+    /// Returns the string as bytes: `ExtendedLangTag::new("YUE")?.as_bytes()` is `b"YUE"`.
     pub fn as_bytes(&self) -> &'a [u8]
         ensures { result.now ≡ extended_lang_tag_text self.now }
     {
         self.as_str().as_bytes()
     }
 
-    /// Returns whether another text equals this text, ignoring the case of ASCII letters:
+    /// Returns whether another string equals this string, ignoring the case of ASCII letters:
     /// `ExtendedLangTag::new("yue")?.eq_str("YUE")` is `true`. It is proved that comparisons and hashes also ignore
     /// case, and that a clone is the same value.
     #[tactic(auto, using(langtag_scan::proofs::CaseOrder::bytes_ends_first))]
@@ -105,7 +105,7 @@ impl<'a> ExtendedLangTag<'a> {
         self.text == Caseless(other)
     }
 
-    /// Copies the text into an owned value: `ExtendedLangTag::new("YUE")?.try_to_owned(alloc)?.as_str()` is `"YUE"`.
+    /// Copies the string into an owned value: `ExtendedLangTag::new("YUE")?.try_to_owned(alloc)?.as_str()` is `"YUE"`.
     ///
     /// # Errors
     ///
@@ -187,7 +187,8 @@ impl ExtendedLangTagBuf {
         ExtendedLangTag::from_checked(self.as_str())
     }
 
-    /// Returns the text, in its original case: `ExtendedLangTag::new("YUE")?.try_to_owned(alloc)?.as_str()` is `"YUE"`.
+    /// Returns the string, in its original case: `ExtendedLangTag::new("YUE")?.try_to_owned(alloc)?.as_str()` is
+    /// `"YUE"`.
     pub fn as_str(&self) -> &str
         ensures same_text { result.now ≡ extended_lang_tag_buf_text self.now }
         ensures in_class { IsTrue (class.is_extended result.now) }

@@ -15,7 +15,7 @@ use std::fmt;
 use std::fmt::Debug;
 use thiserror::Error;
 
-/// The error for a text that is not a language. It contains the text.
+/// The error for a string that is not a language. It contains the string.
 ///
 /// ```
 /// use langtag_language::Language;
@@ -31,7 +31,7 @@ pub struct InvalidLanguage<T>(pub T);
 /// The language of a tag: a primary subtag (RFC 5646 section 2.2.1), such as `fr`, and up to three extended subtags
 /// (section 2.2.2), as in `zh-min-nan`. Extended subtags follow only a primary subtag of two or three letters.
 ///
-/// Two languages are equal if their texts differ only in the case of ASCII letters, such as `zh-yue` and `ZH-YUE`.
+/// Two languages are equal if their strings differ only in the case of ASCII letters, such as `zh-yue` and `ZH-YUE`.
 ///
 /// ```
 /// use langtag_language::Language;
@@ -52,11 +52,11 @@ impl<'a> Language<'a> {
     ghost use Rattle.langtag_language.specs.Text.{language_text, language_buf_text, primary_language_text};
     ghost use Rattle.langtag_language.specs.Text.{language_extension_text, extension_list, extended_subtags_left};
 
-    /// Parses a text as a language: `Language::new("zh-yue")` is `Ok`.
+    /// Parses a string as a language: `Language::new("zh-yue")` is `Ok`.
     ///
     /// # Errors
     ///
-    /// Returns the text if it is not a language: `Language::new("zh-")` is `Err(InvalidLanguage("zh-"))`.
+    /// Returns the string if it is not a language: `Language::new("zh-")` is `Err(InvalidLanguage("zh-"))`.
     pub fn new(text: &'a str) -> Result<Language<'a>, InvalidLanguage<&'a str>>
         ensures accepts { IsTrue (is_ok result) ↔ (IsLanguage text.now) }
         ensures same_text { IfOk result (λ language. language_text language ≡ text.now) }
@@ -68,7 +68,7 @@ impl<'a> Language<'a> {
         Ok(Language::from_checked(text))
     }
 
-    /// Wraps a text that is known to be a language, without checking it. `Language::from_checked(language.as_str())`
+    /// Wraps a string that is known to be a language, without checking it. `Language::from_checked(language.as_str())`
     /// is equal to `language`.
     pub fn from_checked(text: &'a str) -> Language<'a>
         requires { IsLanguage text.now }
@@ -79,7 +79,7 @@ impl<'a> Language<'a> {
         }
     }
 
-    /// Returns the text, in its original case: `Language::new("ZH-YUE")?.as_str()` is `"ZH-YUE"`.
+    /// Returns the string, in its original case: `Language::new("ZH-YUE")?.as_str()` is `"ZH-YUE"`.
     pub fn as_str(&self) -> &'a str
         ensures same_text { result.now ≡ language_text self.now }
         ensures in_class { IsLanguage result.now }
@@ -87,14 +87,14 @@ impl<'a> Language<'a> {
         self.text.0
     }
 
-    /// Returns the text as bytes: `Language::new("ZH-YUE")?.as_bytes()` is `b"ZH-YUE"`.
+    /// Returns the string as bytes: `Language::new("ZH-YUE")?.as_bytes()` is `b"ZH-YUE"`.
     pub fn as_bytes(&self) -> &'a [u8]
         ensures { result.now ≡ language_text self.now }
     {
         self.as_str().as_bytes()
     }
 
-    /// Returns whether another text equals this text, ignoring the case of ASCII letters:
+    /// Returns whether another string equals this string, ignoring the case of ASCII letters:
     /// `Language::new("zh-yue")?.eq_str("ZH-YUE")` is `true`. It is proved that comparisons and hashes also ignore
     /// case, and that a clone is the same value.
     #[tactic(auto, using(langtag_scan::proofs::CaseOrder::bytes_ends_first))]
@@ -108,7 +108,7 @@ impl<'a> Language<'a> {
         self.text == Caseless(other)
     }
 
-    /// Copies the text into an owned value: `Language::new("ZH-YUE")?.try_to_owned(alloc)?.as_str()` is `"ZH-YUE"`.
+    /// Copies the string into an owned value: `Language::new("ZH-YUE")?.try_to_owned(alloc)?.as_str()` is `"ZH-YUE"`.
     ///
     /// # Errors
     ///
@@ -131,7 +131,7 @@ impl<'a> Language<'a> {
         self.split().0
     }
 
-    /// Returns the extended subtags as one text, or `None` if there are none: `min-nan` for `zh-min-nan`.
+    /// Returns the extended subtags as one string, or `None` if there are none: `min-nan` for `zh-min-nan`.
     ///
     /// ```
     /// use langtag_language::Language;
@@ -184,7 +184,7 @@ impl<'a> Language<'a> {
     }
 }
 
-/// Returns whether the text is a language: a primary subtag, and at most three extended subtags, which only a primary
+/// Returns whether the string is a language: a primary subtag, and at most three extended subtags, which only a primary
 /// subtag of two or three letters may have.
 fn is_language(text: &str) -> bool
     ensures { result ≡ test.is_language text.now }
@@ -265,7 +265,8 @@ impl LanguageBuf {
         Language::from_checked(self.as_str())
     }
 
-    /// Returns the text, in its original case: `Language::new("ZH-YUE")?.try_to_owned(alloc)?.as_str()` is `"ZH-YUE"`.
+    /// Returns the string, in its original case: `Language::new("ZH-YUE")?.try_to_owned(alloc)?.as_str()` is
+    /// `"ZH-YUE"`.
     pub fn as_str(&self) -> &str
         ensures same_text { result.now ≡ language_buf_text self.now }
         ensures in_class { IsLanguage result.now }

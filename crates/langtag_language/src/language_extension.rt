@@ -1,4 +1,4 @@
-//! The extended subtags of a language as one text (RFC 5646 section 2.2.2).
+//! The extended subtags of a language as one string (RFC 5646 section 2.2.2).
 ghost use Rattle.std.specs.Prelude.{◌≡◌, ◌↔◌, Some, IsTrue, IfOk, IfErr, is_ok, string_bytes};
 ghost use Rattle.langtag_scan.specs.Case.{are_alike};
 ghost use Rattle.langtag_scan.specs.Subtags.{subtags};
@@ -13,7 +13,7 @@ use std::fmt;
 use std::fmt::Debug;
 use thiserror::Error;
 
-/// The error for a text that is not a language extension. It contains the text.
+/// The error for a string that is not a language extension. It contains the string.
 ///
 /// ```
 /// use langtag_language::LanguageExtension;
@@ -28,7 +28,7 @@ pub struct InvalidLanguageExtension<T>(pub T);
 
 /// The extended subtags of a language (RFC 5646 section 2.2.2): one to three, joined by hyphens, such as `min-nan`.
 ///
-/// Two language extensions are equal if their texts differ only in the case of ASCII letters, such as `min-nan` and
+/// Two language extensions are equal if their strings differ only in the case of ASCII letters, such as `min-nan` and
 /// `MIN-NAN`.
 ///
 /// ```
@@ -49,11 +49,11 @@ impl<'a> LanguageExtension<'a> {
     ghost use Rattle.langtag_language.specs.Compared.{LanguageExtensionsCompareByCase};
     ghost use Rattle.langtag_language.specs.Text.{language_extension_text, language_extension_buf_text, extended_subtags_left};
 
-    /// Parses a text as a language extension: `LanguageExtension::new("min-nan")` is `Ok`.
+    /// Parses a string as a language extension: `LanguageExtension::new("min-nan")` is `Ok`.
     ///
     /// # Errors
     ///
-    /// Returns the text if it is not one to three extended subtags joined by hyphens:
+    /// Returns the string if it is not one to three extended subtags joined by hyphens:
     /// `LanguageExtension::new("min-")` is `Err(InvalidLanguageExtension("min-"))`.
     pub fn new(text: &'a str) -> Result<LanguageExtension<'a>, InvalidLanguageExtension<&'a str>>
         ensures accepts { IsTrue (is_ok result) ↔ (IsLanguageExtension text.now) }
@@ -66,7 +66,7 @@ impl<'a> LanguageExtension<'a> {
         Ok(LanguageExtension::from_checked(text))
     }
 
-    /// Wraps a text that is known to be a language extension, without checking it.
+    /// Wraps a string that is known to be a language extension, without checking it.
     /// `LanguageExtension::from_checked(extension.as_str())` is equal to `extension`.
     pub fn from_checked(text: &'a str) -> LanguageExtension<'a>
         requires { IsLanguageExtension text.now }
@@ -77,7 +77,7 @@ impl<'a> LanguageExtension<'a> {
         }
     }
 
-    /// Returns the text, in its original case: `LanguageExtension::new("MIN-NAN")?.as_str()` is `"MIN-NAN"`.
+    /// Returns the string, in its original case: `LanguageExtension::new("MIN-NAN")?.as_str()` is `"MIN-NAN"`.
     pub fn as_str(&self) -> &'a str
         ensures same_text { result.now ≡ language_extension_text self.now }
         ensures in_class { IsLanguageExtension result.now }
@@ -85,14 +85,14 @@ impl<'a> LanguageExtension<'a> {
         self.text.0
     }
 
-    /// Returns the text as bytes: `LanguageExtension::new("MIN-NAN")?.as_bytes()` is `b"MIN-NAN"`.
+    /// Returns the string as bytes: `LanguageExtension::new("MIN-NAN")?.as_bytes()` is `b"MIN-NAN"`.
     pub fn as_bytes(&self) -> &'a [u8]
         ensures { result.now ≡ language_extension_text self.now }
     {
         self.as_str().as_bytes()
     }
 
-    /// Returns whether another text equals this text, ignoring the case of ASCII letters:
+    /// Returns whether another string equals this string, ignoring the case of ASCII letters:
     /// `LanguageExtension::new("min-nan")?.eq_str("MIN-NAN")` is `true`. It is proved that comparisons and hashes also
     /// ignore case, and that a clone is the same value.
     #[tactic(auto, using(langtag_scan::proofs::CaseOrder::bytes_ends_first))]
@@ -106,7 +106,7 @@ impl<'a> LanguageExtension<'a> {
         self.text == Caseless(other)
     }
 
-    /// Copies the text into an owned value: `LanguageExtension::new("MIN-NAN")?.try_to_owned(alloc)?.as_str()` is
+    /// Copies the string into an owned value: `LanguageExtension::new("MIN-NAN")?.try_to_owned(alloc)?.as_str()` is
     /// `"MIN-NAN"`.
     ///
     /// # Errors
@@ -141,7 +141,7 @@ impl<'a> LanguageExtension<'a> {
     }
 }
 
-/// Returns whether the text is one to three extended subtags, joined by hyphens.
+/// Returns whether the string is one to three extended subtags, joined by hyphens.
 fn is_language_extension(text: &str) -> bool
     ensures { result ≡ test.is_language_extension text.now }
 {
@@ -217,7 +217,7 @@ impl LanguageExtensionBuf {
         LanguageExtension::from_checked(self.as_str())
     }
 
-    /// Returns the text, in its original case: `LanguageExtension::new("MIN-NAN")?.try_to_owned(alloc)?.as_str()` is
+    /// Returns the string, in its original case: `LanguageExtension::new("MIN-NAN")?.try_to_owned(alloc)?.as_str()` is
     /// `"MIN-NAN"`.
     pub fn as_str(&self) -> &str
         ensures same_text { result.now ≡ language_extension_buf_text self.now }

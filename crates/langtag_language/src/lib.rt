@@ -12,8 +12,8 @@
 //! assert_eq!(rt; extension.as_str(), "min-nan");
 //! ```
 //!
-//! A returned part borrows its bytes from the text. It is proved that its bytes equal the bytes in the text, but not
-//! that they are at the same address.
+//! A returned part borrows its bytes from the string. It is proved that its bytes equal the bytes in the string, but
+//! not that they are at the same address.
 #![tactic(auto)]
 
 mod extended_lang_tag;

@@ -12,7 +12,7 @@ use std::fmt;
 use std::fmt::Debug;
 use thiserror::Error;
 
-/// The error for a text that is not a primary language subtag. It contains the text.
+/// The error for a string that is not a primary language subtag. It contains the string.
 ///
 /// ```
 /// use langtag_language::PrimaryLanguage;
@@ -27,7 +27,7 @@ pub struct InvalidPrimaryLanguage<T>(pub T);
 
 /// A primary language subtag (RFC 5646 section 2.2.1): two to eight letters, such as `fr`.
 ///
-/// Two primary language subtags are equal if their texts differ only in the case of ASCII letters, such as `fr` and
+/// Two primary language subtags are equal if their strings differ only in the case of ASCII letters, such as `fr` and
 /// `FR`.
 ///
 /// ```
@@ -47,11 +47,11 @@ impl<'a> PrimaryLanguage<'a> {
     ghost use Rattle.langtag_language.specs.Compared.{PrimaryLanguagesCompareByCase};
     ghost use Rattle.langtag_language.specs.Text.{primary_language_text, primary_language_buf_text};
 
-    /// Parses a text as a primary language subtag: `PrimaryLanguage::new("fr")` is `Ok`.
+    /// Parses a string as a primary language subtag: `PrimaryLanguage::new("fr")` is `Ok`.
     ///
     /// # Errors
     ///
-    /// Returns the text if it is not two to eight letters: `PrimaryLanguage::new("f")` is
+    /// Returns the string if it is not two to eight letters: `PrimaryLanguage::new("f")` is
     /// `Err(InvalidPrimaryLanguage("f"))`.
     #[tactic(auto, using(crate::proofs::Numbers::primary_numbers))]
     pub fn new(text: &'a str) -> Result<PrimaryLanguage<'a>, InvalidPrimaryLanguage<&'a str>>
@@ -66,7 +66,7 @@ impl<'a> PrimaryLanguage<'a> {
         Ok(PrimaryLanguage::from_checked(text))
     }
 
-    /// Wraps a text that is known to be a primary language subtag, without checking it.
+    /// Wraps a string that is known to be a primary language subtag, without checking it.
     /// `PrimaryLanguage::from_checked(primary.as_str())` is equal to `primary`.
     pub fn from_checked(text: &'a str) -> PrimaryLanguage<'a>
         requires { IsTrue (class.is_primary text.now) }
@@ -77,7 +77,7 @@ impl<'a> PrimaryLanguage<'a> {
         }
     }
 
-    /// Returns the text, in its original case: `PrimaryLanguage::new("FR")?.as_str()` is `"FR"`.
+    /// Returns the string, in its original case: `PrimaryLanguage::new("FR")?.as_str()` is `"FR"`.
     pub fn as_str(&self) -> &'a str
         ensures same_text { result.now ≡ primary_language_text self.now }
         ensures in_class { IsTrue (class.is_primary result.now) }
@@ -85,14 +85,14 @@ impl<'a> PrimaryLanguage<'a> {
         self.text.0
     }
 
-    /// Returns the text as bytes: `PrimaryLanguage::new("FR")?.as_bytes()` is `b"FR"`.
+    /// Returns the string as bytes: `PrimaryLanguage::new("FR")?.as_bytes()` is `b"FR"`.
     pub fn as_bytes(&self) -> &'a [u8]
         ensures { result.now ≡ primary_language_text self.now }
     {
         self.as_str().as_bytes()
     }
 
-    /// Returns whether another text equals this text, ignoring the case of ASCII letters:
+    /// Returns whether another string equals this string, ignoring the case of ASCII letters:
     /// `PrimaryLanguage::new("fr")?.eq_str("FR")` is `true`. It is proved that comparisons and hashes also ignore case,
     /// and that a clone is the same value.
     #[tactic(auto, using(langtag_scan::proofs::CaseOrder::bytes_ends_first))]
@@ -106,7 +106,7 @@ impl<'a> PrimaryLanguage<'a> {
         self.text == Caseless(other)
     }
 
-    /// Copies the text into an owned value: `PrimaryLanguage::new("FR")?.try_to_owned(alloc)?.as_str()` is `"FR"`.
+    /// Copies the string into an owned value: `PrimaryLanguage::new("FR")?.try_to_owned(alloc)?.as_str()` is `"FR"`.
     ///
     /// # Errors
     ///
@@ -188,7 +188,7 @@ impl PrimaryLanguageBuf {
         PrimaryLanguage::from_checked(self.as_str())
     }
 
-    /// Returns the text, in its original case: `PrimaryLanguage::new("FR")?.try_to_owned(alloc)?.as_str()` is `"FR"`.
+    /// Returns the string, in its original case: `PrimaryLanguage::new("FR")?.try_to_owned(alloc)?.as_str()` is `"FR"`.
     pub fn as_str(&self) -> &str
         ensures same_text { result.now ≡ primary_language_buf_text self.now }
         ensures in_class { IsTrue (class.is_primary result.now) }

@@ -7,10 +7,10 @@ use crate::page::Page;
 use crate::run_error::RunError;
 use std::io::Write;
 
-/// A value that answers lines: it makes the text that [`answer_lines`](crate::answer_lines) writes for a line. The
-/// text depends only on the line.
+/// A value that answers lines: it makes the string that [`answer_lines`](crate::answer_lines) writes for a line. The
+/// string depends only on the line.
 pub trait Answerer {
-    /// Says whether a text is the answer to a line.
+    /// Says whether a string is the answer to a line.
     ghost is_answer: { List ℕ → List ℕ → Type 0 };
 
     /// Adds the answer to a line, and an LF, to the page.

@@ -18,8 +18,8 @@ impl RunError {
     ghost use Rattle.langtag_lines.specs.RunError.{message_of, status_of};
     ghost use Rattle.langtag_lines.specs.declared.run_error.RunError.{RunError};
 
-    /// Returns the text that the program writes to standard error, without the LF. It is proved that `==` holds exactly
-    /// for two values that are the same error, and that a clone succeeds and is the same error.
+    /// Returns the string that the program writes to standard error, without the LF. It is proved that `==` holds
+    /// exactly for two values that are the same error, and that a clone succeeds and is the same error.
     pub fn text(&self) -> &'static str
         ensures message { result.now ≡ message_of self.now }
 

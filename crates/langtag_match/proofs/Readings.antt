@@ -1,4 +1,4 @@
--- A header has one reading: its elements have one order by falling weight, which is the one that a sort makes.
+-- A header has one reading: its elements have one order by descending weight, which is the one that a sort makes.
 use Rattle.std.proofs.Common.{◌≡◌, ℕ, ◌+◌, ◌≤◌, Bool, false, not, ◌&&◌, eqb, nat_lt, suc, List, [], ◌∷◌, filter, map, get_or, ap, refl, sym, ◌∙◌, subst, arith}
 use Rattle.std.specs.List.{AllByRecursion}
 use Rattle.std.specs.List.Sorted.{ties, IsSorted, IsStable, IsPermutation}

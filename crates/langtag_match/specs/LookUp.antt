@@ -1,4 +1,4 @@
--- Look-up of a tag for a list of language ranges (RFC 4647 section 3.4).
+-- Lookup of a tag for a list of language ranges (RFC 4647 section 3.4).
 use Rattle.std.specs.Prelude.{ℕ, List, [], ◌∷◌, Option, None, find, unwrap_or}
 use Rattle.std.specs.Option.{option_or}
 use Rattle.langtag.specs.Case.{are_alike}

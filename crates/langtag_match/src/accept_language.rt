@@ -85,7 +85,7 @@ impl<'a> AcceptLanguage<'a> {
     }
 
     /// Returns the ranges, the greatest weight first. It is proved that ranges are equal if their weights are equal and
-    /// their texts are equal, ignoring case. It is also proved that a clone is the same value.
+    /// their strings are equal, ignoring case. It is also proved that a clone is the same value.
     ///
     /// ```
     /// use langtag_match::AcceptLanguage;
@@ -103,7 +103,7 @@ impl<'a> AcceptLanguage<'a> {
         self.ranges.as_slice()
     }
 
-    /// Returns the tag that look-up finds for the ranges, or the default, as [`look_up`](crate::look_up) does.
+    /// Returns the tag that lookup finds for the ranges, or the default, as [`look_up`](crate::look_up) does.
     ///
     /// ```
     /// use langtag::LangTag;
@@ -125,7 +125,7 @@ impl<'a> AcceptLanguage<'a> {
     }
 }
 
-/// Returns the tag that look-up finds for a header, or the default. It does what [`AcceptLanguage::new`] and
+/// Returns the tag that lookup finds for a header, or the default. It does what [`AcceptLanguage::new`] and
 /// [`AcceptLanguage::look_up`] do, in one call.
 ///
 /// For `fr;q=0.3, DE-ch-1996;q=0.9` and the tags `de-CH` and `fr` it returns `de-CH`.

@@ -16,9 +16,9 @@ use thiserror::Error;
 /// ```
 #[derive(Debug, Drop)]
 pub enum ElementPart {
-    /// The text before the `;`, or the whole element if it has no `;`, is not a basic language range.
+    /// The string before the `;`, or the whole element if it has no `;`, is not a basic language range.
     Range,
-    /// The text after the `;` is not a weight.
+    /// The string after the `;` is not a weight.
     Weight,
 }
 

@@ -17,7 +17,7 @@ use std::fmt;
 use std::fmt::Debug;
 use thiserror::Error;
 
-/// The error for a text that is not a language range. It contains the text.
+/// The error for a string that is not a language range. It contains the string.
 ///
 /// ```
 /// use langtag_match::LanguageRange;
@@ -32,7 +32,7 @@ pub struct InvalidLanguageRange<T>(pub T);
 /// A language range, basic or extended (RFC 4647 sections 2.1 and 2.2): `de-CH`, `*`, `*-CH`, `de-*-DE`.
 ///
 /// A range has one or more subtags. Each subtag is `*`, or one to eight letters and digits. The first subtag has no
-/// digits. A range need not be a tag: `de-x` and `a-1` are ranges. Two ranges are equal if their texts differ only in
+/// digits. A range need not be a tag: `de-x` and `a-1` are ranges. Two ranges are equal if their strings differ only in
 /// the case of ASCII letters.
 ///
 /// ```
@@ -53,11 +53,11 @@ impl<'a> LanguageRange<'a> {
     ghost use Rattle.langtag_match.specs.Compared.{LanguageRangesCompareByCase};
     ghost use Rattle.langtag_match.specs.Text.{language_range_text, language_range_buf_text, fallbacks_left};
 
-    /// Parses a text as a range: `LanguageRange::new("de-*-DE")` is `Ok`.
+    /// Parses a string as a range: `LanguageRange::new("de-*-DE")` is `Ok`.
     ///
     /// # Errors
     ///
-    /// Returns the text if it is not a range: `LanguageRange::new("de_DE")` is `Err(InvalidLanguageRange("de_DE"))`.
+    /// Returns the string if it is not a range: `LanguageRange::new("de_DE")` is `Err(InvalidLanguageRange("de_DE"))`.
     pub fn new(text: &'a str) -> Result<LanguageRange<'a>, InvalidLanguageRange<&'a str>>
         ensures accepts { is_ok result ≡ spec.is_language_range text.now }
         ensures same_text { IfOk result (λ range. language_range_text range ≡ text.now) }
@@ -69,7 +69,7 @@ impl<'a> LanguageRange<'a> {
         Ok(LanguageRange::from_checked(text))
     }
 
-    /// Wraps a text that is known to be a language range, without checking it.
+    /// Wraps a string that is known to be a language range, without checking it.
     /// `LanguageRange::from_checked(range.as_str())` is equal to `range`.
     pub fn from_checked(text: &'a str) -> LanguageRange<'a>
         requires { IsTrue (spec.is_language_range text.now) }
@@ -80,7 +80,7 @@ impl<'a> LanguageRange<'a> {
         }
     }
 
-    /// Returns the text, in its original case: `LanguageRange::new("de-ch")?.as_str()` is `"de-ch"`.
+    /// Returns the string, in its original case: `LanguageRange::new("de-ch")?.as_str()` is `"de-ch"`.
     pub fn as_str(&self) -> &'a str
         ensures same_text { result.now ≡ language_range_text self.now }
         ensures in_class { IsTrue (spec.is_language_range result.now) }
@@ -88,7 +88,7 @@ impl<'a> LanguageRange<'a> {
         self.text.0
     }
 
-    /// Returns whether another text equals this text, ignoring the case of ASCII letters:
+    /// Returns whether another string equals this string, ignoring the case of ASCII letters:
     /// `LanguageRange::new("de-CH")?.eq_str("DE-ch")` is `true`. It is proved that comparisons and hashes also ignore
     /// case, and that a clone is the same value.
     #[tactic(auto, using(langtag_scan::proofs::CaseOrder::bytes_ends_first))]
@@ -175,7 +175,7 @@ impl<'a> LanguageRange<'a> {
         Fallbacks::new(*self)
     }
 
-    /// Copies the text into an owned value: `LanguageRange::new("de-*")?.try_to_owned(alloc)?.as_str()` is `"de-*"`.
+    /// Copies the string into an owned value: `LanguageRange::new("de-*")?.try_to_owned(alloc)?.as_str()` is `"de-*"`.
     ///
     /// # Errors
     ///
@@ -256,7 +256,7 @@ impl LanguageRangeBuf {
         LanguageRange::from_checked(self.as_str())
     }
 
-    /// Returns the text, in its original case: `LanguageRange::new("de-ch")?.try_to_owned(alloc)?.as_str()` is
+    /// Returns the string, in its original case: `LanguageRange::new("de-ch")?.try_to_owned(alloc)?.as_str()` is
     /// `"de-ch"`.
     pub fn as_str(&self) -> &str
         ensures same_text { result.now ≡ language_range_buf_text self.now }

@@ -1,4 +1,4 @@
-//! The look-up of one tag for a list of ranges (RFC 4647 section 3.4).
+//! The lookup of one tag for a list of ranges (RFC 4647 section 3.4).
 ghost use Rattle.std.specs.Prelude.{◌≡◌, map};
 ghost use Rattle.langtag.specs.Case.{are_alike};
 ghost use Rattle.langtag_range.specs.Fallback.{fallbacks};
@@ -42,7 +42,7 @@ pub fn look_up<'a>(
     default
 }
 
-/// Returns the tag that look-up finds for a range.
+/// Returns the tag that lookup finds for a range.
 pub(crate) fn tag_for<'a>(range: LanguageRange<'_>, tags: &[LangTag<'a>]) -> Option<LangTag<'a>>
     ensures { result ≡ spec.first_alike tags.now (fallbacks (language_range_text range.entry)) }
 {

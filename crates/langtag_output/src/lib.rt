@@ -1,4 +1,4 @@
-//! Writes a text piece by piece into the caller's buffer: the pieces `en`, `-` and `MM` give the 5 bytes `en-MM`. No
+//! Writes a string piece by piece into the caller's buffer: the pieces `en`, `-` and `MM` give the 5 bytes `en-MM`. No
 //! function allocates.
 #![tactic(auto)]
 

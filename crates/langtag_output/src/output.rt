@@ -1,8 +1,8 @@
-//! A text that is written into the caller's buffer subtag by subtag.
+//! A string that is written into the caller's buffer subtag by subtag.
 ghost use Rattle.std.specs.Prelude.{◌≡◌, ◌∷◌, [], length};
 ghost use Rattle.langtag_output.specs.Output.{Appends, Pushes, HasText};
 
-/// A buffer, and the length of the text so far. Bytes that do not fit are counted, but not written.
+/// A buffer, and the length of the string so far. Bytes that do not fit are counted, but not written.
 #[derive(Drop)]
 pub struct Output<'a> {
     buffer: &'a mut [u8],
@@ -18,14 +18,14 @@ impl<'a> Output<'a> {
         Output { buffer, len: 0 }
     }
 
-    /// Returns the length of the text so far, in bytes.
+    /// Returns the length of the string so far, in bytes.
     pub fn len(&self) -> usize
         ensures { result ≡ self.now.len }
     {
         self.len
     }
 
-    /// Appends a subtag, or several subtags joined by hyphens. A hyphen comes first, unless the text is still empty.
+    /// Appends a subtag, or several subtags joined by hyphens. A hyphen comes first, unless the string is still empty.
     pub fn push_subtag(&mut self, subtag: &[u8])
         ensures same_buffer { self.new.buffer.ghost_name ≡ self.old.buffer.ghost_name }
         ensures pushed { Pushes (subtag.now ∷ []) self.old self.new }
@@ -36,7 +36,7 @@ impl<'a> Output<'a> {
         self.push(subtag);
     }
 
-    /// Appends bytes. The length stays at `usize::MAX` if the text has more bytes than that.
+    /// Appends bytes. The length stays at `usize::MAX` if the string has more bytes than that.
     pub fn push(&mut self, bytes: &[u8])
         ensures same_buffer { self.new.buffer.ghost_name ≡ self.old.buffer.ghost_name }
         ensures appended { Appends bytes.now self.old self.new }

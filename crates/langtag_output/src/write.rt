@@ -1,4 +1,4 @@
-//! Writing the pieces of a text into the caller's buffer.
+//! Writing the pieces of a string into the caller's buffer.
 ghost use Rattle.std.specs.Prelude.{◌≡◌, ◌<◌, ◌≤◌, ◌-◌, ◌^◌, length};
 ghost use Rattle.std.specs.List.{flat_map};
 ghost use Rattle.langtag_output.specs.Output.{IsCounted};
@@ -6,7 +6,7 @@ ghost use Rattle.langtag_output.specs.Writes.{Writes};
 
 use crate::output::Output;
 
-/// Writes pieces of text one after another to a buffer, and returns their total length in bytes: 5 for `en`, `-` and
+/// Writes pieces of string one after another to a buffer, and returns their total length in bytes: 5 for `en`, `-` and
 /// `MM`. If the buffer is too short, it stays unchanged, and the length says how much room is needed. It does not
 /// allocate.
 ///
@@ -23,7 +23,7 @@ pub fn write_pieces(pieces: &[&[u8]], buffer: &mut [u8]) -> usize
     len
 }
 
-/// Writes a text to a buffer, like [`write_pieces`] with a single piece, and returns its length in bytes.
+/// Writes a string to a buffer, like [`write_pieces`] with a single piece, and returns its length in bytes.
 pub fn write_text(text: &[u8], buffer: &mut [u8]) -> usize
     ensures { Writes (λ new. new ≡ text.now) buffer.old buffer.new result }
 {

@@ -11,7 +11,7 @@ use std::fmt;
 use std::fmt::Debug;
 use thiserror::Error;
 
-/// The error for a text that is not a region. It contains the text.
+/// The error for a string that is not a region. It contains the string.
 ///
 /// ```
 /// use langtag_place::Region;
@@ -26,7 +26,7 @@ pub struct InvalidRegion<T>(pub T);
 
 /// A region subtag (RFC 5646 section 2.2.4): two letters, such as `FR`, or three digits, such as `419`.
 ///
-/// Two regions are equal if their texts differ only in the case of ASCII letters, such as `fr` and `FR`.
+/// Two regions are equal if their strings differ only in the case of ASCII letters, such as `fr` and `FR`.
 ///
 /// ```
 /// use langtag_place::Region;
@@ -45,11 +45,11 @@ impl<'a> Region<'a> {
     ghost use Rattle.langtag_place.specs.Compared.{RegionsCompareByCase};
     ghost use Rattle.langtag_place.specs.Text.{region_text, region_buf_text};
 
-    /// Parses a text as a region: `Region::new("fr")` is `Ok`.
+    /// Parses a string as a region: `Region::new("fr")` is `Ok`.
     ///
     /// # Errors
     ///
-    /// Returns the text if it is neither two letters nor three digits: `Region::new("FR1")` is
+    /// Returns the string if it is neither two letters nor three digits: `Region::new("FR1")` is
     /// `Err(InvalidRegion("FR1"))`.
     #[tactic(auto, using(crate::proofs::Numbers::region_numbers))]
     pub fn new(text: &'a str) -> Result<Region<'a>, InvalidRegion<&'a str>>
@@ -66,7 +66,7 @@ impl<'a> Region<'a> {
         Ok(Region::from_checked(text))
     }
 
-    /// Wraps a text that is known to be a region, without checking it. `Region::from_checked(region.as_str())` is
+    /// Wraps a string that is known to be a region, without checking it. `Region::from_checked(region.as_str())` is
     /// equal to `region`.
     pub fn from_checked(text: &'a str) -> Region<'a>
         requires { IsTrue (class.is_region text.now) }
@@ -77,7 +77,7 @@ impl<'a> Region<'a> {
         }
     }
 
-    /// Returns the text, in its original case: `Region::new("FR")?.as_str()` is `"FR"`.
+    /// Returns the string, in its original case: `Region::new("FR")?.as_str()` is `"FR"`.
     pub fn as_str(&self) -> &'a str
         ensures same_text { result.now ≡ region_text self.now }
         ensures in_class { IsTrue (class.is_region result.now) }
@@ -85,14 +85,14 @@ impl<'a> Region<'a> {
         self.text.0
     }
 
-    /// Returns the text as bytes: `Region::new("FR")?.as_bytes()` is `b"FR"`.
+    /// Returns the string as bytes: `Region::new("FR")?.as_bytes()` is `b"FR"`.
     pub fn as_bytes(&self) -> &'a [u8]
         ensures { result.now ≡ region_text self.now }
     {
         self.as_str().as_bytes()
     }
 
-    /// Returns whether another text equals this text, ignoring the case of ASCII letters:
+    /// Returns whether another string equals this string, ignoring the case of ASCII letters:
     /// `Region::new("fr")?.eq_str("FR")` is `true`. It is proved that comparisons and hashes also ignore case, and that
     /// a clone is the same value.
     #[tactic(auto, using(langtag_scan::proofs::CaseOrder::bytes_ends_first))]
@@ -106,7 +106,7 @@ impl<'a> Region<'a> {
         self.text == Caseless(other)
     }
 
-    /// Copies the text into an owned value: `Region::new("FR")?.try_to_owned(alloc)?.as_str()` is `"FR"`.
+    /// Copies the string into an owned value: `Region::new("FR")?.try_to_owned(alloc)?.as_str()` is `"FR"`.
     ///
     /// # Errors
     ///
@@ -188,7 +188,7 @@ impl RegionBuf {
         Region::from_checked(self.as_str())
     }
 
-    /// Returns the text, in its original case: `Region::new("FR")?.try_to_owned(alloc)?.as_str()` is `"FR"`.
+    /// Returns the string, in its original case: `Region::new("FR")?.try_to_owned(alloc)?.as_str()` is `"FR"`.
     pub fn as_str(&self) -> &str
         ensures same_text { result.now ≡ region_buf_text self.now }
         ensures in_class { IsTrue (class.is_region result.now) }

@@ -11,7 +11,7 @@ use std::fmt;
 use std::fmt::Debug;
 use thiserror::Error;
 
-/// The error for a text that is not a script. It contains the text.
+/// The error for a string that is not a script. It contains the string.
 ///
 /// ```
 /// use langtag_place::Script;
@@ -26,7 +26,7 @@ pub struct InvalidScript<T>(pub T);
 
 /// A script subtag (RFC 5646 section 2.2.3): four letters, such as `Latn`.
 ///
-/// Two scripts are equal if their texts differ only in the case of ASCII letters, such as `Latn` and `LATN`.
+/// Two scripts are equal if their strings differ only in the case of ASCII letters, such as `Latn` and `LATN`.
 ///
 /// ```
 /// use langtag_place::Script;
@@ -45,11 +45,11 @@ impl<'a> Script<'a> {
     ghost use Rattle.langtag_place.specs.Compared.{ScriptsCompareByCase};
     ghost use Rattle.langtag_place.specs.Text.{script_text, script_buf_text};
 
-    /// Parses a text as a script: `Script::new("Latn")` is `Ok`.
+    /// Parses a string as a script: `Script::new("Latn")` is `Ok`.
     ///
     /// # Errors
     ///
-    /// Returns the text if it is not four letters: `Script::new("Lat")` is `Err(InvalidScript("Lat"))`.
+    /// Returns the string if it is not four letters: `Script::new("Lat")` is `Err(InvalidScript("Lat"))`.
     #[tactic(auto, using(crate::proofs::Numbers::script_numbers))]
     pub fn new(text: &'a str) -> Result<Script<'a>, InvalidScript<&'a str>>
         ensures accepts { is_ok result ≡ class.is_script text.now }
@@ -63,7 +63,7 @@ impl<'a> Script<'a> {
         Ok(Script::from_checked(text))
     }
 
-    /// Wraps a text that is known to be a script, without checking it. `Script::from_checked(script.as_str())` is
+    /// Wraps a string that is known to be a script, without checking it. `Script::from_checked(script.as_str())` is
     /// equal to `script`.
     pub fn from_checked(text: &'a str) -> Script<'a>
         requires { IsTrue (class.is_script text.now) }
@@ -74,7 +74,7 @@ impl<'a> Script<'a> {
         }
     }
 
-    /// Returns the text, in its original case: `Script::new("LATN")?.as_str()` is `"LATN"`.
+    /// Returns the string, in its original case: `Script::new("LATN")?.as_str()` is `"LATN"`.
     pub fn as_str(&self) -> &'a str
         ensures same_text { result.now ≡ script_text self.now }
         ensures in_class { IsTrue (class.is_script result.now) }
@@ -82,14 +82,14 @@ impl<'a> Script<'a> {
         self.text.0
     }
 
-    /// Returns the text as bytes: `Script::new("LATN")?.as_bytes()` is `b"LATN"`.
+    /// Returns the string as bytes: `Script::new("LATN")?.as_bytes()` is `b"LATN"`.
     pub fn as_bytes(&self) -> &'a [u8]
         ensures { result.now ≡ script_text self.now }
     {
         self.as_str().as_bytes()
     }
 
-    /// Returns whether another text equals this text, ignoring the case of ASCII letters:
+    /// Returns whether another string equals this string, ignoring the case of ASCII letters:
     /// `Script::new("Latn")?.eq_str("LATN")` is `true`. It is proved that comparisons and hashes also ignore case, and
     /// that a clone is the same value.
     #[tactic(auto, using(langtag_scan::proofs::CaseOrder::bytes_ends_first))]
@@ -103,7 +103,7 @@ impl<'a> Script<'a> {
         self.text == Caseless(other)
     }
 
-    /// Copies the text into an owned value: `Script::new("LATN")?.try_to_owned(alloc)?.as_str()` is `"LATN"`.
+    /// Copies the string into an owned value: `Script::new("LATN")?.try_to_owned(alloc)?.as_str()` is `"LATN"`.
     ///
     /// # Errors
     ///
@@ -185,7 +185,7 @@ impl ScriptBuf {
         Script::from_checked(self.as_str())
     }
 
-    /// Returns the text, in its original case: `Script::new("LATN")?.try_to_owned(alloc)?.as_str()` is `"LATN"`.
+    /// Returns the string, in its original case: `Script::new("LATN")?.try_to_owned(alloc)?.as_str()` is `"LATN"`.
     pub fn as_str(&self) -> &str
         ensures same_text { result.now ≡ script_buf_text self.now }
         ensures in_class { IsTrue (class.is_script result.now) }

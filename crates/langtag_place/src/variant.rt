@@ -12,7 +12,7 @@ use std::fmt;
 use std::fmt::Debug;
 use thiserror::Error;
 
-/// The error for a text that is not a variant. It contains the text.
+/// The error for a string that is not a variant. It contains the string.
 ///
 /// ```
 /// use langtag_place::Variant;
@@ -28,7 +28,7 @@ pub struct InvalidVariant<T>(pub T);
 /// A variant subtag (RFC 5646 section 2.2.5): five to eight letters and digits, such as `rozaj`, or a digit followed by
 /// three letters or digits, such as `1996`.
 ///
-/// Two variants are equal if their texts differ only in the case of ASCII letters, such as `rozaj` and `ROZAJ`.
+/// Two variants are equal if their strings differ only in the case of ASCII letters, such as `rozaj` and `ROZAJ`.
 ///
 /// ```
 /// use langtag_place::Variant;
@@ -47,11 +47,11 @@ impl<'a> Variant<'a> {
     ghost use Rattle.langtag_place.specs.Compared.{VariantsCompareByCase};
     ghost use Rattle.langtag_place.specs.Text.{variant_text, variant_buf_text};
 
-    /// Parses a text as a variant: `Variant::new("rozaj")` is `Ok`.
+    /// Parses a string as a variant: `Variant::new("rozaj")` is `Ok`.
     ///
     /// # Errors
     ///
-    /// Returns the text if it is neither five to eight letters and digits nor a digit followed by three letters or
+    /// Returns the string if it is neither five to eight letters and digits nor a digit followed by three letters or
     /// digits: `Variant::new("roza")` is `Err(InvalidVariant("roza"))`.
     #[tactic(auto, using(crate::proofs::Numbers::variant_numbers))]
     pub fn new(text: &'a str) -> Result<Variant<'a>, InvalidVariant<&'a str>>
@@ -69,7 +69,7 @@ impl<'a> Variant<'a> {
         Ok(Variant::from_checked(text))
     }
 
-    /// Wraps a text that is known to be a variant, without checking it. `Variant::from_checked(variant.as_str())` is
+    /// Wraps a string that is known to be a variant, without checking it. `Variant::from_checked(variant.as_str())` is
     /// equal to `variant`.
     pub fn from_checked(text: &'a str) -> Variant<'a>
         requires { IsTrue (class.is_variant text.now) }
@@ -80,7 +80,7 @@ impl<'a> Variant<'a> {
         }
     }
 
-    /// Returns the text, in its original case: `Variant::new("ROZAJ")?.as_str()` is `"ROZAJ"`.
+    /// Returns the string, in its original case: `Variant::new("ROZAJ")?.as_str()` is `"ROZAJ"`.
     pub fn as_str(&self) -> &'a str
         ensures same_text { result.now ≡ variant_text self.now }
         ensures in_class { IsTrue (class.is_variant result.now) }
@@ -88,14 +88,14 @@ impl<'a> Variant<'a> {
         self.text.0
     }
 
-    /// Returns the text as bytes: `Variant::new("ROZAJ")?.as_bytes()` is `b"ROZAJ"`.
+    /// Returns the string as bytes: `Variant::new("ROZAJ")?.as_bytes()` is `b"ROZAJ"`.
     pub fn as_bytes(&self) -> &'a [u8]
         ensures { result.now ≡ variant_text self.now }
     {
         self.as_str().as_bytes()
     }
 
-    /// Returns whether another text equals this text, ignoring the case of ASCII letters:
+    /// Returns whether another string equals this string, ignoring the case of ASCII letters:
     /// `Variant::new("rozaj")?.eq_str("ROZAJ")` is `true`. It is proved that comparisons and hashes also ignore case,
     /// and that a clone is the same value.
     #[tactic(auto, using(langtag_scan::proofs::CaseOrder::bytes_ends_first))]
@@ -109,7 +109,7 @@ impl<'a> Variant<'a> {
         self.text == Caseless(other)
     }
 
-    /// Copies the text into an owned value: `Variant::new("ROZAJ")?.try_to_owned(alloc)?.as_str()` is `"ROZAJ"`.
+    /// Copies the string into an owned value: `Variant::new("ROZAJ")?.try_to_owned(alloc)?.as_str()` is `"ROZAJ"`.
     ///
     /// # Errors
     ///
@@ -192,7 +192,7 @@ impl VariantBuf {
         Variant::from_checked(self.as_str())
     }
 
-    /// Returns the text, in its original case: `Variant::new("ROZAJ")?.try_to_owned(alloc)?.as_str()` is `"ROZAJ"`.
+    /// Returns the string, in its original case: `Variant::new("ROZAJ")?.try_to_owned(alloc)?.as_str()` is `"ROZAJ"`.
     pub fn as_str(&self) -> &str
         ensures same_text { result.now ≡ variant_buf_text self.now }
         ensures in_class { IsTrue (class.is_variant result.now) }

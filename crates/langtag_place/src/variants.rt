@@ -1,4 +1,4 @@
-//! The variants of a tag as one text (RFC 5646 section 2.2.5).
+//! The variants of a tag as one string (RFC 5646 section 2.2.5).
 ghost use Rattle.std.specs.Prelude.{◌≡◌, ◌↔◌, ◌-◌, ℕ, List, [], Some, IsTrue, IfOk, IfErr, is_ok, length, slice_get, option_map, string_bytes};
 ghost use Rattle.langtag_scan.specs.Case.{are_alike};
 ghost use Rattle.langtag_scan.specs.Subtags.{subtags};
@@ -13,7 +13,7 @@ use std::fmt;
 use std::fmt::Debug;
 use thiserror::Error;
 
-/// The error for a text that is not a list of variants. It contains the text.
+/// The error for a string that is not a list of variants. It contains the string.
 ///
 /// ```
 /// use langtag_place::Variants;
@@ -26,11 +26,11 @@ use thiserror::Error;
 #[error_bound(T: Debug + Drop)]
 pub struct InvalidVariants<T>(pub T);
 
-/// The variants of a tag, joined by hyphens (RFC 5646 section 2.2.5), such as `rozaj-1994`. The empty text means no
+/// The variants of a tag, joined by hyphens (RFC 5646 section 2.2.5), such as `rozaj-1994`. The empty string means no
 /// variants.
 ///
 /// A variant may occur twice: a tag with such a list is well formed but not valid (section 2.2.9). Two lists of
-/// variants are equal if their texts differ only in the case of ASCII letters, such as `rozaj` and `ROZAJ`.
+/// variants are equal if their strings differ only in the case of ASCII letters, such as `rozaj` and `ROZAJ`.
 ///
 /// ```
 /// use langtag_place::Variants;
@@ -53,11 +53,11 @@ impl<'a> Variants<'a> {
     /// No variants: `Variants::EMPTY.as_str()` is `""`.
     pub const EMPTY: Variants<'static> = Variants { text: Caseless("") };
 
-    /// Parses a text as variants: `Variants::new("rozaj-1994")` and `Variants::new("")` are `Ok`.
+    /// Parses a string as variants: `Variants::new("rozaj-1994")` and `Variants::new("")` are `Ok`.
     ///
     /// # Errors
     ///
-    /// Returns the text if it is not a list of variants joined by hyphens: `Variants::new("rozaj-")` is
+    /// Returns the string if it is not a list of variants joined by hyphens: `Variants::new("rozaj-")` is
     /// `Err(InvalidVariants("rozaj-"))`.
     pub fn new(text: &'a str) -> Result<Variants<'a>, InvalidVariants<&'a str>>
         ensures accepts { IsTrue (is_ok result) ↔ (IsVariants text.now) }
@@ -70,7 +70,7 @@ impl<'a> Variants<'a> {
         Ok(Variants::from_checked(text))
     }
 
-    /// Wraps a text that is known to be a list of variants, without checking it.
+    /// Wraps a string that is known to be a list of variants, without checking it.
     /// `Variants::from_checked(variants.as_str())` is equal to `variants`.
     pub fn from_checked(text: &'a str) -> Variants<'a>
         requires { IsVariants text.now }
@@ -81,7 +81,7 @@ impl<'a> Variants<'a> {
         }
     }
 
-    /// Returns the text, in its original case: `Variants::new("ROZAJ-1994")?.as_str()` is `"ROZAJ-1994"`.
+    /// Returns the string, in its original case: `Variants::new("ROZAJ-1994")?.as_str()` is `"ROZAJ-1994"`.
     pub fn as_str(&self) -> &'a str
         ensures same_text { result.now ≡ variants_text self.now }
         ensures in_class { IsVariants result.now }
@@ -89,14 +89,14 @@ impl<'a> Variants<'a> {
         self.text.0
     }
 
-    /// Returns the text as bytes: `Variants::new("ROZAJ-1994")?.as_bytes()` is `b"ROZAJ-1994"`.
+    /// Returns the string as bytes: `Variants::new("ROZAJ-1994")?.as_bytes()` is `b"ROZAJ-1994"`.
     pub fn as_bytes(&self) -> &'a [u8]
         ensures { result.now ≡ variants_text self.now }
     {
         self.as_str().as_bytes()
     }
 
-    /// Returns whether another text equals this text, ignoring the case of ASCII letters:
+    /// Returns whether another string equals this string, ignoring the case of ASCII letters:
     /// `Variants::new("rozaj")?.eq_str("ROZAJ")` is `true`. It is proved that comparisons and hashes also ignore case,
     /// and that a clone is the same value.
     #[tactic(auto, using(langtag_scan::proofs::CaseOrder::bytes_ends_first))]
@@ -110,7 +110,7 @@ impl<'a> Variants<'a> {
         self.text == Caseless(other)
     }
 
-    /// Copies the text into an owned value: `Variants::new("ROZAJ")?.try_to_owned(alloc)?.as_str()` is `"ROZAJ"`.
+    /// Copies the string into an owned value: `Variants::new("ROZAJ")?.try_to_owned(alloc)?.as_str()` is `"ROZAJ"`.
     ///
     /// # Errors
     ///
@@ -143,7 +143,7 @@ impl<'a> Variants<'a> {
         VariantsIter::new(self.as_str())
     }
 
-    /// Returns the first variant, if there is one: `rozaj` for `rozaj-1994`, `None` for the empty text.
+    /// Returns the first variant, if there is one: `rozaj` for `rozaj-1994`, `None` for the empty string.
     ///
     /// ```
     /// use langtag_place::Variants;
@@ -251,7 +251,7 @@ impl VariantsBuf {
         Variants::from_checked(self.as_str())
     }
 
-    /// Returns the text, in its original case: `Variants::new("ROZAJ")?.try_to_owned(alloc)?.as_str()` is `"ROZAJ"`.
+    /// Returns the string, in its original case: `Variants::new("ROZAJ")?.try_to_owned(alloc)?.as_str()` is `"ROZAJ"`.
     pub fn as_str(&self) -> &str
         ensures same_text { result.now ≡ variants_buf_text self.now }
         ensures in_class { IsVariants result.now }
@@ -280,7 +280,7 @@ impl fmt::Display for VariantsBuf {
     }
 }
 
-/// Returns whether a text is empty or a list of variants joined by hyphens.
+/// Returns whether a string is empty or a list of variants joined by hyphens.
 fn all_variants(text: &str) -> bool
     ensures { result ≡ is_variants text.now }
 {

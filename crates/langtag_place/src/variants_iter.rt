@@ -9,8 +9,8 @@ use crate::variants::Variants;
 use langtag_scan::Subtags;
 use std::alloc::AllocError;
 
-/// An iterator over variants (RFC 5646 section 2.2.5), in the order of the text and from either end: `rozaj` and `1994`
-/// for `rozaj-1994`.
+/// An iterator over variants (RFC 5646 section 2.2.5), in the order of the string and from either end: `rozaj` and
+/// `1994` for `rozaj-1994`.
 ///
 /// ```
 /// use langtag_place::Variants;
@@ -37,7 +37,7 @@ impl<'a> VariantsIter<'a> {
         Variants::EMPTY.iter()
     }
 
-    /// Returns an iterator over the variants of a text that is known to be a list of variants.
+    /// Returns an iterator over the variants of a string that is known to be a list of variants.
     #[tactic(auto, using(crate::proofs::Rules::few_variants))]
     pub(crate) fn new(text: &'a str) -> Self
         requires { IsTrue (is_variants text.now) }

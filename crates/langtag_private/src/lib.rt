@@ -12,8 +12,8 @@
 //! assert_eq!(rt; first.as_str(), "a");
 //! ```
 //!
-//! A returned subtag borrows its bytes from the text. It is proved that its bytes equal the bytes in the text, but not
-//! that they are at the same address.
+//! A returned subtag borrows its bytes from the string. It is proved that its bytes equal the bytes in the string, but
+//! not that they are at the same address.
 #![tactic(auto)]
 
 mod private_use;

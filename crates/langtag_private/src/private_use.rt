@@ -12,7 +12,7 @@ use std::fmt;
 use std::fmt::Debug;
 use thiserror::Error;
 
-/// The error for a text that is not a private use part. It contains the text.
+/// The error for a string that is not a private use part. It contains the string.
 ///
 /// ```
 /// use langtag_private::PrivateUse;
@@ -28,7 +28,7 @@ pub struct InvalidPrivateUse<T>(pub T);
 /// A private use part (RFC 5646 section 2.2.7): `x` or `X`, and one or more subtags after it, joined by hyphens, such
 /// as `x-twain`. It may be the end of a tag, or a whole tag.
 ///
-/// Two private use parts are equal if their texts differ only in the case of ASCII letters, such as `x-twain` and
+/// Two private use parts are equal if their strings differ only in the case of ASCII letters, such as `x-twain` and
 /// `X-TWAIN`.
 ///
 /// ```
@@ -49,11 +49,11 @@ impl<'a> PrivateUse<'a> {
     ghost use Rattle.langtag_private.specs.Compared.{PrivateUsesCompareByCase};
     ghost use Rattle.langtag_private.specs.Text.{private_use_text, private_use_buf_text, private_use_subtags_left};
 
-    /// Parses a text as a private use part: `PrivateUse::new("x-twain")` is `Ok`.
+    /// Parses a string as a private use part: `PrivateUse::new("x-twain")` is `Ok`.
     ///
     /// # Errors
     ///
-    /// Returns the text if it is not a private use part: `PrivateUse::new("x")` is `Err(InvalidPrivateUse("x"))`.
+    /// Returns the string if it is not a private use part: `PrivateUse::new("x")` is `Err(InvalidPrivateUse("x"))`.
     pub fn new(text: &'a str) -> Result<PrivateUse<'a>, InvalidPrivateUse<&'a str>>
         ensures accepts { IsTrue (is_ok result) ↔ (IsPrivateUse text.now) }
         ensures same_text { IfOk result (λ private_use. private_use_text private_use ≡ text.now) }
@@ -65,7 +65,7 @@ impl<'a> PrivateUse<'a> {
         Ok(PrivateUse::from_checked(text))
     }
 
-    /// Wraps a text that is known to be a private use part, without checking it.
+    /// Wraps a string that is known to be a private use part, without checking it.
     /// `PrivateUse::from_checked(private_use.as_str())` is equal to `private_use`.
     pub fn from_checked(text: &'a str) -> PrivateUse<'a>
         requires { IsPrivateUse text.now }
@@ -76,7 +76,7 @@ impl<'a> PrivateUse<'a> {
         }
     }
 
-    /// Returns the text, in its original case: `PrivateUse::new("X-TWAIN")?.as_str()` is `"X-TWAIN"`.
+    /// Returns the string, in its original case: `PrivateUse::new("X-TWAIN")?.as_str()` is `"X-TWAIN"`.
     pub fn as_str(&self) -> &'a str
         ensures same_text { result.now ≡ private_use_text self.now }
         ensures in_class { IsPrivateUse result.now }
@@ -84,14 +84,14 @@ impl<'a> PrivateUse<'a> {
         self.text.0
     }
 
-    /// Returns the text as bytes: `PrivateUse::new("X-TWAIN")?.as_bytes()` is `b"X-TWAIN"`.
+    /// Returns the string as bytes: `PrivateUse::new("X-TWAIN")?.as_bytes()` is `b"X-TWAIN"`.
     pub fn as_bytes(&self) -> &'a [u8]
         ensures { result.now ≡ private_use_text self.now }
     {
         self.as_str().as_bytes()
     }
 
-    /// Returns whether another text equals this text, ignoring the case of ASCII letters:
+    /// Returns whether another string equals this string, ignoring the case of ASCII letters:
     /// `PrivateUse::new("x-twain")?.eq_str("X-TWAIN")` is `true`. It is proved that comparisons and hashes also ignore
     /// case, and that a clone is the same value.
     #[tactic(auto, using(langtag_scan::proofs::CaseOrder::bytes_ends_first))]
@@ -105,7 +105,8 @@ impl<'a> PrivateUse<'a> {
         self.text == Caseless(other)
     }
 
-    /// Copies the text into an owned value: `PrivateUse::new("X-TWAIN")?.try_to_owned(alloc)?.as_str()` is `"X-TWAIN"`.
+    /// Copies the string into an owned value: `PrivateUse::new("X-TWAIN")?.try_to_owned(alloc)?.as_str()` is
+    /// `"X-TWAIN"`.
     ///
     /// # Errors
     ///
@@ -140,7 +141,7 @@ impl<'a> PrivateUse<'a> {
     }
 }
 
-/// Returns whether the text is `x` or `X` and at least one private use subtag, joined by hyphens.
+/// Returns whether the string is `x` or `X` and at least one private use subtag, joined by hyphens.
 fn is_private_use(text: &str) -> bool
     ensures { result ≡ test.is_private_use_text text.now }
 {
@@ -239,7 +240,7 @@ impl PrivateUseBuf {
         PrivateUse::from_checked(self.as_str())
     }
 
-    /// Returns the text, in its original case: `PrivateUse::new("X-TWAIN")?.try_to_owned(alloc)?.as_str()` is
+    /// Returns the string, in its original case: `PrivateUse::new("X-TWAIN")?.try_to_owned(alloc)?.as_str()` is
     /// `"X-TWAIN"`.
     pub fn as_str(&self) -> &str
         ensures same_text { result.now ≡ private_use_buf_text self.now }

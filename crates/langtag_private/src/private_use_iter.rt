@@ -49,7 +49,7 @@ impl<'a> PrivateUseIter<'a> {
     }
 }
 
-/// Returns the subtags of a text except the first, which is `x` or `X`.
+/// Returns the subtags of a string except the first, which is `x` or `X`.
 fn after_mark<'a>(text: &'a str) -> Subtags<'a>
     ensures { result ≡ drop 1 (subtags text.now) }
 {

@@ -12,7 +12,7 @@ use std::fmt;
 use std::fmt::Debug;
 use thiserror::Error;
 
-/// The error for a text that is not a private use subtag. It contains the text.
+/// The error for a string that is not a private use subtag. It contains the string.
 ///
 /// ```
 /// use langtag_private::PrivateUseSubtag;
@@ -27,7 +27,7 @@ pub struct InvalidPrivateUseSubtag<T>(pub T);
 
 /// A private use subtag (RFC 5646 section 2.2.7): one to eight letters and digits, such as `twain` in `en-x-twain`.
 ///
-/// Two private use subtags are equal if their texts differ only in the case of ASCII letters, such as `twain` and
+/// Two private use subtags are equal if their strings differ only in the case of ASCII letters, such as `twain` and
 /// `TWAIN`.
 ///
 /// ```
@@ -47,11 +47,11 @@ impl<'a> PrivateUseSubtag<'a> {
     ghost use Rattle.langtag_private.specs.Compared.{PrivateUseSubtagsCompareByCase};
     ghost use Rattle.langtag_private.specs.Text.{private_use_subtag_text, private_use_subtag_buf_text};
 
-    /// Parses a text as a private use subtag: `PrivateUseSubtag::new("twain")` is `Ok`.
+    /// Parses a string as a private use subtag: `PrivateUseSubtag::new("twain")` is `Ok`.
     ///
     /// # Errors
     ///
-    /// Returns the text if it is not one to eight letters and digits: `PrivateUseSubtag::new("a-b")` is
+    /// Returns the string if it is not one to eight letters and digits: `PrivateUseSubtag::new("a-b")` is
     /// `Err(InvalidPrivateUseSubtag("a-b"))`.
     #[tactic(auto, using(crate::proofs::Numbers::private_subtag_numbers))]
     pub fn new(text: &'a str) -> Result<PrivateUseSubtag<'a>, InvalidPrivateUseSubtag<&'a str>>
@@ -67,7 +67,7 @@ impl<'a> PrivateUseSubtag<'a> {
         Ok(PrivateUseSubtag::from_checked(text))
     }
 
-    /// Wraps a text that is known to be a private use subtag, without checking it.
+    /// Wraps a string that is known to be a private use subtag, without checking it.
     /// `PrivateUseSubtag::from_checked(subtag.as_str())` is equal to `subtag`.
     pub fn from_checked(text: &'a str) -> PrivateUseSubtag<'a>
         requires { IsTrue (class.is_private_subtag text.now) }
@@ -78,7 +78,7 @@ impl<'a> PrivateUseSubtag<'a> {
         }
     }
 
-    /// Returns the text, in its original case: `PrivateUseSubtag::new("TWAIN")?.as_str()` is `"TWAIN"`.
+    /// Returns the string, in its original case: `PrivateUseSubtag::new("TWAIN")?.as_str()` is `"TWAIN"`.
     pub fn as_str(&self) -> &'a str
         ensures same_text { result.now ≡ private_use_subtag_text self.now }
         ensures in_class { IsTrue (class.is_private_subtag result.now) }
@@ -86,14 +86,14 @@ impl<'a> PrivateUseSubtag<'a> {
         self.text.0
     }
 
-    /// Returns the text as bytes: `PrivateUseSubtag::new("TWAIN")?.as_bytes()` is `b"TWAIN"`.
+    /// Returns the string as bytes: `PrivateUseSubtag::new("TWAIN")?.as_bytes()` is `b"TWAIN"`.
     pub fn as_bytes(&self) -> &'a [u8]
         ensures { result.now ≡ private_use_subtag_text self.now }
     {
         self.as_str().as_bytes()
     }
 
-    /// Returns whether another text equals this text, ignoring the case of ASCII letters:
+    /// Returns whether another string equals this string, ignoring the case of ASCII letters:
     /// `PrivateUseSubtag::new("twain")?.eq_str("TWAIN")` is `true`. It is proved that comparisons and hashes also
     /// ignore case, and that a clone is the same value.
     #[tactic(auto, using(langtag_scan::proofs::CaseOrder::bytes_ends_first))]
@@ -107,7 +107,7 @@ impl<'a> PrivateUseSubtag<'a> {
         self.text == Caseless(other)
     }
 
-    /// Copies the text into an owned value: `PrivateUseSubtag::new("TWAIN")?.try_to_owned(alloc)?.as_str()` is
+    /// Copies the string into an owned value: `PrivateUseSubtag::new("TWAIN")?.try_to_owned(alloc)?.as_str()` is
     /// `"TWAIN"`.
     ///
     /// # Errors
@@ -190,7 +190,7 @@ impl PrivateUseSubtagBuf {
         PrivateUseSubtag::from_checked(self.as_str())
     }
 
-    /// Returns the text, in its original case: `PrivateUseSubtag::new("TWAIN")?.try_to_owned(alloc)?.as_str()` is
+    /// Returns the string, in its original case: `PrivateUseSubtag::new("TWAIN")?.try_to_owned(alloc)?.as_str()` is
     /// `"TWAIN"`.
     pub fn as_str(&self) -> &str
         ensures same_text { result.now ≡ private_use_subtag_buf_text self.now }

@@ -1,5 +1,5 @@
 -- How a text in a caller's list of language ranges is read: like a range in a header, except that it may be an extended
--- range, which is read as look-up reads it.
+-- range, which is read as lookup reads it.
 use Rattle.std.specs.Prelude.{ℕ, List, Option, Some, None, if◌then◌else◌}
 use Rattle.langtag_range.specs.Element.{Element, trimmed}
 use Rattle.langtag_range.specs.Locale.{locale_place}

@@ -4,7 +4,7 @@ ghost use Rattle.langtag_range.specs.Basic as spec;
 
 use langtag_scan::case_insensitive_eq;
 
-/// Returns whether a range is `*`, equals a tag, or equals the text before some hyphen of a tag. Case is ignored.
+/// Returns whether a range is `*`, equals a tag, or equals the string before some hyphen of a tag. Case is ignored.
 pub fn matches_basic(range: &str, tag: &str) -> bool
     ensures { IsTrue result ↔ spec.MatchesBasic range.now tag.now }
 {

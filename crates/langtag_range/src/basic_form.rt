@@ -27,7 +27,7 @@ pub fn is_range(tag: &[u8], range: &[u8]) -> bool
     tag.is_empty()
 }
 
-/// Returns whether a text begins with `-*`.
+/// Returns whether a string begins with `-*`.
 fn begins_with_wildcard(text: &[u8]) -> bool
     ensures { result ≡ spec.begins_with_wildcard text.now }
 {

@@ -36,7 +36,7 @@ fn len_without_last(range: &[u8]) -> Option<usize>
     Some(start - 1)
 }
 
-/// Returns whether the last subtag of a text is a single character.
+/// Returns whether the last subtag of a string is a single character.
 pub fn ends_in_single(text: &[u8]) -> bool
     ensures { result ≡ spec.ends_in_single text.now }
 {

@@ -1,5 +1,5 @@
-//! Texts of language ranges: which texts are ranges (RFC 4647), which tags they match, and how ranges, lists, headers
-//! and names of POSIX locales are read. The crate `langtag_match` exports the public items.
+//! Strings of language ranges: which strings are ranges (RFC 4647), which tags they match, and how ranges, lists,
+//! headers and names of POSIX locales are read. The crate `langtag_match` exports the public items.
 //!
 //! ```
 //! use langtag_match::{listed_range, locale_place, weight_of};

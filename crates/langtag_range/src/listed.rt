@@ -12,7 +12,7 @@ use crate::wanted::WantedRange;
 use crate::wanted_element::{is_separator, is_star, trimmed};
 use langtag_scan::split_at_either;
 
-/// Reads a text as a language range, basic or extended, with the weight 1. As in a header, `_` is read as `-`. White
+/// Reads a string as a language range, basic or extended, with the weight 1. As in a header, `_` is read as `-`. White
 /// space around the range is dropped, and so is everything from the first `.`, `@` or `_#` on. Returns `None` if the
 /// rest is not a range, such as `de;q=0`.
 ///
@@ -36,7 +36,7 @@ pub fn listed_range(text: &[u8]) -> Option<WantedRange<'_>>
     })
 }
 
-/// Returns whether a text is a language range if `_` is read as `-`.
+/// Returns whether a string is a language range if `_` is read as `-`.
 #[tactic(auto, using(crate::proofs::WantedTexts::extended_read))]
 fn is_listed_range(text: &[u8]) -> bool
     ensures { result ≡ is_language_range (hyphened text.now) }

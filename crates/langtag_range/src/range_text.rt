@@ -1,10 +1,10 @@
-//! Which texts are language ranges (RFC 4647 section 2).
+//! Which strings are language ranges (RFC 4647 section 2).
 ghost use Rattle.std.specs.Prelude.{◌≡◌};
 ghost use Rattle.langtag_range.specs.Range as spec;
 
 use langtag_scan::{Subtags, are_letters, is_private_subtag};
 
-/// Returns whether a text is a language range, basic or extended.
+/// Returns whether a string is a language range, basic or extended.
 pub fn is_language_range(text: &str) -> bool
     ensures { result ≡ spec.is_language_range text.now }
 {
@@ -15,7 +15,7 @@ pub fn is_language_range(text: &str) -> bool
     (first == "*" || is_first_subtag(first.as_bytes())) && are_range_subtags(subtags)
 }
 
-/// Returns whether a text is a basic language range.
+/// Returns whether a string is a basic language range.
 pub fn is_basic_range(text: &str) -> bool
     ensures { result ≡ spec.is_basic_range text.now }
 {

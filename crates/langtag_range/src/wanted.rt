@@ -8,7 +8,7 @@ ghost use Rattle.langtag_range.specs.Wanted as spec;
 use crate::wanted_element::wanted_at;
 use langtag_scan::split_at_byte;
 
-/// A language range of a header, and its weight. Its bytes may have `_` in place of a hyphen.
+/// A language range of a header, and its weight. Its bytes may have `_` instead of a hyphen.
 ///
 /// ```
 /// use langtag_match::wanted_ranges;
@@ -18,7 +18,7 @@ use langtag_scan::split_at_byte;
 /// ```
 #[derive(Clone, Copy, Debug, Drop)]
 pub struct WantedRange<'a> {
-    /// The text, in which `_` means `-`: `de_CH` is the range `de-CH`.
+    /// The string, in which `_` means `-`: `de_CH` is the range `de-CH`.
     pub bytes: &'a [u8],
     /// The weight in thousandths, from 0 to 1000. A range of weight 0 is not acceptable.
     pub weight: u32,
@@ -83,8 +83,8 @@ impl<'a> Iterator for WantedRanges<'a> {
     }
 }
 
-/// Returns the first range of a header, as [`wanted_ranges`] reads it, and the text after its comma. Returns `None` if
-/// there is no range. Use it instead of the iterator if the state of your loop has to be a `Copy` value.
+/// Returns the first range of a header, as [`wanted_ranges`] reads it, and the string after its comma. Returns `None`
+/// if there is no range. Use it instead of the iterator if the state of your loop has to be a `Copy` value.
 ///
 /// ```
 /// use langtag_match::split_wanted;

@@ -28,7 +28,7 @@ pub(crate) fn wanted_at<'a>(item: &'a [u8], behind: &[u8]) -> Option<WantedRange
     Some(WantedRange { bytes, weight })
 }
 
-/// Returns whether a text is a basic language range if `_` is read as `-`.
+/// Returns whether a string is a basic language range if `_` is read as `-`.
 #[tactic(auto, using(crate::proofs::WantedTexts::basic_read))]
 fn is_wanted_range(text: &[u8]) -> bool
     ensures { result ≡ is_basic_range (spec.hyphened text.now) }
@@ -95,7 +95,7 @@ fn is_q_name(name: &[u8]) -> bool
     matches!(name, [b'q' | b'Q'])
 }
 
-/// Returns the weight of a value. If the value has no point, the digits at the start of `behind`, which is the text
+/// Returns the weight of a value. If the value has no point, the digits at the start of `behind`, which is the string
 /// after the next comma, are its fraction.
 fn value_weight(value: &[u8], behind: &[u8]) -> u32
     ensures { result ≡ spec.value_weight value.now (spec.digits_behind (items behind.now)) }
@@ -107,8 +107,8 @@ fn value_weight(value: &[u8], behind: &[u8]) -> u32
     number_weight(whole, digits_behind(behind))
 }
 
-/// Returns the digits at the start of a text if a comma or the end of the text follows them. Otherwise it returns an
-/// empty text.
+/// Returns the digits at the start of a string if a comma or the end of the string follows them. Otherwise it returns
+/// an empty string.
 #[tactic(auto, unfolding(langtag_scan::specs::Class::is_digit), using(crate::proofs::WantedTexts::digits_at))]
 fn digits_behind(text: &[u8]) -> &[u8]
     ensures { result.now ≡ spec.digits_behind (items text.now) }
@@ -117,8 +117,8 @@ fn digits_behind(text: &[u8]) -> &[u8]
     if are_digits(item, b'9') { item } else { b"" }
 }
 
-/// Returns the weight of a number, given the texts before and after its decimal mark. It is 1000 if the texts are not a
-/// number, or if the number is above 1.
+/// Returns the weight of a number, given the strings before and after its decimal mark. It is 1000 if the strings are
+/// not a number, or if the number is above 1.
 fn number_weight(whole: &[u8], fraction: &[u8]) -> u32
     ensures { result ≡ spec.number_weight whole.now fraction.now }
 {
@@ -128,7 +128,7 @@ fn number_weight(whole: &[u8], fraction: &[u8]) -> u32
     100 * digit_at(fraction, 0) + 10 * digit_at(fraction, 1) + digit_at(fraction, 2)
 }
 
-/// Returns whether the texts before and after a decimal mark have only digits, and at least one of them has a digit.
+/// Returns whether the strings before and after a decimal mark have only digits, and at least one of them has a digit.
 #[tactic(auto, unfolding(langtag_scan::specs::Class::is_digit))]
 fn is_number(whole: &[u8], fraction: &[u8]) -> bool
     ensures { result ≡ spec.are_number whole.now fraction.now }
@@ -136,7 +136,7 @@ fn is_number(whole: &[u8], fraction: &[u8]) -> bool
     are_digits(whole, b'9') && are_digits(fraction, b'9') && whole.len() + fraction.len() > 0
 }
 
-/// Returns a text without the white space around it.
+/// Returns a string without the white space around it.
 pub(crate) fn trimmed(text: &[u8]) -> &[u8]
     ensures { result.now ≡ trimmed text.now }
 {

@@ -4,8 +4,8 @@ ghost use Rattle.std.specs.Int.{is_in_range};
 ghost use Rattle.std.specs.List.{list_all};
 ghost use Rattle.langtag_range.specs.Weight as spec;
 
-/// Returns the weight in a text, in thousandths (RFC 9110 section 12.4.2): 500 for `q=0.5` and `Q=0.500`. Returns
-/// [`None`] if the text is not a weight, such as `q=2`, `q=.5`, `q=0.1234` and `q = 1`.
+/// Returns the weight in a string, in thousandths (RFC 9110 section 12.4.2): 500 for `q=0.5` and `Q=0.500`. Returns
+/// [`None`] if the string is not a weight, such as `q=2`, `q=.5`, `q=0.1234` and `q = 1`.
 ///
 /// ```
 /// use langtag_match::weight_of;
@@ -22,7 +22,7 @@ pub fn weight_of(text: &[u8]) -> Option<u32>
     }
 }
 
-/// Returns whether a text is a number from 0 to 1 with up to three decimal places.
+/// Returns whether a string is a number from 0 to 1 with up to three decimal places.
 fn is_qvalue(text: &[u8]) -> bool
     ensures { result ≡ spec.is_qvalue text.now }
 {
@@ -33,7 +33,7 @@ fn is_qvalue(text: &[u8]) -> bool
     }
 }
 
-/// Returns whether a text is empty, or is a point and up to three digits, each at most `greatest`.
+/// Returns whether a string is empty, or is a point and up to three digits, each at most `greatest`.
 fn is_fraction(text: &[u8], greatest: u8) -> bool
     ensures { result ≡ spec.is_fraction greatest text.now }
 {

@@ -1,10 +1,10 @@
-//! The white space around a text in a header (RFC 9110 section 5.6.3).
+//! The white space around a string in a header (RFC 9110 section 5.6.3).
 ghost use Rattle.std.specs.Prelude.{◌≡◌, ◌≤◌, IsTrue, drop, length, reverse, take};
 ghost use Rattle.std.specs.List.{slice_range};
 ghost use Rattle.langtag_range.specs.Element as spec;
 
-/// Returns whether the text between two commas of a header is empty except for spaces and tabs. Such an element must be
-/// skipped (RFC 9110 section 5.6.1.2).
+/// Returns whether the string between two commas of a header is empty except for spaces and tabs. Such an element must
+/// be skipped (RFC 9110 section 5.6.1.2).
 ///
 /// ```
 /// use langtag_match::is_empty_element;
@@ -18,7 +18,7 @@ pub fn is_empty_element(item: &[u8]) -> bool
     item.iter().all(|byte| is_space(*byte))
 }
 
-/// Returns the offsets at which a text begins and ends without the white space around it.
+/// Returns the offsets at which a string begins and ends without the white space around it.
 pub fn trimmed_place(text: &[u8]) -> (usize, usize)
     ensures ordered { result.0 ≤ result.1 }
     ensures within { result.1 ≤ length text.now }
@@ -29,7 +29,7 @@ pub fn trimmed_place(text: &[u8]) -> (usize, usize)
     (start, start + len_without_spaces(&text[start..]))
 }
 
-/// Returns the number of bytes of white space at the start of a text.
+/// Returns the number of bytes of white space at the start of a string.
 #[tactic(auto, using(crate::proofs::Spaces::ows_more, crate::proofs::Spaces::from_first_more, crate::proofs::Spaces::from_first_stops, crate::proofs::Spaces::from_first_ends))]
 fn leading_spaces(text: &[u8]) -> usize
     ensures within { result ≤ length text.now }
@@ -43,7 +43,7 @@ fn leading_spaces(text: &[u8]) -> usize
     start
 }
 
-/// Returns the length of a text without the white space at its end.
+/// Returns the length of a string without the white space at its end.
 #[tactic(auto, using(crate::proofs::Spaces::last_space, crate::proofs::Spaces::last_stops))]
 fn len_without_spaces(text: &[u8]) -> usize
     ensures within { result ≤ length text.now }

@@ -1,15 +1,15 @@
-//! The number that stands for a text of two or three letters.
+//! The number that stands for a string of two or three letters.
 ghost use Rattle.std.specs.Prelude.{◌≡◌, ◌≤◌, IsTrue, length};
 ghost use Rattle.langtag_scan.specs.Class as class;
 ghost use Rattle.langtag_tables.specs.Numbers.{letter, letter_number};
 
 use langtag_scan::into_smallcase;
 
-/// Returns the number whose digits in base 26 are the letters of a text, ignoring case: 27 for `aa`, 31 for `ae` and
-/// `AE`, 18278 for `zzz`. Texts of two or three letters have the same number only if they are equal, ignoring case.
+/// Returns the number whose digits in base 26 are the letters of a string, ignoring case: 27 for `aa`, 31 for `ae` and
+/// `AE`, 18278 for `zzz`. Strings of two or three letters have the same number only if they are equal, ignoring case.
 /// Most languages (RFC 5646 section 2.2.1) have two or three letters.
 ///
-/// The text has to be two or three ASCII letters.
+/// The string has to be two or three ASCII letters.
 #[tactic(auto, using(crate::proofs::Letters::primary_length, crate::proofs::Letters::letter_at, crate::proofs::Letters::number_of_two, crate::proofs::Letters::number_of_three))]
 pub fn letter_number(bytes: &[u8]) -> usize
     requires primary { IsTrue (class.is_primary bytes.now) }

@@ -1,6 +1,6 @@
 // Made by rust/erase from crates/langtag_case/src/in_recommended_case.rt. Change that file, not this one.
 
-//! A text that is displayed in its recommended case.
+//! A string that is displayed in its recommended case.
 
 use crate::erased::case::recommended_bytes::RecommendedBytes;
 use crate::erased::case::recommended_case::is_in_recommended_case;
@@ -10,8 +10,8 @@ use core::fmt;
 /// An ASCII text that is displayed in the case that [RFC 5646 section 2.1.1] recommends for tags:
 /// `MN-cYRL-mn` is displayed as `mn-Cyrl-MN`.
 ///
-/// It does not allocate. A text that is already in its recommended case is written in one call, and
-/// any other text byte by byte.
+/// It does not allocate. A string that is already in its recommended case is written in one call,
+/// and any other string byte by byte.
 ///
 /// ```
 /// # fn main() -> Result<(), Box<dyn std::error::Error>> {

@@ -1,12 +1,12 @@
 // Made by rust/erase from crates/langtag_case/src/piece.rt. Change that file, not this one.
 
-//! The pieces of a text in its recommended case. In each piece, the uppercase letters come before
+//! The pieces of a string in its recommended case. In each piece, the uppercase letters come before
 //! the lowercase letters.
 
 use crate::erased::scan::segment_end;
 
-/// A piece of a text in its recommended case ([RFC 5646 section 2.1.1]). Each subtag before the
-/// first single-byte subtag is a piece. The rest of the text is one more piece, which is all
+/// A piece of a string in its recommended case ([RFC 5646 section 2.1.1]). Each subtag before the
+/// first single-byte subtag is a piece. The rest of the string is one more piece, which is all
 /// lowercase.
 ///
 /// [RFC 5646 section 2.1.1]: https://www.rfc-editor.org/rfc/rfc5646#section-2.1.1
@@ -20,8 +20,8 @@ pub(crate) struct Piece {
 }
 
 impl Piece {
-    /// Returns the piece at the start of a text. The first subtag is lowercase, whatever its length
-    /// is.
+    /// Returns the piece at the start of a string. The first subtag is lowercase, whatever its
+    /// length is.
     #[inline]
     pub(crate) fn first(text: &[u8]) -> Piece {
         Piece {
@@ -30,8 +30,8 @@ impl Piece {
         }
     }
 
-    /// Returns the piece at the start of `text`, which is the rest of a longer text after a hyphen.
-    /// No subtag before that hyphen may have a single byte.
+    /// Returns the piece at the start of `text`, which is the rest of a longer string after a
+    /// hyphen. No subtag before that hyphen may have a single byte.
     pub(crate) fn later(text: &[u8]) -> Piece {
         match segment_end(text, 0) {
             1 => Piece {

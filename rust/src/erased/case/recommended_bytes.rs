@@ -1,10 +1,10 @@
 // Made by rust/erase from crates/langtag_case/src/recommended_bytes.rt. Change that file, not this one.
 
-//! The bytes of a text in its recommended case, one by one.
+//! The bytes of a string in its recommended case, one by one.
 
 use crate::erased::case::piece::Piece;
 
-/// An iterator over the bytes of a text in its recommended case ([RFC 5646 section 2.1.1]): `m`,
+/// An iterator over the bytes of a string in its recommended case ([RFC 5646 section 2.1.1]): `m`,
 /// `n`, `-`, `M`, `N` for `MN-mn`.
 ///
 /// [RFC 5646 section 2.1.1]: https://www.rfc-editor.org/rfc/rfc5646#section-2.1.1
@@ -18,7 +18,7 @@ pub(crate) struct RecommendedBytes<'a> {
 }
 
 impl<'a> RecommendedBytes<'a> {
-    /// Returns an iterator over all bytes of a text in its recommended case.
+    /// Returns an iterator over all bytes of a string in its recommended case.
     #[inline]
     pub(crate) fn new(text: &'a [u8]) -> Self {
         let Piece { len, capitals } = Piece::first(text);

@@ -9,7 +9,7 @@ use crate::shim::{try_string, AllocError};
 use alloc::string::String;
 use core::fmt;
 
-/// The error for a text that is not an extended language subtag. It contains the text.
+/// The error for a string that is not an extended language subtag. It contains the string.
 ///
 /// ```
 /// use langtag::ExtendedLangTag;
@@ -33,8 +33,8 @@ impl<T: fmt::Debug + AsRef<[u8]>> core::error::Error for InvalidExtendedLangTag<
 /// An extended language subtag ([RFC 5646 section 2.2.2]): three letters, such as `yue` in
 /// `zh-yue`.
 ///
-/// Two extended language subtags are equal if their texts differ only in the case of ASCII letters,
-/// such as `yue` and `YUE`.
+/// Two extended language subtags are equal if their strings differ only in the case of ASCII
+/// letters, such as `yue` and `YUE`.
 ///
 /// ```
 /// # fn main() -> Result<(), Box<dyn std::error::Error>> {
@@ -54,11 +54,11 @@ pub struct ExtendedLangTag<'a> {
 }
 
 impl<'a> ExtendedLangTag<'a> {
-    /// Parses a text as an extended language subtag.
+    /// Parses a string as an extended language subtag.
     ///
     /// # Errors
     ///
-    /// Returns the text if it is not three letters.
+    /// Returns the string if it is not three letters.
     ///
     /// ```
     /// use langtag::{ExtendedLangTag, InvalidExtendedLangTag};
@@ -74,7 +74,7 @@ impl<'a> ExtendedLangTag<'a> {
         Ok(ExtendedLangTag::from_checked(text))
     }
 
-    /// Wraps a text that is known to be an extended language subtag, without checking it.
+    /// Wraps a string that is known to be an extended language subtag, without checking it.
     /// `ExtendedLangTag::from_checked(extended.as_str())` is equal to `extended`.
     #[inline]
     pub(crate) fn from_checked(text: &'a str) -> ExtendedLangTag<'a> {
@@ -83,7 +83,7 @@ impl<'a> ExtendedLangTag<'a> {
         }
     }
 
-    /// Returns the text, in its original case.
+    /// Returns the string, in its original case.
     ///
     /// ```
     /// # fn main() -> Result<(), Box<dyn std::error::Error>> {
@@ -99,7 +99,7 @@ impl<'a> ExtendedLangTag<'a> {
         self.text.0
     }
 
-    /// Returns the text as bytes.
+    /// Returns the string as bytes.
     ///
     /// ```
     /// # fn main() -> Result<(), Box<dyn std::error::Error>> {
@@ -115,7 +115,7 @@ impl<'a> ExtendedLangTag<'a> {
         self.as_str().as_bytes()
     }
 
-    /// Returns whether another text equals this text, ignoring the case of ASCII letters. It is
+    /// Returns whether another string equals this string, ignoring the case of ASCII letters. It is
     /// proved that comparisons and hashes also ignore case, and that a clone is the same value.
     ///
     /// ```
@@ -132,7 +132,7 @@ impl<'a> ExtendedLangTag<'a> {
         self.text == Caseless(other)
     }
 
-    /// Copies the text into an owned value.
+    /// Copies the string into an owned value.
     ///
     /// # Errors
     ///
@@ -226,7 +226,7 @@ impl ExtendedLangTagBuf {
         ExtendedLangTag::from_checked(self.as_str())
     }
 
-    /// Returns the text, in its original case.
+    /// Returns the string, in its original case.
     ///
     /// ```
     /// # fn main() -> Result<(), Box<dyn std::error::Error>> {

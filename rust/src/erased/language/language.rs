@@ -13,7 +13,7 @@ use crate::shim::{try_string, AllocError};
 use alloc::string::String;
 use core::fmt;
 
-/// The error for a text that is not a language. It contains the text.
+/// The error for a string that is not a language. It contains the string.
 ///
 /// ```
 /// use langtag::Language;
@@ -38,7 +38,7 @@ impl<T: fmt::Debug + AsRef<[u8]>> core::error::Error for InvalidLanguage<T> {}
 /// three extended subtags (section 2.2.2), as in `zh-min-nan`. Extended subtags follow only a
 /// primary subtag of two or three letters.
 ///
-/// Two languages are equal if their texts differ only in the case of ASCII letters, such as
+/// Two languages are equal if their strings differ only in the case of ASCII letters, such as
 /// `zh-yue` and `ZH-YUE`.
 ///
 /// ```
@@ -59,11 +59,11 @@ pub struct Language<'a> {
 }
 
 impl<'a> Language<'a> {
-    /// Parses a text as a language.
+    /// Parses a string as a language.
     ///
     /// # Errors
     ///
-    /// Returns the text if it is not a language.
+    /// Returns the string if it is not a language.
     ///
     /// ```
     /// use langtag::{InvalidLanguage, Language};
@@ -79,7 +79,7 @@ impl<'a> Language<'a> {
         Ok(Language::from_checked(text))
     }
 
-    /// Wraps a text that is known to be a language, without checking it.
+    /// Wraps a string that is known to be a language, without checking it.
     /// `Language::from_checked(language.as_str())` is equal to `language`.
     #[inline]
     pub(crate) fn from_checked(text: &'a str) -> Language<'a> {
@@ -88,7 +88,7 @@ impl<'a> Language<'a> {
         }
     }
 
-    /// Returns the text, in its original case.
+    /// Returns the string, in its original case.
     ///
     /// ```
     /// # fn main() -> Result<(), Box<dyn std::error::Error>> {
@@ -104,7 +104,7 @@ impl<'a> Language<'a> {
         self.text.0
     }
 
-    /// Returns the text as bytes.
+    /// Returns the string as bytes.
     ///
     /// ```
     /// # fn main() -> Result<(), Box<dyn std::error::Error>> {
@@ -120,7 +120,7 @@ impl<'a> Language<'a> {
         self.as_str().as_bytes()
     }
 
-    /// Returns whether another text equals this text, ignoring the case of ASCII letters. It is
+    /// Returns whether another string equals this string, ignoring the case of ASCII letters. It is
     /// proved that comparisons and hashes also ignore case, and that a clone is the same value.
     ///
     /// ```
@@ -137,7 +137,7 @@ impl<'a> Language<'a> {
         self.text == Caseless(other)
     }
 
-    /// Copies the text into an owned value.
+    /// Copies the string into an owned value.
     ///
     /// # Errors
     ///
@@ -176,7 +176,7 @@ impl<'a> Language<'a> {
         self.split().0
     }
 
-    /// Returns the extended subtags as one text, or `None` if there are none: `min-nan` for
+    /// Returns the extended subtags as one string, or `None` if there are none: `min-nan` for
     /// `zh-min-nan`.
     ///
     /// ```
@@ -229,7 +229,7 @@ impl<'a> Language<'a> {
     }
 }
 
-/// Returns whether the text is a language: a primary subtag, and at most three extended subtags,
+/// Returns whether the string is a language: a primary subtag, and at most three extended subtags,
 /// which only a primary subtag of two or three letters may have.
 fn is_language(text: &str) -> bool {
     let mut subtags = Subtags::new(text);
@@ -310,7 +310,7 @@ impl LanguageBuf {
         Language::from_checked(self.as_str())
     }
 
-    /// Returns the text, in its original case.
+    /// Returns the string, in its original case.
     ///
     /// ```
     /// # fn main() -> Result<(), Box<dyn std::error::Error>> {

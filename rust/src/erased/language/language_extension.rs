@@ -1,6 +1,6 @@
 // Made by rust/erase from crates/langtag_language/src/language_extension.rt. Change that file, not this one.
 
-//! The extended subtags of a language as one text (RFC 5646 section 2.2.2).
+//! The extended subtags of a language as one string (RFC 5646 section 2.2.2).
 
 use crate::erased::language::extended_subtags::are_extended_within;
 use crate::erased::language::language_extension_iter::LanguageExtensionIter;
@@ -11,7 +11,7 @@ use crate::shim::{try_string, AllocError};
 use alloc::string::String;
 use core::fmt;
 
-/// The error for a text that is not a language extension. It contains the text.
+/// The error for a string that is not a language extension. It contains the string.
 ///
 /// ```
 /// use langtag::LanguageExtension;
@@ -35,8 +35,8 @@ impl<T: fmt::Debug + AsRef<[u8]>> core::error::Error for InvalidLanguageExtensio
 /// The extended subtags of a language ([RFC 5646 section 2.2.2]): one to three, joined by hyphens,
 /// such as `min-nan`.
 ///
-/// Two language extensions are equal if their texts differ only in the case of ASCII letters, such
-/// as `min-nan` and `MIN-NAN`.
+/// Two language extensions are equal if their strings differ only in the case of ASCII letters,
+/// such as `min-nan` and `MIN-NAN`.
 ///
 /// ```
 /// # fn main() -> Result<(), Box<dyn std::error::Error>> {
@@ -56,11 +56,11 @@ pub struct LanguageExtension<'a> {
 }
 
 impl<'a> LanguageExtension<'a> {
-    /// Parses a text as a language extension.
+    /// Parses a string as a language extension.
     ///
     /// # Errors
     ///
-    /// Returns the text if it is not one to three extended subtags joined by hyphens.
+    /// Returns the string if it is not one to three extended subtags joined by hyphens.
     ///
     /// ```
     /// use langtag::{InvalidLanguageExtension, LanguageExtension};
@@ -76,7 +76,7 @@ impl<'a> LanguageExtension<'a> {
         Ok(LanguageExtension::from_checked(text))
     }
 
-    /// Wraps a text that is known to be a language extension, without checking it.
+    /// Wraps a string that is known to be a language extension, without checking it.
     /// `LanguageExtension::from_checked(extension.as_str())` is equal to `extension`.
     #[inline]
     pub(crate) fn from_checked(text: &'a str) -> LanguageExtension<'a> {
@@ -85,7 +85,7 @@ impl<'a> LanguageExtension<'a> {
         }
     }
 
-    /// Returns the text, in its original case.
+    /// Returns the string, in its original case.
     ///
     /// ```
     /// # fn main() -> Result<(), Box<dyn std::error::Error>> {
@@ -101,7 +101,7 @@ impl<'a> LanguageExtension<'a> {
         self.text.0
     }
 
-    /// Returns the text as bytes.
+    /// Returns the string as bytes.
     ///
     /// ```
     /// # fn main() -> Result<(), Box<dyn std::error::Error>> {
@@ -117,7 +117,7 @@ impl<'a> LanguageExtension<'a> {
         self.as_str().as_bytes()
     }
 
-    /// Returns whether another text equals this text, ignoring the case of ASCII letters. It is
+    /// Returns whether another string equals this string, ignoring the case of ASCII letters. It is
     /// proved that comparisons and hashes also ignore case, and that a clone is the same value.
     ///
     /// ```
@@ -134,7 +134,7 @@ impl<'a> LanguageExtension<'a> {
         self.text == Caseless(other)
     }
 
-    /// Copies the text into an owned value.
+    /// Copies the string into an owned value.
     ///
     /// # Errors
     ///
@@ -176,7 +176,7 @@ impl<'a> LanguageExtension<'a> {
     }
 }
 
-/// Returns whether the text is one to three extended subtags, joined by hyphens.
+/// Returns whether the string is one to three extended subtags, joined by hyphens.
 #[inline]
 fn is_language_extension(text: &str) -> bool {
     !text.is_empty() && are_extended_within(3, Subtags::new(text))
@@ -256,7 +256,7 @@ impl LanguageExtensionBuf {
         LanguageExtension::from_checked(self.as_str())
     }
 
-    /// Returns the text, in its original case.
+    /// Returns the string, in its original case.
     ///
     /// ```
     /// # fn main() -> Result<(), Box<dyn std::error::Error>> {

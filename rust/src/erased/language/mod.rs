@@ -19,8 +19,8 @@
 //! # }
 //! ```
 //!
-//! A returned part borrows its bytes from the text. It is proved that its bytes equal the bytes in
-//! the text, but not that they are at the same address.
+//! A returned part borrows its bytes from the string. It is proved that its bytes equal the bytes
+//! in the string, but not that they are at the same address.
 
 mod extended_lang_tag;
 mod extended_subtags;

@@ -9,7 +9,7 @@ use crate::shim::{try_string, AllocError};
 use alloc::string::String;
 use core::fmt;
 
-/// The error for a text that is not a primary language subtag. It contains the text.
+/// The error for a string that is not a primary language subtag. It contains the string.
 ///
 /// ```
 /// use langtag::PrimaryLanguage;
@@ -32,8 +32,8 @@ impl<T: fmt::Debug + AsRef<[u8]>> core::error::Error for InvalidPrimaryLanguage<
 
 /// A primary language subtag ([RFC 5646 section 2.2.1]): two to eight letters, such as `fr`.
 ///
-/// Two primary language subtags are equal if their texts differ only in the case of ASCII letters,
-/// such as `fr` and `FR`.
+/// Two primary language subtags are equal if their strings differ only in the case of ASCII
+/// letters, such as `fr` and `FR`.
 ///
 /// ```
 /// # fn main() -> Result<(), Box<dyn std::error::Error>> {
@@ -53,11 +53,11 @@ pub struct PrimaryLanguage<'a> {
 }
 
 impl<'a> PrimaryLanguage<'a> {
-    /// Parses a text as a primary language subtag.
+    /// Parses a string as a primary language subtag.
     ///
     /// # Errors
     ///
-    /// Returns the text if it is not two to eight letters.
+    /// Returns the string if it is not two to eight letters.
     ///
     /// ```
     /// use langtag::{InvalidPrimaryLanguage, PrimaryLanguage};
@@ -73,7 +73,7 @@ impl<'a> PrimaryLanguage<'a> {
         Ok(PrimaryLanguage::from_checked(text))
     }
 
-    /// Wraps a text that is known to be a primary language subtag, without checking it.
+    /// Wraps a string that is known to be a primary language subtag, without checking it.
     /// `PrimaryLanguage::from_checked(primary.as_str())` is equal to `primary`.
     #[inline]
     pub(crate) fn from_checked(text: &'a str) -> PrimaryLanguage<'a> {
@@ -82,7 +82,7 @@ impl<'a> PrimaryLanguage<'a> {
         }
     }
 
-    /// Returns the text, in its original case.
+    /// Returns the string, in its original case.
     ///
     /// ```
     /// # fn main() -> Result<(), Box<dyn std::error::Error>> {
@@ -98,7 +98,7 @@ impl<'a> PrimaryLanguage<'a> {
         self.text.0
     }
 
-    /// Returns the text as bytes.
+    /// Returns the string as bytes.
     ///
     /// ```
     /// # fn main() -> Result<(), Box<dyn std::error::Error>> {
@@ -114,7 +114,7 @@ impl<'a> PrimaryLanguage<'a> {
         self.as_str().as_bytes()
     }
 
-    /// Returns whether another text equals this text, ignoring the case of ASCII letters. It is
+    /// Returns whether another string equals this string, ignoring the case of ASCII letters. It is
     /// proved that comparisons and hashes also ignore case, and that a clone is the same value.
     ///
     /// ```
@@ -131,7 +131,7 @@ impl<'a> PrimaryLanguage<'a> {
         self.text == Caseless(other)
     }
 
-    /// Copies the text into an owned value.
+    /// Copies the string into an owned value.
     ///
     /// # Errors
     ///
@@ -225,7 +225,7 @@ impl PrimaryLanguageBuf {
         PrimaryLanguage::from_checked(self.as_str())
     }
 
-    /// Returns the text, in its original case.
+    /// Returns the string, in its original case.
     ///
     /// ```
     /// # fn main() -> Result<(), Box<dyn std::error::Error>> {

@@ -17,10 +17,10 @@ use core::fmt;
 #[derive(Debug, Clone, Copy, PartialEq, Eq, Hash)]
 #[non_exhaustive]
 pub enum ElementPart {
-    /// The text before the `;`, or the whole element if it has no `;`, is not a basic language
+    /// The string before the `;`, or the whole element if it has no `;`, is not a basic language
     /// range.
     Range,
-    /// The text after the `;` is not a weight.
+    /// The string after the `;` is not a weight.
     Weight,
 }
 

@@ -25,14 +25,14 @@ pub struct Element<'a> {
     pub weighted: WeightedRange<'a>,
 }
 
-/// Parses the text between two commas of an Accept-Language header ([RFC 9110 section 12.5.4]). In
-/// ` fr;q=0.5` the range is `fr`, which begins at 1, and the weight is 500. The default weight is
-/// 1000. The bytes need not be UTF-8.
+/// Parses the string between two commas of an Accept-Language header ([RFC 9110 section 12.5.4]).
+/// In ` fr;q=0.5` the range is `fr`, which begins at 1, and the weight is 500. The default weight
+/// is 1000. The bytes need not be UTF-8.
 ///
 /// # Errors
 ///
-/// Returns the part that is malformed if the text is not an element: the range in `fr_FR`, the
-/// weight in `fr;q=2`. If both are malformed, or if the text is empty or only white space, the
+/// Returns the part that is malformed if the string is not an element: the range in `fr_FR`, the
+/// weight in `fr;q=2`. If both are malformed, or if the string is empty or only white space, the
 /// error is the range. See [`is_empty_element`](crate::erased::matching::is_empty_element).
 ///
 /// ```

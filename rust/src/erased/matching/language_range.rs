@@ -12,7 +12,7 @@ use crate::shim::{try_string, AllocError};
 use alloc::string::String;
 use core::fmt;
 
-/// The error for a text that is not a language range. It contains the text.
+/// The error for a string that is not a language range. It contains the string.
 ///
 /// ```
 /// use langtag::matching::LanguageRange;
@@ -37,7 +37,7 @@ impl<T: fmt::Debug + AsRef<[u8]>> core::error::Error for InvalidLanguageRange<T>
 ///
 /// A range has one or more subtags. Each subtag is `*`, or one to eight letters and digits. The
 /// first subtag has no digits. A range need not be a tag: `de-x` and `a-1` are ranges. Two ranges
-/// are equal if their texts differ only in the case of ASCII letters.
+/// are equal if their strings differ only in the case of ASCII letters.
 ///
 /// ```
 /// # fn main() -> Result<(), Box<dyn std::error::Error>> {
@@ -56,11 +56,11 @@ pub struct LanguageRange<'a> {
 }
 
 impl<'a> LanguageRange<'a> {
-    /// Parses a text as a range.
+    /// Parses a string as a range.
     ///
     /// # Errors
     ///
-    /// Returns the text if it is not a range.
+    /// Returns the string if it is not a range.
     ///
     /// ```
     /// use langtag::matching::{InvalidLanguageRange, LanguageRange};
@@ -76,7 +76,7 @@ impl<'a> LanguageRange<'a> {
         Ok(LanguageRange::from_checked(text))
     }
 
-    /// Wraps a text that is known to be a language range, without checking it.
+    /// Wraps a string that is known to be a language range, without checking it.
     /// `LanguageRange::from_checked(range.as_str())` is equal to `range`.
     #[inline]
     pub(crate) fn from_checked(text: &'a str) -> LanguageRange<'a> {
@@ -85,7 +85,7 @@ impl<'a> LanguageRange<'a> {
         }
     }
 
-    /// Returns the text, in its original case.
+    /// Returns the string, in its original case.
     ///
     /// ```
     /// # fn main() -> Result<(), Box<dyn std::error::Error>> {
@@ -101,7 +101,7 @@ impl<'a> LanguageRange<'a> {
         self.text.0
     }
 
-    /// Returns whether another text equals this text, ignoring the case of ASCII letters. It is
+    /// Returns whether another string equals this string, ignoring the case of ASCII letters. It is
     /// proved that comparisons and hashes also ignore case, and that a clone is the same value.
     ///
     /// ```
@@ -208,7 +208,7 @@ impl<'a> LanguageRange<'a> {
         Fallbacks::new(*self)
     }
 
-    /// Copies the text into an owned value.
+    /// Copies the string into an owned value.
     ///
     /// # Errors
     ///
@@ -300,7 +300,7 @@ impl LanguageRangeBuf {
         LanguageRange::from_checked(self.as_str())
     }
 
-    /// Returns the text, in its original case.
+    /// Returns the string, in its original case.
     ///
     /// ```
     /// # fn main() -> Result<(), Box<dyn std::error::Error>> {

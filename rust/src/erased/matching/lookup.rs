@@ -1,6 +1,6 @@
 // Made by rust/erase from crates/langtag_match/src/lookup.rt. Change that file, not this one.
 
-//! The look-up of one tag for a list of ranges (RFC 4647 section 3.4).
+//! The lookup of one tag for a list of ranges (RFC 4647 section 3.4).
 
 use crate::erased::matching::language_range::LanguageRange;
 use crate::erased::range::is_range;
@@ -42,7 +42,7 @@ pub fn look_up<'a>(
     default
 }
 
-/// Returns the tag that look-up finds for a range.
+/// Returns the tag that lookup finds for a range.
 #[inline]
 pub(crate) fn tag_for<'a>(range: LanguageRange<'_>, tags: &[LangTag<'a>]) -> Option<LangTag<'a>> {
     for fallback in range.fallbacks() {

@@ -1,7 +1,7 @@
 // Made by rust/erase from crates/langtag_output/src/lib.rt. Change that file, not this one.
 
-//! Writes a text piece by piece into the caller's buffer: the pieces `en`, `-` and `MM` give the 5
-//! bytes `en-MM`. No function allocates.
+//! Writes a string piece by piece into the caller's buffer: the pieces `en`, `-` and `MM` give the
+//! 5 bytes `en-MM`. No function allocates.
 
 mod output;
 mod write;

@@ -1,8 +1,9 @@
 // Made by rust/erase from crates/langtag_output/src/output.rt. Change that file, not this one.
 
-//! A text that is written into the caller's buffer subtag by subtag.
+//! A string that is written into the caller's buffer subtag by subtag.
 
-/// A buffer, and the length of the text so far. Bytes that do not fit are counted, but not written.
+/// A buffer, and the length of the string so far. Bytes that do not fit are counted, but not
+/// written.
 pub struct Output<'a> {
     buffer: &'a mut [u8],
     len: usize,
@@ -15,7 +16,7 @@ impl<'a> Output<'a> {
         Output { buffer, len: 0 }
     }
 
-    /// Returns the length of the text so far, in bytes.
+    /// Returns the length of the string so far, in bytes.
     #[inline]
     #[must_use]
     pub fn len(&self) -> usize {
@@ -23,7 +24,7 @@ impl<'a> Output<'a> {
     }
 
     /// Appends a subtag, or several subtags joined by hyphens. A hyphen comes first, unless the
-    /// text is still empty.
+    /// string is still empty.
     #[inline]
     pub fn push_subtag(&mut self, subtag: &[u8]) {
         if self.len > 0 {
@@ -32,7 +33,7 @@ impl<'a> Output<'a> {
         self.push(subtag);
     }
 
-    /// Appends bytes. The length stays at `usize::MAX` if the text has more bytes than that.
+    /// Appends bytes. The length stays at `usize::MAX` if the string has more bytes than that.
     pub fn push(&mut self, bytes: &[u8]) {
         let end = self.len.saturating_add(bytes.len());
         if end <= self.buffer.len() {

@@ -1,12 +1,12 @@
 // Made by rust/erase from crates/langtag_output/src/write.rt. Change that file, not this one.
 
-//! Writing the pieces of a text into the caller's buffer.
+//! Writing the pieces of a string into the caller's buffer.
 
 use crate::erased::output::output::Output;
 
-/// Writes pieces of text one after another to a buffer, and returns their total length in bytes: 5
-/// for `en`, `-` and `MM`. If the buffer is too short, it stays unchanged, and the length says how
-/// much room is needed. It does not allocate.
+/// Writes pieces of string one after another to a buffer, and returns their total length in bytes:
+/// 5 for `en`, `-` and `MM`. If the buffer is too short, it stays unchanged, and the length says
+/// how much room is needed. It does not allocate.
 ///
 /// The length is at most `usize::MAX`, even if the pieces overlap and have more bytes in total.
 #[inline]
@@ -18,8 +18,8 @@ pub fn write_pieces(pieces: &[&[u8]], buffer: &mut [u8]) -> usize {
     len
 }
 
-/// Writes a text to a buffer, like [`write_pieces`] with a single piece, and returns its length in
-/// bytes.
+/// Writes a string to a buffer, like [`write_pieces`] with a single piece, and returns its length
+/// in bytes.
 #[inline]
 pub fn write_text(text: &[u8], buffer: &mut [u8]) -> usize {
     write_pieces(&[text], buffer)

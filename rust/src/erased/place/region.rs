@@ -9,7 +9,7 @@ use crate::shim::{try_string, AllocError};
 use alloc::string::String;
 use core::fmt;
 
-/// The error for a text that is not a region. It contains the text.
+/// The error for a string that is not a region. It contains the string.
 ///
 /// ```
 /// use langtag::Region;
@@ -33,8 +33,8 @@ impl<T: fmt::Debug + AsRef<[u8]>> core::error::Error for InvalidRegion<T> {}
 /// A region subtag ([RFC 5646 section 2.2.4]): two letters, such as `FR`, or three digits, such as
 /// `419`.
 ///
-/// Two regions are equal if their texts differ only in the case of ASCII letters, such as `fr` and
-/// `FR`.
+/// Two regions are equal if their strings differ only in the case of ASCII letters, such as `fr`
+/// and `FR`.
 ///
 /// ```
 /// # fn main() -> Result<(), Box<dyn std::error::Error>> {
@@ -54,11 +54,11 @@ pub struct Region<'a> {
 }
 
 impl<'a> Region<'a> {
-    /// Parses a text as a region.
+    /// Parses a string as a region.
     ///
     /// # Errors
     ///
-    /// Returns the text if it is neither two letters nor three digits.
+    /// Returns the string if it is neither two letters nor three digits.
     ///
     /// ```
     /// use langtag::{InvalidRegion, Region};
@@ -74,7 +74,7 @@ impl<'a> Region<'a> {
         Ok(Region::from_checked(text))
     }
 
-    /// Wraps a text that is known to be a region, without checking it.
+    /// Wraps a string that is known to be a region, without checking it.
     /// `Region::from_checked(region.as_str())` is equal to `region`.
     #[inline]
     pub(crate) fn from_checked(text: &'a str) -> Region<'a> {
@@ -83,7 +83,7 @@ impl<'a> Region<'a> {
         }
     }
 
-    /// Returns the text, in its original case.
+    /// Returns the string, in its original case.
     ///
     /// ```
     /// # fn main() -> Result<(), Box<dyn std::error::Error>> {
@@ -99,7 +99,7 @@ impl<'a> Region<'a> {
         self.text.0
     }
 
-    /// Returns the text as bytes.
+    /// Returns the string as bytes.
     ///
     /// ```
     /// # fn main() -> Result<(), Box<dyn std::error::Error>> {
@@ -115,7 +115,7 @@ impl<'a> Region<'a> {
         self.as_str().as_bytes()
     }
 
-    /// Returns whether another text equals this text, ignoring the case of ASCII letters. It is
+    /// Returns whether another string equals this string, ignoring the case of ASCII letters. It is
     /// proved that comparisons and hashes also ignore case, and that a clone is the same value.
     ///
     /// ```
@@ -132,7 +132,7 @@ impl<'a> Region<'a> {
         self.text == Caseless(other)
     }
 
-    /// Copies the text into an owned value.
+    /// Copies the string into an owned value.
     ///
     /// # Errors
     ///
@@ -225,7 +225,7 @@ impl RegionBuf {
         Region::from_checked(self.as_str())
     }
 
-    /// Returns the text, in its original case.
+    /// Returns the string, in its original case.
     ///
     /// ```
     /// # fn main() -> Result<(), Box<dyn std::error::Error>> {

@@ -9,7 +9,7 @@ use crate::shim::{try_string, AllocError};
 use alloc::string::String;
 use core::fmt;
 
-/// The error for a text that is not a script. It contains the text.
+/// The error for a string that is not a script. It contains the string.
 ///
 /// ```
 /// use langtag::Script;
@@ -32,7 +32,7 @@ impl<T: fmt::Debug + AsRef<[u8]>> core::error::Error for InvalidScript<T> {}
 
 /// A script subtag ([RFC 5646 section 2.2.3]): four letters, such as `Latn`.
 ///
-/// Two scripts are equal if their texts differ only in the case of ASCII letters, such as `Latn`
+/// Two scripts are equal if their strings differ only in the case of ASCII letters, such as `Latn`
 /// and `LATN`.
 ///
 /// ```
@@ -53,11 +53,11 @@ pub struct Script<'a> {
 }
 
 impl<'a> Script<'a> {
-    /// Parses a text as a script.
+    /// Parses a string as a script.
     ///
     /// # Errors
     ///
-    /// Returns the text if it is not four letters.
+    /// Returns the string if it is not four letters.
     ///
     /// ```
     /// use langtag::{InvalidScript, Script};
@@ -73,7 +73,7 @@ impl<'a> Script<'a> {
         Ok(Script::from_checked(text))
     }
 
-    /// Wraps a text that is known to be a script, without checking it.
+    /// Wraps a string that is known to be a script, without checking it.
     /// `Script::from_checked(script.as_str())` is equal to `script`.
     #[inline]
     pub(crate) fn from_checked(text: &'a str) -> Script<'a> {
@@ -82,7 +82,7 @@ impl<'a> Script<'a> {
         }
     }
 
-    /// Returns the text, in its original case.
+    /// Returns the string, in its original case.
     ///
     /// ```
     /// # fn main() -> Result<(), Box<dyn std::error::Error>> {
@@ -98,7 +98,7 @@ impl<'a> Script<'a> {
         self.text.0
     }
 
-    /// Returns the text as bytes.
+    /// Returns the string as bytes.
     ///
     /// ```
     /// # fn main() -> Result<(), Box<dyn std::error::Error>> {
@@ -114,7 +114,7 @@ impl<'a> Script<'a> {
         self.as_str().as_bytes()
     }
 
-    /// Returns whether another text equals this text, ignoring the case of ASCII letters. It is
+    /// Returns whether another string equals this string, ignoring the case of ASCII letters. It is
     /// proved that comparisons and hashes also ignore case, and that a clone is the same value.
     ///
     /// ```
@@ -131,7 +131,7 @@ impl<'a> Script<'a> {
         self.text == Caseless(other)
     }
 
-    /// Copies the text into an owned value.
+    /// Copies the string into an owned value.
     ///
     /// # Errors
     ///
@@ -224,7 +224,7 @@ impl ScriptBuf {
         Script::from_checked(self.as_str())
     }
 
-    /// Returns the text, in its original case.
+    /// Returns the string, in its original case.
     ///
     /// ```
     /// # fn main() -> Result<(), Box<dyn std::error::Error>> {

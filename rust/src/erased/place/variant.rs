@@ -9,7 +9,7 @@ use crate::shim::{try_string, AllocError};
 use alloc::string::String;
 use core::fmt;
 
-/// The error for a text that is not a variant. It contains the text.
+/// The error for a string that is not a variant. It contains the string.
 ///
 /// ```
 /// use langtag::Variant;
@@ -33,8 +33,8 @@ impl<T: fmt::Debug + AsRef<[u8]>> core::error::Error for InvalidVariant<T> {}
 /// A variant subtag ([RFC 5646 section 2.2.5]): five to eight letters and digits, such as `rozaj`,
 /// or a digit followed by three letters or digits, such as `1996`.
 ///
-/// Two variants are equal if their texts differ only in the case of ASCII letters, such as `rozaj`
-/// and `ROZAJ`.
+/// Two variants are equal if their strings differ only in the case of ASCII letters, such as
+/// `rozaj` and `ROZAJ`.
 ///
 /// ```
 /// # fn main() -> Result<(), Box<dyn std::error::Error>> {
@@ -54,11 +54,11 @@ pub struct Variant<'a> {
 }
 
 impl<'a> Variant<'a> {
-    /// Parses a text as a variant.
+    /// Parses a string as a variant.
     ///
     /// # Errors
     ///
-    /// Returns the text if it is neither five to eight letters and digits nor a digit followed by
+    /// Returns the string if it is neither five to eight letters and digits nor a digit followed by
     /// three letters or digits.
     ///
     /// ```
@@ -75,7 +75,7 @@ impl<'a> Variant<'a> {
         Ok(Variant::from_checked(text))
     }
 
-    /// Wraps a text that is known to be a variant, without checking it.
+    /// Wraps a string that is known to be a variant, without checking it.
     /// `Variant::from_checked(variant.as_str())` is equal to `variant`.
     #[inline]
     pub(crate) fn from_checked(text: &'a str) -> Variant<'a> {
@@ -84,7 +84,7 @@ impl<'a> Variant<'a> {
         }
     }
 
-    /// Returns the text, in its original case.
+    /// Returns the string, in its original case.
     ///
     /// ```
     /// # fn main() -> Result<(), Box<dyn std::error::Error>> {
@@ -100,7 +100,7 @@ impl<'a> Variant<'a> {
         self.text.0
     }
 
-    /// Returns the text as bytes.
+    /// Returns the string as bytes.
     ///
     /// ```
     /// # fn main() -> Result<(), Box<dyn std::error::Error>> {
@@ -116,7 +116,7 @@ impl<'a> Variant<'a> {
         self.as_str().as_bytes()
     }
 
-    /// Returns whether another text equals this text, ignoring the case of ASCII letters. It is
+    /// Returns whether another string equals this string, ignoring the case of ASCII letters. It is
     /// proved that comparisons and hashes also ignore case, and that a clone is the same value.
     ///
     /// ```
@@ -133,7 +133,7 @@ impl<'a> Variant<'a> {
         self.text == Caseless(other)
     }
 
-    /// Copies the text into an owned value.
+    /// Copies the string into an owned value.
     ///
     /// # Errors
     ///
@@ -227,7 +227,7 @@ impl VariantBuf {
         Variant::from_checked(self.as_str())
     }
 
-    /// Returns the text, in its original case.
+    /// Returns the string, in its original case.
     ///
     /// ```
     /// # fn main() -> Result<(), Box<dyn std::error::Error>> {

@@ -1,6 +1,6 @@
 // Made by rust/erase from crates/langtag_place/src/variants.rt. Change that file, not this one.
 
-//! The variants of a tag as one text (RFC 5646 section 2.2.5).
+//! The variants of a tag as one string (RFC 5646 section 2.2.5).
 
 use crate::erased::place::variant::Variant;
 use crate::erased::place::variants_iter::VariantsIter;
@@ -11,7 +11,7 @@ use crate::shim::{try_string, AllocError};
 use alloc::string::String;
 use core::fmt;
 
-/// The error for a text that is not a list of variants. It contains the text.
+/// The error for a string that is not a list of variants. It contains the string.
 ///
 /// ```
 /// use langtag::Variants;
@@ -33,11 +33,11 @@ impl<T: AsRef<[u8]>> fmt::Display for InvalidVariants<T> {
 impl<T: fmt::Debug + AsRef<[u8]>> core::error::Error for InvalidVariants<T> {}
 
 /// The variants of a tag, joined by hyphens ([RFC 5646 section 2.2.5]), such as `rozaj-1994`. The
-/// empty text means no variants.
+/// empty string means no variants.
 ///
 /// A variant may occur twice: a tag with such a list is well formed but not valid (section 2.2.9).
-/// Two lists of variants are equal if their texts differ only in the case of ASCII letters, such as
-/// `rozaj` and `ROZAJ`.
+/// Two lists of variants are equal if their strings differ only in the case of ASCII letters, such
+/// as `rozaj` and `ROZAJ`.
 ///
 /// ```
 /// # fn main() -> Result<(), Box<dyn std::error::Error>> {
@@ -66,11 +66,11 @@ impl<'a> Variants<'a> {
     /// ```
     pub const EMPTY: Variants<'static> = Variants { text: Caseless("") };
 
-    /// Parses a text as variants: `Variants::new("rozaj-1994")` and `Variants::new("")` are `Ok`.
+    /// Parses a string as variants: `Variants::new("rozaj-1994")` and `Variants::new("")` are `Ok`.
     ///
     /// # Errors
     ///
-    /// Returns the text if it is not a list of variants joined by hyphens.
+    /// Returns the string if it is not a list of variants joined by hyphens.
     ///
     /// ```
     /// use langtag::{InvalidVariants, Variants};
@@ -85,7 +85,7 @@ impl<'a> Variants<'a> {
         Ok(Variants::from_checked(text))
     }
 
-    /// Wraps a text that is known to be a list of variants, without checking it.
+    /// Wraps a string that is known to be a list of variants, without checking it.
     /// `Variants::from_checked(variants.as_str())` is equal to `variants`.
     #[inline]
     pub(crate) fn from_checked(text: &'a str) -> Variants<'a> {
@@ -94,7 +94,7 @@ impl<'a> Variants<'a> {
         }
     }
 
-    /// Returns the text, in its original case.
+    /// Returns the string, in its original case.
     ///
     /// ```
     /// # fn main() -> Result<(), Box<dyn std::error::Error>> {
@@ -110,7 +110,7 @@ impl<'a> Variants<'a> {
         self.text.0
     }
 
-    /// Returns the text as bytes.
+    /// Returns the string as bytes.
     ///
     /// ```
     /// # fn main() -> Result<(), Box<dyn std::error::Error>> {
@@ -126,7 +126,7 @@ impl<'a> Variants<'a> {
         self.as_str().as_bytes()
     }
 
-    /// Returns whether another text equals this text, ignoring the case of ASCII letters. It is
+    /// Returns whether another string equals this string, ignoring the case of ASCII letters. It is
     /// proved that comparisons and hashes also ignore case, and that a clone is the same value.
     ///
     /// ```
@@ -143,7 +143,7 @@ impl<'a> Variants<'a> {
         self.text == Caseless(other)
     }
 
-    /// Copies the text into an owned value.
+    /// Copies the string into an owned value.
     ///
     /// # Errors
     ///
@@ -185,7 +185,7 @@ impl<'a> Variants<'a> {
     }
 
     /// Returns the first variant, if there is one: `rozaj` for `rozaj-1994`, `None` for the empty
-    /// text.
+    /// string.
     ///
     /// ```
     /// # fn main() -> Result<(), Box<dyn std::error::Error>> {
@@ -302,7 +302,7 @@ impl VariantsBuf {
         Variants::from_checked(self.as_str())
     }
 
-    /// Returns the text, in its original case.
+    /// Returns the string, in its original case.
     ///
     /// ```
     /// # fn main() -> Result<(), Box<dyn std::error::Error>> {
@@ -343,7 +343,7 @@ impl fmt::Display for VariantsBuf {
     }
 }
 
-/// Returns whether a text is empty or a list of variants joined by hyphens.
+/// Returns whether a string is empty or a list of variants joined by hyphens.
 #[inline]
 fn all_variants(text: &str) -> bool {
     Subtags::new(text).all(|subtag| is_variant(subtag.as_bytes()))

@@ -6,7 +6,7 @@ use crate::erased::place::variant::Variant;
 use crate::erased::place::variants::Variants;
 use crate::erased::scan::Subtags;
 
-/// An iterator over variants ([RFC 5646 section 2.2.5]), in the order of the text and from either
+/// An iterator over variants ([RFC 5646 section 2.2.5]), in the order of the string and from either
 /// end: `rozaj` and `1994` for `rozaj-1994`.
 ///
 /// ```
@@ -41,7 +41,7 @@ impl<'a> VariantsIter<'a> {
         Variants::EMPTY.iter()
     }
 
-    /// Returns an iterator over the variants of a text that is known to be a list of variants.
+    /// Returns an iterator over the variants of a string that is known to be a list of variants.
     #[inline]
     pub(crate) fn new(text: &'a str) -> Self {
         VariantsIter {

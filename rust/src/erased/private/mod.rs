@@ -17,8 +17,8 @@
 //! # }
 //! ```
 //!
-//! A returned subtag borrows its bytes from the text. It is proved that its bytes equal the bytes
-//! in the text, but not that they are at the same address.
+//! A returned subtag borrows its bytes from the string. It is proved that its bytes equal the bytes
+//! in the string, but not that they are at the same address.
 
 mod private_use;
 mod private_use_iter;

@@ -10,7 +10,7 @@ use crate::shim::{try_string, AllocError};
 use alloc::string::String;
 use core::fmt;
 
-/// The error for a text that is not a private use part. It contains the text.
+/// The error for a string that is not a private use part. It contains the string.
 ///
 /// ```
 /// use langtag::PrivateUse;
@@ -34,8 +34,8 @@ impl<T: fmt::Debug + AsRef<[u8]>> core::error::Error for InvalidPrivateUse<T> {}
 /// A private use part ([RFC 5646 section 2.2.7]): `x` or `X`, and one or more subtags after it,
 /// joined by hyphens, such as `x-twain`. It may be the end of a tag, or a whole tag.
 ///
-/// Two private use parts are equal if their texts differ only in the case of ASCII letters, such as
-/// `x-twain` and `X-TWAIN`.
+/// Two private use parts are equal if their strings differ only in the case of ASCII letters, such
+/// as `x-twain` and `X-TWAIN`.
 ///
 /// ```
 /// # fn main() -> Result<(), Box<dyn std::error::Error>> {
@@ -55,11 +55,11 @@ pub struct PrivateUse<'a> {
 }
 
 impl<'a> PrivateUse<'a> {
-    /// Parses a text as a private use part.
+    /// Parses a string as a private use part.
     ///
     /// # Errors
     ///
-    /// Returns the text if it is not a private use part.
+    /// Returns the string if it is not a private use part.
     ///
     /// ```
     /// use langtag::{InvalidPrivateUse, PrivateUse};
@@ -75,7 +75,7 @@ impl<'a> PrivateUse<'a> {
         Ok(PrivateUse::from_checked(text))
     }
 
-    /// Wraps a text that is known to be a private use part, without checking it.
+    /// Wraps a string that is known to be a private use part, without checking it.
     /// `PrivateUse::from_checked(private_use.as_str())` is equal to `private_use`.
     #[inline]
     pub(crate) fn from_checked(text: &'a str) -> PrivateUse<'a> {
@@ -84,7 +84,7 @@ impl<'a> PrivateUse<'a> {
         }
     }
 
-    /// Returns the text, in its original case.
+    /// Returns the string, in its original case.
     ///
     /// ```
     /// # fn main() -> Result<(), Box<dyn std::error::Error>> {
@@ -100,7 +100,7 @@ impl<'a> PrivateUse<'a> {
         self.text.0
     }
 
-    /// Returns the text as bytes.
+    /// Returns the string as bytes.
     ///
     /// ```
     /// # fn main() -> Result<(), Box<dyn std::error::Error>> {
@@ -116,7 +116,7 @@ impl<'a> PrivateUse<'a> {
         self.as_str().as_bytes()
     }
 
-    /// Returns whether another text equals this text, ignoring the case of ASCII letters. It is
+    /// Returns whether another string equals this string, ignoring the case of ASCII letters. It is
     /// proved that comparisons and hashes also ignore case, and that a clone is the same value.
     ///
     /// ```
@@ -133,7 +133,7 @@ impl<'a> PrivateUse<'a> {
         self.text == Caseless(other)
     }
 
-    /// Copies the text into an owned value.
+    /// Copies the string into an owned value.
     ///
     /// # Errors
     ///
@@ -176,7 +176,7 @@ impl<'a> PrivateUse<'a> {
     }
 }
 
-/// Returns whether the text is `x` or `X` and at least one private use subtag, joined by hyphens.
+/// Returns whether the string is `x` or `X` and at least one private use subtag, joined by hyphens.
 fn is_private_use(text: &str) -> bool {
     let mut subtags = Subtags::new(text);
     let marked = subtags
@@ -273,7 +273,7 @@ impl PrivateUseBuf {
         PrivateUse::from_checked(self.as_str())
     }
 
-    /// Returns the text, in its original case.
+    /// Returns the string, in its original case.
     ///
     /// ```
     /// # fn main() -> Result<(), Box<dyn std::error::Error>> {

@@ -51,7 +51,7 @@ impl<'a> PrivateUseIter<'a> {
     }
 }
 
-/// Returns the subtags of a text except the first, which is `x` or `X`.
+/// Returns the subtags of a string except the first, which is `x` or `X`.
 #[inline]
 fn after_mark<'a>(text: &'a str) -> Subtags<'a> {
     let mut rest = Subtags::new(text);

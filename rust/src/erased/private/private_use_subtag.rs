@@ -9,7 +9,7 @@ use crate::shim::{try_string, AllocError};
 use alloc::string::String;
 use core::fmt;
 
-/// The error for a text that is not a private use subtag. It contains the text.
+/// The error for a string that is not a private use subtag. It contains the string.
 ///
 /// ```
 /// use langtag::PrivateUseSubtag;
@@ -33,8 +33,8 @@ impl<T: fmt::Debug + AsRef<[u8]>> core::error::Error for InvalidPrivateUseSubtag
 /// A private use subtag ([RFC 5646 section 2.2.7]): one to eight letters and digits, such as
 /// `twain` in `en-x-twain`.
 ///
-/// Two private use subtags are equal if their texts differ only in the case of ASCII letters, such
-/// as `twain` and `TWAIN`.
+/// Two private use subtags are equal if their strings differ only in the case of ASCII letters,
+/// such as `twain` and `TWAIN`.
 ///
 /// ```
 /// # fn main() -> Result<(), Box<dyn std::error::Error>> {
@@ -54,11 +54,11 @@ pub struct PrivateUseSubtag<'a> {
 }
 
 impl<'a> PrivateUseSubtag<'a> {
-    /// Parses a text as a private use subtag.
+    /// Parses a string as a private use subtag.
     ///
     /// # Errors
     ///
-    /// Returns the text if it is not one to eight letters and digits.
+    /// Returns the string if it is not one to eight letters and digits.
     ///
     /// ```
     /// use langtag::{InvalidPrivateUseSubtag, PrivateUseSubtag};
@@ -74,7 +74,7 @@ impl<'a> PrivateUseSubtag<'a> {
         Ok(PrivateUseSubtag::from_checked(text))
     }
 
-    /// Wraps a text that is known to be a private use subtag, without checking it.
+    /// Wraps a string that is known to be a private use subtag, without checking it.
     /// `PrivateUseSubtag::from_checked(subtag.as_str())` is equal to `subtag`.
     #[inline]
     pub(crate) fn from_checked(text: &'a str) -> PrivateUseSubtag<'a> {
@@ -83,7 +83,7 @@ impl<'a> PrivateUseSubtag<'a> {
         }
     }
 
-    /// Returns the text, in its original case.
+    /// Returns the string, in its original case.
     ///
     /// ```
     /// # fn main() -> Result<(), Box<dyn std::error::Error>> {
@@ -99,7 +99,7 @@ impl<'a> PrivateUseSubtag<'a> {
         self.text.0
     }
 
-    /// Returns the text as bytes.
+    /// Returns the string as bytes.
     ///
     /// ```
     /// # fn main() -> Result<(), Box<dyn std::error::Error>> {
@@ -115,7 +115,7 @@ impl<'a> PrivateUseSubtag<'a> {
         self.as_str().as_bytes()
     }
 
-    /// Returns whether another text equals this text, ignoring the case of ASCII letters. It is
+    /// Returns whether another string equals this string, ignoring the case of ASCII letters. It is
     /// proved that comparisons and hashes also ignore case, and that a clone is the same value.
     ///
     /// ```
@@ -132,7 +132,7 @@ impl<'a> PrivateUseSubtag<'a> {
         self.text == Caseless(other)
     }
 
-    /// Copies the text into an owned value.
+    /// Copies the string into an owned value.
     ///
     /// # Errors
     ///
@@ -229,7 +229,7 @@ impl PrivateUseSubtagBuf {
         PrivateUseSubtag::from_checked(self.as_str())
     }
 
-    /// Returns the text, in its original case.
+    /// Returns the string, in its original case.
     ///
     /// ```
     /// # fn main() -> Result<(), Box<dyn std::error::Error>> {

@@ -4,7 +4,7 @@
 
 use crate::erased::scan::case_insensitive_eq;
 
-/// Returns whether a range is `*`, equals a tag, or equals the text before some hyphen of a tag.
+/// Returns whether a range is `*`, equals a tag, or equals the string before some hyphen of a tag.
 /// Case is ignored.
 #[inline]
 #[must_use]

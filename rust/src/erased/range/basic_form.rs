@@ -24,7 +24,7 @@ pub fn is_range(tag: &[u8], range: &[u8]) -> bool {
     tag.is_empty()
 }
 
-/// Returns whether a text begins with `-*`.
+/// Returns whether a string begins with `-*`.
 #[inline]
 fn begins_with_wildcard(text: &[u8]) -> bool {
     matches!(text, [b'-', b'*', ..])

@@ -28,7 +28,7 @@ fn len_without_last(range: &[u8]) -> Option<usize> {
     Some(start - 1)
 }
 
-/// Returns whether the last subtag of a text is a single character.
+/// Returns whether the last subtag of a string is a single character.
 #[inline]
 #[must_use]
 pub fn ends_in_single(text: &[u8]) -> bool {

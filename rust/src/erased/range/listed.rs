@@ -8,7 +8,7 @@ use crate::erased::range::wanted::WantedRange;
 use crate::erased::range::wanted_element::{is_separator, is_star, trimmed};
 use crate::erased::scan::split_at_either;
 
-/// Reads a text as a language range, basic or extended, with the weight 1. As in a header, `_` is
+/// Reads a string as a language range, basic or extended, with the weight 1. As in a header, `_` is
 /// read as `-`. White space around the range is dropped, and so is everything from the first `.`,
 /// `@` or `_#` on. Returns `None` if the rest is not a range, such as `de;q=0`.
 ///
@@ -30,7 +30,7 @@ pub fn listed_range(text: &[u8]) -> Option<WantedRange<'_>> {
     })
 }
 
-/// Returns whether a text is a language range if `_` is read as `-`.
+/// Returns whether a string is a language range if `_` is read as `-`.
 #[inline]
 fn is_listed_range(text: &[u8]) -> bool {
     let (first, _) = split_at_either(text, b'-', b'_');

@@ -25,7 +25,7 @@ pub fn locale_place(name: &[u8]) -> &[u8] {
     without_mark(without_mark(before))
 }
 
-/// Returns a text without the `_` at its end, if it has one.
+/// Returns a string without the `_` at its end, if it has one.
 #[inline]
 fn without_mark(text: &[u8]) -> &[u8] {
     match text {

@@ -1,6 +1,6 @@
 // Made by rust/erase from crates/langtag_range/src/lib.rt. Change that file, not this one.
 
-//! Texts of language ranges: which texts are ranges (RFC 4647), which tags they match, and how
+//! Strings of language ranges: which strings are ranges (RFC 4647), which tags they match, and how
 //! ranges, lists, headers and names of POSIX locales are read. The crate `langtag_match` exports
 //! the public items.
 //!

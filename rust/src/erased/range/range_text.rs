@@ -1,10 +1,10 @@
 // Made by rust/erase from crates/langtag_range/src/range_text.rt. Change that file, not this one.
 
-//! Which texts are language ranges (RFC 4647 section 2).
+//! Which strings are language ranges (RFC 4647 section 2).
 
 use crate::erased::scan::{are_letters, is_private_subtag, Subtags};
 
-/// Returns whether a text is a language range, basic or extended.
+/// Returns whether a string is a language range, basic or extended.
 #[must_use]
 pub fn is_language_range(text: &str) -> bool {
     let mut subtags = Subtags::new(text);
@@ -14,7 +14,7 @@ pub fn is_language_range(text: &str) -> bool {
     (first == "*" || is_first_subtag(first.as_bytes())) && are_range_subtags(subtags)
 }
 
-/// Returns whether a text is a basic language range.
+/// Returns whether a string is a basic language range.
 #[must_use]
 pub fn is_basic_range(text: &str) -> bool {
     if text == "*" {

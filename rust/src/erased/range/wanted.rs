@@ -5,7 +5,7 @@
 use crate::erased::range::wanted_element::wanted_at;
 use crate::erased::scan::split_at_byte;
 
-/// A language range of a header, and its weight. Its bytes may have `_` in place of a hyphen.
+/// A language range of a header, and its weight. Its bytes may have `_` instead of a hyphen.
 ///
 /// ```
 /// use langtag::matching::wanted_ranges;
@@ -15,7 +15,7 @@ use crate::erased::scan::split_at_byte;
 /// ```
 #[derive(Clone, Copy, Debug, PartialEq, Eq, Hash)]
 pub struct WantedRange<'a> {
-    /// The text, in which `_` means `-`: `de_CH` is the range `de-CH`.
+    /// The string, in which `_` means `-`: `de_CH` is the range `de-CH`.
     pub bytes: &'a [u8],
     /// The weight in thousandths, from 0 to 1000. A range of weight 0 is not acceptable.
     pub weight: u32,
@@ -73,7 +73,7 @@ impl<'a> Iterator for WantedRanges<'a> {
     }
 }
 
-/// Returns the first range of a header, as [`wanted_ranges`] reads it, and the text after its
+/// Returns the first range of a header, as [`wanted_ranges`] reads it, and the string after its
 /// comma. Returns `None` if there is no range. Use it instead of the iterator if the state of your
 /// loop has to be a `Copy` value.
 ///

@@ -21,7 +21,7 @@ pub(crate) fn wanted_at<'a>(item: &'a [u8], behind: &[u8]) -> Option<WantedRange
     Some(WantedRange { bytes, weight })
 }
 
-/// Returns whether a text is a basic language range if `_` is read as `-`.
+/// Returns whether a string is a basic language range if `_` is read as `-`.
 #[inline]
 fn is_wanted_range(text: &[u8]) -> bool {
     let (first, _) = split_at_either(text, b'-', b'_');
@@ -77,7 +77,7 @@ fn is_q_name(name: &[u8]) -> bool {
 }
 
 /// Returns the weight of a value. If the value has no point, the digits at the start of `behind`,
-/// which is the text after the next comma, are its fraction.
+/// which is the string after the next comma, are its fraction.
 fn value_weight(value: &[u8], behind: &[u8]) -> u32 {
     let (whole, fraction) = split_at_byte(value, b'.');
     if whole.len() < value.len() {
@@ -86,8 +86,8 @@ fn value_weight(value: &[u8], behind: &[u8]) -> u32 {
     number_weight(whole, digits_behind(behind))
 }
 
-/// Returns the digits at the start of a text if a comma or the end of the text follows them.
-/// Otherwise it returns an empty text.
+/// Returns the digits at the start of a string if a comma or the end of the string follows them.
+/// Otherwise it returns an empty string.
 #[inline]
 fn digits_behind(text: &[u8]) -> &[u8] {
     let (item, _rest) = split_at_byte(text, b',');
@@ -98,8 +98,8 @@ fn digits_behind(text: &[u8]) -> &[u8] {
     }
 }
 
-/// Returns the weight of a number, given the texts before and after its decimal mark. It is 1000 if
-/// the texts are not a number, or if the number is above 1.
+/// Returns the weight of a number, given the strings before and after its decimal mark. It is 1000
+/// if the strings are not a number, or if the number is above 1.
 fn number_weight(whole: &[u8], fraction: &[u8]) -> u32 {
     if !is_number(whole, fraction) || !are_zeros(whole) {
         return 1000;
@@ -107,14 +107,14 @@ fn number_weight(whole: &[u8], fraction: &[u8]) -> u32 {
     100 * digit_at(fraction, 0) + 10 * digit_at(fraction, 1) + digit_at(fraction, 2)
 }
 
-/// Returns whether the texts before and after a decimal mark have only digits, and at least one of
-/// them has a digit.
+/// Returns whether the strings before and after a decimal mark have only digits, and at least one
+/// of them has a digit.
 #[inline]
 fn is_number(whole: &[u8], fraction: &[u8]) -> bool {
     are_digits(whole, b'9') && are_digits(fraction, b'9') && whole.len() + fraction.len() > 0
 }
 
-/// Returns a text without the white space around it.
+/// Returns a string without the white space around it.
 #[inline]
 pub(crate) fn trimmed(text: &[u8]) -> &[u8] {
     let (start, end) = trimmed_place(text);

@@ -1,8 +1,8 @@
 // Made by rust/erase from crates/langtag_range/src/white_space.rt. Change that file, not this one.
 
-//! The white space around a text in a header (RFC 9110 section 5.6.3).
+//! The white space around a string in a header (RFC 9110 section 5.6.3).
 
-/// Returns whether the text between two commas of a header is empty except for spaces and tabs.
+/// Returns whether the string between two commas of a header is empty except for spaces and tabs.
 /// Such an element must be skipped (RFC 9110 section 5.6.1.2).
 ///
 /// ```
@@ -17,7 +17,7 @@ pub fn is_empty_element(item: &[u8]) -> bool {
     item.iter().all(|byte| is_space(*byte))
 }
 
-/// Returns the offsets at which a text begins and ends without the white space around it.
+/// Returns the offsets at which a string begins and ends without the white space around it.
 #[inline]
 #[must_use]
 pub fn trimmed_place(text: &[u8]) -> (usize, usize) {
@@ -25,7 +25,7 @@ pub fn trimmed_place(text: &[u8]) -> (usize, usize) {
     (start, start + len_without_spaces(&text[start..]))
 }
 
-/// Returns the number of bytes of white space at the start of a text.
+/// Returns the number of bytes of white space at the start of a string.
 #[inline]
 fn leading_spaces(text: &[u8]) -> usize {
     let mut start = 0;
@@ -35,7 +35,7 @@ fn leading_spaces(text: &[u8]) -> usize {
     start
 }
 
-/// Returns the length of a text without the white space at its end.
+/// Returns the length of a string without the white space at its end.
 #[inline]
 fn len_without_spaces(text: &[u8]) -> usize {
     let mut len = text.len();

@@ -1,15 +1,15 @@
 // Made by rust/erase from crates/langtag_tables/src/letter_numbers.rt. Change that file, not this one.
 
-//! The number that stands for a text of two or three letters.
+//! The number that stands for a string of two or three letters.
 
 use crate::erased::scan::into_smallcase;
 
-/// Returns the number whose digits in base 26 are the letters of a text, ignoring case: 27 for
-/// `aa`, 31 for `ae` and `AE`, 18278 for `zzz`. Texts of two or three letters have the same number
-/// only if they are equal, ignoring case. Most languages ([RFC 5646 section 2.2.1]) have two or
-/// three letters.
+/// Returns the number whose digits in base 26 are the letters of a string, ignoring case: 27 for
+/// `aa`, 31 for `ae` and `AE`, 18278 for `zzz`. Strings of two or three letters have the same
+/// number only if they are equal, ignoring case. Most languages ([RFC 5646 section 2.2.1]) have two
+/// or three letters.
 ///
-/// The text has to be two or three ASCII letters.
+/// The string has to be two or three ASCII letters.
 ///
 /// [RFC 5646 section 2.2.1]: https://www.rfc-editor.org/rfc/rfc5646#section-2.2.1
 #[must_use]

@@ -1,6 +1,6 @@
 // Made by rust/erase from crates/langtag/src/edit.rt. Change that file, not this one.
 
-//! How a part of a tag's text is replaced, and where the parts of the new text end.
+//! How a part of a tag's string is replaced, and where the parts of the new string end.
 
 use crate::erased::scan::Ends;
 use crate::erased::tag::lengths::Lengths;
@@ -10,8 +10,8 @@ use crate::shim::{try_string_with_capacity, AllocError, TryText};
 #[cfg(feature = "alloc")]
 use alloc::string::String;
 
-/// Sets or removes a part in the text of a normal tag whose parts end at these offsets. Returns
-/// where the parts of the new text end, without parsing it.
+/// Sets or removes a part in the string of a normal tag whose parts end at these offsets. Returns
+/// where the parts of the new string end, without parsing it.
 #[cfg(feature = "alloc")]
 pub(crate) fn set_part(text: &mut String, ends: Ends, part: Part<'_>) -> Result<Ends, AllocError> {
     let new = part.replacement(&ends);
@@ -20,10 +20,10 @@ pub(crate) fn set_part(text: &mut String, ends: Ends, part: Part<'_>) -> Result<
     Ok(Lengths::of(ends).with(&part, len).ends())
 }
 
-/// Replaces the bytes of a text from `new.start` up to `new.end`.
+/// Replaces the bytes of a string from `new.start` up to `new.end`.
 ///
-/// If there are new bytes, the new text is complete before the old text is dropped. If there are
-/// none, the old bytes are removed in place, without allocating.
+/// If there are new bytes, the new string is complete before the old string is dropped. If there
+/// are none, the old bytes are removed in place, without allocating.
 #[cfg(feature = "alloc")]
 fn replace(text: &mut String, new: Replacement<'_>) -> Result<(), AllocError> {
     if new.hyphen.is_empty() && new.part.is_empty() {
@@ -33,8 +33,8 @@ fn replace(text: &mut String, new: Replacement<'_>) -> Result<(), AllocError> {
     Ok(())
 }
 
-/// Returns a new text in which these bytes are replaced. It allocates once, exactly the length of
-/// the new text.
+/// Returns a new string in which these bytes are replaced. It allocates once, exactly the length of
+/// the new string.
 #[cfg(feature = "alloc")]
 fn join(text: &str, new: Replacement<'_>) -> Result<String, AllocError> {
     let len = new.start + new.hyphen.len() + new.part.len() + (text.len() - new.end);

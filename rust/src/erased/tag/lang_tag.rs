@@ -21,7 +21,7 @@ use crate::erased::tag::typed_lang_tag::TypedLangTag;
 use crate::shim::{try_string, AllocError};
 use core::fmt;
 
-/// The error for a text that is not a language tag. It contains the text.
+/// The error for a string that is not a language tag. It contains the string.
 ///
 /// ```
 /// use langtag::LangTag;
@@ -45,8 +45,8 @@ impl<T: fmt::Debug + AsRef<[u8]>> core::error::Error for InvalidLangTag<T> {}
 /// A language tag ([RFC 5646 section 2.1]). It is a normal tag, such as `zh-Hant-TW`, a private-use
 /// tag, such as `x-fr-CH`, or an irregular grandfathered tag, such as `i-klingon`.
 ///
-/// It stores its kind, and where the parts of a normal tag end, so no call parses the text again.
-/// Two tags are equal if their texts differ only in the case of ASCII letters.
+/// It stores its kind, and where the parts of a normal tag end, so no call parses the string again.
+/// Two tags are equal if their strings differ only in the case of ASCII letters.
 ///
 /// ```
 /// # fn main() -> Result<(), Box<dyn std::error::Error>> {
@@ -69,12 +69,12 @@ pub struct LangTag<'a> {
 by_text!(LangTag<'_>);
 
 impl<'a> LangTag<'a> {
-    /// Parses a text as a language tag. Case does not matter, and the text keeps its case. It is
-    /// proved that no text is of two kinds.
+    /// Parses a string as a language tag. Case does not matter, and the string keeps its case. It
+    /// is proved that no string is of two kinds.
     ///
     /// # Errors
     ///
-    /// Returns the text if it is not a tag, such as `zh_Hant` or the empty text.
+    /// Returns the string if it is not a tag, such as `zh_Hant` or the empty string.
     ///
     /// ```
     /// use langtag::LangTag;
@@ -117,8 +117,8 @@ impl<'a> LangTag<'a> {
         Ok(LangTag::with_found(ascii, found))
     }
 
-    /// Wraps a text that is known to be a language tag: `LangTag::from_checked(tag.as_str())`
-    /// equals `tag`. It parses the text again to find the parts.
+    /// Wraps a string that is known to be a language tag: `LangTag::from_checked(tag.as_str())`
+    /// equals `tag`. It parses the string again to find the parts.
     #[inline]
     pub(crate) fn from_checked(text: &'a str) -> LangTag<'a> {
         let Some(found) = recognise_text(text) else {
@@ -127,8 +127,8 @@ impl<'a> LangTag<'a> {
         LangTag::with_found(text, found)
     }
 
-    /// Makes a tag from a text and what the parser found in the text, without parsing the text
-    /// again.
+    /// Makes a tag from a string and what the parser found in the string, without parsing the
+    /// string again.
     #[inline]
     pub(crate) const fn with_found(text: &'a str, found: Recognised) -> LangTag<'a> {
         LangTag {
@@ -137,7 +137,7 @@ impl<'a> LangTag<'a> {
         }
     }
 
-    /// Returns the text, in its original case.
+    /// Returns the string, in its original case.
     ///
     /// ```
     /// # fn main() -> Result<(), Box<dyn std::error::Error>> {
@@ -153,7 +153,7 @@ impl<'a> LangTag<'a> {
         self.text.0
     }
 
-    /// Returns the text as bytes.
+    /// Returns the string as bytes.
     ///
     /// ```
     /// # fn main() -> Result<(), Box<dyn std::error::Error>> {
@@ -191,7 +191,7 @@ impl<'a> LangTag<'a> {
         Subtags::new(self.as_str())
     }
 
-    /// Returns whether another text equals this tag, ignoring the case of ASCII letters. A text
+    /// Returns whether another string equals this tag, ignoring the case of ASCII letters. A string
     /// that is equal is a tag of the same kind. If both are normal tags, their parts are equal,
     /// ignoring case, and are at the same offsets.
     ///
@@ -524,7 +524,7 @@ impl<'a> LangTag<'a> {
         self.as_normal()?.region()
     }
 
-    /// Returns the variants: `rozaj-1994` for `sl-rozaj-1994`, and the empty text for `sl` and
+    /// Returns the variants: `rozaj-1994` for `sl-rozaj-1994`, and the empty string for `sl` and
     /// `x-a`.
     ///
     /// ```
@@ -545,8 +545,8 @@ impl<'a> LangTag<'a> {
         tag.variants()
     }
 
-    /// Returns the extensions: `a-bb-u-co` for `en-a-bb-u-co-x-y`, and the empty text for `en` and
-    /// `x-a`.
+    /// Returns the extensions: `a-bb-u-co` for `en-a-bb-u-co-x-y`, and the empty string for `en`
+    /// and `x-a`.
     ///
     /// ```
     /// # fn main() -> Result<(), Box<dyn std::error::Error>> {

@@ -73,8 +73,8 @@ impl LangTagBuf {
         Ok(LangTagBuf::with_found(text, found))
     }
 
-    /// Makes a tag from a text and what the parser found in the text, without parsing the text
-    /// again.
+    /// Makes a tag from a string and what the parser found in the string, without parsing the
+    /// string again.
     #[inline]
     pub(crate) fn with_found(text: String, found: Recognised) -> LangTagBuf {
         LangTagBuf {
@@ -101,7 +101,7 @@ impl LangTagBuf {
         LangTag::with_found(self.as_str(), self.found)
     }
 
-    /// Returns the text, in its original case.
+    /// Returns the string, in its original case.
     ///
     /// ```
     /// # fn main() -> Result<(), Box<dyn std::error::Error>> {
@@ -162,8 +162,8 @@ impl LangTagBuf {
     ///
     /// In a normal tag, the script becomes titlecase, the region uppercase, and everything else
     /// lowercase. The tag still equals the old tag, and its parts keep their offsets. It neither
-    /// allocates nor parses. Equal tags become the same bytes, so the text can be a key in a store
-    /// that compares bytes.
+    /// allocates nor parses. Equal tags become the same bytes, so the string can be a key in a
+    /// store that compares bytes.
     ///
     /// ```
     /// # fn main() -> Result<(), Box<dyn std::error::Error>> {

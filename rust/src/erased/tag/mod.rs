@@ -20,7 +20,7 @@
 //! ```
 //!
 //! A [`NormalLangTag`] is a tag that is made of parts. It stores where the parts end, so each part
-//! is a slice of the text:
+//! is a slice of the string:
 //!
 //! ```
 //! # fn main() -> Result<(), Box<dyn std::error::Error>> {

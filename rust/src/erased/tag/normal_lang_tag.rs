@@ -18,7 +18,7 @@ use crate::erased::tag::repeats::{first_repeated_singleton, first_repeated_varia
 use crate::shim::{try_string, AllocError};
 use core::fmt;
 
-/// The error for a text that is not a normal tag. It contains the text.
+/// The error for a string that is not a normal tag. It contains the string.
 ///
 /// ```
 /// use langtag::NormalLangTag;
@@ -43,8 +43,8 @@ impl<T: fmt::Debug + AsRef<[u8]>> core::error::Error for InvalidNormalLangTag<T>
 /// language, and may have a script, a region, variants, extensions and a private use part, as
 /// `sl-Latn-IT-rozaj-u-co-phonebk-x-mine` does.
 ///
-/// It stores where its parts end, so each part is a slice of the text. Two tags are equal if their
-/// texts differ only in the case of ASCII letters.
+/// It stores where its parts end, so each part is a slice of the string. Two tags are equal if
+/// their strings differ only in the case of ASCII letters.
 ///
 /// ```
 /// # fn main() -> Result<(), Box<dyn std::error::Error>> {
@@ -68,14 +68,14 @@ pub struct NormalLangTag<'a> {
 by_text!(NormalLangTag<'_>);
 
 impl<'a> NormalLangTag<'a> {
-    /// Parses a text as a normal tag.
+    /// Parses a string as a normal tag.
     ///
     /// It is proved that a normal tag splits into its parts in only one way, and that the parts,
-    /// joined by hyphens, are the whole text.
+    /// joined by hyphens, are the whole string.
     ///
     /// # Errors
     ///
-    /// Returns the text if it is not a normal tag, such as `sl_IT`, or `x-a`, which is a tag of
+    /// Returns the string if it is not a normal tag, such as `sl_IT`, or `x-a`, which is a tag of
     /// another kind.
     ///
     /// ```
@@ -92,8 +92,8 @@ impl<'a> NormalLangTag<'a> {
         Ok(NormalLangTag::with_ends(text, ends))
     }
 
-    /// Wraps a text that is known to be a normal tag: `NormalLangTag::from_checked(tag.as_str())`
-    /// equals `tag`. It parses the text again to find the parts.
+    /// Wraps a string that is known to be a normal tag: `NormalLangTag::from_checked(tag.as_str())`
+    /// equals `tag`. It parses the string again to find the parts.
     #[inline]
     pub(crate) fn from_checked(text: &'a str) -> NormalLangTag<'a> {
         let Some(ends) = normal_ends(text) else {
@@ -102,8 +102,8 @@ impl<'a> NormalLangTag<'a> {
         NormalLangTag::with_ends(text, ends)
     }
 
-    /// Makes a normal tag from a text whose parts are known to end at these offsets, without
-    /// parsing the text again.
+    /// Makes a normal tag from a string whose parts are known to end at these offsets, without
+    /// parsing the string again.
     #[inline]
     pub(crate) const fn with_ends(text: &'a str, ends: Ends) -> NormalLangTag<'a> {
         NormalLangTag {
@@ -112,7 +112,7 @@ impl<'a> NormalLangTag<'a> {
         }
     }
 
-    /// Returns the text, in its original case.
+    /// Returns the string, in its original case.
     ///
     /// ```
     /// # fn main() -> Result<(), Box<dyn std::error::Error>> {
@@ -128,7 +128,7 @@ impl<'a> NormalLangTag<'a> {
         self.text.0
     }
 
-    /// Returns the text as bytes.
+    /// Returns the string as bytes.
     ///
     /// ```
     /// # fn main() -> Result<(), Box<dyn std::error::Error>> {
@@ -164,7 +164,7 @@ impl<'a> NormalLangTag<'a> {
         Subtags::new(self.as_str())
     }
 
-    /// Returns whether another text equals this tag, ignoring the case of ASCII letters. A text
+    /// Returns whether another string equals this tag, ignoring the case of ASCII letters. A string
     /// that is equal is a normal tag, too. The parts of both are equal, ignoring case, and are at
     /// the same offsets.
     ///
@@ -202,7 +202,7 @@ impl<'a> NormalLangTag<'a> {
         LangTag::with_found(self.as_str(), Recognised::Normal(self.ends))
     }
 
-    /// Returns where the parts end, in bytes from the start of the text. In `sl-IT`, the language
+    /// Returns where the parts end, in bytes from the start of the string. In `sl-IT`, the language
     /// and the absent script end at 2, and all other ends are 5.
     ///
     /// ```
@@ -275,7 +275,7 @@ impl<'a> NormalLangTag<'a> {
         Some(Region::from_checked(region))
     }
 
-    /// Returns the variants: `rozaj-1994` for `sl-rozaj-1994`, and the empty text for `sl`.
+    /// Returns the variants: `rozaj-1994` for `sl-rozaj-1994`, and the empty string for `sl`.
     ///
     /// ```
     /// # fn main() -> Result<(), Box<dyn std::error::Error>> {
@@ -292,7 +292,8 @@ impl<'a> NormalLangTag<'a> {
         Variants::from_checked(self.part_or_empty(self.ends.region, self.ends.variants))
     }
 
-    /// Returns the extensions: `a-bb-u-co` for `en-a-bb-u-co-x-y`, and the empty text for `en-x-y`.
+    /// Returns the extensions: `a-bb-u-co` for `en-a-bb-u-co-x-y`, and the empty string for
+    /// `en-x-y`.
     ///
     /// ```
     /// # fn main() -> Result<(), Box<dyn std::error::Error>> {
@@ -425,7 +426,7 @@ impl<'a> NormalLangTag<'a> {
     }
 
     /// Returns the first singleton that equals an earlier singleton, ignoring case: the `A` in
-    /// `fr-a-bb-A-cc`. It is returned in the case of the text.
+    /// `fr-a-bb-A-cc`. It is returned in the case of the string.
     ///
     /// A tag with a repeated singleton is well formed but not valid ([RFC 5646 section 2.2.6]).
     /// This does not allocate.
@@ -552,13 +553,13 @@ impl<'a> NormalLangTag<'a> {
         Ok(owned)
     }
 
-    /// Returns the text of the language.
+    /// Returns the string of the language.
     #[inline]
     fn language_str(&self) -> &'a str {
         &self.as_str()[..self.ends.language]
     }
 
-    /// Returns the text of a part, which begins after the hyphen at `before` and ends at `end`.
+    /// Returns the string of a part, which begins after the hyphen at `before` and ends at `end`.
     /// Returns `None` if both offsets are equal, since the part is then absent.
     #[inline]
     fn part(&self, before: usize, end: usize) -> Option<&'a str> {
@@ -568,7 +569,7 @@ impl<'a> NormalLangTag<'a> {
         Some(&self.as_str()[before + 1..end])
     }
 
-    /// Returns what [`part`](NormalLangTag::part) returns, or the empty text if there is no such
+    /// Returns what [`part`](NormalLangTag::part) returns, or the empty string if there is no such
     /// part.
     #[inline]
     fn part_or_empty(&self, before: usize, end: usize) -> &'a str {

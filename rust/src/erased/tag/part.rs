@@ -1,6 +1,6 @@
 // Made by rust/erase from crates/langtag/src/part.rt. Change that file, not this one.
 
-//! The parts of a normal tag (RFC 5646 section 2.1), and how a new part is put into the text of a
+//! The parts of a normal tag (RFC 5646 section 2.1), and how a new part is put into the string of a
 //! tag.
 
 use crate::erased::extension::Extensions;
@@ -43,8 +43,8 @@ pub enum Part<'a> {
     PrivateUse(Option<PrivateUse<'a>>),
 }
 
-/// A change of a tag's text, which [`put_part`] returns: the bytes to replace, and the text that
-/// replaces them. Offsets are in bytes.
+/// A change of a tag's string, which [`put_part`] returns: the bytes to replace, and the string
+/// that replaces them. Offsets are in bytes.
 ///
 /// ```
 /// # fn main() -> Result<(), Box<dyn std::error::Error>> {
@@ -64,11 +64,11 @@ pub struct Replacement<'a> {
     pub end: usize,
     /// The hyphen before the part. It is empty for a language, and if the part is removed.
     pub hyphen: &'static str,
-    /// The text of the part, which is empty if the part is removed.
+    /// The string of the part, which is empty if the part is removed.
     pub part: &'a str,
 }
 
-/// Returns the change of a normal tag's text that sets this part (RFC 5646 sections 2.2.1 to
+/// Returns the change of a normal tag's string that sets this part (RFC 5646 sections 2.2.1 to
 /// 2.2.7). It does not allocate. The caller joins the bytes before `start`, the hyphen, the part,
 /// and the bytes from `end` on.
 ///
@@ -91,9 +91,9 @@ pub fn put_part<'a>(tag: NormalLangTag<'_>, part: Part<'a>) -> Replacement<'a> {
     part.replacement(&tag.ends())
 }
 
-/// Writes the text of a normal tag, changed as [`put_part`] says, to a buffer, and returns the
-/// length of the text in bytes. If the buffer is too short, it stays unchanged, and the length says
-/// how much room is needed. The function does not allocate.
+/// Writes the string of a normal tag, changed as [`put_part`] says, to a buffer, and returns the
+/// length of the string in bytes. If the buffer is too short, it stays unchanged, and the length
+/// says how much room is needed. The function does not allocate.
 pub fn write_part<'a>(tag: NormalLangTag<'a>, part: Part<'a>, buffer: &mut [u8]) -> usize {
     let text = tag.as_str().as_bytes();
     let new = put_part(tag, part);
@@ -104,7 +104,7 @@ pub fn write_part<'a>(tag: NormalLangTag<'a>, part: Part<'a>, buffer: &mut [u8])
 }
 
 impl<'a> Part<'a> {
-    /// Returns the text of the part. An absent part has the empty text.
+    /// Returns the string of the part. An absent part has the empty string.
     ///
     /// ```
     /// use langtag::erased::tag::{Part, Script};
@@ -124,7 +124,7 @@ impl<'a> Part<'a> {
         }
     }
 
-    /// Returns the change of a text whose parts end at these offsets.
+    /// Returns the change of a string whose parts end at these offsets.
     pub(crate) fn replacement(&self, ends: &Ends) -> Replacement<'a> {
         let part = self.as_str();
         let (start, end) = self.place(ends);
@@ -148,7 +148,8 @@ impl<'a> Part<'a> {
         }
     }
 
-    /// Returns the hyphen before the text of this part, or nothing for a language or an empty text.
+    /// Returns the hyphen before the string of this part, or nothing for a language or an empty
+    /// string.
     #[inline]
     fn hyphen_before(&self, text: &str) -> &'static str {
         if text.is_empty() || matches!(self, Part::Language(_)) {

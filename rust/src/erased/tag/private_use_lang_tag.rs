@@ -5,7 +5,7 @@ use crate::erased::private::PrivateUse;
 #[cfg(feature = "alloc")]
 use crate::erased::private::PrivateUseBuf;
 
-/// A private-use tag, such as `x-fr-CH`. Its whole text is a private use part.
+/// A private-use tag, such as `x-fr-CH`. Its whole string is a private use part.
 ///
 /// ```
 /// # fn main() -> Result<(), Box<dyn std::error::Error>> {

@@ -28,13 +28,13 @@ fn found_in(bytes: &[u8]) -> Option<Found> {
     recognise(&mut Metered::of_bytes(bytes))
 }
 
-/// Returns what the recogniser finds in a text, or `None` if it is not a tag.
+/// Returns what the recogniser finds in a string, or `None` if it is not a tag.
 #[inline]
 pub(crate) fn recognise_text(text: &str) -> Option<Recognised> {
     recognise_bytes(text.as_bytes())
 }
 
-/// Returns where the parts of a normal tag end, or `None` if the text is not a normal tag.
+/// Returns where the parts of a normal tag end, or `None` if the string is not a normal tag.
 #[inline]
 pub(crate) fn normal_ends(text: &str) -> Option<Ends> {
     recognise_text(text)?.ends()

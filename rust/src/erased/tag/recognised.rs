@@ -6,7 +6,7 @@ use crate::erased::scan::Ends;
 use crate::erased::tag::grandfathered::GrandfatheredLangTag;
 
 /// The kind of a tag ([RFC 5646 section 2.1]), with what was found in its text, so that no call has
-/// to parse the text again.
+/// to parse the string again.
 ///
 /// [RFC 5646 section 2.1]: https://www.rfc-editor.org/rfc/rfc5646#section-2.1
 #[derive(Clone, Copy)]

@@ -1,6 +1,6 @@
 // Made by rust/erase from crates/langtag/src/recommended_case.rt. Change that file, not this one.
 
-//! The text of a tag in its recommended case.
+//! The string of a tag in its recommended case.
 
 use crate::erased::case::make_recommended_case;
 #[cfg(feature = "alloc")]

@@ -1,6 +1,6 @@
 // Made by rust/erase from crates/langtag/src/refusal.rt. Change that file, not this one.
 
-//! Where the first fault is in a text that is not a tag (RFC 5646 section 2.1).
+//! Where the first fault is in a string that is not a tag (RFC 5646 section 2.1).
 
 use crate::erased::scan::{
     case_insensitive_eq, segment_end, segment_start, viable_len_with_hyphen,
@@ -168,7 +168,7 @@ fn begin_any(bytes: &[u8], tags: &[GrandfatheredLangTag]) -> bool {
     tags.iter().any(|tag| begins(bytes, tag.as_bytes()))
 }
 
-/// Returns whether a text begins with the bytes, ignoring the case of letters.
+/// Returns whether a string begins with the bytes, ignoring the case of letters.
 #[inline]
 fn begins(bytes: &[u8], text: &[u8]) -> bool {
     case_insensitive_eq(bytes, &text[..bytes.len().min(text.len())])

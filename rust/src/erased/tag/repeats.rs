@@ -8,7 +8,7 @@ use crate::erased::place::{Variant, Variants};
 use crate::erased::scan::into_smallcase;
 use crate::erased::tag::variant_blocks::first_repeated_of_many;
 
-/// If the text of the variants has at most this many bytes, and so at most 28 variants, each
+/// If the string of the variants has at most this many bytes, and so at most 28 variants, each
 /// variant is compared with all variants before it.
 const FEW: usize = 143;
 

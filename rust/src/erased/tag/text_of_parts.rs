@@ -1,13 +1,13 @@
 // Made by rust/erase from crates/langtag/src/text_of_parts.rt. Change that file, not this one.
 
-//! The text of a language, a script and a region.
+//! The string of a language, a script and a region.
 
 #[cfg(feature = "alloc")]
 use crate::shim::{try_string_with_capacity, AllocError, TryText};
 #[cfg(feature = "alloc")]
 use alloc::string::String;
 
-/// Returns a new text that consists of a language, a script and a region, joined by hyphens. It
+/// Returns a new string that consists of a language, a script and a region, joined by hyphens. It
 /// first allocates `room` bytes. An empty script or region is left out.
 #[cfg(feature = "alloc")]
 pub(crate) fn join_parts(
@@ -23,7 +23,7 @@ pub(crate) fn join_parts(
     Ok(whole)
 }
 
-/// Appends a hyphen and a part to a text, or nothing if the part is empty.
+/// Appends a hyphen and a part to a string, or nothing if the part is empty.
 #[cfg(feature = "alloc")]
 #[inline]
 fn push_part(text: &mut String, part: &str) -> Result<(), AllocError> {

@@ -9,7 +9,7 @@ use crate::erased::tag::normal_lang_tag::NormalLangTag;
 use crate::erased::tag::private_use_lang_tag::PrivateUseLangTag;
 
 /// A language tag as an enum with one variant for each kind ([RFC 5646 section 2.1]), as
-/// [`LangTag::as_typed`](crate::LangTag::as_typed) returns it. No method reads the text.
+/// [`LangTag::as_typed`](crate::LangTag::as_typed) returns it. No method reads the string.
 ///
 /// ```
 /// # fn main() -> Result<(), Box<dyn std::error::Error>> {
@@ -57,7 +57,7 @@ impl<'a> TypedLangTag<'a> {
     }
 
     /// Returns the kind of the tag. It is proved that typed tags are equal if they have the same
-    /// kind and their texts are equal, ignoring case, and that a clone is the same value.
+    /// kind and their strings are equal, ignoring case, and that a clone is the same value.
     ///
     /// ```
     /// # fn main() -> Result<(), Box<dyn std::error::Error>> {
