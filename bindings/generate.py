@@ -6,6 +6,7 @@
     bindings/c/functions.h                    lists of the functions, for programs that call each of them
     bindings/python/native/functions.h        the same
     bindings/python/langtag/_declarations.py  the functions and structs for ctypes
+    bindings/js/calls.js                      the functions in JavaScript, over the memory of the WebAssembly module
     bindings/js/test/signatures.js            the functions, for a test that calls each of them
 
 It also compares the declarations of langtag.h, which is written by hand. A function must have LANGTAG_PURE if its result is its only
@@ -22,6 +23,7 @@ import sys
 
 import interface
 from interface import Function, Interface, Parameter
+from javascript import javascript
 
 ROOT = pathlib.Path(__file__).resolve().parent.parent
 WRITTEN = "Written by bindings/generate.py from crates/langtag_c. Do not edit."
@@ -171,7 +173,7 @@ def word_of_js(it: Parameter) -> str:
     return words.get(it.kind, "out" if it.kind.startswith("&") and not it.is_read else it.name if it.is_writable() else it.kind)
 
 
-def javascript(it: Interface) -> str:
+def signatures(it: Interface) -> str:
     lines = "".join(f'    {function.name}: "{" ".join(map(word_of_js, function.parameters))}",\n' for function in it.functions)
     return f"/** The parameters of each function of langtag.h. {WRITTEN} */\nexport const SIGNATURES = {{\n{lines}}};\n"
 
@@ -198,7 +200,8 @@ FILES = {
     "bindings/c/functions.h": functions_for_c,
     "bindings/python/native/functions.h": functions_for_c,
     "bindings/python/langtag/_declarations.py": python,
-    "bindings/js/test/signatures.js": javascript,
+    "bindings/js/calls.js": lambda it: javascript(it, WRITTEN),
+    "bindings/js/test/signatures.js": signatures,
 }
 
 

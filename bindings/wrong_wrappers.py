@@ -27,7 +27,7 @@ from switched import C, FORBIDDEN, RUST, Change, switched
 ROOT = pathlib.Path(__file__).resolve().parent.parent
 H, HPP, SQL = "bindings/include/langtag.h", "bindings/include/langtag.hpp", "bindings/sqlite/sqlite_langtag.c"
 PY, CT, TEXTS = (f"bindings/python/langtag/{name}.py" for name in ("__init__", "_ctypes", "_texts"))
-NATIVE, JS, CALLS = "bindings/python/native/", "bindings/js/index.js", "bindings/js/calls.js"
+NATIVE, JS, CALLS, MEMORY = "bindings/python/native/", *(f"bindings/js/{name}.js" for name in ("index", "calls", "memory"))
 
 
 class Fault(NamedTuple):
@@ -267,17 +267,17 @@ FAULTS = {
         swapped(JS, "this.#part(1)", "this.#part(2)", "table.txt"),
         Fault(JS, '"second-extlang", "script", "region"', '"second-extlang", "region", "script"', "table.txt"),
         Fault(JS, 'PARTS = ["language", "script", "region"', 'PARTS = ["language", "region", "script"', "edits.txt"),
-        swapped(CALLS, '"langtag_matches_basic"', '"langtag_matches_extended"', "table.txt"),
-        js(CALLS, "return formOf(name, text, length);", "return close(read(at, room));", "a range, a tag or a text of a megabyte"),
-        Fault(CALLS, "Math.min(length, begin + 8192)", "Math.min(length, 8192)", "table.txt"),
+        swapped(CALLS, "calls.langtag_matches_basic", "calls.langtag_matches_extended", "table.txt"),
+        js(CALLS, "return canonical(bytes, length);", "return read(at1, room);", "a range, a tag or a text of a megabyte"),
+        Fault(MEMORY, "Math.min(length, begin + 8192)", "Math.min(length, 8192)", "table.txt"),
         Fault(JS, "if (!found.has(subtag.toLowerCase())) found", "found", "table.txt"),
         Fault(JS, 'if (key !== "" && !found.has(key)) found', 'if (key !== "") found', "unicode.txt"),
         Fault(JS, "tag = tag.#withKeyword(key, value ?? undefined)", "tag = tag.#withKeyword(key, value || undefined)", "keywords.txt"),
         Fault(JS, 'throw new EditError("value", value)', 'throw new EditError("key", value)', "keywords.txt"),
-        Fault(CALLS, 'form("langtag_extensions_form")', 'form("langtag_canonical")', "extensions.txt"),
-        Fault(CALLS, 'form("langtag_locale_form")', 'form("langtag_canonical")', "cldr.txt"),
-        Fault(CALLS, 'askOne("langtag_base_len", text)', 'askOne("langtag_viable", text)', "table.txt"),
-        Fault(CALLS, 'askOne("langtag_is_locale", text)', 'askOne("langtag_kind", text)', "locale.txt"),
+        Fault(CALLS, "calls.langtag_extensions_form", "calls.langtag_canonical", "extensions.txt"),
+        Fault(CALLS, "calls.langtag_locale_form", "calls.langtag_canonical", "cldr.txt"),
+        Fault(CALLS, "calls.langtag_base_len", "calls.langtag_viable", "table.txt"),
+        Fault(CALLS, "calls.langtag_is_locale", "calls.langtag_kind", "locale.txt"),
         Fault(JS, 'form === "" ? undefined : new', "new", "locale.txt"),
         Fault(JS, "return found && text.slice(found[0], found[0] + found[1]);", "return found && text.slice(found[1]);", "posix.txt"),
         js(JS, "Array.isArray(pair) && [pair[0]", "[pair[0]", "keywords that are set and removed"),
@@ -286,14 +286,14 @@ FAULTS = {
         Fault(JS, '.replaceAll("-*", "")', "", "negotiation.txt"),
         Fault(JS, "AcceptLanguageError(text, index, offset,", "AcceptLanguageError(text, offset, index,", "negotiation.txt"),
         Fault(JS, 'text === "" && value !== null && !isList', 'text === "" && value !== null', "edits.txt"),
-        js(CALLS, "unit < 0x80 ? unit : 0xff", "unit & 0xff", "texts that are refused, of any units"),
-        js(CALLS, "    if (isOpen) start();", "    if (calls === undefined) start();", "calls that are cut off"),
-        js(CALLS, "    if (bytes.length > most) start();\n", "", "the memory of a long text is given back"),
+        js(MEMORY, "unit < 0x80 ? unit : 0xff", "unit & 0xff", "texts that are refused, of any units"),
+        js(MEMORY, "    if (isOpen) start();", "    if (memory === undefined) start();", "calls that are cut off"),
+        js(MEMORY, "    if (bytes.length > most) start();\n", "", "the memory of a long text is given back"),
         js(JS, "Object.freeze(this);", "", "a tag does not change"),
         js(JS, '"ranges")].map((range) => textOf', '"ranges")].slice(0, 1).map((range) => textOf', "likely subtags, distances and the best tag"),
         Fault(JS, "chosen(calls.bestForRanges, ", 'chosen((all, offered) => calls.bestForHeader(all.join(" "), offered), ', "choices.txt", "the tag of ranges"),
         Fault(JS, "text.slice(start, start + length) }", "text.slice(start) }", "choices.txt"),
-        Fault(CALLS, "close([index >>> 0, ...numbers(count)])", "close([index >>> 0, ...numbers(count).sort()])", "choices.txt"),
+        Fault(JS, "[index, start, length, distance] = calls", "[index, length, start, distance] = calls", "choices.txt"),
         Fault(JS, "return bestForRanges(this.#wanted(),", "return bestForRanges(this.#wanted().slice(0, 1),", "lists.txt"),
     ],
     "SQLite": [

@@ -528,6 +528,59 @@ template <class A, class B> if_compared<A, B> operator>(const A &a, const B &b) 
 template <class A, class B> if_compared<A, B> operator<=(const A &a, const B &b) noexcept { return !(b < a); }
 template <class A, class B> if_compared<A, B> operator>=(const A &a, const B &b) noexcept { return !(a < b); }
 
+/* A character of UTF-8 (RFC 3629 section 4), and its length in bytes, or a byte and 0 if no character begins there. */
+struct character {
+    std::uint32_t code;
+    std::size_t len;
+
+    /* Returns the first character of a text that is not empty. */
+    static character first(std::string_view text) {
+        const auto byte = [text](std::size_t at) { return at < text.size() ? static_cast<unsigned char>(text[at]) : 0u; };
+        const unsigned lead = byte(0);
+        const std::size_t len = lead < 0x80 ? 1 : lead < 0xC2 ? 0 : lead < 0xE0 ? 2 : lead < 0xF0 ? 3 : lead < 0xF5 ? 4 : 0;
+        const unsigned least = lead == 0xE0 ? 0xA0 : lead == 0xF0 ? 0x90 : 0x80, most = lead == 0xED ? 0x9F : lead == 0xF4 ? 0x8F : 0xBF;
+        std::uint32_t code = len > 1 ? lead & (0x7Fu >> len) : lead;
+        for (std::size_t at = 1; at < len; at++) {
+            if (byte(at) < (at == 1 ? least : 0x80u) || byte(at) > (at == 1 ? most : 0xBFu)) return {lead, 0};
+            code = code << 6 | (byte(at) & 0x3F);
+        }
+        return {code, len};
+    }
+
+    /* Returns the escape with which messages show the character, or an empty string if they show the character itself. */
+    std::string escape() const {
+        if (len == 0) return "\\x" + hexadecimal();
+        if (code == '\t') return "\\t";
+        if (code == '\n') return "\\n";
+        if (code == '\r') return "\\r";
+        if (code == '\\' || code == '`') return {'\\', static_cast<char>(code)};
+        const bool is_control = code < 0x20 || (code >= 0x7F && code < 0xA0);
+        const bool is_invisible = (code >= 0x200B && code <= 0x200F) || (code >= 0x2028 && code <= 0x202E) ||
+                                  (code >= 0x2060 && code <= 0x206F) || code == 0xFEFF;
+        return is_control || is_invisible ? "\\u{" + hexadecimal() + "}" : "";
+    }
+
+private:
+    std::string hexadecimal() const {
+        std::string made;
+        for (std::uint32_t rest = code; rest > 0 || made.empty(); rest /= 16) made.insert(made.begin(), "0123456789abcdef"[rest % 16]);
+        return made;
+    }
+};
+
+/* Returns a text as messages show it: in backticks, with escapes, and only its first characters if it is longer. */
+inline std::string quoted(std::string_view text, std::size_t most = 80) {
+    std::string made = "`";
+    for (std::size_t count = 0; !text.empty() && count < most; count++) {
+        const character one = character::first(text);
+        const std::size_t len = one.len > 0 ? one.len : 1;
+        const std::string escape = one.escape();
+        made += escape.empty() ? text.substr(0, len) : escape;
+        text.remove_prefix(len);
+    }
+    return made + (text.empty() || most == 1 ? "`" : "...`");
+}
+
 /* Why a text is not a tag. */
 enum class refusal_kind : std::uint32_t {
     subtag = LANGTAG_REFUSED_SUBTAG,
@@ -542,36 +595,16 @@ struct refusal {
     std::string_view subtag;
     std::size_t start, offset;
 
-    /* Returns the reason in words: "unexpected subtag 'DE'", "unexpected end: expected a subtag". */
+    /* Returns the reason in words: "unexpected subtag `DE`", "unexpected end: expected a subtag". */
     std::string message() const {
         switch (kind) {
-        case refusal_kind::subtag: return subtag.empty() ? "empty subtag" : "unexpected subtag '" + std::string(subtag) + "'";
-        case refusal_kind::byte: return "invalid character '" + shown(subtag.substr(offset - start)) + "': expected a letter, a digit or a hyphen";
+        case refusal_kind::subtag: return subtag.empty() ? "empty subtag" : "unexpected subtag " + quoted(subtag);
+        case refusal_kind::byte: return "invalid character " + quoted(subtag.substr(offset - start), 1) + ": expected a letter, a digit or a hyphen";
         case refusal_kind::end: return "unexpected end: expected a subtag";
         }
         return {};
     }
 
-private:
-    /* Returns the first character of a text in UTF-8, or the first byte in hexadecimal if no character begins there: \xff. */
-    static std::string shown(std::string_view text) {
-        const std::size_t len = character_len(text);
-        if (len > 0) return std::string(text.substr(0, len));
-        const char *const digits = "0123456789abcdef";
-        const auto byte = static_cast<unsigned char>(text[0]);
-        return {'\\', 'x', digits[byte / 16], digits[byte % 16]};
-    }
-
-    /* Returns the number of bytes of the first character of a text in UTF-8 (RFC 3629 section 4), or 0 if no character begins there. */
-    static std::size_t character_len(std::string_view text) {
-        const auto byte = [text](std::size_t at) { return at < text.size() ? static_cast<unsigned char>(text[at]) : 0u; };
-        const unsigned lead = byte(0);
-        const std::size_t len = lead < 0x80 ? 1 : lead < 0xC2 ? 0 : lead < 0xE0 ? 2 : lead < 0xF0 ? 3 : lead < 0xF5 ? 4 : 0;
-        const unsigned least = lead == 0xE0 ? 0xA0 : lead == 0xF0 ? 0x90 : 0x80, most = lead == 0xED ? 0x9F : lead == 0xF4 ? 0x8F : 0xBF;
-        for (std::size_t at = 1; at < len; at++)
-            if (byte(at) < (at == 1 ? least : 0x80u) || byte(at) > (at == 1 ? most : 0xBFu)) return 0;
-        return len;
-    }
 };
 
 /* Returns why a text is not a tag, or std::nullopt if it is a tag. */

@@ -1,364 +1,435 @@
 /*
- * Calls the WebAssembly module of proved code, through its memory. Only this file knows addresses: other files pass texts, and get
- * texts, offsets and numbers.
+ * The functions of langtag.h as functions of strings and numbers. Written by bindings/generate.py from crates/langtag_c. Do not edit.
  *
- * The texts of a call are in one block after the module's own data. The next call reuses the block, so nothing is kept. The block
- * grows with the texts. A new instance of the module is made after a call that made the block large, because its memory cannot
- * shrink. The same happens after a call that did not return, for example because JavaScript's stack overflowed: the instance's own
- * stack pointer was not restored then.
+ * A function has the parameters that it has in C, without those to which it only writes. A list of strings is passed for a string and the
+ * spans in it. The result is that of C, with these exceptions:
  *
- * The proved module takes sizes and addresses of 64 bits, which are BigInt in JavaScript. The module that cargo builds takes sizes of 32
- * bits, which are numbers. IS_WIDE says which of them module.js has, and only `size` and WORD depend on it.
- *
- * A code unit that is not ASCII becomes the byte 0xFF, which no tag, range or header contains. So an offset in bytes is also an
- * offset in the string, and a lone surrogate is refused like every other character that is not ASCII.
+ * - If C writes a string to a buffer, the string is returned, or "" if C writes nothing. `room` is the length of the buffer. If it is too
+ *   short, the function calls itself with the length that C returned.
+ * - If C writes numbers, the list of the result and these numbers is returned. If the result is only true or false, the list of the numbers
+ *   or undefined is returned.
+ * - If C removes one item after another, the list of all items is returned.
  */
-import { IS_WIDE, MODULE, PROVED } from "./module.js";
+import { aligned, close, count, lengthOf, module, open, prepare, read, size, SPAN, write, writeList, written } from "./memory.js";
 
-const PAGE = 65536;
-const KEPT = 1 << 20; // the bytes that the block may keep between calls
-const WORD = IS_WIDE ? 8 : 4; // the bytes of a size
-const OUT_BYTES = 16 * WORD; // the room for what a call writes besides texts: at most langtag_parts, which has 12 sizes
-
-/** Returns a size or an address as the module takes it. */
-const size = IS_WIDE ? BigInt : (number) => number;
-
-/** Returns the bytes of a text in base64. A loop takes a twentieth of the time of Uint8Array.from with a function. */
-function decoded(text) {
-    const characters = atob(text), made = new Uint8Array(characters.length);
-    for (let index = 0; index < made.length; index++) made[index] = characters.charCodeAt(index);
-    return made;
+/** Returns [result, parts.language.start, parts.language.len, parts.script.start, parts.script.len, parts.region.start, parts.region.len, parts.variants.start, parts.variants.len, parts.extensions.start, parts.extensions.len, parts.private_use.start, parts.private_use.len]. */
+export function parse(bytes) {
+    const at0 = open(bytes.length);
+    write(bytes, at0);
+    const result = module.calls.langtag_parse(module.begin, size(bytes.length), module.outs[0]) >>> 0;
+    return close([result, written(0), written(1), written(2), written(3), written(4), written(5), written(6), written(7), written(8), written(9), written(10), written(11)]);
 }
 
-const compiled = new WebAssembly.Module(decoded(MODULE));
-
-let calls, memory, bytes, view, most;
-let isOpen = true; // whether a call has begun and not ended; true at first, so that the first call makes the instance
-let out, texts; // the addresses of what a call writes and of its texts, as numbers
-let outAddress, textsAddress; // the same addresses, as the module takes them
-
-function start() {
-    calls = new WebAssembly.Instance(compiled).exports;
-    memory = calls.memory;
-    out = (Number(calls.__heap_base.value) + 15) & -16;
-    texts = out + OUT_BYTES;
-    outAddress = size(out);
-    textsAddress = size(texts);
-    look();
-    most = Math.max(bytes.length, texts + KEPT);
-    isOpen = false;
+export function kind(bytes) {
+    const at0 = open(bytes.length);
+    write(bytes, at0);
+    return close(module.calls.langtag_kind(module.begin, size(bytes.length)) >>> 0);
 }
 
-function look() {
-    bytes = new Uint8Array(memory.buffer);
-    view = new DataView(memory.buffer);
+export function baseLen(bytes) {
+    const at0 = open(bytes.length);
+    write(bytes, at0);
+    return close(count(module.calls.langtag_base_len(module.begin, size(bytes.length))));
 }
 
-/** Begins a call whose texts have a number of bytes. */
-function open(length) {
-    if (isOpen) start();
-    isOpen = true;
-    const missing = texts + length - bytes.length;
-    if (missing > 0) {
-        memory.grow(Math.ceil(missing / PAGE));
-        look();
+export function viable(bytes) {
+    const at0 = open(bytes.length);
+    write(bytes, at0);
+    return close(count(module.calls.langtag_viable(module.begin, size(bytes.length))));
+}
+
+export function stop(bytes) {
+    const at0 = open(bytes.length);
+    write(bytes, at0);
+    return close(count(module.calls.langtag_stop(module.begin, size(bytes.length))));
+}
+
+/** Returns [result, subtag.start, subtag.len, offset]. */
+export function refused(bytes) {
+    const at0 = open(bytes.length);
+    write(bytes, at0);
+    const result = module.calls.langtag_refused(module.begin, size(bytes.length), module.outs[0], module.outs[2]) >>> 0;
+    return close([result, written(0), written(1), written(2)]);
+}
+
+export function eq(a, b) {
+    const at0 = open(a.length + b.length);
+    const at1 = write(a, at0);
+    write(b, at1);
+    return close(module.calls.langtag_eq(module.begin, size(a.length), size(at1), size(b.length)) !== 0);
+}
+
+export function cmp(a, b) {
+    const at0 = open(a.length + b.length);
+    const at1 = write(a, at0);
+    write(b, at1);
+    return close(module.calls.langtag_cmp(module.begin, size(a.length), size(at1), size(b.length)));
+}
+
+export function hash(state, bytes) {
+    const at0 = open(bytes.length);
+    write(bytes, at0);
+    return close(BigInt.asUintN(64, module.calls.langtag_hash(state, module.begin, size(bytes.length))));
+}
+
+/** Returns the changed string. */
+export function fold(bytes) {
+    const at0 = open(bytes.length);
+    write(bytes, at0);
+    module.calls.langtag_fold(module.begin, size(bytes.length));
+    return close(read(at0, bytes.length));
+}
+
+/** Returns the changed string. */
+export function recommend(bytes) {
+    const at0 = open(bytes.length);
+    write(bytes, at0);
+    module.calls.langtag_recommend(module.begin, size(bytes.length));
+    return close(read(at0, bytes.length));
+}
+
+/** Returns a list of [subtag.start, subtag.len]. */
+export function everySubtag(bytes) {
+    const at0 = open(bytes.length);
+    write(bytes, at0);
+    prepare(0, bytes.length);
+    const items = [];
+    while (module.calls.langtag_next_subtag(module.begin, size(bytes.length), module.outs[0], module.outs[2]) !== 0) {
+        items.push([written(2), written(3)]);
     }
+    return close(items);
 }
 
-/** Ends a call, and returns its result. */
-function close(answer) {
-    isOpen = false;
-    if (bytes.length > most) start();
-    return answer;
-}
-
-function write(text, at) {
-    for (let index = 0; index < text.length; index++) {
-        const unit = text.charCodeAt(index);
-        bytes[at + index] = unit < 0x80 ? unit : 0xff;
+/** Returns a list of [extension.start, extension.len]. */
+export function everyExtension(bytes) {
+    const at0 = open(bytes.length);
+    write(bytes, at0);
+    prepare(0, bytes.length);
+    const items = [];
+    while (module.calls.langtag_next_extension(module.begin, size(bytes.length), module.outs[0], module.outs[2]) !== 0) {
+        items.push([written(2), written(3)]);
     }
+    return close(items);
 }
 
-/** Returns ASCII bytes as a string. */
-function read(at, length) {
-    let text = "";
-    if (length <= 32) { // a loop is quicker for most tags
-        for (let index = at; index < at + length; index++) text += String.fromCharCode(bytes[index]);
-        return text;
+/** Returns [value.start, value.len] or undefined. */
+export function keyword(bytes, key) {
+    const at0 = open(bytes.length + key.length);
+    const at1 = write(bytes, at0);
+    write(key, at1);
+    return close(module.calls.langtag_keyword(module.begin, size(bytes.length), size(at1), size(key.length), module.outs[0]) !== 0 ? [written(0), written(1)] : undefined);
+}
+
+/** Returns a list of [key.start, key.len, value.start, value.len]. */
+export function everyKeyword(bytes) {
+    const at0 = open(bytes.length);
+    write(bytes, at0);
+    prepare(0);
+    const items = [];
+    while (module.calls.langtag_next_keyword(module.begin, size(bytes.length), module.outs[0], module.outs[1], module.outs[3]) !== 0) {
+        items.push([written(1), written(2), written(3), written(4)]);
     }
-    for (let begin = 0; begin < length; begin += 8192) {
-        text += String.fromCharCode.apply(null, bytes.subarray(at + begin, at + Math.min(length, begin + 8192)));
+    return close(items);
+}
+
+/** Returns [attributes.start, attributes.len] or undefined. */
+export function attributes(bytes) {
+    const at0 = open(bytes.length);
+    write(bytes, at0);
+    return close(module.calls.langtag_attributes(module.begin, size(bytes.length), module.outs[0]) !== 0 ? [written(0), written(1)] : undefined);
+}
+
+/** Returns [language.start, language.len] or undefined. */
+export function transform(bytes) {
+    const at0 = open(bytes.length);
+    write(bytes, at0);
+    return close(module.calls.langtag_transform(module.begin, size(bytes.length), module.outs[0]) !== 0 ? [written(0), written(1)] : undefined);
+}
+
+/** Returns [value.start, value.len] or undefined. */
+export function field(bytes, key) {
+    const at0 = open(bytes.length + key.length);
+    const at1 = write(bytes, at0);
+    write(key, at1);
+    return close(module.calls.langtag_field(module.begin, size(bytes.length), size(at1), size(key.length), module.outs[0]) !== 0 ? [written(0), written(1)] : undefined);
+}
+
+/** Returns a list of [key.start, key.len, value.start, value.len]. */
+export function everyField(bytes) {
+    const at0 = open(bytes.length);
+    write(bytes, at0);
+    prepare(0);
+    const items = [];
+    while (module.calls.langtag_next_field(module.begin, size(bytes.length), module.outs[0], module.outs[1], module.outs[3]) !== 0) {
+        items.push([written(1), written(2), written(3), written(4)]);
     }
-    return text;
+    return close(items);
 }
 
-/** Returns the number at an index of what a call wrote: an offset or a length. If it has 64 bits, the upper 32 bits are 0. */
-const written = (index) => view.getUint32(out + WORD * index, true);
-const numbers = (count) => Array.from({ length: count }, (_, index) => written(index));
-
-function writeSize(at, number) {
-    view.setUint32(at, number, true);
-    if (IS_WIDE) view.setUint32(at + 4, 0, true);
+/** Returns the written string. */
+export function withPart(tag, part, text, room = tag.length + text.length + 32) {
+    const at0 = open(tag.length + text.length + room);
+    const at1 = write(tag, at0);
+    const at2 = write(text, at1);
+    const length = count(module.calls.langtag_with_part(module.begin, size(tag.length), part, size(at1), size(text.length), size(at2), size(room)));
+    if (length <= room) return close(read(at2, length));
+    close();
+    return withPart(tag, part, text, length);
 }
 
-function writeSpan(at, start, length) {
-    writeSize(at, start);
-    writeSize(at + WORD, length);
+/** Returns the written string. */
+export function withKeyword(tag, key, value, room = tag.length + key.length + value.length + 32) {
+    const at0 = open(tag.length + key.length + value.length + room);
+    const at1 = write(tag, at0);
+    const at2 = write(key, at1);
+    const at3 = write(value, at2);
+    const length = count(module.calls.langtag_with_keyword(module.begin, size(tag.length), size(at1), size(key.length), size(at2), size(value.length), size(at3), size(room)));
+    if (length <= room) return close(read(at3, length));
+    close();
+    return withKeyword(tag, key, value, length);
 }
 
-function askOne(name, text) {
-    open(text.length);
-    write(text, texts);
-    return close(calls[name](textsAddress, size(text.length)));
+/** Returns the written string. */
+export function withoutKeyword(tag, key, room = tag.length + key.length + 32) {
+    const at0 = open(tag.length + key.length + room);
+    const at1 = write(tag, at0);
+    const at2 = write(key, at1);
+    const length = count(module.calls.langtag_without_keyword(module.begin, size(tag.length), size(at1), size(key.length), size(at2), size(room)));
+    if (length <= room) return close(read(at2, length));
+    close();
+    return withoutKeyword(tag, key, length);
 }
 
-function askTwo(name, one, other) {
-    open(one.length + other.length);
-    write(one, texts);
-    write(other, texts + one.length);
-    return close(calls[name](textsAddress, size(one.length), size(texts + one.length), size(other.length)));
+/** Returns the written string. */
+export function extensionsForm(bytes, room = bytes.length + 32) {
+    const at0 = open(bytes.length + room);
+    const at1 = write(bytes, at0);
+    const length = count(module.calls.langtag_extensions_form(module.begin, size(bytes.length), size(at1), size(room)));
+    if (length <= room) return close(read(at1, length));
+    close();
+    return extensionsForm(bytes, length);
 }
 
-/** Begins a call with texts and numbers. Returns the arguments, among which each text is an address and a length, and the address
- * of a room after the texts. */
-function openWith(given, room) {
-    open(given.reduce((sum, it) => sum + (it.length ?? 0), room));
-    let at = texts;
-    const passed = given.flatMap((it) => {
-        if (typeof it === "number") return it;
-        write(it, at);
-        at += it.length;
-        return [size(at - it.length), size(it.length)];
-    });
-    return [passed, at];
+export function isLocale(bytes) {
+    const at0 = open(bytes.length);
+    write(bytes, at0);
+    return close(module.calls.langtag_is_locale(module.begin, size(bytes.length)) !== 0);
 }
 
-/** Returns the new text that a call writes for texts and numbers, or "" if it writes none. */
-function askText(name, room, ...given) {
-    const [passed, at] = openWith(given, room);
-    const length = Number(calls[name](...passed, size(at), size(room))) >>> 0;
-    if (length > room) {
-        close();
-        return askText(name, length, ...given);
-    }
-    return close(read(at, length));
+/** Returns the written string. */
+export function localeForm(bytes, room = bytes.length + 32) {
+    const at0 = open(bytes.length + room);
+    const at1 = write(bytes, at0);
+    const length = count(module.calls.langtag_locale_form(module.begin, size(bytes.length), size(at1), size(room)));
+    if (length <= room) return close(read(at1, length));
+    close();
+    return localeForm(bytes, length);
 }
 
-/** Returns a call that writes the new text of a text. The room is enough for most texts. */
-const form = (name) => (text) => formOf(name, text, text.length + 32);
-
-function formOf(name, text, room) {
-    open(text.length + room);
-    write(text, texts);
-    const at = texts + text.length;
-    const length = Number(calls[name](textsAddress, size(text.length), size(at), size(room))) >>> 0;
-    if (length > room) {
-        close();
-        return formOf(name, text, length);
-    }
-    return close(read(at, length));
+/** Returns [result, repeated.variant.start, repeated.variant.len, repeated.singleton.start, repeated.singleton.len]. */
+export function repeats(bytes) {
+    const at0 = open(bytes.length);
+    write(bytes, at0);
+    const result = module.calls.langtag_repeats(module.begin, size(bytes.length), module.outs[0]) >>> 0;
+    return close([result, written(0), written(1), written(2), written(3)]);
 }
 
-/** Returns the result of a call for one text, and the first numbers that it writes. */
-function askNumbers(name, text, count) {
-    open(text.length);
-    write(text, texts);
-    const answer = calls[name](textsAddress, size(text.length), outAddress);
-    return close([answer, ...numbers(count)]);
+/** Returns [result, invalid.start, invalid.len]. */
+export function validity(bytes) {
+    const at0 = open(bytes.length);
+    write(bytes, at0);
+    const result = module.calls.langtag_validity(module.begin, size(bytes.length), module.outs[0]) >>> 0;
+    return close([result, written(0), written(1)]);
 }
 
-/** Returns the offset and length of the span that a call writes, or undefined if the call returns false. */
-function askSpan(name, text) {
-    open(text.length);
-    write(text, texts);
-    return close(calls[name](textsAddress, size(text.length), outAddress) ? [written(0), written(1)] : undefined);
+/** Returns the written string. */
+export function suggestion(fault, subtag, room = subtag.length + 32) {
+    const at0 = open(subtag.length + room);
+    const at1 = write(subtag, at0);
+    const length = count(module.calls.langtag_suggestion(fault, module.begin, size(subtag.length), size(at1), size(room)));
+    if (length <= room) return close(read(at1, length));
+    close();
+    return suggestion(fault, subtag, length);
 }
 
-/** Returns the offset and length of the value of a key, or undefined if the key is absent. */
-function askValue(name, text, key) {
-    open(text.length + key.length);
-    write(text, texts);
-    write(key, texts + text.length);
-    const isThere = calls[name](textsAddress, size(text.length), size(texts + text.length), size(key.length), outAddress);
-    return close(isThere ? [written(0), written(1)] : undefined);
+/** Returns the written string. */
+export function canonical(bytes, room = bytes.length + 32) {
+    const at0 = open(bytes.length + room);
+    const at1 = write(bytes, at0);
+    const length = count(module.calls.langtag_canonical(module.begin, size(bytes.length), size(at1), size(room)));
+    if (length <= room) return close(read(at1, length));
+    close();
+    return canonical(bytes, length);
 }
 
-function changed(name, text) {
-    open(text.length);
-    write(text, texts);
-    calls[name](textsAddress, size(text.length));
-    return close(read(texts, text.length));
+export function isCanonical(bytes) {
+    const at0 = open(bytes.length);
+    write(bytes, at0);
+    return close(module.calls.langtag_is_canonical(module.begin, size(bytes.length)) !== 0);
 }
 
-/** Returns the kind of a tag, and the offset and length of each of the six parts, or undefined if the text is not a tag. */
-export function parse(text) {
-    const length = text.length;
-    open(length);
-    write(text, texts);
-    const kind = calls.langtag_parse(textsAddress, size(length), outAddress);
-    if (kind === 0) return close(undefined);
-    const spans = [
-        written(0), written(1), written(2), written(3), written(4), written(5),
-        written(6), written(7), written(8), written(9), written(10), written(11),
-    ];
-    return close({ kind, spans });
-}
-
-export const kind = (text) => askOne("langtag_kind", text);
-export const viable = (text) => Number(askOne("langtag_viable", text)) >>> 0;
-export const stop = (text) => Number(askOne("langtag_stop", text)) >>> 0;
-export const baseLength = (text) => Number(askOne("langtag_base_len", text)) >>> 0;
-export const isCanonical = (text) => askOne("langtag_is_canonical", text) !== 0;
-export const isLocale = (text) => askOne("langtag_is_locale", text) !== 0;
-export const grandfathered = (text) => askOne("langtag_grandfathered", text);
-export const rangeKind = (text) => askOne("langtag_range_kind", text);
-export const isEqual = (one, other) => askTwo("langtag_eq", one, other) !== 0;
-export const compare = (one, other) => askTwo("langtag_cmp", one, other);
-export const matchesBasic = (range, tag) => askTwo("langtag_matches_basic", range, tag) !== 0;
-export const matchesExtended = (range, tag) => askTwo("langtag_matches_extended", range, tag) !== 0;
-export const fold = (text) => changed("langtag_fold", text);
-export const recommend = (text) => changed("langtag_recommend", text);
-export const canonical = form("langtag_canonical");
-export const maximize = form("langtag_maximize");
-export const minimize = form("langtag_minimize");
-export const extensionsForm = form("langtag_extensions_form");
-export const localeForm = form("langtag_locale_form");
-export const fromPosix = form("langtag_from_posix");
-/** Returns the offset and length of a modifier that is not known, or undefined if there is none. */
-export const unknownModifier = (name) => askSpan("langtag_unknown_modifier", name);
-export const distance = (desired, supported) => askTwo("langtag_distance", desired, supported) >>> 0;
-export const isRightToLeft = (text) => askOne("langtag_is_right_to_left", text) !== 0;
-
-/** Returns the 64-bit FNV-1a hash of the text in lowercase. */
-export function hash(text) {
-    open(text.length);
-    write(text, texts);
-    return close(BigInt.asUintN(64, calls.langtag_hash(0xcbf29ce484222325n, textsAddress, size(text.length))));
-}
-
-/** Returns the date of the registry as a number, such as 20250131. */
 export function registryDate() {
     open(0);
-    return close(calls.langtag_registry_date());
+    return close(module.calls.langtag_registry_date() >>> 0);
 }
 
-export const isProved = PROVED;
-
-/** Returns the version of CLDR, such as "48.2". */
-export const cldrVersion = () => askText("langtag_cldr_version", 8);
-
-/** Returns why a text is not a tag, as a number, the offset and length of the wrong subtag, and the offset to point at. */
-export function refused(text) {
-    open(text.length);
-    write(text, texts);
-    const answer = calls.langtag_refused(textsAddress, size(text.length), outAddress, size(out + 2 * WORD));
-    return close([answer, written(0), written(1), written(2)]);
+/** Returns the written string. */
+export function maximize(bytes, room = bytes.length + 32) {
+    const at0 = open(bytes.length + room);
+    const at1 = write(bytes, at0);
+    const length = count(module.calls.langtag_maximize(module.begin, size(bytes.length), size(at1), size(room)));
+    if (length <= room) return close(read(at1, length));
+    close();
+    return maximize(bytes, length);
 }
 
-/** Returns what is wrong with a tag, as a number, and the offset and length of the invalid subtag. */
-export function validity(text) {
-    open(text.length);
-    write(text, texts);
-    const answer = calls.langtag_validity(textsAddress, size(text.length), outAddress);
-    return close([answer, written(0), written(1)]);
+/** Returns the written string. */
+export function minimize(bytes, room = bytes.length + 32) {
+    const at0 = open(bytes.length + room);
+    const at1 = write(bytes, at0);
+    const length = count(module.calls.langtag_minimize(module.begin, size(bytes.length), size(at1), size(room)));
+    if (length <= room) return close(read(at1, length));
+    close();
+    return minimize(bytes, length);
 }
 
-/** Returns the code that is meant by an invalid subtag, or "" if there is none. `fault` is the number that validity returned. */
-export const suggestion = (fault, subtag) => askText("langtag_suggestion", 3, fault, subtag);
-/** Returns the offset and length of the repeated variant, and of the repeated singleton. */
-export const repeats = (text) => askNumbers("langtag_repeats", text, 4).slice(1);
-
-/** Returns the tag with the part of a number set to a text, or "" if the text is not such a part. */
-export const withPart = (tag, part, text) => askText("langtag_with_part", tag.length + text.length + 1, tag, part, text);
-
-/** Returns the tag with the value of a key of the extension u, or without the key if the value is undefined. Returns "" if the key or
- * the value cannot be in a keyword, or if the tag is not normal. */
-export function withKeyword(tag, key, value) {
-    if (value === undefined) return askText("langtag_without_keyword", tag.length, tag, key);
-    return askText("langtag_with_keyword", tag.length + key.length + value.length + 4, tag, key, value);
+export function isRightToLeft(bytes) {
+    const at0 = open(bytes.length);
+    write(bytes, at0);
+    return close(module.calls.langtag_is_right_to_left(module.begin, size(bytes.length)) !== 0);
 }
 
-/** Return the offset and length of the value of a key, or undefined if the key is absent. */
-export const keyword = (text, key) => askValue("langtag_keyword", text, key);
-export const field = (text, key) => askValue("langtag_field", text, key);
-
-/** Return the offset and length of what comes before the keys, or undefined if there is none. */
-export const attributes = (text) => askSpan("langtag_attributes", text);
-export const transform = (text) => askSpan("langtag_transform", text);
-
-/** Returns a list with the offset and length of each key, and of its value. */
-function pairsOf(name, text) {
-    open(text.length);
-    write(text, texts);
-    writeSize(out, 0); // the number of subtags that were passed
-    const length = size(text.length), key = size(out + 2 * WORD), value = size(out + 4 * WORD);
-    const pairs = [];
-    while (calls[name](textsAddress, length, outAddress, key, value)) pairs.push([written(2), written(3), written(4), written(5)]);
-    return close(pairs);
+export function distance(desired, supported) {
+    const at0 = open(desired.length + supported.length);
+    const at1 = write(desired, at0);
+    write(supported, at1);
+    return close(module.calls.langtag_distance(module.begin, size(desired.length), size(at1), size(supported.length)) >>> 0);
 }
 
-export const keywords = (text) => pairsOf("langtag_next_keyword", text);
-export const fields = (text) => pairsOf("langtag_next_field", text);
-
-/** Returns the ends of a range and of each of its fallbacks. */
-export function fallbackEnds(range) {
-    open(range.length);
-    write(range, texts);
-    writeSpan(out, 0, range.length); // each call shortens this span
-    const ends = [range.length];
-    while (calls.langtag_next_fallback(textsAddress, size(range.length), outAddress)) ends.push(written(1));
-    return close(ends);
+export function bestForHeader(header, tags) {
+    const tagsLength = lengthOf(tags);
+    const at0 = open(header.length + tagsLength + SPAN * tags.length);
+    const tagsAt = aligned(at0 + header.length + tagsLength);
+    const at1 = write(header, at0);
+    writeList(tags, at1, tagsAt);
+    return close(count(module.calls.langtag_best_for_header(module.begin, size(header.length), size(at1), size(tagsLength), size(tagsAt), size(tags.length))));
 }
 
-/** Returns the answer of the call, the offset, the length and the weight for each element of a header that is not empty. */
-export function accepted(header) {
-    open(header.length);
-    write(header, texts);
-    writeSpan(out, 0, header.length);
-    const length = size(header.length), range = size(out + 2 * WORD), weight = size(out + 4 * WORD);
-    const elements = [];
-    for (;;) {
-        const answer = calls.langtag_next_accepted(textsAddress, length, outAddress, range, weight);
-        if (answer === 0) return close(elements);
-        elements.push([answer, written(2), written(3), written(4)]);
-    }
+/** Returns [result, found.range.start, found.range.len, found.distance]. */
+export function matchForHeader(header, tags) {
+    const tagsLength = lengthOf(tags);
+    const at0 = open(header.length + tagsLength + SPAN * tags.length);
+    const tagsAt = aligned(at0 + header.length + tagsLength);
+    const at1 = write(header, at0);
+    writeList(tags, at1, tagsAt);
+    const result = count(module.calls.langtag_match_for_header(module.begin, size(header.length), size(at1), size(tagsLength), size(tagsAt), size(tags.length), module.outs[0]));
+    return close([result, written(0), written(1), written(2)]);
 }
 
-const lengthOf = (list) => list.reduce((sum, text) => sum + text.length, 0);
-
-/** Writes texts one after another, and their spans, and returns the arguments for them: the address and length of the joined text, and the
- * address and number of the spans. */
-function writeList(list, at, length, spans) {
-    let start = 0;
-    for (let index = 0; index < list.length; index++) {
-        write(list[index], at + start);
-        writeSpan(spans + 2 * WORD * index, start, list[index].length);
-        start += list[index].length;
-    }
-    return [size(at), size(length), size(spans), size(list.length)];
-}
-
-/** Returns the index of the tag that a call chooses for a header, or the number of tags if it chooses none. After it come the first
- * numbers that the call writes. */
-function chosen(name, header, tags, count = 0) {
-    const length = lengthOf(tags), spans = (header.length + length + 7) & -8;
-    open(spans + 2 * WORD * tags.length);
-    write(header, texts);
-    const offered = writeList(tags, texts + header.length, length, texts + spans);
-    const index = Number(calls[name](textsAddress, size(header.length), ...offered, ...(count > 0 ? [outAddress] : [])));
-    return close([index >>> 0, ...numbers(count)]);
-}
-
-/** Returns the index of the tag that is best for a list of ranges, or the number of tags if none is suitable. */
 export function bestForRanges(ranges, tags) {
-    const wantedLength = lengthOf(ranges), length = lengthOf(tags), spans = (wantedLength + length + 7) & -8;
-    open(spans + 2 * WORD * (ranges.length + tags.length));
-    const wanted = writeList(ranges, texts, wantedLength, texts + spans);
-    const offered = writeList(tags, texts + wantedLength, length, texts + spans + 2 * WORD * ranges.length);
-    return close(Number(calls.langtag_best_for_ranges(...wanted, ...offered)) >>> 0);
+    const rangesLength = lengthOf(ranges);
+    const tagsLength = lengthOf(tags);
+    const at0 = open(rangesLength + tagsLength + SPAN * ranges.length + SPAN * tags.length);
+    const rangesAt = aligned(at0 + rangesLength + tagsLength);
+    const tagsAt = aligned(rangesAt + SPAN * ranges.length);
+    const at1 = writeList(ranges, at0, rangesAt);
+    writeList(tags, at1, tagsAt);
+    return close(count(module.calls.langtag_best_for_ranges(module.begin, size(rangesLength), size(rangesAt), size(ranges.length), size(at1), size(tagsLength), size(tagsAt), size(tags.length))));
 }
 
-export const bestForHeader = (header, tags) => chosen("langtag_best_for_header", header, tags)[0];
-/** Returns the index of the best tag, the offset and length of its range in the header, and the distance. */
-export const matchForHeader = (header, tags) => chosen("langtag_match_for_header", header, tags, 3);
-export const tagForHeader = (header, tags) => chosen("langtag_tag_for_header_lenient", header, tags)[0];
+/** Returns the written string. */
+export function fromPosix(name, room = name.length + 32) {
+    const at0 = open(name.length + room);
+    const at1 = write(name, at0);
+    const length = count(module.calls.langtag_from_posix(module.begin, size(name.length), size(at1), size(room)));
+    if (length <= room) return close(read(at1, length));
+    close();
+    return fromPosix(name, length);
+}
+
+/** Returns [modifier.start, modifier.len] or undefined. */
+export function unknownModifier(name) {
+    const at0 = open(name.length);
+    write(name, at0);
+    return close(module.calls.langtag_unknown_modifier(module.begin, size(name.length), module.outs[0]) !== 0 ? [written(0), written(1)] : undefined);
+}
+
+/** Returns the written string. */
+export function cldrVersion(room = 32) {
+    const at0 = open(room);
+    const length = count(module.calls.langtag_cldr_version(module.begin, size(room)));
+    if (length <= room) return close(read(at0, length));
+    close();
+    return cldrVersion(length);
+}
+
+export function grandfathered(bytes) {
+    const at0 = open(bytes.length);
+    write(bytes, at0);
+    return close(module.calls.langtag_grandfathered(module.begin, size(bytes.length)) >>> 0);
+}
+
+export function rangeKind(bytes) {
+    const at0 = open(bytes.length);
+    write(bytes, at0);
+    return close(module.calls.langtag_range_kind(module.begin, size(bytes.length)) >>> 0);
+}
+
+export function matchesBasic(range, tag) {
+    const at0 = open(range.length + tag.length);
+    const at1 = write(range, at0);
+    write(tag, at1);
+    return close(module.calls.langtag_matches_basic(module.begin, size(range.length), size(at1), size(tag.length)) !== 0);
+}
+
+export function matchesExtended(range, tag) {
+    const at0 = open(range.length + tag.length);
+    const at1 = write(range, at0);
+    write(tag, at1);
+    return close(module.calls.langtag_matches_extended(module.begin, size(range.length), size(at1), size(tag.length)) !== 0);
+}
+
+/** Returns a list of [rest.start, rest.len]. */
+export function everyFallback(bytes) {
+    const at0 = open(bytes.length);
+    write(bytes, at0);
+    prepare(0, bytes.length);
+    const items = [];
+    while (module.calls.langtag_next_fallback(module.begin, size(bytes.length), module.outs[0]) !== 0) {
+        items.push([written(0), written(1)]);
+    }
+    return close(items);
+}
+
+/** Returns a list of [result, range.start, range.len, weight]. */
+export function everyAccepted(bytes) {
+    const at0 = open(bytes.length);
+    write(bytes, at0);
+    prepare(0, bytes.length);
+    const items = [];
+    for (;;) {
+        const result = module.calls.langtag_next_accepted(module.begin, size(bytes.length), module.outs[0], module.outs[2], module.outs[4]) >>> 0;
+        if (result === 0) return close(items);
+        items.push([result, written(2), written(3), written(4)]);
+    }
+}
+
+export function tagForHeaderLenient(header, tags) {
+    const tagsLength = lengthOf(tags);
+    const at0 = open(header.length + tagsLength + SPAN * tags.length);
+    const tagsAt = aligned(at0 + header.length + tagsLength);
+    const at1 = write(header, at0);
+    writeList(tags, at1, tagsAt);
+    return close(count(module.calls.langtag_tag_for_header_lenient(module.begin, size(header.length), size(at1), size(tagsLength), size(tagsAt), size(tags.length))));
+}
+
+/** Returns [result, index, bad.start, bad.len]. */
+export function tagForHeader(header, tags) {
+    const tagsLength = lengthOf(tags);
+    const at0 = open(header.length + tagsLength + SPAN * tags.length);
+    const tagsAt = aligned(at0 + header.length + tagsLength);
+    const at1 = write(header, at0);
+    writeList(tags, at1, tagsAt);
+    const result = module.calls.langtag_tag_for_header(module.begin, size(header.length), size(at1), size(tagsLength), size(tagsAt), size(tags.length), module.outs[0], module.outs[1]) >>> 0;
+    return close([result, written(0), written(1), written(2)]);
+}

@@ -41,7 +41,7 @@ export type Kind = "normal" | "private-use" | "irregular";
 export type Fault =
     | "language" | "extlang" | "second-extlang" | "script" | "region" | "variant" | "repeated-variant" | "repeated-singleton";
 
-/** The first subtag that makes a tag invalid. `toString` returns a message: "variant '1996' is repeated". */
+/** The first subtag that makes a tag invalid. `toString` returns a message: "variant 1996 is repeated". */
 export interface InvalidSubtag {
     readonly fault: Fault;
     readonly subtag: string;

@@ -3,6 +3,7 @@
  * grammar. index.d.ts documents each export.
  */
 import * as calls from "./calls.js";
+import { PROVED as isProved } from "./module.js";
 import { NAMES } from "./names.js";
 
 /** The 26 grandfathered tags in their registered spelling (RFC 5646 section 2.1). The first seventeen are irregular. */
@@ -17,7 +18,9 @@ export const REGISTRY_DATE = String(calls.registryDate()).replace(/(....)(..)(..
 /** The version of Unicode's CLDR from which likely subtags, distances and aliases come, such as "48.2". */
 export const CLDR_VERSION = calls.cldrVersion();
 
-export const PROVED = calls.isProved;
+export const PROVED = isProved;
+
+const FNV1A = 0xcbf29ce484222325n; // the hash of an empty string
 
 const KINDS = [undefined, "normal", "private-use", "irregular"];
 const PARTS = ["language", "script", "region", "variants", "extensions", "privateUse"];
@@ -25,8 +28,15 @@ const FAULTS = [
     "language", "extlang", "second-extlang", "script", "region", "variant", "repeated-variant", "repeated-singleton",
 ];
 
-/** Returns a text as a message shows it: escaped, and only its beginning if it is long. */
-const quoted = (text) => JSON.stringify(text.length > 80 ? `${text.slice(0, 80)}…` : text);
+const ESCAPED = /[\0-\x1f\\`\x7f-\x9f\u200b-\u200f\u2028-\u202e\u2060-\u206f\ufeff]|\p{Surrogate}/gu;
+const ESCAPES = { "\t": "\\t", "\n": "\\n", "\r": "\\r", "\\": "\\\\", "`": "\\`" };
+
+/** Returns a string as a message shows it: in backticks, with escapes, and only its first 80 characters if it is long. */
+function quoted(text) {
+    const characters = [...text.slice(0, 161)]; // at least 81 characters, if there are so many
+    const shown = characters.slice(0, 80).join("").replace(ESCAPED, (it) => ESCAPES[it] ?? `\\u{${it.codePointAt(0).toString(16)}}`);
+    return `\`${shown}${characters.length > 80 ? "..." : ""}\``;
+}
 
 /** Returns the type of a value as an error message names it. */
 const typeName = (value) => (value === null ? "null" : typeof value);
@@ -64,20 +74,23 @@ export class InvalidTag extends Refusal {
         const reason = answer === 1 ? (subtag === "" ? "empty subtag" : `unexpected subtag ${quoted(subtag)}`) :
             answer === 2 ? `invalid character ${quoted(String.fromCodePoint(text.codePointAt(offset)))}: expected a letter, a digit or a hyphen` :
             "unexpected end: expected a subtag";
-        super(`${quoted(text)} is not a language tag: ${reason}`, { text, subtag, start, offset, viable: calls.viable(text), reason });
+        super(`invalid language tag ${quoted(text)}: ${reason}`, { text, subtag, start, offset, viable: calls.viable(text), reason });
     }
 }
 
 export class InvalidRange extends Refusal {
     constructor(text) {
-        super(`${quoted(text)} is not a language range`, { text });
+        super(`invalid language range ${quoted(text)}`, { text });
     }
 }
 
 export class EditError extends Refusal {
     constructor(part, text) {
-        const whole = part === "key" || part === "value" ? "keyword" : "tag";
-        super(text === undefined ? "not a normal language tag" : `${quoted(text)} can't be the ${part} of a ${whole}`, { part, text });
+        const message = text === undefined ? "not a normal language tag" :
+            part === "key" ? `${quoted(text)} is not a key of the extension u` :
+            part === "value" ? `${quoted(text)} is not a value of a key: a subtag needs three to eight letters or digits` :
+            `invalid ${part === "privateUse" ? "private use" : part} ${quoted(text)}`;
+        super(message, { part, text });
     }
 }
 
@@ -101,8 +114,8 @@ class InvalidSubtag {
     }
     toString() {
         const kind = this.fault.replace("extlang", "extended language").replace(/^(second|repeated)-/, "");
-        const meant = this.suggestion ? `: did you mean '${this.suggestion}'?` : "";
-        return `${kind} '${this.subtag}' ${HOW[this.fault] ?? "is not registered"}${meant}`;
+        const meant = this.suggestion ? `: did you mean ${this.suggestion}?` : "";
+        return `${kind} ${this.subtag} ${HOW[this.fault] ?? "is not registered"}${meant}`;
     }
 }
 
@@ -124,6 +137,9 @@ function partText(value) {
     return texts.join("-") || "-";
 }
 
+/** Returns the tag with the value of a key, or without the key if the value is undefined, or "" if the library refuses them. */
+const withKeyword = (tag, key, value) => (value === undefined ? calls.withoutKeyword(tag, key) : calls.withKeyword(tag, key, value));
+
 /** Returns the keys and values of keywords as a list of pairs, without the keys whose value is undefined. */
 function keywordPairs(value) {
     if (typeof value !== "object" || value === null) throw new TypeError(`expected a Map or an object of keywords, got ${typeName(value)}`);
@@ -136,16 +152,14 @@ function keywordPairs(value) {
 }
 
 export class LanguageTag {
-    #kind;
-    #spans;
+    #parsed; // the number of the kind, and the offset and length of each part
 
     constructor(value) {
         const text = textOf(value);
         const found = calls.parse(text);
-        if (found === undefined) throw new InvalidTag(text);
+        if (found[0] === 0) throw new InvalidTag(text);
         this.text = text;
-        this.#kind = found.kind;
-        this.#spans = found.spans;
+        this.#parsed = found;
         Object.freeze(this);
     }
 
@@ -168,7 +182,7 @@ export class LanguageTag {
     }
 
     static compare(one, other) {
-        return calls.compare(tagOf(one).text, tagOf(other).text);
+        return calls.cmp(tagOf(one).text, tagOf(other).text);
     }
 
     #at(offset, length) {
@@ -177,7 +191,7 @@ export class LanguageTag {
 
     /** Returns the text of the part with a number, or "" if the part is absent. */
     #part(part) {
-        return this.#at(this.#spans[2 * part], this.#spans[2 * part + 1]);
+        return this.#at(this.#parsed[2 * part + 1], this.#parsed[2 * part + 2]);
     }
 
     #subtags(part) {
@@ -186,7 +200,7 @@ export class LanguageTag {
     }
 
     get kind() {
-        return KINDS[this.#kind];
+        return KINDS[this.#parsed[0]];
     }
 
     get language() {
@@ -233,7 +247,7 @@ export class LanguageTag {
     }
 
     get keywords() {
-        return this.#mapOf(calls.keywords(this.text));
+        return this.#mapOf(calls.everyKeyword(this.text));
     }
 
     get attributes() {
@@ -248,7 +262,7 @@ export class LanguageTag {
     get transform() {
         const language = calls.transform(this.text);
         if (language === undefined) return undefined;
-        return { language: this.#at(...language) || undefined, fields: this.#mapOf(calls.fields(this.text)) };
+        return { language: this.#at(...language) || undefined, fields: this.#mapOf(calls.everyField(this.text)) };
     }
 
     /** Returns a map from lowercase keys to values. Each key occurs once in the list. */
@@ -265,12 +279,12 @@ export class LanguageTag {
     }
 
     get repeatedVariant() {
-        const [offset, length] = calls.repeats(this.text);
+        const [, offset, length] = calls.repeats(this.text);
         return this.#at(offset, length) || undefined;
     }
 
     get repeatedSingleton() {
-        const [, , offset, length] = calls.repeats(this.text);
+        const [, , , offset, length] = calls.repeats(this.text);
         return this.#at(offset, length) || undefined;
     }
 
@@ -312,7 +326,7 @@ export class LanguageTag {
     }
 
     fnv1a() {
-        return calls.hash(this.text);
+        return calls.hash(FNV1A, this.text);
     }
 
     extensionsForm() {
@@ -320,7 +334,7 @@ export class LanguageTag {
     }
 
     get base() {
-        return new LanguageTag(this.#at(0, calls.baseLength(this.text)));
+        return new LanguageTag(this.#at(0, calls.baseLen(this.text)));
     }
 
     get isLocale() {
@@ -346,7 +360,7 @@ export class LanguageTag {
     }
 
     #withPart(part, value) {
-        if (this.#kind !== 1) throw new EditError(PARTS[part]);
+        if (this.#parsed[0] !== 1) throw new EditError(PARTS[part]);
         const text = partText(value);
         const isList = part === 3 || part === 4;
         const made = text === "" && value !== null && !isList ? "" : calls.withPart(this.text, part, text);
@@ -355,16 +369,16 @@ export class LanguageTag {
     }
 
     #withKeyword(key, value) {
-        const made = calls.withKeyword(this.text, key, value);
+        const made = withKeyword(this.text, key, value);
         if (made !== "") return new LanguageTag(made);
         // A keyword can be set in und, so the library refuses the key or the value, if it refuses them there too.
-        if (calls.withKeyword("und", key) === "") throw new EditError("key", key);
-        if (value !== undefined && calls.withKeyword("und", key, value) === "") throw new EditError("value", value);
+        if (withKeyword("und", key) === "") throw new EditError("key", key);
+        if (value !== undefined && withKeyword("und", key, value) === "") throw new EditError("value", value);
         throw new EditError("keywords");
     }
 
     equals(other) {
-        return calls.isEqual(this.text, textOf(other));
+        return calls.eq(this.text, textOf(other));
     }
 
     toString() {
@@ -412,7 +426,8 @@ export class LanguageRange {
     }
 
     *fallbacks() {
-        for (const end of calls.fallbackEnds(this.text)) yield new LanguageRange(this.text.slice(0, end));
+        yield this;
+        for (const [, length] of calls.everyFallback(this.text)) yield new LanguageRange(this.text.slice(0, length));
     }
 
     matchesBasic(tag) {
@@ -424,7 +439,7 @@ export class LanguageRange {
     }
 
     equals(other) {
-        return calls.isEqual(this.text, textOf(other));
+        return calls.eq(this.text, textOf(other));
     }
 
     toString() {
@@ -447,7 +462,7 @@ function chosen(choose, wanted, tags, otherwise) {
 
 export function lookUp(ranges, tags, otherwise) {
     const header = [...several(ranges, "ranges")].map((range) => rangeOf(range).text.replaceAll("-*", "")).join();
-    return chosen(calls.tagForHeader, header, tags, otherwise);
+    return chosen(calls.tagForHeaderLenient, header, tags, otherwise);
 }
 
 const BAD_PARTS = [, , "language range", "weight"];
@@ -456,7 +471,7 @@ export class AcceptLanguage {
     constructor(header, isLenient = false) {
         const text = headerText(header);
         const ranges = [];
-        for (const [answer, offset, length, weight] of calls.accepted(text)) {
+        for (const [answer, offset, length, weight] of calls.everyAccepted(text)) {
             if (answer > 1 && !isLenient) {
                 const index = text.slice(0, offset).split(",").length - 1;
                 throw new AcceptLanguageError(text, index, offset, BAD_PARTS[answer]);
@@ -493,7 +508,7 @@ export function tagForHeader(header, tags, otherwise) {
 }
 
 export function tagForHeaderLenient(header, tags, otherwise) {
-    return chosen(calls.tagForHeader, headerText(header), tags, otherwise);
+    return chosen(calls.tagForHeaderLenient, headerText(header), tags, otherwise);
 }
 
 export function distance(desired, supported) {

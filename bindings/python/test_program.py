@@ -55,7 +55,7 @@ class Program(unittest.TestCase):
         self.assertEqual(run(PYTHON, ["check", "iw", "fr-FQ"])[:2], (1, b"valid canonical=he\ninvalid region=FQ canonical=fr-FQ\n"))
         self.assertEqual(run(PYTHON, ["canonical"], b"iw\n\nzh-yue"), (1, b"he\n-\nyue\n", b""))
         self.assertEqual(run(PYTHON, ["match", "*-CH"], b"de-CH\nfr\n"), (0, b"de-CH\n", b""))
-        self.assertEqual(run(PYTHON, ["show", "de-419-DE"])[2], b"langtag: `de-419-DE` is not a language tag: unexpected subtag `DE`\n"
+        self.assertEqual(run(PYTHON, ["show", "de-419-DE"])[2], b"langtag: invalid language tag `de-419-DE`: unexpected subtag `DE`\n"
                                                                b"    de-419-DE\n           ^^\n")
 
     @unittest.skipUnless(os.environ.get("root"), "the repository is not named")

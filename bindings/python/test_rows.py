@@ -77,19 +77,6 @@ def adapted(row):
     return "\n".join(lines)
 
 
-# The name of each fault, the kind of the subtag, and the end of the message.
-FAULTS = {
-    "language": ("language", "is not registered"),
-    "extlang": ("extended language", "is not registered"),
-    "second-extlang": ("extended language", "is the second"),
-    "script": ("script", "is not registered"),
-    "region": ("region", "is not registered"),
-    "variant": ("variant", "is not registered"),
-    "repeated-variant": ("variant", "is repeated"),
-    "repeated-singleton": ("singleton", "is repeated"),
-}
-
-
 def answer_validity(text):
     tag = made(Tag, text)
     if tag is None:
@@ -99,10 +86,14 @@ def answer_validity(text):
     if wrong is None:
         return "valid"
     assert text[wrong.start :].decode().startswith(wrong.subtag)
-    kind, how = FAULTS[wrong.fault]
-    meant = f": did you mean '{wrong.suggestion}'?" if wrong.suggestion else ""
-    assert str(wrong) == f"{kind} '{wrong.subtag}' {how}{meant}"
+    assert str(wrong).partition(": did you mean ")[2] == (f"{wrong.suggestion}?" if wrong.suggestion else "")
     return f"{wrong.fault} {wrong.start} {wrong.subtag}"
+
+
+def answer_fault(text):
+    """Returns the message for a tag that is not valid, without the suggestion."""
+    tag = made(Tag, text)
+    return "-" if tag is None else str(tag.invalid_subtag or "valid").partition(": did you mean ")[0]
 
 
 def answer_suggestion(text):
@@ -200,7 +191,7 @@ def replaced(tag, part, value, given):
         return str(tag.replace(**{part: value}))
     except EditError as error:
         assert (error.part, error.text) == (part, given if tag.kind is langtag.Kind.NORMAL else None)
-        wanted = "not a normal language tag" if error.text is None else f"{given!r} can't be the {part} of a tag"
+        wanted = "not a normal language tag" if error.text is None else f"invalid {part.replace('_', ' ')} {langtag._quoted_text(given)}"
         assert str(error) == wanted
         copied(error)
         return "no parts" if error.text is None else "refused"
@@ -221,8 +212,9 @@ def with_keyword(tag, keywords):
         return str(tag.replace(keywords=keywords))
     except EditError as error:
         wrong = {"key": "bad key", "value": "bad value", "keywords": "no parts"}[error.part]
-        whole = "not a normal language tag" if error.text is None else f"{error.text!r} can't be the {error.part} of a keyword"
-        assert (error.text is None, str(error)) == (error.part == "keywords", whole)
+        begin = "not a normal language tag" if error.text is None else f"{langtag._quoted_text(error.text)} is not a {error.part} of "
+        assert error.part == "keywords" if error.text is None else error.part in ("key", "value")
+        assert str(error).startswith(begin), str(error)
         assert error.text in (None, *keywords, *keywords.values()) and copied(error)
         return wrong
 
@@ -268,7 +260,7 @@ def answer_refused(text):
         Tag(text)
     except InvalidTag as error:
         assert text.decode("utf-8", "backslashreplace").find(error.subtag) >= 0 and error.viable <= len(text)
-        why = str(error).rpartition(" is not a language tag: ")[2]
+        why = error.reason
         kind = "end" if why == "unexpected end: expected a subtag" else "byte" if why.startswith("invalid character ") else "subtag"
         answer, start, length, offset = langtag._backend.refused(text)
         assert (start, offset) == (error.start, error.offset) and text[start : start + length].decode("utf-8", "backslashreplace") == error.subtag
@@ -276,16 +268,24 @@ def answer_refused(text):
     return f"none {len(text)} 0 {len(text)}"
 
 
-def answer_character(text):
-    """Returns the character or the byte that the message shows, for the text as a str, too."""
-    said = []
+def as_in_row(message):
+    return re.sub(rb"[^ -~]|[\\\\{}]", lambda it: b"\\x%02x" % ord(it[0]), message.encode()).decode()
+
+
+def answer_message(text, kind=Tag, error=InvalidTag):
+    """Returns the message for the text, and checks that it is the same for the text as a str."""
+    said = set()
     for given in {text, text.decode("utf-8", "ignore").encode() == text and text.decode()} - {False}:
         try:
-            Tag(given)
-        except InvalidTag as error:
-            said.append(re.search(r"invalid character '(.*)': expected a letter, a digit or a hyphen$", str(error))[1])
-    assert len(set(said)) == 1
-    return said[0]
+            kind(given)
+        except error as refused:
+            said.add(as_in_row(str(refused)))
+    assert len(said) == 1
+    return said.pop()
+
+
+def answer_range_message(text):
+    return answer_message(text, Range, InvalidRange)
 
 
 def answer_distance(desired, supported):
@@ -371,7 +371,7 @@ ANSWERS = {
     "cldr-version": lambda: langtag.CLDR_VERSION,
     "keyword": answer_keyword, "keywords": answer_keywords, "transform": answer_transform,
     "attributes": lambda text: " ".join(Tag(text).attributes) or "-",
-    "refused": answer_refused, "character": answer_character, "byte": answer_character, "distance": answer_distance, "right-to-left": answer_direction, "posix": answer_posix,
+    "refused": answer_refused, "fault": answer_fault, "message": answer_message, "range-message": answer_range_message, "distance": answer_distance, "right-to-left": answer_direction, "posix": answer_posix,
     "unknown-modifier": answer_unknown_modifier, "best": answer_best,
     "best-ranges": answer_best_ranges,
     "best-accepted": answer_best_accepted,

@@ -17,8 +17,8 @@ pub(crate) fn write_tag(f: &mut fmt::Formatter<'_>, text: &[u8]) -> fmt::Result 
     write!(f, " `{}`: {}", Escaped(text), Reason(text))
 }
 
-/// The characters of a text, and its bytes that are not UTF-8, with escapes as in a string of Rust.
-/// A long text is cut, and ends with `...`.
+/// The characters of a text, and its bytes that are not UTF-8, with escapes. A long text is cut,
+/// and ends with `...`.
 struct Escaped<'a>(&'a [u8]);
 
 impl fmt::Display for Escaped<'_> {
@@ -44,12 +44,21 @@ impl fmt::Display for Escaped<'_> {
     }
 }
 
-/// Writes a character. Quotes are not escaped, since they are only within backticks.
+/// Writes a character. Control characters are escaped, and so are the characters of Unicode that are
+/// invisible or change the direction of the text. All languages have this list.
 fn write_escaped(f: &mut fmt::Formatter<'_>, character: char) -> fmt::Result {
     match character {
-        '"' | '\'' => f.write_char(character),
-        '`' => f.write_str("\\`"),
-        _ => write!(f, "{}", character.escape_debug()),
+        '\t' => f.write_str("\\t"),
+        '\n' => f.write_str("\\n"),
+        '\r' => f.write_str("\\r"),
+        '\\' | '`' => write!(f, "\\{character}"),
+        '\0'..='\u{1f}'
+        | '\u{7f}'..='\u{9f}'
+        | '\u{200b}'..='\u{200f}'
+        | '\u{2028}'..='\u{202e}'
+        | '\u{2060}'..='\u{206f}'
+        | '\u{feff}' => write!(f, "\\u{{{:x}}}", u32::from(character)),
+        _ => f.write_char(character),
     }
 }
 

@@ -89,29 +89,8 @@ fn where_a_text_goes_wrong() {
     assert_eq!(InvalidLangTag("de").reason().to_string(), "it is a tag");
 }
 
-/// The message of an error has at most 80 characters of the text, with escapes, for each type of text.
 #[test]
 fn messages_have_the_text() {
-    let said = [
-        LangTag::new("de-\u{7}`é").unwrap_err().to_string(),
-        LangTag::from_bytes("de-\u{7}`é".as_bytes())
-            .unwrap_err()
-            .to_string(),
-    ];
-    let wanted = r"invalid language tag `de-\u{7}\`é`: invalid character `\u{7}`: expected a letter, a digit or a hyphen";
-    assert_eq!(said, [wanted, wanted]);
-    assert_eq!(
-        LangTag::from_bytes(b"de-\xff\xc3").unwrap_err().to_string(),
-        r"invalid language tag `de-\xff\xc3`: invalid character `\xff`: expected a letter, a digit or a hyphen"
-    );
-    let long = "abcdefgh-".repeat(20);
-    assert_eq!(
-        LangTag::new(&long).unwrap_err().to_string(),
-        format!(
-            "invalid language tag `{}...`: unexpected end: expected a subtag",
-            &long[..80]
-        )
-    );
     assert_eq!(
         Script::new("Latin").unwrap_err().to_string(),
         "invalid script `Latin`"

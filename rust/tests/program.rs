@@ -158,37 +158,37 @@ fn columns() {
 
 #[test]
 fn explanations() {
-    says(&["show", "de-419-DE"], "langtag: `de-419-DE` is not a language tag: unexpected subtag `DE`\n    de-419-DE\n           ^^\n");
-    says(&["check", "zh_Hant"], "langtag: `zh_Hant` is not a language tag: invalid character `_`: expected a letter, a digit or a hyphen\n    zh_Hant\n      ^\n");
+    says(&["show", "de-419-DE"], "langtag: invalid language tag `de-419-DE`: unexpected subtag `DE`\n    de-419-DE\n           ^^\n");
+    says(&["check", "zh_Hant"], "langtag: invalid language tag `zh_Hant`: invalid character `_`: expected a letter, a digit or a hyphen\n    zh_Hant\n      ^\n");
     says(
         &["canonical", "de--DE"],
-        "langtag: `de--DE` is not a language tag: empty subtag\n    de--DE\n       ^\n",
+        "langtag: invalid language tag `de--DE`: empty subtag\n    de--DE\n       ^\n",
     );
     says(
         &["canonical", "en-"],
-        "langtag: `en-` is not a language tag: unexpected end: expected a subtag\n    en-\n       ^\n",
+        "langtag: invalid language tag `en-`: unexpected end: expected a subtag\n    en-\n       ^\n",
     );
-    says(&["maximize", "é-b"], "langtag: `é-b` is not a language tag: invalid character `é`: expected a letter, a digit or a hyphen\n    é-b\n    ^\n");
+    says(&["maximize", "é-b"], "langtag: invalid language tag `é-b`: invalid character `é`: expected a letter, a digit or a hyphen\n    é-b\n    ^\n");
     says(&["check", "fr-a-bb-A-cc"], "langtag: `fr-a-bb-A-cc` is not valid: singleton A is repeated\n    fr-a-bb-A-cc\n            ^\n");
     says(&["check", "de-UK"], "langtag: `de-UK` is not valid: region UK is not registered: did you mean GB?\n    de-UK\n       ^^\n");
     says(&["check", "de-CH-1996-1996"], "langtag: `de-CH-1996-1996` is not valid: variant 1996 is repeated\n    de-CH-1996-1996\n               ^^^^\n");
-    says(&["best", "de", "d!"], "langtag: `d!` is not a language tag: invalid character `!`: expected a letter, a digit or a hyphen\n    d!\n     ^\n");
+    says(&["best", "de", "d!"], "langtag: invalid language tag `d!`: invalid character `!`: expected a letter, a digit or a hyphen\n    d!\n     ^\n");
     says(&["show", "fr-FR"], "");
 }
 
 #[test]
 fn wrong_arguments() {
     for (arguments, words) in [
-        (&[][..], "a command is missing"),
-        (&["shows"], "there is no command `shows`"),
-        (&["show", "--csv"], "there is no option `--csv`"),
-        (&["best"], "an argument is missing: best HEADER [TAG..]"),
-        (&["distance", "de"], "two tags are wanted: distance A B"),
-        (&["show", "--basic"], "`show` has no --basic"),
+        (&[][..], "no command given"),
+        (&["shows"], "unknown command `shows`"),
+        (&["show", "--csv"], "unknown option `--csv`"),
+        (&["best"], "missing argument: best HEADER [TAG..]"),
+        (&["distance", "de"], "expected two tags: distance A B"),
+        (&["show", "--basic"], "`show` does not take --basic"),
     ] {
         says(
             arguments,
-            &format!("langtag: {words}\nlangtag: `langtag --help` has the words\n"),
+            &format!("langtag: {words}\nlangtag: try `langtag --help`\n"),
         );
         prints(arguments, "", "", 2);
     }

@@ -5,6 +5,7 @@
  */
 #include <langtag.hpp>
 
+#include <algorithm>
 #include <cstdio>
 #include <fstream>
 #include <functional>
@@ -80,22 +81,28 @@ static std::string validity_of(const strings &asked) {
     if (!wrong) return "valid";
     const std::string subtag(wrong->subtag), at = " " + std::to_string(wrong->start) + " " + subtag;
     if (wrong->subtag.data() != one->text().data() + wrong->start) return "another offset than" + at;
-    const auto said = [&](const char *name, const char *what, const char *how) {
-        const std::string code = wrong->suggestion();
-        const std::string message = std::string(what) + " " + subtag + " is " + how + (code.empty() ? "" : ": did you mean " + code + "?");
-        return wrong->message() == message ? name + at : name + at + ", and says: " + wrong->message();
-    };
+    const std::string code = wrong->suggestion(), meant = code.empty() ? "" : ": did you mean " + code + "?";
+    const std::string message = wrong->message();
+    if (message.substr(std::min(message.find(": did you mean "), message.size())) != meant) return "another suggestion";
     switch (wrong->fault) {
-    case langtag::fault::language: return said("language", "language", "not registered");
-    case langtag::fault::extlang: return said("extlang", "extended language", "not registered");
-    case langtag::fault::second_extlang: return said("second-extlang", "extended language", "the second");
-    case langtag::fault::script: return said("script", "script", "not registered");
-    case langtag::fault::region: return said("region", "region", "not registered");
-    case langtag::fault::variant: return said("variant", "variant", "not registered");
-    case langtag::fault::repeated_variant: return said("repeated-variant", "variant", "repeated");
-    case langtag::fault::repeated_singleton: return said("repeated-singleton", "singleton", "repeated");
+    case langtag::fault::language: return "language" + at;
+    case langtag::fault::extlang: return "extlang" + at;
+    case langtag::fault::second_extlang: return "second-extlang" + at;
+    case langtag::fault::script: return "script" + at;
+    case langtag::fault::region: return "region" + at;
+    case langtag::fault::variant: return "variant" + at;
+    case langtag::fault::repeated_variant: return "repeated-variant" + at;
+    case langtag::fault::repeated_singleton: return "repeated-singleton" + at;
     }
     return "unknown" + at;
+}
+
+/* Returns the message for a tag that is not valid, without the suggestion. */
+static std::string fault_of(const strings &asked) {
+    const auto one = tag::parse(asked[0]);
+    if (!one) return "-";
+    const auto wrong = one->invalid_subtag();
+    return wrong ? wrong->message().substr(0, wrong->message().find(": did you mean ")) : "valid";
 }
 
 static std::string suggestion_of(const strings &asked) {
@@ -320,13 +327,24 @@ static std::string refused_of(const strings &asked) {
            std::to_string(found->offset);
 }
 
-/* Returns the character or the byte that the message shows. */
-static std::string character_of(const strings &asked) {
-    const auto found = langtag::refused(asked[0]);
-    const std::string message = found ? found->message() : "", begin = "invalid character '", end = "': expected a letter, a digit or a hyphen";
-    if (message.size() < begin.size() + end.size() || message.find(begin) != 0) return message;
-    return beyond_ascii(message.substr(begin.size(), message.size() - begin.size() - end.size()));
+/* Returns a message as rows write it. */
+static std::string as_in_row(const std::string &message) {
+    std::string made;
+    for (const char each : message) {
+        const auto byte = static_cast<unsigned char>(each);
+        char escape[5];
+        std::snprintf(escape, sizeof escape, "\\x%02x", byte);
+        made += byte < ' ' || byte > '~' || byte == '\\' || byte == '{' || byte == '}' ? escape : std::string(1, each);
+    }
+    return made;
 }
+
+static std::string message_of(const strings &asked) {
+    const auto found = langtag::refused(asked[0]);
+    return as_in_row("invalid language tag " + langtag::quoted(asked[0]) + ": " + (found ? found->message() : "none"));
+}
+
+static std::string range_message_of(const strings &asked) { return as_in_row("invalid language range " + langtag::quoted(asked[0])); }
 
 static std::string maximized_of(const strings &asked) {
     const auto one = tag::parse(asked[0]);
@@ -449,8 +467,9 @@ static const std::map<std::string, answer> calls = {
     {"header", header_of},
     {"ranges", ranges_of},
     {"refused", refused_of},
-    {"character", character_of},
-    {"byte", character_of},
+    {"fault", fault_of},
+    {"message", message_of},
+    {"range-message", range_message_of},
     {"maximized", maximized_of},
     {"minimized", minimized_of},
     {"right-to-left", right_to_left_of},

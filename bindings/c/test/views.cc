@@ -141,14 +141,14 @@ static void check_refused() {
         const auto found = langtag::refused(text);
         return found ? std::string(found->subtag) + ' ' + std::to_string(found->offset) + ' ' + found->message() : "a tag";
     };
-    CHECK(shown("de-419-DE") == "DE 7 unexpected subtag 'DE'" && shown("de-DE") == "a tag");
+    CHECK(shown("de-419-DE") == "DE 7 unexpected subtag `DE`" && shown("de-DE") == "a tag");
     const auto byte = langtag::refused("zh-de_CH");
     CHECK(byte && byte->start == 3 && byte->offset == 5 && byte->subtag == "de_CH");
     CHECK(tag::parse("de-1996-FQ") == std::nullopt && tag::parse("de-FQ")->invalid_subtag()->start == 3);
     const auto meant = [](const char *text) { return tag::parse(text)->invalid_subtag()->suggestion(); };
     CHECK(meant("ger-AT") == "de" && meant("en-uk") == "GB" && meant("en-840") == "US" && meant("hbs").empty() && meant("fr-FQ").empty());
     CHECK(tag::parse("en-UK")->invalid_subtag()->message() == "region UK is not registered: did you mean GB?");
-    CHECK(shown("de_CH") == "de_CH 2 invalid character '_': expected a letter, a digit or a hyphen");
+    CHECK(shown("de_CH") == "de_CH 2 invalid character `_`: expected a letter, a digit or a hyphen");
     CHECK(shown("de--AT") == " 3 empty subtag" && shown("en-a") == " 4 unexpected end: expected a subtag" && shown({}) == " 0 unexpected end: expected a subtag");
 }
 

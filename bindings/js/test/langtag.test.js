@@ -22,7 +22,7 @@ WebAssembly.Instance = function (...given) {
     return made;
 };
 const folder = mkdtempSync(join(tmpdir(), "langtag-"));
-for (const name of ["package.json", "index.js", "calls.js", "module.js", "names.js"]) cpSync(new URL(`../${name}`, import.meta.url), join(folder, name));
+for (const name of ["package.json", "index.js", "calls.js", "memory.js", "module.js", "names.js"]) cpSync(new URL(`../${name}`, import.meta.url), join(folder, name));
 const other = await import(pathToFileURL(join(folder, "index.js")));
 rmSync(folder, { recursive: true });
 const calls = await import("../calls.js?watched");
@@ -86,7 +86,7 @@ test("texts that are refused, of any units", () => {
         assert.throws(() => LanguageTag.parse(text), (error) => {
             assert.ok(error instanceof InvalidTag && error instanceof RangeError && error.name === "InvalidTag");
             assert.equal(error.text, text);
-            assert.ok(error.message.startsWith(JSON.stringify(text)), error.message);
+            assert.ok(error.message.startsWith("invalid language tag `"), error.message);
             return error.viable === viableLength(text) && error.viable <= text.length;
         });
         assert.ok(stopLength(text) <= text.length && stopLength(text) >= viableLength(text));
@@ -97,13 +97,12 @@ test("texts that are refused, of any units", () => {
 });
 
 test("where a text is refused", () => {
-    for (const [text, subtag, offset, reason] of [["de-419-DE", "DE", 7, 'unexpected subtag "DE"'], ["de_CH", "de_CH", 2, 'invalid character "_": expected a letter, a digit or a hyphen'],
+    for (const [text, subtag, offset, reason] of [["de-419-DE", "DE", 7, "unexpected subtag `DE`"], ["de_CH", "de_CH", 2, "invalid character `_`: expected a letter, a digit or a hyphen"],
         ["en-", undefined, 3, "unexpected end: expected a subtag"], ["en-a", undefined, 4, "unexpected end: expected a subtag"], ["i", undefined, 1, "unexpected end: expected a subtag"],
-        ["en--us", "", 3, "empty subtag"], ["de-\u{1f600}", "\u{1f600}", 3, 'invalid character "\u{1f600}": expected a letter, a digit or a hyphen']]) {
+        ["en--us", "", 3, "empty subtag"], ["d\ud800", "d\ud800", 1, "invalid character `\\u{d800}`: expected a letter, a digit or a hyphen"]]) {
         const error = thrown(() => LanguageTag.parse(text));
         assert.deepEqual([error.subtag, error.offset, error.reason], [subtag, offset, reason]);
-        assert.equal(error.start, text === "de_CH" ? 0 : offset);
-        assert.equal(error.message, `${JSON.stringify(text)} is not a language tag: ${reason}`);
+        assert.equal(error.start, text === "de_CH" || text === "d\ud800" ? 0 : offset);
     }
 });
 
@@ -261,7 +260,7 @@ test("edits", () => {
     assert.equal(String(LanguageTag.parse("de").with({ extensions: of.extensions })), "de-1-ab-u-co-a-bb");
     assert.throws(() => tag.with({ region: 419 }), { name: "TypeError", message: "expected a string, a list or null for a part, got number" });
     assert.throws(() => tag.with({ region: "Switzerland" }), (error) => error instanceof EditError && error instanceof RangeError &&
-        error.message === `"Switzerland" can't be the region of a tag` && error.part === "region" && error.text === "Switzerland");
+        error.message === "invalid region `Switzerland`" && error.part === "region" && error.text === "Switzerland");
     assert.throws(() => LanguageTag.parse("x-a").with({ region: "CH" }), { name: "EditError", message: "not a normal language tag" });
     for (const list of [[], new Set(), {}, new Map(), "", null]) {
         assert.equal(String(LanguageTag.parse("de-1996-u-co-pinyin").with({ variants: list, extensions: list })), "de");
@@ -323,14 +322,14 @@ test("Unicode locale identifiers", () => {
 test("the code that is meant by one that is not registered", () => {
     const of = (text) => LanguageTag.parse(text).invalidSubtag;
     assert.deepEqual({ ...of("ger-AT") }, { fault: "language", subtag: "ger", start: 0, suggestion: "de" });
-    assert.equal(String(of("en-UK")), "region 'UK' is not registered: did you mean 'GB'?");
+    assert.equal(String(of("en-UK")), "region UK is not registered: did you mean GB?");
     assert.deepEqual(["en-840", "hbs", "fr-FQ", "en-USA", "de-1997", "de-1996-1996"].map((text) => of(text).suggestion),
         ["US", undefined, undefined, undefined, undefined, undefined]);
 });
 
 test("ranges, headers and their errors", () => {
     assert.deepEqual(Array.from(LanguageRange.parse("zh-Hant-CN-x-private1").fallbacks(), String), ["zh-Hant-CN-x-private1", "zh-Hant-CN", "zh-Hant", "zh"]);
-    assert.throws(() => LanguageRange.parse("de_"), (error) => error instanceof InvalidRange && error.text === "de_" && error.message.startsWith('"de_"'));
+    assert.throws(() => LanguageRange.parse("de_"), (error) => error instanceof InvalidRange && error.text === "de_" && error.message === "invalid language range `de_`");
     const { ranges } = AcceptLanguage.parse("fr;q=0.3, DE-ch-1996;q=0.9, *;q=0");
     assert.deepEqual(ranges.map(({ range, weight }) => [String(range), weight]), [["DE-ch-1996", 900], ["fr", 300]]);
     assert.throws(() => AcceptLanguage.parse("fr;q=0.3, de_CH"), (error) => error instanceof AcceptLanguageError && error instanceof RangeError &&
@@ -392,7 +391,7 @@ test("calls that are cut off at the end of JavaScript's stack leave the module a
     for (let round = 0; round < 100; round++) {
         assert.throws(deep, RangeError);
         assert.equal(calls.canonical("iw-BU"), "he-MM");
-        assert.deepEqual(calls.repeats("de-1996-1996"), [8, 4, 0, 0]);
+        assert.deepEqual(calls.repeats("de-1996-1996"), [1, 8, 4, 0, 0]);
     }
     const before = memories.length;
     assert.throws(() => calls.kind({ length: 2, charCodeAt() { throw new RangeError("in the middle"); } }), RangeError);

@@ -68,7 +68,7 @@ test("validity and forms", { skip }, async () => {
     await type("tag", "zh-yue");
     assert.equal((await forms()).Name, "Yue Chinese");
     await type("tag", "qt-FR");
-    assert.match(await summary("tag"), /^A tag, not valid: language 'qt' is not registered/);
+    assert.match(await summary("tag"), /^A tag, not valid: language qt is not registered/);
 });
 
 test("keywords by name, and the form of extensions", { skip }, async () => {

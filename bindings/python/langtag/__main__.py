@@ -69,24 +69,24 @@ class Options:
             elif argument in ("--version", "-V"):
                 self.say(f"langtag {__version__} (IANA's registry of {REGISTRY_DATE}, CLDR {CLDR_VERSION})\n")
             else:
-                wrong(f"there is no option `{argument}`")
+                wrong(f"unknown option `{argument}`")
         self.take(words)
 
     def take(self, words: List[bytes]) -> None:
         if not words:
-            wrong("a command is missing")
+            wrong("no command given")
         self.command = words[0].decode("utf-8", "replace")
         if self.command not in COMMANDS:
-            wrong(f"there is no command `{self.command}`")
+            wrong(f"unknown command `{self.command}`")
         self.first, self.texts = b"", words[1:]
         if COMMANDS[self.command]:
             if not self.texts:
-                wrong(f"an argument is missing: {self.command} {COMMANDS[self.command]} [TAG..]")
+                wrong(f"missing argument: {self.command} {COMMANDS[self.command]} [TAG..]")
             self.first, *self.texts = self.texts
         if self.command == "distance" and len(self.texts) not in (0, 2):
-            wrong("two tags are wanted: distance A B")
+            wrong("expected two tags: distance A B")
         if self.basic and self.command != "match":
-            wrong(f"`{self.command}` has no --basic")
+            wrong(f"`{self.command}` does not take --basic")
 
     @staticmethod
     def say(text: str) -> NoReturn:
@@ -110,7 +110,7 @@ def write(data: bytes) -> None:
 
 
 def wrong(words: str) -> NoReturn:
-    raise Stopped(f"{words}\nlangtag: `langtag --help` has the words", 2)
+    raise Stopped(f"{words}\nlangtag: try `langtag --help`", 2)
 
 
 def tag_of(text: bytes) -> Tag | None:
@@ -204,7 +204,7 @@ def distance_in(line: bytes, options: Options) -> Answer:
     words = line.replace(b"\v", b"\x00").split()
     if len(words) == 2:
         return distance_of(words[0], words[1], options)
-    return Answer(between(line, b"", "-", options).line, False, "two tags are wanted in a line: A B")
+    return Answer(between(line, b"", "-", options).line, False, "expected two tags in a line: A B")
 
 
 def distance_of(desired: bytes, supported: bytes, options: Options) -> Answer:
@@ -219,18 +219,15 @@ def between(desired: bytes, supported: bytes, found: str, options: Options) -> A
 
 
 def why_refused(text: bytes) -> str:
-    answer, start, length, offset = _backend.refused(text)
-    subtag = shown(text[start : start + length])
-    why = {1: f"unexpected subtag `{subtag}`" if length else "empty subtag",
-           2: f"invalid character `{shown(text[offset:])[:1]}`: expected a letter, a digit or a hyphen",
-           3: "unexpected end: expected a subtag"}[answer]
-    marked = (offset, 1) if answer == 2 else (start, length)
-    return f"`{shown(text)}` is not a language tag: {why}{underlined(text, *marked)}"
+    try:
+        return f"`{shown(text)}` is a language tag: {Tag(text)}"
+    except InvalidTag as error:
+        is_character = error.reason.startswith("invalid character")
+        return f"{error}{underlined(text, error.offset, 1 if is_character else len(error.subtag))}"
 
 
 def why_invalid(text: bytes, invalid: InvalidSubtag) -> str:
-    words = str(invalid).replace("'", "")
-    return f"`{shown(text)}` is not valid: {words}{underlined(text, invalid.start, len(invalid.subtag))}"
+    return f"`{shown(text)}` is not valid: {invalid}{underlined(text, invalid.start, len(invalid.subtag))}"
 
 
 def shown(text: bytes) -> str:

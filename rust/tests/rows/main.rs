@@ -39,7 +39,8 @@ fn answer(row: &Row) -> String {
         "scan" => tags::scan(&row.arguments[0]),
         "recommended" => tags::recommended(&row.arguments[0]),
         "refused" => tags::refused(&row.arguments[0]),
-        "character" | "byte" => tags::invalid_character(&row.arguments[0]),
+        "message" => tags::message(&row.arguments[0]),
+        "range-message" => tags::range_message(row.str(0)),
         "order" => tags::order(&row.arguments[0], &row.arguments[1]),
         "class" => types::class(&row.arguments[0]),
         "types" => types::types(row.str(0)),
@@ -104,10 +105,10 @@ files! {
     prefixes: "prefixes.txt", 26, ["fronts"];
     lists: "walks.txt", 150, ["walk", "extension"];
     parts: "edits.txt", 125, ["edit"];
-    subtags: "registry.txt", 220, ["extlang-form", "fault", "misplaced", "subtag", "registered"];
+    subtags: "registry.txt", 200, ["extlang-form", "misplaced", "subtag", "registered"];
     headers: "negotiation.txt", 102, ["header", "ranges"];
     ranges: "ranges.txt", 60, ["elements", "fallbacks", "filter"];
-    refusals: "refused.txt", 60, ["refused", "character", "byte"];
+    refusals: "refused.txt", 130, ["fault", "refused", "message", "range-message"];
     forms: "likely.txt", 250, ["maximized", "minimized"];
     distances: "distance.txt", 140, ["distance"];
     directions: "direction.txt", 325, ["right-to-left"];

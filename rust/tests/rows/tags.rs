@@ -235,15 +235,30 @@ pub fn refused(bytes: &[u8]) -> String {
 }
 
 /// Returns the character or the byte that the message of an error shows.
-pub fn invalid_character(bytes: &[u8]) -> String {
-    let message = LangTag::from_bytes(bytes).unwrap_err().to_string();
+/// Returns the message for bytes that are not a tag. The message for the same string is the same.
+pub fn message(bytes: &[u8]) -> String {
+    let error = LangTag::from_bytes(bytes).unwrap_err().to_string();
     if let Ok(text) = std::str::from_utf8(bytes) {
-        let error = LangTag::new(text).unwrap_err();
-        assert!(message.ends_with(&error.reason().to_string()));
+        let other = LangTag::new(text).unwrap_err();
+        assert_eq!(error, other.to_string());
+        assert!(error.ends_with(&format!("`: {}", other.reason())));
     }
-    let (_, shown) = message.rsplit_once(": invalid character `").unwrap();
-    let (shown, _) = shown.rsplit_once("`: expected").unwrap();
-    escaped(shown.as_bytes())
+    as_in_row(&error)
+}
+
+pub fn range_message(text: &str) -> String {
+    let error = langtag::matching::LanguageRange::new(text).unwrap_err();
+    as_in_row(&error.to_string())
+}
+
+/// Returns a message as rows write it.
+fn as_in_row(message: &str) -> String {
+    let escaped = |byte: u8| match byte {
+        b'\\' | b'{' | b'}' => format!("\\x{byte:02x}"),
+        b' '..=b'~' => char::from(byte).to_string(),
+        _ => format!("\\x{byte:02x}"),
+    };
+    message.bytes().map(escaped).collect()
 }
 
 pub fn order(a: &[u8], b: &[u8]) -> String {

@@ -262,7 +262,7 @@ pub fn distance_in(line: &[u8], options: &Options) -> Answer {
         .filter(|word| !word.is_empty());
     match (words.next(), words.next(), words.next()) {
         (Some(desired), Some(supported), None) => distance_of(desired, supported, options),
-        _ => between(line, b"", "-", options).because("two tags are wanted in a line: A B".into()),
+        _ => between(line, b"", "-", options).because("expected two tags in a line: A B".into()),
     }
 }
 

@@ -40,7 +40,7 @@ fn said(words: &options::Words) -> ExitCode {
             Err(error) => failed(Failure::write(error)),
         },
         options::Words::Wrong(text) => {
-            eprintln!("langtag: {text}\nlangtag: `langtag --help` has the words");
+            eprintln!("langtag: {text}\nlangtag: try `langtag --help`");
             ExitCode::from(2)
         }
     }

@@ -95,7 +95,7 @@ impl Options {
                 Some("--help" | "-h") if !ended => return Err(Words::Help(HELP.into())),
                 Some("--version" | "-V") if !ended => return Err(Words::Help(version())),
                 Some(option) if !ended && option.starts_with("--") => {
-                    return Err(Words::Wrong(format!("there is no option `{option}`")));
+                    return Err(Words::Wrong(format!("unknown option `{option}`")));
                 }
                 _ => words.push(argument.into_encoded_bytes()),
             }
@@ -106,25 +106,25 @@ impl Options {
     fn of(words: Vec<Vec<u8>>, tsv: bool, basic: bool) -> Result<Options, Words> {
         let mut texts = words.into_iter();
         let Some(name) = texts.next() else {
-            return Err(Words::Wrong("a command is missing".into()));
+            return Err(Words::Wrong("no command given".into()));
         };
         let name = String::from_utf8_lossy(&name);
         let Some(command) = Command::named(&name) else {
-            return Err(Words::Wrong(format!("there is no command `{name}`")));
+            return Err(Words::Wrong(format!("unknown command `{name}`")));
         };
         let first = match (command.first(), texts.next()) {
             (Some(usage), None) => {
-                return Err(Words::Wrong(format!("an argument is missing: {usage}")))
+                return Err(Words::Wrong(format!("missing argument: {usage}")))
             }
             (Some(_), Some(first)) => (first, None),
             (None, text) => (Vec::new(), text),
         };
         let texts: Vec<_> = first.1.into_iter().chain(texts).collect();
         if command == Command::Distance && !matches!(texts.len(), 0 | 2) {
-            return Err(Words::Wrong("two tags are wanted: distance A B".into()));
+            return Err(Words::Wrong("expected two tags: distance A B".into()));
         }
         if basic && command != Command::Match {
-            return Err(Words::Wrong(format!("`{name}` has no --basic")));
+            return Err(Words::Wrong(format!("`{name}` does not take --basic")));
         }
         Ok(Options {
             command,

@@ -7,33 +7,15 @@ const LONGEST: usize = 120;
 
 /// Says why a text is not a tag.
 pub fn refused(text: &[u8]) -> String {
-    let whole = shown(text);
-    let Some(refusal) = Refusal::of(text) else {
-        return format!("`{whole}` is a language tag");
+    let Err(error) = LangTag::from_bytes(text) else {
+        return format!("`{}` is a language tag", shown(text));
     };
-    let subtag = shown(&text[refusal.start..refusal.end]);
-    let wrong: String = shown(&text[refusal.offset..]).chars().take(1).collect();
-    let (reason, marked) = match refusal.kind {
-        RefusalKind::Subtag if subtag.is_empty() => {
-            ("empty subtag".into(), refusal.start..refusal.end)
-        }
-        RefusalKind::Subtag => (
-            format!("unexpected subtag `{subtag}`"),
-            refusal.start..refusal.end,
-        ),
-        RefusalKind::Byte => (
-            format!("invalid character `{wrong}`: expected a letter, a digit or a hyphen"),
-            refusal.offset..refusal.offset + 1,
-        ),
-        _ => (
-            "unexpected end: expected a subtag".into(),
-            refusal.start..refusal.end,
-        ),
+    let marked = match Refusal::of(text) {
+        Some(refusal) if refusal.kind == RefusalKind::Byte => refusal.offset..refusal.offset + 1,
+        Some(refusal) => refusal.start..refusal.end,
+        None => 0..0,
     };
-    format!(
-        "`{whole}` is not a language tag: {reason}{}",
-        underlined(text, marked)
-    )
+    format!("{error}{}", underlined(text, marked))
 }
 
 /// Says why a tag is not valid.

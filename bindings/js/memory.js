@@ -1,0 +1,139 @@
+/*
+ * The memory of the WebAssembly module of proved code. Only this file and calls.js, which bindings/generate.py writes, know addresses:
+ * other files pass strings, and get strings, offsets and numbers.
+ *
+ * The strings of a call are in one block after the module's own data. The next call reuses the block, so nothing is kept. The block
+ * grows with the strings. A new instance of the module is made after a call that made the block large, because its memory cannot
+ * shrink. The same happens after a call that did not return, for example because JavaScript's stack overflowed: the instance's own
+ * stack pointer was not restored then.
+ *
+ * The proved module takes sizes and addresses of 64 bits, which are BigInt in JavaScript. The module that cargo builds takes sizes of 32
+ * bits, which are numbers. IS_WIDE says which of them module.js has, and only `size`, `count` and WORD depend on it.
+ *
+ * A code unit that is not ASCII becomes the byte 0xFF, which no tag, range or header contains. So an offset in bytes is also an
+ * offset in the string, and a lone surrogate is refused like every other character that is not ASCII.
+ */
+import { IS_WIDE, MODULE } from "./module.js";
+
+const PAGE = 65536;
+const KEPT = 1 << 20; // the bytes that the block may keep between calls
+const OUTS = 16; // the numbers that a call may write besides strings: at most langtag_parts, which has 12
+const ALIGNED = 8; // where spans begin
+const WORD = IS_WIDE ? 8 : 4; // the bytes of a size
+
+/** The bytes of a span: an offset and a length. */
+export const SPAN = 2 * WORD;
+
+/** Returns a size or an address as the module takes it. */
+export const size = IS_WIDE ? BigInt : (number) => number;
+
+/** Returns a size that the module returned. */
+export const count = IS_WIDE ? Number : (number) => number >>> 0;
+
+/** Returns the bytes of a string in base64. A loop takes a twentieth of the time of Uint8Array.from with a function. */
+function decoded(text) {
+    const characters = atob(text), made = new Uint8Array(characters.length);
+    for (let index = 0; index < made.length; index++) made[index] = characters.charCodeAt(index);
+    return made;
+}
+
+const compiled = new WebAssembly.Module(decoded(MODULE));
+
+/** The functions of the module, and the addresses of the block and of each number that a call writes, as the module takes them. */
+export const module = { calls: undefined, begin: undefined, outs: undefined };
+
+let memory, bytes, view, most;
+let isOpen = true; // whether a call has begun and not ended; true at first, so that the first call makes the instance
+let out, texts; // the addresses of what a call writes and of its strings
+
+function start() {
+    module.calls = new WebAssembly.Instance(compiled).exports;
+    memory = module.calls.memory;
+    out = (Number(module.calls.__heap_base.value) + 15) & -16;
+    texts = out + OUTS * WORD;
+    module.begin = size(texts);
+    module.outs = Array.from({ length: OUTS }, (_, index) => size(out + WORD * index));
+    look();
+    most = Math.max(bytes.length, texts + KEPT);
+    isOpen = false;
+}
+
+function look() {
+    bytes = new Uint8Array(memory.buffer);
+    view = new DataView(memory.buffer);
+}
+
+/** Begins a call that needs a number of bytes in the block, besides what `aligned` skips. Returns the address of the block. */
+export function open(length) {
+    if (isOpen) start();
+    isOpen = true;
+    const missing = texts + length + ALIGNED - bytes.length;
+    if (missing > 0) {
+        memory.grow(Math.ceil(missing / PAGE));
+        look();
+    }
+    return texts;
+}
+
+/** Ends a call, and returns its result. */
+export function close(answer) {
+    isOpen = false;
+    if (bytes.length > most) start();
+    return answer;
+}
+
+/** Writes a string, and returns the address after it. */
+export function write(text, at) {
+    for (let index = 0; index < text.length; index++) {
+        const unit = text.charCodeAt(index);
+        bytes[at + index] = unit < 0x80 ? unit : 0xff;
+    }
+    return at + text.length;
+}
+
+/** Returns the first address, at or after an address, where spans can begin. */
+export const aligned = (at) => (at + ALIGNED - 1) & -ALIGNED;
+
+/** Returns ASCII bytes as a string. */
+export function read(at, length) {
+    let text = "";
+    if (length <= 32) { // a loop is quicker for most tags
+        for (let index = at; index < at + length; index++) text += String.fromCharCode(bytes[index]);
+        return text;
+    }
+    for (let begin = 0; begin < length; begin += 8192) {
+        text += String.fromCharCode.apply(null, bytes.subarray(at + begin, at + Math.min(length, begin + 8192)));
+    }
+    return text;
+}
+
+function writeSize(at, number) {
+    view.setUint32(at, number, true);
+    if (IS_WIDE) view.setUint32(at + 4, 0, true);
+}
+
+/** Writes the numbers that a call reads before it writes them. */
+export function prepare(...numbers) {
+    numbers.forEach((number, index) => writeSize(out + WORD * index, number));
+}
+
+/** Returns the number at an index of what a call wrote: an offset or a length. If it has 64 bits, the upper 32 bits are 0. */
+export const written = (index) => view.getUint32(out + WORD * index, true);
+
+/** Returns the length of all strings of a list. */
+export function lengthOf(list) {
+    let length = 0;
+    for (let index = 0; index < list.length; index++) length += list[index].length;
+    return length;
+}
+
+/** Writes strings one after another to `at`, and their spans to `spans`. Returns the address after the strings. */
+export function writeList(list, at, spans) {
+    let end = at;
+    for (let index = 0; index < list.length; index++) {
+        writeSize(spans + SPAN * index, end - at);
+        writeSize(spans + SPAN * index + WORD, list[index].length);
+        end = write(list[index], end);
+    }
+    return end;
+}
