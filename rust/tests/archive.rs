@@ -5,9 +5,9 @@
 #![cfg(archive)]
 use langtag::choice::{best_for_header, distance, FORMLESS_DISTANCE};
 use langtag::erased::likely::{write_maximized, write_minimized};
+use langtag::erased::registry::{fault_at, write_canonical};
 use langtag::likely::is_right_to_left;
 use langtag::matching::{AcceptLanguage, AcceptLanguageError, ElementPart, LanguageRange};
-use langtag::erased::registry::{fault_at, write_canonical};
 use langtag::registry::{is_canonical, InvalidSubtag};
 use langtag::scan::*;
 use langtag::*;

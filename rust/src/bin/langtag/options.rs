@@ -113,9 +113,7 @@ impl Options {
             return Err(Words::Wrong(format!("unknown command `{name}`")));
         };
         let first = match (command.first(), texts.next()) {
-            (Some(usage), None) => {
-                return Err(Words::Wrong(format!("missing argument: {usage}")))
-            }
+            (Some(usage), None) => return Err(Words::Wrong(format!("missing argument: {usage}"))),
             (Some(_), Some(first)) => (first, None),
             (None, text) => (Vec::new(), text),
         };
