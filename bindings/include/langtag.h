@@ -9,9 +9,9 @@
  * It is proved that each function, for every input, ends, returns and writes what its comment says, and touches only
  * the memory of its arguments. No function allocates, keeps state between calls, calls back, prints, exits or sets
  * errno. So the functions may be called from several threads at once, and from signal handlers. Time grows linearly
- * with the length of the texts, except for langtag_repeats, langtag_extensions_form, langtag_is_locale,
+ * with the length of the strings, except for langtag_repeats, langtag_extensions_form, langtag_is_locale,
  * langtag_locale_form, and the calls that take a list of tags. langtag_next_keyword and langtag_next_field read the
- * text from its start in each call, and compare each key with the subtags before it. So a walk over the 936 keys of a text of 1 MB
+ * string from its start in each call, and compare each key with the subtags before it. So a walk over the 936 keys of a string of 1 MB
  * takes 3 to 4 s, while langtag_keyword takes 3 ms for one key.
  *
  * Only langtag_validity, langtag_canonical, langtag_is_canonical and langtag_locale_form use the IANA registry.
@@ -21,16 +21,16 @@
  *   1. A pointer with a length after it points to that many bytes, at most PTRDIFF_MAX. They are readable, and also
  *      writable if the pointer is not const. Nothing else writes to them until the call returns. They may be any
  *      bytes, with or without NUL.
- *   2. No pointer is NULL, not even that of an empty text: pass "" instead. langtag_bytes turns NULL into a valid pointer.
+ *   2. No pointer is NULL, not even that of an empty string: pass "" instead. langtag_bytes turns NULL into a valid pointer.
  *   3. A pointer to a struct is aligned as C requires, and its memory is writable. An argument that a comment marks
  *      with "(out)" is only written, so it need not be initialised.
  *   4. Memory that a call may write through one argument (an out struct, `rest`, `passed`, a buffer, the bytes of langtag_fold and
- *      langtag_recommend) does not overlap the memory of any other argument. Texts that are only read may overlap.
+ *      langtag_recommend) does not overlap the memory of any other argument. Strings that are only read may overlap.
  *   5. An x86-64 processor has SSE4.2 (x86-64-v2). Any aarch64 processor is supported. Calls follow the C calling
  *      convention of the platform. 4 KiB of the stack is free for each call, and 16 KiB for langtag_repeats,
  *      langtag_is_locale and langtag_locale_form.
  *
- * Offsets and lengths are in bytes, and offsets count from the start of the text. Case is that of ASCII letters only.
+ * Offsets and lengths are in bytes, and offsets count from the start of the string. Case is that of ASCII letters only.
  */
 #ifndef LANGTAG_H
 #define LANGTAG_H
@@ -61,7 +61,7 @@ extern "C" {
 #define LANGTAG_PURE
 #endif
 
-/* Returns a valid pointer for NULL, which some programs use for an empty text, and every other pointer unchanged. */
+/* Returns a valid pointer for NULL, which some programs use for an empty string, and every other pointer unchanged. */
 static inline const char *langtag_bytes(const void *pointer) {
 #ifdef __cplusplus
     return pointer ? static_cast<const char *>(pointer) : "";
@@ -78,7 +78,7 @@ enum langtag_kind_answer {
     LANGTAG_IRREGULAR = 3    /* rule irregular: one of seventeen, such as i-klingon */
 };
 
-/* A span of a text: `len` bytes from the offset `start` on. An absent part has the length 0. */
+/* A span of a string: `len` bytes from the offset `start` on. An absent part has the length 0. */
 typedef struct langtag_span {
     size_t start;
     size_t len;
@@ -97,11 +97,11 @@ typedef struct langtag_parts {
 /*
  * Parses a tag (RFC 5646 section 2.1): returns an enum langtag_kind_answer, and writes where the parts are (out).
  *
- * All of `parts` is written, even if the result is LANGTAG_NONE. No span reaches beyond the text.
+ * All of `parts` is written, even if the result is LANGTAG_NONE. No span reaches beyond the string.
  *
  *   - For a normal tag, an absent part has the length 0, and starts at the end of the part before it.
- *   - For a private-use tag such as x-fr-CH, `private_use` is the whole text, and all other members are 0.
- *   - For an irregular tag, and for a text that is not a tag, all members are 0.
+ *   - For a private-use tag such as x-fr-CH, `private_use` is the whole string, and all other members are 0.
+ *   - For an irregular tag, and for a string that is not a tag, all members are 0.
  */
 uint32_t langtag_parse(const char *bytes, size_t len, langtag_parts *parts);
 
@@ -115,27 +115,27 @@ LANGTAG_PURE uint32_t langtag_kind(const char *bytes, size_t len);
 LANGTAG_PURE size_t langtag_base_len(const char *bytes, size_t len);
 
 /*
- * Returns the length of the longest prefix with which some tag begins: 3 for "i-no" and for "en-". It is `len` exactly if the
- * text is a tag, or more bytes can make it one.
+ * Returns the length of the longest prefix with which some tag begins: 3 for "i-no" and for "en-". It is `len` if and only if the
+ * string is a tag, or more bytes can make it one.
  */
 LANGTAG_PURE size_t langtag_viable(const char *bytes, size_t len);
 
 /*
  * Returns the length of the shortest prefix with which no tag begins, or `len` if there is none: 4 for "i-no", 3 for
- * "en-". A program that reads the text byte by byte can stop there.
+ * "en-". A program that reads the string byte by byte can stop there.
  */
 LANGTAG_PURE size_t langtag_stop(const char *bytes, size_t len);
 
-/* What langtag_refused returns: that a text is a tag, or why it is not. */
+/* What langtag_refused returns: that a string is a tag, or why it is not. */
 enum langtag_refused_answer {
     LANGTAG_REFUSED_NONE = 0,   /* it is a tag */
     LANGTAG_REFUSED_SUBTAG = 1, /* a subtag is empty or not allowed in its place: DE in de-419-DE, the empty subtag in de--AT */
     LANGTAG_REFUSED_BYTE = 2,   /* a byte is neither a letter nor a digit: _ in de_CH */
-    LANGTAG_REFUSED_END = 3     /* the text ends too soon: en-, en-a, i-kling */
+    LANGTAG_REFUSED_END = 3     /* the string ends too soon: en-, en-a, i-kling */
 };
 
 /*
- * Returns why a text is not a tag, as an enum langtag_refused_answer. Writes the wrong subtag (out) and the offset to
+ * Returns why a string is not a tag, as an enum langtag_refused_answer. Writes the wrong subtag (out) and the offset to
  * point at (out).
  *
  *     langtag_span subtag;
@@ -145,29 +145,29 @@ enum langtag_refused_answer {
  *
  * The subtag is the first wrong one: no tag begins with the whole subtags up to and including this one. The offset is the start of
  * the subtag, or for LANGTAG_REFUSED_BYTE its first byte that is neither a letter nor a digit. For LANGTAG_REFUSED_NONE and
- * LANGTAG_REFUSED_END the subtag is empty, and subtag and offset are at the end of the text.
+ * LANGTAG_REFUSED_END the subtag is empty, and subtag and offset are at the end of the string.
  */
 uint32_t langtag_refused(const char *bytes, size_t len, langtag_span *subtag, size_t *offset);
 
 /*
- * Returns whether two texts are equal, ignoring case, which has no meaning in tags (RFC 5646 section 2.1.1). They may be any
+ * Returns whether two strings are equal, ignoring case, which has no meaning in tags (RFC 5646 section 2.1.1). They may be any
  * bytes.
  */
 LANGTAG_PURE bool langtag_eq(const char *a, size_t a_len, const char *b, size_t b_len);
 
 /*
- * Compares two texts, ignoring case: returns -1, 0 or 1, and 0 exactly if langtag_eq returns true. They may be any bytes.
+ * Compares two strings, ignoring case: returns -1, 0 or 1, and 0 if and only if langtag_eq returns true. They may be any bytes.
  *
- * A text sorts after every longer text that begins with it: zh sorts after zh-Latn. For alphabetical order (de before
+ * A string sorts after every longer string that begins with it: zh sorts after zh-Latn. For alphabetical order (de before
  * de-AT), change copies with langtag_fold, and compare these as strings.
  */
 LANGTAG_PURE int32_t langtag_cmp(const char *a, size_t a_len, const char *b, size_t b_len);
 
 /*
- * Returns the 64-bit FNV-1a hash of a text in lowercase. `state` is LANGTAG_HASH, or the hash of the bytes that come
- * before the text in a longer key.
+ * Returns the 64-bit FNV-1a hash of a string in lowercase. `state` is LANGTAG_HASH, or the hash of the bytes that come
+ * before the string in a longer key.
  *
- * An attacker who controls the texts can cause collisions. To prevent that, change a copy with langtag_fold and use a
+ * An attacker who controls the strings can cause collisions. To prevent that, change a copy with langtag_fold and use a
  * keyed hash.
  */
 #define LANGTAG_HASH UINT64_C(0xcbf29ce484222325)
@@ -177,11 +177,11 @@ LANGTAG_PURE uint64_t langtag_hash(uint64_t state, const char *bytes, size_t len
 void langtag_fold(char *bytes, size_t len);
 
 /*
- * Changes a text to the case that RFC 5646 section 2.1.1 recommends, in place: zh-hant-tw becomes zh-Hant-TW.
+ * Changes a string to the case that RFC 5646 section 2.1.1 recommends, in place: zh-hant-tw becomes zh-Hant-TW.
  *
  * Letters become lowercase, except in subtags of two bytes, which become uppercase (CH), and of four bytes, which get
  * one uppercase letter (Latn). The exceptions do not apply to the first subtag, or to any subtag that comes after a subtag of one
- * byte. The text may be any bytes. A tag keeps its kind, and its parts keep their offsets.
+ * byte. The string may be any bytes. A tag keeps its kind, and its parts keep their offsets.
  */
 void langtag_recommend(char *bytes, size_t len);
 
@@ -197,7 +197,7 @@ void langtag_recommend(char *bytes, size_t len);
  *     while (langtag_next_subtag(text, len, &rest, &variant))
  *         printf("%.*s ", (int)variant.len, text + variant.start); // rozaj 1994
  *
- * Returns false exactly if `rest` is empty or reaches beyond the text, and then leaves both spans unchanged. So an
+ * Returns false if and only if `rest` is empty or reaches beyond the string, and then leaves both spans unchanged. So an
  * empty subtag after the last hyphen is not returned: "a-" has one subtag. In "a--b", the second of three subtags is
  * empty.
  */
@@ -221,7 +221,7 @@ bool langtag_next_extension(const char *bytes, size_t len, langtag_span *rest, l
  * The value is empty if the key has none, such as kn in de-u-kn. An empty value means true. If a key or the extension is
  * repeated, the first one counts.
  *
- * Returns false and leaves `value` unchanged if the key is absent, or the text is not a tag.
+ * Returns false and leaves `value` unchanged if the key is absent, or the string is not a tag.
  */
 bool langtag_keyword(const char *bytes, size_t len, const char *key, size_t key_len, langtag_span *value);
 
@@ -236,7 +236,7 @@ bool langtag_keyword(const char *bytes, size_t len, const char *key, size_t key_
  *     while (langtag_next_keyword(text, len, &passed, &key, &value))
  *         printf("%.*s=%.*s ", (int)key.len, text + key.start, (int)value.len, text + value.start); // ca=islamic-civil nu=latn
  *
- * Returns false and leaves all three unchanged if no keyword is left, or the text is not a tag.
+ * Returns false and leaves all three unchanged if no keyword is left, or the string is not a tag.
  */
 bool langtag_next_keyword(const char *bytes, size_t len, size_t *passed, langtag_span *key, langtag_span *value);
 
@@ -275,7 +275,7 @@ enum langtag_part {
 
 /*
  * Writes a normal tag with one part changed to `buffer`, and returns the length of the new tag. `part` is an enum
- * langtag_part. An empty text removes the part. All other parts stay, and the new part keeps its case.
+ * langtag_part. An empty string removes the part. All other parts stay, and the new part keeps its case.
  *
  *     char buffer[64];
  *     size_t len = langtag_with_part("sl-IT-rozaj", 11, LANGTAG_PART_SCRIPT, "Latn", 4, buffer, sizeof buffer);
@@ -285,7 +285,7 @@ enum langtag_part {
  * written. A size of tag_len + text_len + 1 is always enough. No NUL is written, and bytes after the new tag are left
  * unchanged.
  *
- * Returns 0 and writes nothing if the tag is not LANGTAG_NORMAL, if `part` is not a value of enum langtag_part, or if the text is
+ * Returns 0 and writes nothing if the tag is not LANGTAG_NORMAL, if `part` is not a value of enum langtag_part, or if the string is
  * not such a part: Latin is not a script. The language cannot be removed.
  */
 size_t langtag_with_part(const char *tag, size_t tag_len, uint32_t part, const char *text, size_t text_len,
@@ -348,14 +348,14 @@ size_t langtag_without_keyword(const char *tag, size_t tag_len, const char *key,
  * Time is quadratic in the number of attributes, and of variants in the language of t. The form may be longer than
  * the tag.
  *
- * Returns 0 and writes nothing if the text is not a tag.
+ * Returns 0 and writes nothing if the string is not a tag.
  */
 size_t langtag_extensions_form(const char *bytes, size_t len, char *buffer, size_t buffer_len);
 
 /*
- * Returns whether a text is a Unicode locale identifier (UTS #35, part 1, section "Unicode Locale Identifier"), as Intl
+ * Returns whether a string is a Unicode locale identifier (UTS #35, part 1, section "Unicode Locale Identifier"), as Intl
  * of JavaScript requires: true for de-1996-u-co-phonebk, false for x-a, i-klingon, zh-yue and und-t-m0, which are tags,
- * and for a text that is not a tag.
+ * and for a string that is not a tag.
  *
  * The language has two, three, or five to eight letters, and no extended language. No variant and no singleton is
  * repeated. Each key of u ends with a letter. In t, the language meets the same rules, and each field has a value.
@@ -384,7 +384,7 @@ LANGTAG_PURE bool langtag_is_locale(const char *bytes, size_t len);
  *
  * Time is quadratic in the number of variants, and of attributes.
  *
- * Returns 0 and writes nothing if the tag has no form, such as x-a, i-default and und-t-m0, or if the text is not a tag.
+ * Returns 0 and writes nothing if the tag has no form, such as x-a, i-default and und-t-m0, or if the string is not a tag.
  */
 size_t langtag_locale_form(const char *bytes, size_t len, char *buffer, size_t buffer_len);
 
@@ -400,10 +400,10 @@ enum langtag_repeats_answer { LANGTAG_REPEATED_VARIANT = 1, LANGTAG_REPEATED_SIN
 /*
  * Returns whether a variant or a singleton occurs twice in a normal tag, as bits of enum langtag_repeats_answer, and
  * writes where the first repetition of each is (out). Such a tag is well-formed but not valid (RFC 5646 section
- * 2.2.9). Returns 0 for any other text. `repeated` is always written.
+ * 2.2.9). Returns 0 for any other string. `repeated` is always written.
  *
  * Beyond 1,152 variants, the time is quadratic in the length: less than a second for 1 MB, 20 s for 10 MB. Limit the
- * length of untrusted texts.
+ * length of untrusted strings.
  */
 uint32_t langtag_repeats(const char *bytes, size_t len, langtag_repeated *repeated);
 
@@ -470,13 +470,13 @@ size_t langtag_suggestion(uint32_t fault, const char *subtag, size_t subtag_len,
  * tag need not be valid: subtags that are not registered stay, and so do two extended languages and the language
  * before them.
  *
- * Returns 0 and writes nothing if the text is not a tag.
+ * Returns 0 and writes nothing if the string is not a tag.
  */
 size_t langtag_canonical(const char *bytes, size_t len, char *buffer, size_t buffer_len);
 
 /*
- * Returns whether a text is a tag that equals its canonical form, ignoring case: true for HE and x-iw, false for iw, for
- * en-b-ccc-a-aaa, and for a text that is not a tag.
+ * Returns whether a string is a tag that equals its canonical form, ignoring case: true for HE and x-iw, false for iw, for
+ * en-b-ccc-a-aaa, and for a string that is not a tag.
  */
 LANGTAG_PURE bool langtag_is_canonical(const char *bytes, size_t len);
 
@@ -500,7 +500,7 @@ LANGTAG_PURE uint32_t langtag_registry_date(void);
  * und-SU becomes ru-Cyrl-SU. To replace them, call langtag_locale_form first. A tag without likely subtags, such as
  * x-a or qaa, stays as it is.
  *
- * Returns 0 and writes nothing if the text is not a tag.
+ * Returns 0 and writes nothing if the string is not a tag.
  */
 size_t langtag_maximize(const char *bytes, size_t len, char *buffer, size_t buffer_len);
 
@@ -513,7 +513,7 @@ size_t langtag_minimize(const char *bytes, size_t len, char *buffer, size_t buff
 
 /*
  * Returns whether a tag is written from right to left, by its script or, if it has none, by its likely script: true for he,
- * pa-PK and az-Arab, false for ar-Latn, for und, for a private-use tag, and for a text that is not a tag.
+ * pa-PK and az-Arab, false for ar-Latn, for und, for a private-use tag, and for a string that is not a tag.
  */
 LANGTAG_PURE bool langtag_is_right_to_left(const char *bytes, size_t len);
 
@@ -527,14 +527,14 @@ LANGTAG_PURE bool langtag_is_right_to_left(const char *bytes, size_t len);
  * en-GB. The distance is 255 if the tags differ and either of them is only und, is a private-use tag, or begins with
  * i-.
  *
- * Returns LANGTAG_NO_DISTANCE if one of the texts is not a tag.
+ * Returns LANGTAG_NO_DISTANCE if one of the strings is not a tag.
  */
 #define LANGTAG_NO_DISTANCE UINT32_MAX
 LANGTAG_PURE uint32_t langtag_distance(const char *desired, size_t desired_len, const char *supported, size_t supported_len);
 
 /*
  * Returns the index of the best tag for an Accept-Language header, or `tags_len` if none is suitable. The tags are spans of one
- * text. A span that is not a tag, or reaches beyond the text, is skipped.
+ * string. A span that is not a tag, or reaches beyond the string, is skipped.
  *
  *     const char *header = "zh-TW,zh;q=0.9,en;q=0.8", *have = "en zh-Hans zh-Hant";
  *     const langtag_span tags[] = {{0, 2}, {3, 7}, {11, 7}};
@@ -542,9 +542,9 @@ LANGTAG_PURE uint32_t langtag_distance(const char *desired, size_t desired_len, 
  *     printf("%zu\n", best); // 2
  *
  * Ranges are tried in order of weight. The first range with a tag at a distance below 16 wins, and its nearest tag is
- * chosen (langtag_distance). If there is no such range, the limit is 50, and after that, look-up is tried (RFC 4647
+ * chosen (langtag_distance). If there is no such range, the limit is 50, and after that, lookup is tried (RFC 4647
  * section 3.4). A tag whose longest matching range has the weight 0 is not chosen. A range "*" chooses nothing, so
- * the program's default is used. Among tags at the same distance, the best is the tag for which look-up removes the
+ * the program's default is used. Among tags at the same distance, the best is the tag for which lookup removes the
  * fewest subtags from the range, then a tag with the most likely region of its language, then one of CLDR's paradigm
  * locales, such as es-419, then the first in the list. So list the tags in the order that you prefer.
  *
@@ -565,7 +565,7 @@ typedef struct langtag_best_match {
 
 /*
  * Returns what langtag_best_for_header returns, and writes the range that the tag serves and the distance from that
- * range to the tag (out). If the distance is 50 or more, only look-up found the tag.
+ * range to the tag (out). If the distance is 50 or more, only lookup found the tag.
  *
  *     const char *header = "tlh, gsw;q=0.5", *have = "en de";
  *     const langtag_span tags[] = {{0, 2}, {3, 2}};
@@ -580,8 +580,8 @@ size_t langtag_match_for_header(const char *header, size_t header_len, const cha
                                 const langtag_span *tags, size_t tags_len, langtag_best_match *found);
 
 /*
- * Returns the index of the best tag for a list of language ranges, the most wanted first, or `tags_len` if none is
- * suitable. The ranges are spans of one text, and the tags are spans of another. The choice is that of
+ * Returns the index of the best tag for a list of language ranges, in order of preference, or `tags_len` if none is
+ * suitable. The ranges are spans of one string, and the tags are spans of another. The choice is that of
  * langtag_best_for_header if all ranges have the same weight.
  *
  * A range is read as in a header: zh_TW.UTF-8 is read as zh-TW. An extended range is read without its *: zh-*-Hant is
@@ -620,7 +620,7 @@ size_t langtag_cldr_version(char *buffer, size_t buffer_len);
 
 /*
  * Returns the number of a grandfathered tag, ignoring case, in the order of RFC 5646 section 2.1, or
- * LANGTAG_GRANDFATHERED_COUNT if the text is not one of the 26. A tag with a number below 17 is irregular, and the
+ * LANGTAG_GRANDFATHERED_COUNT if the string is not one of the 26. A tag with a number below 17 is irregular, and the
  * others are regular:
  *
  *  0 en-GB-oed    1 i-ami        2 i-bnn          3 i-default    4 i-enochian   5 i-hak        6 i-klingon
@@ -639,7 +639,7 @@ enum langtag_range_kind_answer {
     LANGTAG_RANGE_EXTENDED = 2 /* an extended range that is not basic (section 2.2): *-CH, de-*-DE */
 };
 
-/* Returns which kind of language range a text is, as an enum langtag_range_kind_answer. */
+/* Returns which kind of language range a string is, as an enum langtag_range_kind_answer. */
 LANGTAG_PURE uint32_t langtag_range_kind(const char *bytes, size_t len);
 
 /*
@@ -647,7 +647,7 @@ LANGTAG_PURE uint32_t langtag_range_kind(const char *bytes, size_t len);
  * tag, or the tag begins with the range and a hyphen. Case is ignored. de-DE matches de-DE-1996, but neither de-Deva
  * nor de-Latn-DE.
  *
- * Returns false if the first text is not a language range, or the second is not a tag.
+ * Returns false if the first string is not a language range, or the second is not a tag.
  */
 LANGTAG_PURE bool langtag_matches_basic(const char *range, size_t range_len, const char *tag, size_t tag_len);
 
@@ -655,7 +655,7 @@ LANGTAG_PURE bool langtag_matches_basic(const char *range, size_t range_len, con
  * Returns whether a range matches a tag by extended filtering (RFC 4647 section 3.3.2): de-DE and de-*-DE match
  * de-Latn-DE-1996, but not de-x-DE, since no subtag of one byte may be skipped.
  *
- * Returns false if the first text is not a language range, or the second is not a tag.
+ * Returns false if the first string is not a language range, or the second is not a tag.
  */
 LANGTAG_PURE bool langtag_matches_extended(const char *range, size_t range_len, const char *tag, size_t tag_len);
 
@@ -669,10 +669,10 @@ LANGTAG_PURE bool langtag_matches_extended(const char *range, size_t range_len, 
  *     while (langtag_next_fallback(range, len, &rest))
  *         printf("%.*s ", (int)rest.len, range + rest.start); // zh-Hant-CN zh-Hant zh
  *
- * Returns false exactly if no fallback is left, or `rest` is empty or reaches beyond the text, and then leaves `rest`
- * unchanged. It does not check that the text is a range; langtag_range_kind does.
+ * Returns false if and only if no fallback is left, or `rest` is empty or reaches beyond the string, and then leaves `rest`
+ * unchanged. It does not check that the string is a range; langtag_range_kind does.
  *
- * A look-up reads an extended range as the basic range without each "-*" (section 3.2). So remove each "-*" from a
+ * A lookup reads an extended range as the basic range without each "-*" (section 3.2). So remove each "-*" from a
  * fallback before you compare it: de-*-DE finds the tag de-DE, and then de. A range that begins with * finds nothing.
  */
 bool langtag_next_fallback(const char *bytes, size_t len, langtag_span *rest);
@@ -702,30 +702,30 @@ enum langtag_accepted_answer {
  * call continues after that element. So the loop above skips malformed elements. A strict program stops at a malformed element, and
  * refuses the header.
  *
- * The elements are returned in the order of the header. A look-up tries the greatest weight first, and ranges of
- * equal weight in the order of the header. So collect the ranges, and sort them by falling weight with a stable sort.
+ * The elements are returned in the order of the header. A lookup tries the greatest weight first, and ranges of
+ * equal weight in the order of the header. So collect the ranges, and sort them by descending weight with a stable sort.
  *
- * Returns LANGTAG_ACCEPTED_END exactly if only empty elements are left, or `rest` reaches beyond the text, and then
+ * Returns LANGTAG_ACCEPTED_END if and only if only empty elements are left, or `rest` reaches beyond the string, and then
  * writes nothing.
  */
 uint32_t langtag_next_accepted(const char *bytes, size_t len, langtag_span *rest, langtag_span *range,
                                uint32_t *weight);
 
 /*
- * Returns the index of the tag that look-up finds for an Accept-Language header (RFC 4647 section 3.4), or `tags_len`
- * if it finds none. The tags are spans of one text, as for langtag_best_for_header. Malformed elements are skipped.
+ * Returns the index of the tag that lookup finds for an Accept-Language header (RFC 4647 section 3.4), or `tags_len`
+ * if it finds none. The tags are spans of one string, as for langtag_best_for_header. Malformed elements are skipped.
  *
  *     const char *header = "fr;q=0.3, DE-ch-1996;q=0.9", *have = "en de-CH fr";
  *     const langtag_span tags[] = {{0, 2}, {3, 5}, {9, 2}};
  *     size_t index = langtag_tag_for_header_lenient(header, strlen(header), have, strlen(have), tags, 3);
  *     printf("%zu\n", index); // 1
  *
- * The ranges are looked up by falling weight, and ranges of equal weight in the order of the header. Ranges of weight
+ * The ranges are looked up by descending weight, and ranges of equal weight in the order of the header. Ranges of weight
  * 0 are not looked up. A range finds the first tag that equals it, ignoring case. If there is none, its fallbacks are tried,
  * the longest first (langtag_next_fallback). So zh-TW does not find zh-Hant, though
  * langtag_best_for_header chooses it.
  *
- * To look up a list of ranges, the most wanted first, remove each "-*" from them, and join them with commas.
+ * To look up a list of ranges, in order of preference, remove each "-*" from them, and join them with commas.
  *
  * Time is at most proportional to the length of the header times the length of the tags.
  */
@@ -739,7 +739,7 @@ LANGTAG_PURE size_t langtag_tag_for_header_lenient(const char *header, size_t he
  *   - LANGTAG_ACCEPTED_END: no element is malformed. `index` (out) is what langtag_tag_for_header_lenient returns, and `bad` (out)
  *     is empty, at the end of the header.
  *   - Otherwise: the answer says what is wrong with the first malformed element. `index` is `tags_len`, and `bad` is
- *     the text of that element between its commas.
+ *     the string of that element between its commas.
  */
 uint32_t langtag_tag_for_header(const char *header, size_t header_len, const char *bytes, size_t len,
                                 const langtag_span *tags, size_t tags_len, size_t *index, langtag_span *bad);

@@ -5,8 +5,8 @@
  *     tag->script();                                                              // "Hant"
  *     langtag::best_for_header("zh-TW,zh;q=0.9", {"zh-Hans", "zh-Hant"})->text(); // "zh-Hant"
  *
- * A tag, a range and their parts are views of the text from which they were read, so that text has to outlive them. The compiler
- * refuses a temporary string. Bytes after the end of a view are never read, and a view without a pointer is an empty text.
+ * A tag, a range and their parts are views of the string from which they were read, so that string has to outlive them. The compiler
+ * refuses a temporary string. Bytes after the end of a view are never read, and a view without a pointer is an empty string.
  */
 #ifndef LANGTAG_HPP
 #define LANGTAG_HPP
@@ -66,7 +66,7 @@ enum class fault : std::uint32_t {
     repeated_singleton = LANGTAG_INVALID_REPEATED_SINGLETON
 };
 
-/* A subtag that makes a tag invalid, and the offset in the text at which it begins. */
+/* A subtag that makes a tag invalid, and the offset in the string at which it begins. */
 struct invalid_subtag {
     langtag::fault fault;
     std::string_view subtag;
@@ -116,7 +116,7 @@ struct key_value {
 /* A temporary string. Functions that keep a view have a deleted overload for it. */
 template <class Allocator> using temporary_string = const std::basic_string<char, std::char_traits<char>, Allocator> &&;
 
-/* Returns the text that a call writes for a text. The call writes into a buffer on the stack, and again if the buffer was too short. */
+/* Returns what a call writes for a string. The call writes into a buffer on the stack, and again if the buffer was too short. */
 inline std::string written_by(std::size_t (*write)(const char *, std::size_t, char *, std::size_t), std::string_view text) {
     char room[128];
     const std::size_t len = write(langtag_bytes(text.data()), text.size(), room, sizeof room);
@@ -129,7 +129,7 @@ inline std::string written_by(std::size_t (*write)(const char *, std::size_t, ch
 /* A language tag (RFC 5646 section 2.1), as a view of its text. */
 class tag {
 public:
-    /* Parses a tag; returns std::nullopt if the text is not a tag. `refused` says why. */
+    /* Parses a tag; returns std::nullopt if the string is not a tag. `refused` says why. */
     static std::optional<tag> parse(std::string_view text) {
         langtag_parts parts;
         const std::uint32_t found = langtag_parse(langtag_bytes(text.data()), text.size(), &parts);
@@ -185,8 +185,8 @@ public:
     std::optional<std::string_view> field(std::string_view key) const noexcept { return value_of(langtag_field, key); }
     std::vector<key_value> fields() const { return pairs(langtag_next_field); }
 
-    /* Returns the text of the tag with one part changed; an empty text removes the part. Returns std::nullopt if the tag is not a
-     * normal tag, or the text is not such a part. */
+    /* Returns the string of the tag with one part changed; an empty string removes the part. Returns std::nullopt if the tag is not a
+     * normal tag, or the string is not such a part. */
     std::optional<std::string> with(langtag::part which, std::string_view given) const {
         return edited(text_.size() + given.size() + 1, langtag_with_part, static_cast<std::uint32_t>(which), langtag_bytes(given.data()),
                       given.size());
@@ -202,14 +202,14 @@ public:
         return made;
     }
 
-    /* Returns the text of the tag with a value of a key of the extension u: tag.with_keyword("ca", "buddhist"). An empty value means
+    /* Returns the string of the tag with a value of a key of the extension u: tag.with_keyword("ca", "buddhist"). An empty value means
      * true. Returns std::nullopt if the tag is not a normal tag, or the key or the value cannot be in a keyword. */
     std::optional<std::string> with_keyword(std::string_view key, std::string_view value) const {
         return edited(text_.size() + key.size() + value.size() + 4, langtag_with_keyword, langtag_bytes(key.data()), key.size(),
                       langtag_bytes(value.data()), value.size());
     }
 
-    /* Returns the text of the tag without a key of the extension u. Returns std::nullopt if the tag is not a normal tag, or the key
+    /* Returns the string of the tag without a key of the extension u. Returns std::nullopt if the tag is not a normal tag, or the key
      * cannot be in a keyword. */
     std::optional<std::string> without_keyword(std::string_view key) const {
         return edited(text_.size(), langtag_without_keyword, langtag_bytes(key.data()), key.size());
@@ -256,7 +256,7 @@ public:
     /* Returns whether the tag equals its canonical form, ignoring case. */
     bool is_canonical() const noexcept { return langtag_is_canonical(text_.data(), text_.size()); }
 
-    /* Returns the 64-bit FNV-1a hash of the text in lowercase: the same number in every program. */
+    /* Returns the 64-bit FNV-1a hash of the string in lowercase: the same number in every program. */
     std::uint64_t fnv1a() const noexcept { return langtag_hash(LANGTAG_HASH, text_.data(), text_.size()); }
 
 private:
@@ -266,7 +266,7 @@ private:
 
     std::string written(std::size_t (*write)(const char *, std::size_t, char *, std::size_t)) const { return written_by(write, text_); }
 
-    /* Returns the text that a call writes, in at most `room` bytes, or std::nullopt if it writes none. It is proved that no result of
+    /* Returns the string that a call writes, in at most `room` bytes, or std::nullopt if it writes none. It is proved that no result of
      * these calls is longer (clause `bounded` of langtag_with_part, langtag_with_keyword and langtag_without_keyword). */
     template <class Write, class... Given> std::optional<std::string> edited(std::size_t room, Write write, Given... given) const {
         std::string made(room, '\0');
@@ -275,7 +275,7 @@ private:
         return made;
     }
 
-    /* No bounds are checked: langtag_parse guarantees that each span is within the text. */
+    /* No bounds are checked: langtag_parse guarantees that each span is within the string. */
     std::string_view cut(langtag_span span) const noexcept { return {text_.data() + span.start, span.len}; }
 
     std::optional<std::string_view> value_of(bool (*find)(const char *, std::size_t, const char *, std::size_t, langtag_span *),
@@ -360,14 +360,14 @@ template <class Function> void for_each_subtag(std::string_view part, Function c
     for (std::string_view subtag : subtags(part)) call(subtag);
 }
 
-/* Returns the text in the case that RFC 5646 section 2.1.1 recommends: zh-Hant-TW. */
+/* Returns the string in the case that RFC 5646 section 2.1.1 recommends: zh-Hant-TW. */
 inline std::string recommended(std::string_view text) {
     std::string made(text);
     langtag_recommend(&made[0], made.size());
     return made;
 }
 
-/* Returns the text in lowercase, which is the same for all equal tags. It is a key for alphabetical order (de before de-AT). All
+/* Returns the string in lowercase, which is the same for all equal tags. It is a key for alphabetical order (de before de-AT). All
  * tags that begin with de- are between the keys "de-" and "de.". */
 inline std::string folded(std::string_view text) {
     std::string made(text);
@@ -375,7 +375,7 @@ inline std::string folded(std::string_view text) {
     return made;
 }
 
-/* Returns the text of the tag made of these parts; empty parts are left out. Returns std::nullopt if a text is not such a part, or
+/* Returns the string of the tag made of these parts; empty parts are left out. Returns std::nullopt if a string is not such a part, or
  * if there is no language. */
 inline std::optional<std::string> from_parts(std::string_view language, std::string_view script = {},
                                              std::string_view region = {}, std::string_view variants = {},
@@ -391,7 +391,7 @@ inline std::optional<std::string> from_parts(std::string_view language, std::str
 /* A tag that owns its text. A tag that was moved from may only be assigned to or destroyed. */
 class owned_tag {
 public:
-    /* Parses a tag; returns std::nullopt if the text is not a tag. */
+    /* Parses a tag; returns std::nullopt if the string is not a tag. */
     static std::optional<owned_tag> parse(std::string text) {
         const auto read = tag::parse(text);
         if (!read) return std::nullopt;
@@ -401,7 +401,7 @@ public:
 
     const std::string &text() const noexcept { return text_; }
 
-    /* Returns the tag as a view, which has the parts. The text is not parsed again. */
+    /* Returns the tag as a view, which has the parts. The string is not parsed again. */
     tag view() const & noexcept { return tag(text_, kind_, parts_); }
     tag view() const && = delete;
 
@@ -417,7 +417,7 @@ public:
     bool is_locale() const noexcept { return view().is_locale(); }
     std::optional<std::string> locale_form() const { return view().locale_form(); }
 
-    /* Changes one part; an empty text removes it. Returns false and leaves the tag unchanged if it is not a normal tag, or the text
+    /* Changes one part; an empty string removes it. Returns false and leaves the tag unchanged if it is not a normal tag, or the string
      * is not such a part. */
     bool set(part which, std::string_view given) { return take(view().with(which, given)); }
 
@@ -438,7 +438,7 @@ private:
     owned_tag(std::string text, langtag::kind kind, const langtag_parts &parts) noexcept
         : text_(std::move(text)), kind_(kind), parts_(parts) {}
 
-    /* Replaces the tag by the tag with this text. Returns false and changes nothing if there is no text, or it is not a tag. */
+    /* Replaces the tag by the tag with this string. Returns false and changes nothing if there is no string, or it is not a tag. */
     bool take(std::optional<std::string> made) {
         auto read = made ? parse(std::move(*made)) : std::nullopt;
         if (read) *this = std::move(*read);
@@ -450,7 +450,7 @@ private:
     langtag_parts parts_;
 };
 
-/* Returns the text of a tag or a range. */
+/* Returns the string of a tag or a range. */
 inline std::string_view text_of(std::string_view text) noexcept { return text; }
 inline std::string_view text_of(const tag &tag) noexcept { return tag.text(); }
 inline std::string_view text_of(const owned_tag &tag) noexcept { return tag.text(); }
@@ -460,10 +460,10 @@ struct best_match {
     std::size_t index; /* in the list of tags */
     langtag::tag tag;
     std::string_view range; /* as it is written in the header, such as de_CH; a view of the header */
-    std::uint32_t distance; /* from the range to the tag, as distance() returns it; from 50 on the tag was found by look-up only */
+    std::uint32_t distance; /* from the range to the tag, as distance() returns it; from 50 on the tag was found by lookup only */
 };
 
-/* The tags of a list as the library reads them: one text with all tags, and where each of them is. */
+/* The tags of a list as the library reads them: one string with all tags, and where each of them is. */
 class listed_tags {
 public:
     template <class Tags> explicit listed_tags(const Tags &tags) {
@@ -508,7 +508,7 @@ private:
     std::vector<std::string_view> given_;
 };
 
-/* Tags of both classes can be compared with each other and with texts, so std::less<> finds a tag in a map by any of these. */
+/* Tags of both classes can be compared with each other and with strings, so std::less<> finds a tag in a map by any of these. */
 template <class Value> inline constexpr bool is_tag = std::is_same_v<Value, tag> || std::is_same_v<Value, owned_tag>;
 template <class Value> inline constexpr bool is_text = std::is_convertible_v<const Value &, std::string_view>;
 template <class A, class B>
@@ -533,7 +533,7 @@ struct character {
     std::uint32_t code;
     std::size_t len;
 
-    /* Returns the first character of a text that is not empty. */
+    /* Returns the first character of a string that is not empty. */
     static character first(std::string_view text) {
         const auto byte = [text](std::size_t at) { return at < text.size() ? static_cast<unsigned char>(text[at]) : 0u; };
         const unsigned lead = byte(0);
@@ -568,7 +568,7 @@ private:
     }
 };
 
-/* Returns a text as messages show it: in backticks, with escapes, and only its first characters if it is longer. */
+/* Returns a string as messages show it: in backticks, with escapes, and only its first characters if it is longer. */
 inline std::string quoted(std::string_view text, std::size_t most = 80) {
     std::string made = "`";
     for (std::size_t count = 0; !text.empty() && count < most; count++) {
@@ -581,15 +581,15 @@ inline std::string quoted(std::string_view text, std::size_t most = 80) {
     return made + (text.empty() || most == 1 ? "`" : "...`");
 }
 
-/* Why a text is not a tag. */
+/* Why a string is not a tag. */
 enum class refusal_kind : std::uint32_t {
     subtag = LANGTAG_REFUSED_SUBTAG,
     byte = LANGTAG_REFUSED_BYTE,
     end = LANGTAG_REFUSED_END
 };
 
-/* Where a text that is not a tag is wrong: the wrong subtag, and its start, for example to underline it. The offset is the place to
- * point at: the start, or a byte that is neither a letter nor a digit. If the text ends too soon, the subtag is empty. */
+/* Where a string that is not a tag is wrong: the wrong subtag, and its start, for example to underline it. The offset is the place to
+ * point at: the start, or a byte that is neither a letter nor a digit. If the string ends too soon, the subtag is empty. */
 struct refusal {
     refusal_kind kind;
     std::string_view subtag;
@@ -607,7 +607,7 @@ struct refusal {
 
 };
 
-/* Returns why a text is not a tag, or std::nullopt if it is a tag. */
+/* Returns why a string is not a tag, or std::nullopt if it is a tag. */
 inline std::optional<refusal> refused(std::string_view text) noexcept {
     langtag_span subtag;
     std::size_t offset;
@@ -622,7 +622,7 @@ inline std::size_t viable(std::string_view text) noexcept {
     return langtag_viable(langtag_bytes(text.data()), text.size());
 }
 
-/* Returns the length of the shortest prefix with which no tag begins, or of the whole text if there is none. */
+/* Returns the length of the shortest prefix with which no tag begins, or of the whole string if there is none. */
 inline std::size_t stop(std::string_view text) noexcept {
     return langtag_stop(langtag_bytes(text.data()), text.size());
 }
@@ -641,7 +641,7 @@ inline bool matches_extended(std::string_view range, const tag &tag) noexcept {
 /* A language range, basic or extended (RFC 4647 section 2): de-CH, *, *-CH, de-*-DE. */
 class range {
 public:
-    /* Parses a range; returns std::nullopt if the text is not a range. */
+    /* Parses a range; returns std::nullopt if the string is not a range. */
     static std::optional<range> parse(std::string_view text) noexcept {
         const std::uint32_t found = langtag_range_kind(langtag_bytes(text.data()), text.size());
         if (found == LANGTAG_RANGE_NONE) return std::nullopt;
@@ -657,7 +657,7 @@ public:
     bool matches_basic(const tag &tag) const noexcept { return langtag::matches_basic(text_, tag); }
     bool matches_extended(const tag &tag) const noexcept { return langtag::matches_extended(text_, tag); }
 
-    /* Returns the next shorter range of a look-up (section 3.4), or std::nullopt if none is left: zh-Hant-CN is followed by zh-Hant. */
+    /* Returns the next shorter range of a lookup (section 3.4), or std::nullopt if none is left: zh-Hant-CN is followed by zh-Hant. */
     std::optional<range> fallback() const noexcept {
         langtag_span rest = {0, text_.size()};
         if (!langtag_next_fallback(text_.data(), text_.size(), &rest)) return std::nullopt;
@@ -665,14 +665,14 @@ public:
         return range(left, is_basic_ || left.find('*') == left.npos);
     }
 
-    /* Returns the basic range that a look-up uses for an extended range (section 3.2): de-*-DE becomes de-DE. */
+    /* Returns the basic range that a lookup uses for an extended range (section 3.2): de-*-DE becomes de-DE. */
     std::string without_wildcards() const {
         std::string basic(text_);
         for (auto at = basic.find("-*"); at != basic.npos; at = basic.find("-*", at)) basic.erase(at, 2);
         return basic;
     }
 
-    /* Returns the tag that the range finds by look-up (section 3.4): the tag that equals the range or, if there is none, one of its
+    /* Returns the tag that the range finds by lookup (section 3.4): the tag that equals the range or, if there is none, one of its
      * fallbacks, of which the longest is tried first. Returns std::nullopt if there is none. An extended range is looked up without
      * its * (section 3.2). A range that begins with * finds nothing. */
     std::optional<tag> look_up(const std::vector<tag> &tags) const {
@@ -696,20 +696,20 @@ inline std::optional<tag> look_up(const std::vector<range> &ranges, const std::v
 
 inline std::string_view text_of(const range &range) noexcept { return range.text(); }
 
-/* Whether the texts of a list live longer than a call with the list: views do, and owners do in a list that is not a temporary. */
+/* Whether the strings of a list live longer than a call with the list: views do, and owners do in a list that is not a temporary. */
 template <class List, class Element = decltype(*std::begin(std::declval<List &>())), class Plain = std::decay_t<Element>>
 inline constexpr bool stays = std::is_same_v<Plain, tag> || std::is_same_v<Plain, std::string_view> ||
                               std::is_pointer_v<Plain> ||
                               (std::is_lvalue_reference_v<List> && std::is_lvalue_reference_v<Element>);
 
-/* A list of texts in braces. */
+/* A list of strings in braces. */
 using texts = std::initializer_list<std::string_view>;
 
 /* Returns the best tag for an Accept-Language header, or std::nullopt if none is suitable: zh-Hant for "zh-TW,zh;q=0.9,en;q=0.8".
- * Malformed elements are read leniently: de_CH is read as de-CH. Among tags at the same distance, look-up and CLDR's likely regions
+ * Malformed elements are read leniently: de_CH is read as de-CH. Among tags at the same distance, lookup and CLDR's likely regions
  * decide first, and then the order of the list (langtag.h).
  *
- * The tags are a list of tag, owned_tag, strings or views, such as {"en", "zh-Hant"}. A text that is not a tag is skipped. The
+ * The tags are a list of tag, owned_tag, strings or views, such as {"en", "zh-Hant"}. A string that is not a tag is skipped. The
  * result is a view, so the compiler refuses a temporary list of owners. */
 template <class Tags = texts, std::enable_if_t<stays<Tags>, int> = 0>
 std::optional<tag> best_for_header(std::string_view header, Tags &&tags) {
@@ -731,8 +731,8 @@ inline std::optional<best_match> match_for_header(std::string_view header, const
 template <class Allocator, class Tags = texts>
 std::optional<best_match> match_for_header(temporary_string<Allocator>, Tags &&) = delete;
 
-/* Returns the best tag for a list of ranges, the most wanted first, as best_for_header does for a header. The ranges are a
- * list of range, strings or views. An extended range is read without its *. A text that is not a range (de;q=0) is skipped. */
+/* Returns the best tag for a list of ranges, in order of preference, as best_for_header does for a header. The ranges are a
+ * list of range, strings or views. An extended range is read without its *. A string that is not a range (de;q=0) is skipped. */
 template <class Ranges = texts, class Tags = texts, std::enable_if_t<stays<Tags>, int> = 0>
 std::optional<tag> best_for_ranges(const Ranges &ranges, Tags &&tags) {
     return listed_tags(tags).chosen_for(listed_tags(ranges));
@@ -770,7 +770,7 @@ public:
         return langtag::bad_element{static_cast<element_part>(answer), static_cast<std::size_t>(commas), element.start};
     }
 
-    /* Returns the ranges by falling weight; ranges of equal weight keep their order. Ranges of weight 0 are not acceptable, so they
+    /* Returns the ranges by descending weight; ranges of equal weight keep their order. Ranges of weight 0 are not acceptable, so they
      * are left out. */
     std::vector<weighted_range> ranges() const {
         std::vector<weighted_range> found;
@@ -783,7 +783,7 @@ public:
         return found;
     }
 
-    /* Returns the tag that the ranges find by look-up, the greatest weight first, or std::nullopt. */
+    /* Returns the tag that the ranges find by lookup, the greatest weight first, or std::nullopt. */
     std::optional<tag> look_up(const std::vector<tag> &tags) const {
         return listed_tags(tags).chosen(langtag_tag_for_header_lenient, header_);
     }
@@ -837,7 +837,7 @@ inline std::string cldr_version() {
     return version;
 }
 
-/* Writes the text of a tag to a stream. */
+/* Writes the string of a tag to a stream. */
 template <class Traits, class Tag, std::enable_if_t<is_tag<Tag>, int> = 0>
 std::basic_ostream<char, Traits> &operator<<(std::basic_ostream<char, Traits> &out, const Tag &tag) {
     return out << tag.text();

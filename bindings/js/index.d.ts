@@ -12,7 +12,7 @@
  * `InvalidRange`, and any other value throws a `TypeError`.
  */
 
-/** A string, or an object with a text, such as a tag or a range, also from another copy of this module or from `structuredClone`. */
+/** A string, or an object with a `text`, such as a tag or a range, also from another copy of this module or from `structuredClone`. */
 export type Text = string | { readonly text: string };
 
 /** The value of an Accept-Language header. For a request without the header, Node has undefined and fetch has null; both are read as an
@@ -78,7 +78,7 @@ export interface Parts {
 
 /** The extension t (RFC 6497 section 2.2). */
 export interface Transform {
-    /** The language of the text before it was transformed, such as ja-latn. */
+    /** The language of the string before it was transformed, such as ja-latn. */
     readonly language: string | undefined;
     /** The value of each field, by lowercase keys such as m0. */
     readonly fields: Map<string, string>;
@@ -86,13 +86,13 @@ export interface Transform {
 
 /** A well-formed language tag (RFC 5646 section 2.1). It is immutable, and JSON.stringify writes its text. */
 export class LanguageTag {
-    /** Parses a tag; throws InvalidTag if the text is not a tag. */
+    /** Parses a tag; throws InvalidTag if the string is not a tag. */
     constructor(text: Text);
-    /** Parses a tag; throws InvalidTag if the text is not a tag. */
+    /** Parses a tag; throws InvalidTag if the string is not a tag. */
     static parse(text: Text): LanguageTag;
-    /** Returns whether a text is a tag. */
+    /** Returns whether a string is a tag. */
     static canParse(text: Text): boolean;
-    /** Returns the tag made of these parts; throws EditError if a text is not such a part. */
+    /** Returns the tag made of these parts; throws EditError if a string is not such a part. */
     static from(parts: Parts & { language: string }): LanguageTag;
     /**
      * Returns the tag for a POSIX locale name, or undefined if there is none: pt_BR.UTF-8 becomes pt-BR. A modifier that is not known is
@@ -129,7 +129,7 @@ export class LanguageTag {
     get attributes(): string[];
     /** The extension t (RFC 6497), or undefined if the tag has none. */
     get transform(): Transform | undefined;
-    /** The private-use part with its x, such as x-mine. For a private-use tag it is the whole text. */
+    /** The private-use part with its x, such as x-mine. For a private-use tag it is the whole string. */
     get privateUse(): string | undefined;
     /** The registered spelling if the tag is grandfathered (ignoring case), otherwise undefined. */
     get grandfathered(): string | undefined;
@@ -171,35 +171,35 @@ export class LanguageTag {
     get isRightToLeft(): boolean;
     /** Returns the tag in the case that RFC 5646 section 2.1.1 recommends: zh-hant-tw becomes zh-Hant-TW. */
     toRecommended(): LanguageTag;
-    /** Returns the text in lowercase, which is the same for all equal tags. */
+    /** Returns the string in lowercase, which is the same for all equal tags. */
     toFolded(): string;
     /** Returns the 64-bit FNV-1a hash of the lowercase text, which is the same in every program. It is not safe against hash flooding. */
     fnv1a(): bigint;
-    /** Returns the tag with other parts; throws EditError if a text is not such a part, or the tag is not a normal tag. */
+    /** Returns the tag with other parts; throws EditError if a string is not such a part, or the tag is not a normal tag. */
     with(parts: Parts): LanguageTag;
-    /** Returns whether this tag equals another tag or a text, ignoring case. */
+    /** Returns whether this tag equals another tag or a string, ignoring case. */
     equals(other: Text): boolean;
     toString(): string;
     toJSON(): string;
     /** 1, because Intl takes an object as a list of locales: `new Intl.NumberFormat(tag)` formats for the tag. */
     get length(): 1;
-    /** The text of the tag, as the only locale of that list. */
+    /** The string of the tag, as the only locale of that list. */
     get 0(): string;
 }
 
 /** A language range, basic or extended (RFC 4647 section 2): de-CH, *, *-CH, de-*-DE. JSON.stringify writes its text. */
 export class LanguageRange {
-    /** Parses a range; throws InvalidRange if the text is not a range. */
+    /** Parses a range; throws InvalidRange if the string is not a range. */
     constructor(text: Text);
-    /** Parses a range; throws InvalidRange if the text is not a range. */
+    /** Parses a range; throws InvalidRange if the string is not a range. */
     static parse(text: Text): LanguageRange;
-    /** Returns whether a text is a range. */
+    /** Returns whether a string is a range. */
     static canParse(text: Text): boolean;
     /** The range as it was given. */
     readonly text: string;
     /** Whether this is a basic range (section 2.1): de-CH, or only *. */
     get isBasic(): boolean;
-    /** Iterates over the ranges that a look-up tries (section 3.4), from this range to the shortest: zh-Hant-CN, zh-Hant, zh. */
+    /** Iterates over the ranges that a lookup tries (section 3.4), from this range to the shortest: zh-Hant-CN, zh-Hant, zh. */
     fallbacks(): IterableIterator<LanguageRange>;
     /**
      * Returns whether this range matches a tag by basic filtering (section 3.3.1): de-DE matches de-DE-1996, but not de-Latn-DE. It does not
@@ -211,7 +211,7 @@ export class LanguageRange {
      * that is not a tag.
      */
     matchesExtended(tag: Text): boolean;
-    /** Returns whether this range equals another range or a text, ignoring case. */
+    /** Returns whether this range equals another range or a string, ignoring case. */
     equals(other: Text): boolean;
     toString(): string;
     toJSON(): string;
@@ -252,11 +252,11 @@ export class AcceptLanguage {
 export function lookUp<Tag extends Text>(ranges: Iterable<Text>, tags: Iterable<Tag>): Tag | undefined;
 export function lookUp<Tag extends Text, Otherwise>(ranges: Iterable<Text>, tags: Iterable<Tag>, otherwise: Otherwise): Tag | Otherwise;
 
-/** Returns the tag that a header finds by look-up, or the last argument; throws AcceptLanguageError if an element is malformed. */
+/** Returns the tag that a header finds by lookup, or the last argument; throws AcceptLanguageError if an element is malformed. */
 export function tagForHeader<Tag extends Text>(header: Header, tags: Iterable<Tag>): Tag | undefined;
 export function tagForHeader<Tag extends Text, Otherwise>(header: Header, tags: Iterable<Tag>, otherwise: Otherwise): Tag | Otherwise;
 
-/** Returns the tag that a header finds by look-up, or the last argument. Malformed elements are skipped. */
+/** Returns the tag that a header finds by lookup, or the last argument. Malformed elements are skipped. */
 export function tagForHeaderLenient<Tag extends Text>(header: Header, tags: Iterable<Tag>): Tag | undefined;
 export function tagForHeaderLenient<Tag extends Text, Otherwise>(header: Header, tags: Iterable<Tag>, otherwise: Otherwise): Tag | Otherwise;
 
@@ -293,7 +293,7 @@ export interface BestMatch<Tag> {
     readonly index: number;
     /** The tag, as it is in the list. */
     readonly tag: Tag;
-    /** The distance from the range to the tag, as `distance` returns it. If it is 50 or more, only look-up found the tag. */
+    /** The distance from the range to the tag, as `distance` returns it. If it is 50 or more, only lookup found the tag. */
     readonly distance: number;
     /** The range that the tag serves, as it is written in the header. */
     readonly range: string;
@@ -309,7 +309,7 @@ export function matchForHeader<Tag extends Text>(header: Header, tags: Iterable<
 
 /**
  * Returns the best tag for a list of ranges in order of preference, such as `navigator.languages`. An extended range is read without its
- * *. A text that is not a range, such as de;q=0, is skipped.
+ * *. A string that is not a range, such as de;q=0, is skipped.
  *
  *     bestForRanges(["fi", "zh_TW", "en"], ["en", "zh-Hans", "zh-Hant"]); // "zh-Hant"
  */
@@ -326,26 +326,26 @@ export function describe(tag: Text): string;
 /** Returns the length of the longest prefix with which some tag begins: 3 for "i-no". */
 export function viableLength(text: Text): number;
 
-/** Returns the length of the shortest prefix with which no tag begins, or of the whole text if there is none: 4 for "i-no". */
+/** Returns the length of the shortest prefix with which no tag begins, or of the whole string if there is none: 4 for "i-no". */
 export function stopLength(text: Text): number;
 
-/** Thrown if a text is not a language tag. */
+/** Thrown if a string is not a language tag. */
 export class InvalidTag extends RangeError {
     private constructor();
     readonly text: string;
-    /** The wrong subtag: DE in de-419-DE, de_CH in de_CH. It is undefined if the text ends too soon. */
+    /** The wrong subtag: DE in de-419-DE, de_CH in de_CH. It is undefined if the string ends too soon. */
     readonly subtag: string | undefined;
-    /** Where the subtag begins, or the end of a text that ends too soon. */
+    /** Where the subtag begins, or the end of a string that ends too soon. */
     readonly start: number;
     /** The offset to point at: the start of the subtag, or its first character that is neither a letter nor a digit. */
     readonly offset: number;
-    /** What is wrong, without the text. */
+    /** What is wrong, without the string. */
     readonly reason: string;
     /** The length of the longest prefix with which some tag begins. */
     readonly viable: number;
 }
 
-/** Thrown if a text is not a language range. */
+/** Thrown if a string is not a language range. */
 export class InvalidRange extends RangeError {
     private constructor();
     readonly text: string;

@@ -58,13 +58,13 @@ static struct varlena *value_of(const char *bytes, size_t len) {
 
 /* ---- what is refused ---- */
 
-/* Returns a text as a message shows it: cut after a whole character if it is too long. */
+/* Returns a string as a message shows it: cut after a whole character if it is too long. */
 static char *shown(const char *text, size_t len) {
     size_t cut = (size_t)pg_mbcliplen(text, (int)len, 60);
     return cut == len ? pnstrdup(text, len) : psprintf("%s...", pnstrdup(text, cut));
 }
 
-/* Returns a message that says where a text that is not a tag is wrong: at which character, and in which subtag. */
+/* Returns a message that says where a string that is not a tag is wrong: at which character, and in which subtag. */
 static char *why_no_tag(const char *text, size_t len) {
     langtag_span subtag;
     size_t offset = 0;
@@ -109,7 +109,7 @@ static struct varlena *checked_range(const char *text, size_t len) {
     return value_of(text, len);
 }
 
-/* Whether a text is a list of subtags, which may be empty: exactly what may follow the x- of a private-use tag. */
+/* Whether a string is a list of subtags, which may be empty: exactly what may follow the x- of a private-use tag. */
 static struct varlena *checked_part(const char *text, size_t len) {
     char *tag = palloc(len + 2);
     memcpy(tag, "x-", 2);
@@ -177,12 +177,12 @@ Datum pg_langtag_viable(PG_FUNCTION_ARGS) {
 
 /* ---- order, equality and hash of tags and parts, ignoring case; equal tags have equal bytes ---- */
 
-/* Compares texts in the order in which a text sorts before the longer texts that begin with it, so that all tags that a basic range
- * matches are together: de, de-AT, de-CH, dea. langtag_cmp sorts the longer texts first. */
+/* Compares strings in the order in which a string sorts before the longer strings that begin with it, so that all tags that a basic range
+ * matches are together: de, de-AT, de-CH, dea. langtag_cmp sorts the longer strings first. */
 static int compare(const char *a, size_t a_len, const char *b, size_t b_len) {
     size_t common = Min(a_len, b_len), same = 0;
     int found;
-    while (same < common && a[same] == b[same]) same++; /* most of the texts that an index compares begin with the same bytes */
+    while (same < common && a[same] == b[same]) same++; /* most of the strings that an index compares begin with the same bytes */
     found = same < common ? langtag_cmp(a + same, common - same, b + same, common - same) : 0;
     return found != 0 ? found : (a_len > b_len) - (a_len < b_len);
 }
@@ -501,7 +501,7 @@ Datum pg_langtag_suggestion(PG_FUNCTION_ARGS) {
     PG_RETURN_POINTER(value_of(code, len));
 }
 
-/* The greatest length of a text for calls whose time grows faster than the text, and that cannot be interrupted. */
+/* The greatest length of a string for calls whose time grows faster than the string, and that cannot be interrupted. */
 #define LONGEST 8192
 
 static void check_length(const char *what, struct varlena *text) {
@@ -627,7 +627,7 @@ Datum pg_langtag_bound_in(PG_FUNCTION_ARGS) {
 
 /* Return the bounds of the tags that a range matches: the lower bound is not after the first of them, and the upper bound is after
  * all of them. For de-CH they are de-CH and "de-CH.", since "." is the byte after the hyphen. For extended filtering only the first
- * subtag is used. For * they are the empty text and a text that sorts after all letters. Bounds are compared with tags, but need
+ * subtag is used. For * they are the empty string and a string that sorts after all letters. Bounds are compared with tags, but need
  * not be tags. So they have a separate type, and cannot be put into a column of tags. */
 static Datum bound(FunctionCallInfo fcinfo, bool extended, bool upper) {
     struct varlena *range = PG_GETARG_VARLENA_PP(0), *answer;
@@ -718,7 +718,7 @@ Datum pg_langtag_extended_support(PG_FUNCTION_ARGS) { return support(fcinfo, tru
 
 /* ---- the best tag for a request ---- */
 
-/* Returns the tags of an array, or its texts, which have to be tags, without NULLs. Writes the index of each in the array, unless
+/* Returns the tags of an array, or its strings, which have to be tags, without NULLs. Writes the index of each in the array, unless
  * `places` is NULL. */
 static struct varlena **tags_of(ArrayType *array, int *count, int **places) {
     struct varlena **tags;

@@ -15,8 +15,8 @@
  *     sqlite> SELECT langtag_best_for_header('zh-TW,zh;q=0.9', 'en', 'zh-Hans', 'zh-Hant'); -- zh-Hant
  *     sqlite> SELECT langtag_match_for_header('tlh', 'de', 'en') ->> 'distance'; -- 30
  *     sqlite> SELECT langtag_group_best_for_header('zh-TW', tag) FROM (SELECT 'zh' AS tag UNION SELECT 'zh-Hant'); -- zh-Hant
- *     sqlite> SELECT * FROM texts WHERE langtag_matches_basic('de', tag);
- *     sqlite> SELECT * FROM texts WHERE tag = 'ZH-hant' COLLATE langtag;
+ *     sqlite> SELECT * FROM strings WHERE langtag_matches_basic('de', tag);
+ *     sqlite> SELECT * FROM strings WHERE tag = 'ZH-hant' COLLATE langtag;
  *
  * Each function returns NULL if an argument is NULL, except for the value of langtag_set_keyword and the tags of a choice.
  *
@@ -77,7 +77,7 @@ typedef struct function {
 
 static const function *called(sqlite3_context *context) { return sqlite3_user_data(context); }
 
-/* A text argument. `at` is NULL if the argument is NULL. */
+/* A string argument. `at` is NULL if the argument is NULL. */
 typedef struct text {
     const char *at;
     size_t len;
@@ -173,7 +173,7 @@ static void set_keyword(sqlite3_context *context, int count, sqlite3_value **val
     (void)count;
     const int removes = sqlite3_value_type(values[2]) == SQLITE_NULL;
     const text tag = text_of(values[0]), key = text_of(values[1]), value = text_of(values[2]);
-    if (!removes && !value.at) { /* no memory for the text of a number, which is no reason to remove the key */
+    if (!removes && !value.at) { /* no memory for the string of a number, which is no reason to remove the key */
         sqlite3_result_error_nomem(context);
         return;
     }
@@ -194,7 +194,7 @@ static void set_keyword(sqlite3_context *context, int count, sqlite3_value **val
 }
 
 /* Reads an argument of a function that says yes or no. Returns false if it is NULL, as then the result is, or if there is no memory for
- * the text of a number, which is an error: NULL would let the row pass a CHECK. */
+ * the string of a number, which is an error: NULL would let the row pass a CHECK. */
 static bool given(sqlite3_context *context, sqlite3_value *value, text *found) {
     if (sqlite3_value_type(value) == SQLITE_NULL) return false;
     *found = text_of(value);
@@ -237,7 +237,7 @@ static void distance(sqlite3_context *context, int count, sqlite3_value **values
     if (far != LANGTAG_NO_DISTANCE) sqlite3_result_int(context, (int)far); /* else NULL */
 }
 
-/* Returns the place of the chosen tag among the arguments, or 0 if no tag is chosen. The tags are spans of one text in one
+/* Returns the place of the chosen tag among the arguments, or 0 if no tag is chosen. The tags are spans of one string in one
  * allocated block. */
 static size_t chosen(sqlite3_context *context, int count, sqlite3_value **values, langtag_best_match *match) {
     if (count < 1) {

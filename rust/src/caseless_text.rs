@@ -1,4 +1,4 @@
-//! Looking up a text in a map whose keys are tags.
+//! Looking up a string in a map whose keys are tags.
 use core::borrow::Borrow;
 use core::cmp::Ordering;
 use core::fmt;
@@ -9,10 +9,10 @@ use crate::matching::LanguageRange;
 #[cfg(feature = "alloc")]
 use crate::matching::LanguageRangeBuf;
 
-/// A text without the case of its ASCII letters. Use it to look up a text in a map with tags, parts
-/// or ranges as keys, without allocating.
+/// A string without the case of its ASCII letters. Use it to look up a string in a map with tags,
+/// parts or ranges as keys, without allocating.
 ///
-/// Each text, borrowed or owned, and each tag implements this trait. A map whose keys are
+/// Each string, borrowed or owned, and each tag implements this trait. A map whose keys are
 /// [`LangTagBuf`](crate::LangTagBuf) cannot be searched with a `&LangTag`, because no key contains
 /// a `LangTag` to borrow. Nor can it be searched with a `&str`, which is hashed with its case.
 ///
@@ -29,10 +29,10 @@ use crate::matching::LanguageRangeBuf;
 /// # Ok::<(), Box<dyn std::error::Error>>(())
 /// ```
 pub trait CaselessText {
-    /// Returns the text, with its case.
+    /// Returns the string, with its case.
     fn text(&self) -> &str;
 
-    /// Returns the text as a key for looking it up in a map.
+    /// Returns the string as a key for looking it up in a map.
     fn caseless(&self) -> &dyn CaselessText
     where
         Self: Sized,

@@ -1,4 +1,5 @@
-//! The errors for refused texts: they can be compared, converted to own their text, and explained.
+//! The errors for refused strings: they can be compared, converted to own their text, and
+//! explained.
 use core::fmt;
 
 use crate::erased::tag::*;
@@ -38,7 +39,7 @@ macro_rules! errors {
 
         #[cfg(feature = "alloc")]
         impl $error<&str> {
-            /// Returns the same error with a copy of the text, so that it does not borrow the
+            /// Returns the same error with a copy of the string, so that it does not borrow the
             /// input.
             ///
             /// ```
@@ -65,8 +66,8 @@ compared!(InvalidSingleton, InvalidGrandfatheredTag);
 for_text_types!(errors);
 
 impl<T: AsRef<str>> InvalidLangTag<T> {
-    /// Returns where the text is wrong. It is `None` only if a program made the error from a text
-    /// that is a tag.
+    /// Returns where the string is wrong. It is `None` only if a program made the error from a
+    /// string that is a tag.
     ///
     /// ```
     /// use langtag::{LangTag, RefusalKind};

@@ -35,14 +35,14 @@ pub(crate) fn or_abort<T>(made: Result<T, AllocError>) -> T {
     made.unwrap_or_else(|_| alloc::alloc::handle_alloc_error(core::alloc::Layout::new::<T>()))
 }
 
-/// Copies a text.
+/// Copies a string.
 pub(crate) fn try_string(text: &str) -> Result<String, AllocError> {
     let mut owned = try_string_with_capacity(text.len())?;
     owned.push_str(text);
     Ok(owned)
 }
 
-/// Returns an empty text with room for `room` bytes.
+/// Returns an empty string with room for `room` bytes.
 pub(crate) fn try_string_with_capacity(room: usize) -> Result<String, AllocError> {
     let mut owned = String::new();
     owned.try_reserve_exact(room)?;
@@ -57,7 +57,7 @@ pub(crate) fn try_vec(byte: u8, len: usize) -> Result<Vec<u8>, AllocError> {
     Ok(bytes)
 }
 
-/// Calls that make a text longer, and return an error if allocation fails.
+/// Calls that make a string longer, and return an error if allocation fails.
 pub(crate) trait TryText {
     fn try_push_str(&mut self, text: &str) -> Result<(), AllocError>;
     fn try_replace_range(

@@ -1,4 +1,4 @@
-//! The end of the message of an error for a refused text: the text, and where it is wrong.
+//! The end of the message of an error for a refused text: the string, and where it is wrong.
 use core::fmt;
 use core::fmt::Write as _;
 
@@ -7,17 +7,17 @@ use crate::erased::tag::{Refusal, RefusalKind};
 /// The greatest number of characters of a refused text in a message.
 const MOST: usize = 80;
 
-/// Writes a space, and the text between backticks.
+/// Writes a space, and the string between backticks.
 pub(crate) fn write_text(f: &mut fmt::Formatter<'_>, text: &[u8]) -> fmt::Result {
     write!(f, " `{}`", Escaped(text))
 }
 
-/// Writes a space, the text, and why it is not a tag.
+/// Writes a space, the string, and why it is not a tag.
 pub(crate) fn write_tag(f: &mut fmt::Formatter<'_>, text: &[u8]) -> fmt::Result {
     write!(f, " `{}`: {}", Escaped(text), Reason(text))
 }
 
-/// The characters of a text, and its bytes that are not UTF-8, with escapes. A long text is cut,
+/// The characters of a string, and its bytes that are not UTF-8, with escapes. A long string is cut,
 /// and ends with `...`.
 struct Escaped<'a>(&'a [u8]);
 
@@ -45,7 +45,7 @@ impl fmt::Display for Escaped<'_> {
 }
 
 /// Writes a character. Control characters are escaped, and so are the characters of Unicode that are
-/// invisible or change the direction of the text. All languages have this list.
+/// invisible or change the direction of the string. All languages have this list.
 fn write_escaped(f: &mut fmt::Formatter<'_>, character: char) -> fmt::Result {
     match character {
         '\t' => f.write_str("\\t"),
@@ -62,7 +62,7 @@ fn write_escaped(f: &mut fmt::Formatter<'_>, character: char) -> fmt::Result {
     }
 }
 
-/// Why a text is not a tag.
+/// Why a string is not a tag.
 pub(crate) struct Reason<'a>(pub(crate) &'a [u8]);
 
 impl fmt::Display for Reason<'_> {

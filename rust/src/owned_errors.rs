@@ -1,4 +1,4 @@
-//! Owned forms of the errors that contain more than a text. They do not borrow the text.
+//! Owned forms of the errors that contain more than a string. They do not borrow the string.
 use alloc::string::String;
 use core::error::Error;
 use core::fmt;

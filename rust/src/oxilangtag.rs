@@ -1,11 +1,11 @@
 //! The names of the crate oxilangtag 0.1, for programs that are written for it:
-//! `use langtag::oxilangtag::LanguageTag` in place of `use oxilangtag::LanguageTag`. It accepts
+//! `use langtag::oxilangtag::LanguageTag` instead of `use oxilangtag::LanguageTag`. It accepts
 //! what [`LangTag`] accepts.
 //!
 //! In three respects, [`LanguageTag`] is like oxilangtag, and unlike the other types of this crate.
 //! A tag is compared, ordered and hashed as its text, with its case, so a map with tags as keys can
 //! be searched with a `str`. None of the 26 grandfathered tags has parts.
-//! [`private_use`](LanguageTag::private_use) of a private-use tag is its whole text.
+//! [`private_use`](LanguageTag::private_use) of a private-use tag is its whole string.
 //!
 //! ```
 //! use langtag::oxilangtag::LanguageTag;
@@ -28,7 +28,7 @@ use core::str::FromStr;
 
 use crate::{Ends, LangTag, LangTagBuf, NormalLangTag, Subtags};
 
-/// A language tag over a text of any kind, with the parts of oxilangtag.
+/// A language tag over a string of any kind, with the parts of oxilangtag.
 ///
 /// ```
 /// use langtag::oxilangtag::LanguageTag;
@@ -49,7 +49,7 @@ impl<T: Deref<Target = str>> LanguageTag<T> {
     ///
     /// # Errors
     ///
-    /// Returns an error if the text is not a tag.
+    /// Returns an error if the string is not a tag.
     ///
     /// ```
     /// use langtag::oxilangtag::LanguageTag;
@@ -67,7 +67,7 @@ impl<T: Deref<Target = str>> LanguageTag<T> {
         Ok(LanguageTag { tag, ends })
     }
 
-    /// Returns the text.
+    /// Returns the string.
     ///
     /// ```
     /// use langtag::oxilangtag::LanguageTag;
@@ -94,7 +94,7 @@ impl<T: Deref<Target = str>> LanguageTag<T> {
         self.tag
     }
 
-    /// Returns the primary language, such as `zh`, or the whole text of a tag without parts.
+    /// Returns the primary language, such as `zh`, or the whole string of a tag without parts.
     ///
     /// ```
     /// use langtag::oxilangtag::LanguageTag;
@@ -108,7 +108,7 @@ impl<T: Deref<Target = str>> LanguageTag<T> {
             .map_or(&self.tag, |tag| tag.language().primary().into())
     }
 
-    /// Returns the extended languages as one text, such as `cmn`.
+    /// Returns the extended languages as one string, such as `cmn`.
     ///
     /// ```
     /// use langtag::oxilangtag::LanguageTag;
@@ -134,8 +134,8 @@ impl<T: Deref<Target = str>> LanguageTag<T> {
         Subtags::new(self.extended_language().unwrap_or(""))
     }
 
-    /// Returns the primary and the extended languages, such as `zh-cmn`, or the whole text of a tag
-    /// without parts.
+    /// Returns the primary and the extended languages, such as `zh-cmn`, or the whole string of a
+    /// tag without parts.
     ///
     /// ```
     /// use langtag::oxilangtag::LanguageTag;
@@ -174,7 +174,7 @@ impl<T: Deref<Target = str>> LanguageTag<T> {
         self.normal()?.region().map(Into::into)
     }
 
-    /// Returns the variants as one text, such as `rozaj-1994`.
+    /// Returns the variants as one string, such as `rozaj-1994`.
     ///
     /// ```
     /// use langtag::oxilangtag::LanguageTag;
@@ -202,7 +202,7 @@ impl<T: Deref<Target = str>> LanguageTag<T> {
         Subtags::new(self.variant().unwrap_or(""))
     }
 
-    /// Returns the extensions as one text, such as `u-co-phonebk`.
+    /// Returns the extensions as one string, such as `u-co-phonebk`.
     ///
     /// ```
     /// use langtag::oxilangtag::LanguageTag;
@@ -231,7 +231,7 @@ impl<T: Deref<Target = str>> LanguageTag<T> {
         extensions.map(|extension| (extension.singleton().into(), &extension.as_str()[2..]))
     }
 
-    /// Returns the private-use part, such as `x-mine`, or the whole text of a private-use tag.
+    /// Returns the private-use part, such as `x-mine`, or the whole string of a private-use tag.
     ///
     /// ```
     /// use langtag::oxilangtag::LanguageTag;
@@ -260,7 +260,7 @@ impl<T: Deref<Target = str>> LanguageTag<T> {
         Subtags::new(self.private_use().map_or("", |part| &part[2..]))
     }
 
-    /// Returns the tag with its parts, if it has parts. If the `Deref` of a text returns a
+    /// Returns the tag with its parts, if it has parts. If the `Deref` of a string returns a
     /// different text each time, the parts may be wrong, or a call may panic.
     fn normal(&self) -> Option<NormalLangTag<'_>> {
         Some(NormalLangTag::with_ends(&self.tag, self.ends?))
@@ -276,7 +276,7 @@ impl LanguageTag<String> {
     ///
     /// # Errors
     ///
-    /// Returns an error if the text is not a tag.
+    /// Returns an error if the string is not a tag.
     ///
     /// ```
     /// use langtag::oxilangtag::LanguageTag;
@@ -292,8 +292,8 @@ impl LanguageTag<String> {
     }
 }
 
-/// The error for a text that is not a tag. Its message says how many bytes of the text can begin a
-/// tag.
+/// The error for a string that is not a tag. Its message says how many bytes of the string can
+/// begin a tag.
 ///
 /// ```
 /// use langtag::oxilangtag::LanguageTag;
@@ -352,7 +352,7 @@ impl<T: Ord> Ord for LanguageTag<T> {
     }
 }
 
-/// Implements a comparison with a text, in both directions.
+/// Implements a comparison with a string, in both directions.
 macro_rules! compared {
     ($($text:ty),+) => {$(
         impl<'a, T: PartialEq<$text>> PartialEq<$text> for LanguageTag<T> {
@@ -410,7 +410,7 @@ impl FromStr for LanguageTag<String> {
     }
 }
 
-/// Implements the conversions from a tag over one type of text to a tag over another.
+/// Implements the conversions from a tag over one type of string to a tag over another.
 macro_rules! converted {
     ($($from:ty => $to:ty, $convert:expr;)+) => {$(
         impl<'a> From<LanguageTag<$from>> for LanguageTag<$to> {

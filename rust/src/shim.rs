@@ -4,7 +4,7 @@ pub use crate::memory::AllocError;
 #[cfg(feature = "alloc")]
 pub(crate) use crate::memory::{try_string, try_string_with_capacity, try_vec, TryItems, TryText};
 
-/// A text, borrowed or owned.
+/// A string, borrowed or owned.
 pub trait AsStr {
     fn as_str(&self) -> &str;
 }
@@ -47,7 +47,7 @@ pub(crate) fn pad_ascii(
     padded.try_for_each(|character| f.write_char(character))
 }
 
-/// The text of a tag or a part has the same debug output as any other text.
+/// The string of a tag or a part has the same debug output as any other string.
 impl<T: core::fmt::Debug> core::fmt::Debug for crate::erased::scan::Caseless<T> {
     fn fmt(&self, f: &mut core::fmt::Formatter<'_>) -> core::fmt::Result {
         self.0.fmt(f)

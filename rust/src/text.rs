@@ -1,7 +1,8 @@
-//! What Rust programs expect of a type over a text: views of the text, conversions and comparisons.
-//! Macros implement them for the fifteen types of a tag and its parts, and for language ranges.
+//! What Rust programs expect of a type over a string: views of the string, conversions and
+//! comparisons. Macros implement them for the fifteen types of a tag and its parts, and for
+//! language ranges.
 //!
-//! `==` with a text ignores the case of ASCII letters, as `==` of two tags does. `Borrow<str>` is
+//! `==` with a string ignores the case of ASCII letters, as `==` of two tags does. `Borrow<str>` is
 //! not implemented, since a `str` is hashed with its case. A map is searched with
 //! [`CaselessText`](crate::CaselessText).
 use core::ops::Deref;
@@ -65,7 +66,7 @@ macro_rules! borrowed {
     )+};
 }
 
-/// Implements `==` between a type over a text and a text, in both directions.
+/// Implements `==` between a type over a string and a string, in both directions.
 macro_rules! compared {
     ([$($lifetime:lifetime)?] $name:ty, $text:ty) => {
         impl$(<$lifetime>)? PartialEq<$text> for $name {
@@ -165,7 +166,7 @@ mod owned {
             }
 
             impl $owned {
-                /// Returns the bytes of the text, without a copy.
+                /// Returns the bytes of the string, without a copy.
                 #[inline]
                 pub fn into_bytes(self) -> Vec<u8> {
                     self.into_string().into_bytes()

@@ -1,4 +1,4 @@
-//! The list of the types over a text: the borrowed type, the owned type, the error, the call that
+//! The list of the types over a string: the borrowed type, the owned type, the error, the call that
 //! borrows, and a description.
 
 /// Passes this list to another macro, and that macro writes items for each type.
