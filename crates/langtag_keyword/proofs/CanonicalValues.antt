@@ -1,10 +1,10 @@
 -- A canonical value is its own canonical value: no replacement is replaced, and the empty value stays.
+use Rattle.std.proofs.lemmas.Grind.{common_steps}
+use Rattle.std.proofs.Common.{arith}
 use Rattle.std.proofs.Common.{◌≡◌, ℕ, Bool, true, false, not, cond, ◌&&◌, List, [], ◌∷◌, map, find, Option, None, Some, option_map, unwrap_or, refl, sym, ap, ◌∙◌}
 use Rattle.std.proofs.lemmas.Bool.{false≢true, not-true}
-use Rattle.std.specs.Prelude.{codes}
 use Rattle.std.specs.List.{list_all}
 use Rattle.std.specs.Option.{is_none}
-use Rattle.std.specs.Str.{bytes_eq}
 use Rattle.langtag_scan.proofs.CaseLaw.{fold_text-twice, join-fold, map-twice, segments-fold}
 use Rattle.langtag_scan.proofs.SubtagLists.{join-subtags}
 use Rattle.langtag_scan.specs.Case.{are_alike, fold_byte, fold_text}
@@ -12,7 +12,7 @@ use Rattle.langtag_scan.specs.CaseLaws.{are_alike-decides}
 use Rattle.langtag_scan.specs.Subtags.{join, subtags}
 use Rattle.langtag_keyword.specs.Alias.{Alias, TypeAlias, alias_for, type_alias_for}
 use Rattle.langtag_keyword.specs.Aliases.{subdivision_aliases, transform_type_aliases, unicode_type_aliases}
-use Rattle.langtag_keyword.specs.Form.{has_subdivision, subdivision, transform_value, unicode_type, unicode_value, without_true}
+use Rattle.langtag_keyword.specs.Form.{has_subdivision, subdivision, transform_value, unicode_type, unicode_value}
 use Rattle.langtag_keyword.proofs.AliasCase.{alias_for-alike, type_alias_for-alike}
 use Rattle.langtag_keyword.proofs.Found.{both, found_has, found_is}
 
@@ -53,14 +53,7 @@ is_none-none (Some new) is = absurd (false≢true is)
 alias-own :
     (rows : List Alias) (text : List ℕ) → list_all {X = Alias} (λ row. is_none (alias_for rows row.new)) rows ≡ true →
     alias_for rows (fold_text (unwrap_or (alias_for rows text) text)) ≡ None
-alias-own rows text settled = alias_for-alike rows _ _ (fold_text-twice (unwrap_or (alias_for rows text) text)) ∙ by_row (find test rows) refl
-  where
-    test : Alias → Bool
-    test alias = are_alike alias.old text
-
-    by_row : (o : Option Alias) → find test rows ≡ o → alias_for rows (unwrap_or (option_map (λ alias. alias.new) o) text) ≡ None
-    by_row None none = ap (option_map (λ alias. alias.new)) none
-    by_row (Some a) found = is_none-none (alias_for rows a.new) (found_has (λ (alias : Alias). is_none (alias_for rows alias.new)) test rows a settled found)
+alias-own rows text settled = grind (arith, common_steps, alias_for-alike, fold_text-twice, is_none-none, found_has)
 
 type-own :
     (rows : List TypeAlias) (key text : List ℕ) → list_all {X = TypeAlias} (λ row. is_none (type_alias_for rows row.key row.new)) rows ≡ true →
@@ -78,18 +71,7 @@ type-own rows key text settled = type_alias_for-alike rows key key _ _ refl (fol
         ∙ is_none-none (type_alias_for rows a.key a.new) (found_has (λ (alias : TypeAlias). is_none (type_alias_for rows alias.key alias.new)) test rows a settled found)
 
 type-empty : (rows : List TypeAlias) (key : List ℕ) → list_all {X = TypeAlias} (λ row. not (are_alike row.old [])) rows ≡ true → type_alias_for rows key [] ≡ None
-type-empty rows key no_empty = ap (option_map (λ alias. alias.new)) (by_row (find test rows) refl)
-  where
-    test : TypeAlias → Bool
-    test alias = are_alike alias.key key && are_alike alias.old []
-
-    by_row : (o : Option TypeAlias) → find test rows ≡ o → o ≡ None
-    by_row None none = refl
-    by_row (Some a) found =
-        absurd
-        (false≢true
-        (sym (not-true (are_alike a.old []) (found_has (λ (alias : TypeAlias). not (are_alike alias.old [])) test rows a no_empty found))
-        ∙ (both (are_alike a.key key) (are_alike a.old []) (found_is test rows a found)).1))
+type-empty rows key no_empty = grind (arith, common_steps, false≢true, not-true, found_has, both, found_is)
 
 -- ---- values of `u`
 
@@ -109,28 +91,10 @@ replaced-own key text = by_test (has_subdivision key)
 
 replaced-empty : (key : List ℕ) → replaced key [] ≡ []
 unfolding subdivision unicode_type
-replaced-empty key = by_test (has_subdivision key)
-  where
-    by_test : (b : Bool) → cond b (subdivision []) (unicode_type key []) ≡ []
-    by_test true = ap (λ o. unwrap_or o []) no_empty_subdivision
-    by_test false = ap (λ o. unwrap_or o []) (type-empty unicode_type_aliases key no_empty_type)
+replaced-empty key = grind (arith, common_steps, no_empty_subdivision, type-empty, no_empty_type)
 
 unicode-own : (key text : List ℕ) → unicode_value key (fold_text (unicode_value key text)) ≡ fold_text (unicode_value key text)
-unicode-own key text = by_true (are_alike (replaced key text) (codes "true")) refl
-  where
-    empty : (t : List ℕ) → t ≡ [] → without_true t ≡ []
-    empty t is = by_test (are_alike t (codes "true"))
-      where
-        by_test : (b : Bool) → cond b [] t ≡ []
-        by_test true = refl
-        by_test false = is
-
-    by_true :
-        (b : Bool) → are_alike (replaced key text) (codes "true") ≡ b → without_true (replaced key (fold_text (cond b [] (replaced key text)))) ≡ fold_text (cond b [] (replaced key text))
-    by_true true is = empty (replaced key []) (replaced-empty key)
-    by_true false is =
-        ap without_true (replaced-own key text)
-        ∙ ap (λ b. cond b [] (fold_text (replaced key text))) (ap (λ t. bytes_eq t (fold_text (codes "true"))) (fold_text-twice (replaced key text)) ∙ is)
+unicode-own key text = grind (arith, common_steps, replaced-empty, replaced-own, fold_text-twice)
 
 -- ---- values of `t`
 

@@ -1,8 +1,10 @@
 -- What holds of each subtag of some lists.
-use Rattle.std.proofs.Common.{ℕ, Bool, true, false, cond, List, [], ◌∷◌, ◌++◌}
+use Rattle.std.proofs.lemmas.Grind.{common_steps}
+use Rattle.std.proofs.Common.{arith}
+use Rattle.std.proofs.Common.{ℕ, Bool, List, [], ◌∷◌, ◌++◌}
 use Rattle.std.specs.List.{AllByRecursion}
 use Rattle.langtag_scan.specs.Case.{fold_text}
-use Rattle.langtag_keyword.specs.Form.{in_alphabet, is_before, put_among}
+use Rattle.langtag_keyword.specs.Form.{in_alphabet, put_among}
 use Rattle.langtag_keyword.specs.Keywords.{before_key}
 
 module _ {X : Type 0} (P : X → Type 0) where
@@ -17,20 +19,11 @@ module _ {X : Type 0} (P : X → Type 0) where
 module _ (P : List ℕ → Type 0) where
   pub each-before : (test : List ℕ → Bool) (ss : List (List ℕ)) → AllByRecursion P ss → AllByRecursion P (before_key test ss)
   each-before test [] all = tt
-  each-before test (s ∷ ss) all = by_test (test s) (each-before test ss all.1)
-    where
-      by_test : (b : Bool) → AllByRecursion P (before_key test ss) → AllByRecursion P (cond b [] (s ∷ before_key test ss))
-      by_test true later = tt
-      by_test false later = (all.0, later)
+  each-before test (s ∷ ss) all = grind (arith, common_steps, each-before test ss all.1)
 
   pub each-put : (x : List ℕ) (ss : List (List ℕ)) → P x → AllByRecursion P ss → AllByRecursion P (put_among x ss)
   each-put x [] one all = (one, tt)
-  each-put x (s ∷ ss) one all = by_tests (is_before x s) (is_before s x) (each-put x ss one all.1)
-    where
-      by_tests : (a b : Bool) → AllByRecursion P (put_among x ss) → AllByRecursion P (cond a (x ∷ s ∷ ss) (cond b (s ∷ put_among x ss) (s ∷ ss)))
-      by_tests true b later = (one, all)
-      by_tests false true later = (all.0, later)
-      by_tests false false later = all
+  each-put x (s ∷ ss) one all = grind (arith, common_steps, each-put x ss one all.1)
 
   pub each-alphabet : ((s : List ℕ) → P s → P (fold_text s)) → (ss : List (List ℕ)) → AllByRecursion P ss → AllByRecursion P (in_alphabet ss)
   each-alphabet folded [] all = tt

@@ -1,4 +1,6 @@
 -- What is found in a list has what all of the list have.
+use Rattle.std.proofs.lemmas.Grind.{common_steps}
+use Rattle.std.proofs.Common.{arith}
 use Rattle.std.proofs.Common.{◌≡◌, Bool, true, false, cond, List, [], ◌∷◌, ◌&&◌, Some, refl, sym, ap, ◌∙◌}
 use Rattle.std.proofs.lemmas.Bool.{false≢true}
 use Rattle.std.specs.Prelude.{find}
@@ -22,8 +24,4 @@ found_has good test (y ∷ xs) x all is =
 -- what is found passes the test
 pub found_is : {X : Type 0} (test : X → Bool) (xs : List X) (x : X) → find test xs ≡ Some x → test x ≡ true
 found_is test [] x is = absurd cc
-found_is test (y ∷ xs) x is = by_test (test y) refl (found_is test xs x) is
-  where
-    by_test : (b : Bool) → test y ≡ b → (find test xs ≡ Some x → test x ≡ true) → cond b (Some y) (find test xs) ≡ Some x → test x ≡ true
-    by_test true passes later found = let same : y ≡ x = cc in ap test (sym same) ∙ passes
-    by_test false passes later found = later found
+found_is test (y ∷ xs) x is = grind (arith, common_steps, found_is test xs x)

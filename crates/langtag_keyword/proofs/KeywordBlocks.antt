@@ -1,6 +1,8 @@
 -- Keywords that are written key after key, in the order of the keys, and what becomes of them when a keyword is set or
 -- removed.
-use Rattle.std.proofs.Common.{◌≡◌, ℕ, Bool, true, false, cond, ◌&&◌, List, [], ◌∷◌, ◌++◌, find, Option, None, Some, refl, sym, ap, ◌∙◌, append-nil, append_assoc}
+use Rattle.std.proofs.lemmas.Grind.{common_steps}
+use Rattle.std.proofs.Common.{arith}
+use Rattle.std.proofs.Common.{◌≡◌, ℕ, Bool, true, false, cond, ◌&&◌, List, [], ◌∷◌, ◌++◌, find, Option, None, Some, refl, sym, ap, ◌∙◌, append-nil}
 use Rattle.std.specs.List.{AllByRecursion, flat_map}
 use Rattle.std.specs.Option.{option_map_or}
 use Rattle.langtag_scan.specs.Case.{are_alike, fold_text}
@@ -55,19 +57,7 @@ module _ (value : List ℕ → Option (List (List ℕ))) (are : AreValues value)
       (rest : List (List ℕ)) (inside : Bool) (keys : List (List ℕ)) → AreOthers keys → without_within key inside rest ≡ without_keyword key rest →
       without_within key inside (blocks value keys ++ rest) ≡ blocks value keys ++ without_keyword key rest
   without-others rest inside [] others same = same
-  without-others rest inside (j ∷ keys) others same = by_value (value j) refl (without-others rest inside keys others.1 same) (without-others rest false keys others.1 refl)
-    where
-      by_value :
-          (o : Option (List (List ℕ))) → value j ≡ o → without_within key inside (blocks value keys ++ rest) ≡ blocks value keys ++ without_keyword key rest →
-          without_keyword key (blocks value keys ++ rest) ≡ blocks value keys ++ without_keyword key rest →
-          without_within key inside ((option_map_or (λ v. j ∷ v) o [] ++ blocks value keys) ++ rest) ≡ (option_map_or (λ v. j ∷ v) o [] ++ blocks value keys) ++ without_keyword key rest
-      by_value None is later outside = later
-      by_value (Some v) is later outside =
-          let fits = are j v is in
-          ap (λ t. without_within key inside (j ∷ t)) (append_assoc v (blocks value keys) rest)
-          ∙ without-kept key j (v ++ (blocks value keys ++ rest)) inside false (sym (ap (λ t. cond t (are_alike j key) inside) fits.0 ∙ others.0)) refl
-          ∙ ap (λ t. j ∷ t)
-          (without-passed key v (blocks value keys ++ rest) fits.1 ∙ ap (λ t. v ++ t) outside ∙ sym (append_assoc v (blocks value keys) (without_keyword key rest)))
+  without-others rest inside (j ∷ keys) others same = grind (arith, common_steps, without-others rest inside keys others.1 same, without-others rest false keys others.1 refl, without-kept, without-passed)
 
   pub without-all : (inside : Bool) (keys : List (List ℕ)) → AreOthers keys → without_within key inside (blocks value keys) ≡ blocks value keys
   without-all inside keys others =
@@ -77,32 +67,11 @@ module _ (value : List ℕ → Option (List (List ℕ))) (are : AreValues value)
       (stands : Bool) (keyword rest keys : List (List ℕ)) → AllByRecursion (λ j. is_place key stands j ≡ false) keys →
       put_keyword key stands keyword (blocks value keys ++ rest) ≡ blocks value keys ++ put_keyword key stands keyword rest
   put-others stands keyword rest [] places = refl
-  put-others stands keyword rest (j ∷ keys) places = by_value (value j) refl (put-others stands keyword rest keys places.1)
-    where
-      by_value :
-          (o : Option (List (List ℕ))) → value j ≡ o → put_keyword key stands keyword (blocks value keys ++ rest) ≡ blocks value keys ++ put_keyword key stands keyword rest →
-          put_keyword key stands keyword ((option_map_or (λ v. j ∷ v) o [] ++ blocks value keys) ++ rest)
-          ≡ (option_map_or (λ v. j ∷ v) o [] ++ blocks value keys) ++ put_keyword key stands keyword rest
-      by_value None is later = later
-      by_value (Some v) is later =
-          ap (λ t. put_keyword key stands keyword (j ∷ t)) (append_assoc v (blocks value keys) rest)
-          ∙ put-later key j (v ++ (blocks value keys ++ rest)) stands keyword places.0
-          ∙ ap (λ t. j ∷ t)
-          (put-passed key stands keyword v (blocks value keys ++ rest) (are j v is).1 ∙ ap (λ t. v ++ t) later ∙ sym (append_assoc v (blocks value keys) (put_keyword key stands keyword rest)))
+  put-others stands keyword rest (j ∷ keys) places = grind (arith, common_steps, put-others stands keyword rest keys places.1, put-later, put-passed)
 
   pub find-others : (rest keys : List (List ℕ)) → AreOthers keys → find (is_this_key key) (blocks value keys ++ rest) ≡ find (is_this_key key) rest
   find-others rest [] others = refl
-  find-others rest (j ∷ keys) others = by_value (value j) refl (find-others rest keys others.1)
-    where
-      by_value :
-          (o : Option (List (List ℕ))) → value j ≡ o → find (is_this_key key) (blocks value keys ++ rest) ≡ find (is_this_key key) rest →
-          find (is_this_key key) ((option_map_or (λ v. j ∷ v) o [] ++ blocks value keys) ++ rest) ≡ find (is_this_key key) rest
-      by_value None is later = later
-      by_value (Some v) is later =
-          let fits = are j v is in
-          ap (λ t. find (is_this_key key) (j ∷ t)) (append_assoc v (blocks value keys) rest)
-          ∙ ap (λ t. cond t (Some j) (find (is_this_key key) (v ++ (blocks value keys ++ rest)))) (ap (λ t. t && are_alike j key) fits.0 ∙ others.0)
-          ∙ find-passed key v (blocks value keys ++ rest) fits.1 ∙ later
+  find-others rest (j ∷ keys) others = grind (arith, common_steps, find-others rest keys others.1, find-passed)
 
   -- an absent key goes before the first of greater keys
   pub put-first :

@@ -1,4 +1,5 @@
 -- What is set is read, what is removed is not, and other keys keep their values.
+use Rattle.std.proofs.lemmas.Grind.{common_steps}
 use Rattle.std.proofs.Common.{◌≡◌, ℕ, ◌+◌, Bool, true, false, cond, ◌&&◌, leb, List, [], ◌∷◌, ◌++◌, length, find, Option, None, Some, unwrap_or, refl, sym, ap, ◌∙◌, arith, eqb-true}
 use Rattle.std.proofs.lemmas.Bool.{and_parts, false≢true, leb-true}
 use Rattle.std.specs.List.{AllByRecursion}
@@ -70,14 +71,7 @@ module _ (key k : List ℕ) (value : List (List ℕ)) (this : is_this_key key k 
   -- what stands before the first key stays
   pub before-put : (stands : Bool) (ss : List (List ℕ)) → before_key is_key (put_keyword key stands (k ∷ value) ss) ≡ before_key is_key ss
   before-put stands [] = ap (λ b. cond b [] (k ∷ before_key is_key value)) key-opens
-  before-put stands (s ∷ ss) = by_place (is_place key stands s) refl (before-put stands ss)
-    where
-      by_place :
-          (b : Bool) → is_place key stands s ≡ b → before_key is_key (put_keyword key stands (k ∷ value) ss) ≡ before_key is_key ss →
-          before_key is_key (cond b ((k ∷ value) ++ without_keyword key (s ∷ ss)) (s ∷ put_keyword key stands (k ∷ value) ss)) ≡ before_key is_key (s ∷ ss)
-      by_place true place later =
-          grind (arith, nat_tests, and_parts (is_key s) (cond stands (are_alike s key) (is_before (fold_text key) (fold_text s))) place, key-opens)
-      by_place false place later = ap (λ r. cond (is_key s) [] (s ∷ r)) later
+  before-put stands (s ∷ ss) = grind (arith, common_steps, before-put stands ss, key-opens, and_parts)
 
   value-first : (rest : List (List ℕ)) → value_of is_key key (k ∷ rest) ≡ Some (before_key is_key rest)
   value-first rest = ap (λ b. cond b (Some (before_key is_key rest)) (value_of is_key key rest)) this
@@ -105,18 +99,7 @@ value-with key value ss is all = grind (arith, nat_tests, value-put key, standin
 -- get after remove
 pub value-without : (key : List ℕ) (inside : Bool) (ss : List (List ℕ)) → value_of is_key key (without_within key inside ss) ≡ None
 value-without key inside [] = refl
-value-without key inside (s ∷ ss) = by_key (is_key s) (are_alike s key) refl refl inside (value-without key true ss) (value-without key false ss)
-  where
-    by_key :
-        (is same : Bool) → is_key s ≡ is → are_alike s key ≡ same → (within : Bool) → value_of is_key key (without_within key true ss) ≡ None → value_of is_key key (without_within key false ss) ≡ None →
-        value_of is_key key (cond (cond is same within) (without_within key true ss) (s ∷ without_within key false ss)) ≡ None
-    by_key true true key_is same_is within gone kept = gone
-    by_key true false key_is same_is within gone kept =
-        ap (λ b. cond (b && are_alike s key) (Some (before_key is_key (without_within key false ss))) (value_of is_key key (without_within key false ss))) key_is
-        ∙ ap (λ b. cond b (Some (before_key is_key (without_within key false ss))) (value_of is_key key (without_within key false ss))) same_is ∙ kept
-    by_key false same key_is same_is true gone kept = gone
-    by_key false same key_is same_is false gone kept =
-        ap (λ b. cond (b && are_alike s key) (Some (before_key is_key (without_within key false ss))) (value_of is_key key (without_within key false ss))) key_is ∙ kept
+value-without key inside (s ∷ ss) = grind (arith, common_steps, value-without key true ss, value-without key false ss)
 
 -- ---- other keys stay
 
@@ -147,13 +130,7 @@ module _ (key other : List ℕ) (differ : are_alike key other ≡ false) where
 
   pub others-without : (inside : Bool) (ss : List (List ℕ)) → value_of is_key other (without_within key inside ss) ≡ value_of is_key other ss
   others-without inside [] = refl
-  others-without inside (s ∷ ss) = by_key (is_key s) (are_alike s key) refl refl inside (others-without true ss) (others-without false ss)
-    where
-      by_key :
-          (is same : Bool) → is_key s ≡ is → are_alike s key ≡ same → (within : Bool) → value_of is_key other (without_within key true ss) ≡ value_of is_key other ss →
-          value_of is_key other (without_within key false ss) ≡ value_of is_key other ss →
-          value_of is_key other (cond (cond is same within) (without_within key true ss) (s ∷ without_within key false ss)) ≡ value_of is_key other (s ∷ ss)
-      by_key is same key_is same_is within gone kept = grind (arith, nat_tests, other-skipped, both-apart, before-kept)
+  others-without inside (s ∷ ss) = grind (arith, common_steps, others-without true ss, others-without false ss, other-skipped, both-apart, before-kept)
 
   module _ (k : List ℕ) (value : List (List ℕ)) (this : is_this_key key k ≡ true) (all : AreNoKeys value) (stands : Bool) where
     others-put : (ss : List (List ℕ)) → value_of is_key other (put_keyword key stands (k ∷ value) ss) ≡ value_of is_key other ss

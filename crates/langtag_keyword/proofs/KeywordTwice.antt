@@ -1,4 +1,5 @@
 -- A key that is set twice has the second value, and the tag is the one that the second call alone gives.
+use Rattle.std.proofs.lemmas.Grind.{common_steps}
 use Rattle.std.proofs.Common.{◌≡◌, ℕ, ◌≤◌, Bool, true, false, cond, ◌&&◌, not, List, [], ◌∷◌, ◌++◌, length, find, Option, None, Some, unwrap_or, refl, sym, ap, ◌∙◌, arith, append-nil, append_assoc}
 use Rattle.std.proofs.lemmas.Bool.{and_parts, false≢true}
 use Rattle.std.specs.List.{flat_map}
@@ -165,8 +166,4 @@ pub set_twice :
     (key : List ℕ) (v w : List (List ℕ)) (r : Record) → keyword_error key v ≡ None →
     edited_record key (Some w) (edited_record key (Some v) r) ≡ edited_record key (Some w) r
 unfolding edited_record
-set_twice key v w r none =
-    let fits = fits_from key v none in
-    ap (λ es. record r { extensions = es })
-    (u-twice (with_keyword key v) (with_keyword key w) (λ ss. some-put key (unwrap_or (find (is_this_key key) ss) key) (is_some (find (is_this_key key) ss)) v ss)
-    (λ ss. with-twice key v w ss fits.two fits.no_keys) r.extensions)
+set_twice key v w r none = grind (arith, common_steps, fits_from, u-twice, some-put, with-twice)

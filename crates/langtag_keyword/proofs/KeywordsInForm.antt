@@ -1,5 +1,7 @@
 -- Keywords that are written in the order of their keys are read again as they are: so keywords in their form are their own
 -- form, and subtags in which each key has the same value have the same form.
+use Rattle.std.proofs.lemmas.Grind.{common_steps}
+use Rattle.std.proofs.Common.{arith}
 use Rattle.std.proofs.Common.{◌≡◌, ℕ, Bool, true, false, cond, ◌&&◌, ◌||◌, List, [], ◌∷◌, ◌++◌, map, Option, None, Some, option_map, refl, sym, ap, ◌∙◌, append-nil}
 use Rattle.std.specs.List.{AllByRecursion, filter, flat_map, list_any}
 use Rattle.std.specs.Option.{is_some, option_map_or}
@@ -41,11 +43,7 @@ module _ (opens : List ℕ → Bool) where
 
   pub plain-before : (ss : List (List ℕ)) → Plain (before_key opens ss)
   plain-before [] = tt
-  plain-before (s ∷ ss) = by_test (opens s) refl (plain-before ss)
-    where
-      by_test : (b : Bool) → opens s ≡ b → Plain (before_key opens ss) → Plain (cond b [] (s ∷ before_key opens ss))
-      by_test true is later = tt
-      by_test false is later = (is, later)
+  plain-before (s ∷ ss) = grind (arith, common_steps, plain-before ss)
 
   pub before-plain : (xs ys : List (List ℕ)) → Plain xs → before_key opens (xs ++ ys) ≡ xs ++ before_key opens ys
   before-plain [] ys plain = refl
@@ -108,14 +106,7 @@ module _ (opens : List ℕ → Bool) where
 
   key-has : (k : List ℕ) (ss : List (List ℕ)) → among k (filter opens ss) ≡ is_some (value_of opens k ss)
   key-has k [] = refl
-  key-has k (s ∷ ss) = by_tests (opens s) (are_alike s k) refl (key-has k ss)
-    where
-      by_tests :
-          (t a : Bool) → are_alike s k ≡ a → among k (filter opens ss) ≡ is_some (value_of opens k ss) →
-          among k (cond t (s ∷ filter opens ss) (filter opens ss)) ≡ is_some (cond (t && a) (Some (before_key opens ss)) (value_of opens k ss))
-      by_tests true true alike later = ap (λ b. b || among k (filter opens ss)) alike
-      by_tests true false apart later = ap (λ b. b || among k (filter opens ss)) apart ∙ later
-      by_tests false a is later = later
+  key-has k (s ∷ ss) = grind (arith, common_steps, key-has k ss, among)
 
   pub keys-have : (k : List ℕ) (ss : List (List ℕ)) → among k (keys_in_order opens ss) ≡ is_some (value_of opens k ss)
   keys-have k ss = among-alphabet k (filter opens ss) ∙ key-has k ss

@@ -56,11 +56,7 @@ from_key test (s ∷ ss) = cond (test s) (s ∷ ss) (from_key test ss)
 
 pub before-from : (test : List ℕ → Bool) (ss : List (List ℕ)) → before_key test ss ++ from_key test ss ≡ ss
 before-from test [] = refl
-before-from test (s ∷ ss) = by_test (test s) (before-from test ss)
-  where
-    by_test : (b : Bool) → before_key test ss ++ from_key test ss ≡ ss → cond b [] (s ∷ before_key test ss) ++ cond b (s ∷ ss) (from_key test ss) ≡ s ∷ ss
-    by_test true others = refl
-    by_test false others = ap (λ xs. s ∷ xs) others
+before-from test (s ∷ ss) = grind (arith, common_steps, before-from test ss)
 
 pub length-with_hyphens : (ss : List (List ℕ)) → length_with_hyphens ss ≡ length (hyphenated ss)
 length-with_hyphens [] = refl
@@ -152,11 +148,7 @@ segments-whole text end is free =
 
 pub fits-before_key : (test : List ℕ → Bool) (ss : List (List ℕ)) → AllByRecursion IsSubtag ss → AllByRecursion IsSubtag (before_key test ss)
 fits-before_key test [] fits = tt
-fits-before_key test (s ∷ ss) fits = by_test (test s) (fits-before_key test ss fits.1)
-  where
-    by_test : (b : Bool) → AllByRecursion IsSubtag (before_key test ss) → AllByRecursion IsSubtag (cond b [] (s ∷ before_key test ss))
-    by_test true others = tt
-    by_test false others = (fits.0, others)
+fits-before_key test (s ∷ ss) fits = grind (arith, common_steps, fits-before_key test ss fits.1, IsSubtag)
 
 -- the subtags of an extension are subtags
 fits-subtags_of : (b : ℕ) (r : Record) → IsWellFormed r → AllByRecursion IsSubtag (subtags_of b r)

@@ -1,4 +1,5 @@
 -- One step of a walk over the subtags of an extension.
+use Rattle.std.proofs.lemmas.Grind.{common_steps}
 use Rattle.std.proofs.Common.{◌≡◌, ℕ, zero, suc, ◌+◌, Bool, true, false, cond, List, [], ◌∷◌, ◌++◌, take, drop, ap, sym, ◌∙◌, arith}
 use Rattle.std.specs.List.{list_any}
 use Rattle.langtag_scan.specs.Case.{are_alike}
@@ -20,10 +21,7 @@ module _ (test : List ℕ → Bool) where
       (all : List (List ℕ)) (n : ℕ) (s : List ℕ) (rest : List (List ℕ)) (value : List ℕ) → drop n all ≡ s ∷ rest → is_new_key test (take n all) s ≡ true →
       value ≡ join (before_key test rest) →
       keywords_after test (take n all) (s ∷ rest) ≡ record { key = s; value = value } ∷ keywords_after test (take (n + 1) all) rest
-  keywords-new all n s rest value left new is =
-      ap (λ b. cond b (record { key = s; value = join (before_key test rest) } ∷ keywords_after test (take n all ++ s ∷ []) rest) (keywords_after test (take n all ++ s ∷ []) rest)) new
-      ∙ ap (λ v. record { key = s; value = v } ∷ keywords_after test (take n all ++ s ∷ []) rest) (sym is)
-      ∙ ap (λ before. record { key = s; value = value } ∷ keywords_after test before rest) (take-turn all n s rest left)
+  keywords-new all n s rest value left new is = grind (arith, common_steps, take-turn)
 
   -- another subtag
   pub keywords-other :
