@@ -19,6 +19,7 @@ from kinds import HERE, LIMIT, read_kinds
 from marks import without_derives, without_imports, without_marks
 from words import without_layout, words_of
 
+LAWS = "laws"
 RUST = HERE.parent
 SOURCES = RUST.parent / "crates"
 
@@ -34,6 +35,9 @@ class Checker:
         self.faults += unknown_folders(self.modules)
         for crate, module in CRATES.items():
             names = {"mod" if path.stem == "lib" else path.stem for path in (self.sources / crate / "src").iterdir()}
+            if LAWS in names:
+                names.remove(LAWS)
+                self.faults += faults_of_laws(self.sources / crate / "src" / f"{LAWS}.rt", self.ghosts)
             folder = self.modules / ELSEWHERE.get(crate, MADE) / module
             for path in folder.iterdir():
                 if path.suffix != ".rs" or path.stem not in names:
@@ -86,6 +90,15 @@ class Checker:
 
     def told(self):
         return "".join(f"{file}: {line_of(counts)}\n" for file, counts in sorted(self.counts.items()))
+
+
+def faults_of_laws(path, ghosts):
+    """Yields a fault if a module of laws has more than functions that do nothing."""
+    words = without_ghosts(words_of(path.read_text(encoding="utf-8")), ghosts)
+    for at in range(0, len(words), 6):
+        if words[at : at + 1] + words[at + 2 : at + 6] != ["fn", "(", ")", "{", "}"]:
+            yield f"{path.parent.parent.name}/src/{path.name}: it has more than functions that do nothing"
+            return
 
 
 def unknown_folders(modules):

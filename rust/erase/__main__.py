@@ -24,6 +24,7 @@ from tokens import Code
 
 RUST = pathlib.Path(__file__).resolve().parent.parent
 CRATES = RUST.parent / "crates"
+LAWS = "laws"  # the module of a crate that has only contracts: its functions do nothing, and nothing calls them
 
 
 def erase(source, module):
@@ -63,8 +64,12 @@ def write(out):
     for module in MODULES:
         inside |= lent_by(CRATES / module.crate / "src/lib.rt")
         for source in sorted((CRATES / module.crate / "src").glob("*.rt")):
+            if source.stem == LAWS:
+                continue
             name = "mod.rs" if source.stem == "lib" else source.stem + ".rs"
             code, names = erase(source, module)
+            if source.stem == "lib":
+                code.rewrite(f"mod {LAWS};", "")
             if module.crate == "langtag_c":
                 code.rewrite("mod $name;", "pub(crate) mod $name;")  # its exports are beside it
             files[source, out / module.folder / name] = code

@@ -63,8 +63,8 @@ module _ (opens : List ℕ → Bool) where
       (same-values opens canonical _ _
       (λ key low. ap (option_map (λ w. map fold_text (subtags (canonical key (join w))))) (value-moved key before after k l v w one two differ none)))
 
-pub unicode-moved : OrderChangesNothing is_key unicode_form
-unicode-moved = moved is_key in_alphabet unicode_value
+pub unicode_moved : OrderChangesNothing is_key unicode_form
+unicode_moved = moved is_key in_alphabet unicode_value
 
-pub transform-moved : OrderChangesNothing is_field_key transform_form
-transform-moved = moved is_field_key language_form transform_value
+pub transform_moved : OrderChangesNothing is_field_key transform_form
+transform_moved = moved is_field_key language_form transform_value

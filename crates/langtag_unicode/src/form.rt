@@ -7,9 +7,6 @@ ghost use Rattle.langtag_output.specs.WritesWhole.{WritesWhole};
 ghost use Rattle.langtag_scan.specs.Record as model;
 ghost use Rattle.langtag_keyword.specs.Form as spec;
 ghost use Rattle.langtag_unicode.specs.ExtensionsForm.{IsExtensionsForm};
-ghost use Rattle.langtag_unicode.specs.FormLaws.{OrderChangesNothing};
-ghost use Rattle.langtag_keyword.specs.Keywords.{is_key};
-ghost use Rattle.langtag_keyword.specs.Transform.{is_field_key};
 ghost use Rattle.langtag_scan.specs.Ends.{to_variants};
 
 use langtag::{LangTag, LangTagBuf, NormalLangTag, push_private_use, tag_of};
@@ -49,8 +46,6 @@ pub fn extensions_form(alloc: Global, tag: LangTag<'_>) -> Result<LangTagBuf, Al
     ensures form { IfOk result (λ form. IsExtensionsForm (lang_tag_text tag.entry) (lang_tag_buf_text form)) }
     ensures one { IfOk result (λ form. IsOnlyForm spec.extensions_record (lang_tag_text tag.entry) (lang_tag_buf_text form)) }
     ensures settled { IfOk result (λ form. IsExtensionsForm (lang_tag_buf_text form) (lang_tag_buf_text form)) }
-    ensures keywords_move { OrderChangesNothing is_key spec.unicode_form }
-    ensures fields_move { OrderChangesNothing is_field_key spec.transform_form }
     ensures alike { IfOk result (λ form. IsAlikeForm IsExtensionsForm (lang_tag_text tag.entry) (lang_tag_buf_text form)) }
 {
     Ok(tag_of(form_bytes(alloc, tag)?))

@@ -1,18 +1,13 @@
 //! Setting and removing keywords (RFC 6067 section 2.1).
-ghost use Rattle.std.specs.Prelude.{◌≡◌, ◌↔◌, ◌<◌, ◌≤◌, ◌+◌, ◌^◌, ℕ, List, [], None, Some, false, IfOk, IsErrOf, IsTrue, OnErr, is_ok, length};
-ghost use Rattle.std.specs.List.{AllByRecursion};
+ghost use Rattle.std.specs.Prelude.{◌≡◌, ◌↔◌, ◌<◌, ◌≤◌, ◌+◌, ◌^◌, ℕ, List, [], None, Some, IfOk, IsErrOf, IsTrue, OnErr, is_ok, length};
 ghost use Rattle.langtag.specs.Text.{lang_tag_text, normal_lang_tag_text};
 ghost use Rattle.langtag.specs.Form.{IsForm};
 ghost use Rattle.langtag_output.specs.Output.{IsCounted};
 ghost use Rattle.langtag_output.specs.Writes.{Writes};
-ghost use Rattle.langtag_scan.specs.Case.{are_alike};
-ghost use Rattle.langtag_scan.specs.Class.{is_extension_subtag};
 ghost use Rattle.langtag_scan.specs.Record as model;
 ghost use Rattle.langtag_scan.specs.Subtags.{subtags};
 ghost use Rattle.langtag_scan.specs.Tag.{IsNormal};
 ghost use Rattle.langtag_keyword.specs.Edit as spec;
-ghost use Rattle.langtag_keyword.specs.Form.{extensions_record, unicode_form};
-ghost use Rattle.langtag_keyword.specs.Keywords.{is_key, value_of};
 ghost use Rattle.langtag_keyword.specs.EditText.{edited_record_by};
 
 use crate::form::push_head;
@@ -56,13 +51,6 @@ pub fn write_with_keyword(
     ensures refused { (error : KeywordError) → spec.keyword_error key.now (subtags value.now) ≡ Some error → IsErrOf result error }
     ensures not_normal { spec.keyword_error key.now (subtags value.now) ≡ None → IsErrOf result KeywordError.NotNormal ↔ (IsNormal (lang_tag_text tag.entry) → ⊥) }
     ensures accepts { spec.keyword_error key.now (subtags value.now) ≡ None → IsTrue (is_ok result) ↔ IsNormal (lang_tag_text tag.entry) }
-    ensures read_after { (k : List ℕ) (v ss : List (List ℕ)) → spec.keyword_error k v ≡ None → value_of is_key k (spec.with_keyword k v ss) ≡ Some v }
-    ensures others_stay { (k other : List ℕ) (v ss : List (List ℕ)) → spec.keyword_error k v ≡ None → are_alike k other ≡ false
-        → value_of is_key other (spec.with_keyword k v ss) ≡ value_of is_key other ss }
-    ensures set_twice { (k : List ℕ) (v w : List (List ℕ)) (r : model.Record) → spec.keyword_error k v ≡ None
-        → spec.edited_record k (Some w) (spec.edited_record k (Some v) r) ≡ spec.edited_record k (Some w) r }
-    ensures canonical { (k : List ℕ) (v : List (List ℕ)) (r : model.Record) → spec.keyword_error k v ≡ None → spec.IsCanonicalKeyword k v → model.IsWellFormed r → extensions_record r ≡ r
-        → extensions_record (spec.edited_record k (Some v) r) ≡ spec.edited_record k (Some v) r }
 
     ensures cloned { (error copy : KeywordError) → ⟦<KeywordError as Clone>⟧.is_clone error copy → copy ≡ error }
     ensures clone_succeeds { (error : KeywordError) → ⟦<KeywordError as Clone>⟧.is_infallible error }
@@ -105,11 +93,6 @@ pub fn write_without_keyword(
     ensures refused { (error : KeywordError) → spec.keyword_error key.now [] ≡ Some error → IsErrOf result error }
     ensures not_normal { spec.keyword_error key.now [] ≡ None → IsErrOf result KeywordError.NotNormal ↔ (IsNormal (lang_tag_text tag.entry) → ⊥) }
     ensures accepts { spec.keyword_error key.now [] ≡ None → IsTrue (is_ok result) ↔ IsNormal (lang_tag_text tag.entry) }
-    ensures none_after { (k : List ℕ) (ss : List (List ℕ)) → value_of is_key k (spec.without_keyword k ss) ≡ None }
-    ensures others_stay { (k other : List ℕ) (ss : List (List ℕ)) → are_alike k other ≡ false
-        → value_of is_key other (spec.without_keyword k ss) ≡ value_of is_key other ss }
-    ensures canonical { (k : List ℕ) (ss : List (List ℕ)) → spec.keyword_error k [] ≡ None → AllByRecursion (λ s. IsTrue (is_extension_subtag s)) ss → unicode_form ss ≡ ss
-        → unicode_form (spec.without_keyword k ss) ≡ spec.without_keyword k ss }
 {
     if let Some(error) = keyword_error(key, "") {
         return Err(error);

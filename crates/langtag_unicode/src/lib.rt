@@ -15,6 +15,7 @@ mod extension_text;
 mod form;
 mod keyword_setters;
 mod keywords_iter;
+mod laws;
 mod owned_keywords;
 mod set_keyword_error;
 mod transformation;

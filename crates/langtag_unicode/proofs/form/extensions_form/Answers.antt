@@ -7,7 +7,6 @@ use Rattle.langtag_keyword.specs.Form.{extensions_record}
 use Rattle.langtag_unicode.proofs.ExtensionCase.{extensions_form-alike}
 use Rattle.langtag_unicode.proofs.ExtensionsTwice.{extensions_settled}
 use Rattle.langtag_unicode.proofs.FormRecords.{form_well_formed}
-use Rattle.langtag_unicode.proofs.KeywordOrder.{transform-moved, unicode-moved}
 use Rattle.langtag_unicode.proofs.form.extensions_form.Goals as goal
 
 pub tag_of-requires : goal.tag_of-requires
@@ -22,12 +21,4 @@ returns c =
       one = λ other is_other. one_form extensions_record old other _ is_other is;
       settled = extensions_settled old _ is;
       alike = extensions_form-alike old _ is;
-      keywords_move = unicode-moved;
-      fields_move = transform-moved;
     }
-
-pub returns-in_err-form_bytes-clause-keywords_move : goal.returns-in_err-form_bytes-clause-keywords_move
-returns-in_err-form_bytes-clause-keywords_move c = unicode-moved
-
-pub returns-in_err-form_bytes-clause-fields_move : goal.returns-in_err-form_bytes-clause-fields_move
-returns-in_err-form_bytes-clause-fields_move c = transform-moved
