@@ -48,7 +48,7 @@ EXPLAIN (COSTS OFF) SELECT * FROM texts WHERE tag <@ 'zh';
 DROP TABLE texts; DROP EXTENSION langtag;
 END
 cat >"$work/first.wanted" <<'END'
-ERROR:  invalid input syntax for type langtag: "de_CH"
+ERROR:  invalid language tag `de_CH`: invalid character `_`: expected a letter, a digit or a hyphen
 zh-Hant-TW|b
 Index Scan using texts_tag on texts
   Index Cond: (tag = 'zh-Hant-TW'::langtag)
@@ -63,7 +63,7 @@ postgresql_first() {
 postgresql_regress() { make -s -C "$pg_folder/first" installcheck PG_CONFIG="$pg_config" || { cat "$pg_folder/first/regression.diffs"; return 1; }; }
 # What SQL says of the library in the extension, and what it has to say of the archive that was given.
 postgresql_says() { psql -X -q -At -c "CREATE EXTENSION IF NOT EXISTS langtag; SELECT langtag_proved(), langtag_version()" postgres; }
-postgresql_proved() { postgresql_says | grep "^$([ -n "$prover" ] && echo t || echo f)|langtag $(sed -n 's/.*LANGTAG_VERSION "\(.*\)"/\1/p' include/langtag.h) "; }
+postgresql_proved() { postgresql_says | diff - <(echo "$([ -n "$prover" ] && echo t || echo f)|$(cd python && python3 -m langtag --version)"); }
 
 # Installs from the clone of checks/clone.sh, by cargo. The second `make install` is that of root, who may have no cargo.
 postgresql_clone() {
@@ -107,7 +107,7 @@ else
     else
         not_run "PostgreSQL: the update to another registry" "there is no amcheck"
     fi
-    check "PostgreSQL: SQL says whether the library is proved" postgresql_proved
+    check "PostgreSQL: SQL says whether the library is proved, and the versions of the program" postgresql_proved
     if [ -d "$work/clone" ]; then check "PostgreSQL: a clone installs by cargo" postgresql_clone; else not_run "PostgreSQL: a clone" "there is no cargo"; fi
     check "PostgreSQL: planted faults are found by make installcheck" postgresql_wrong
 fi

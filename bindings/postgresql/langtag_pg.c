@@ -58,37 +58,56 @@ static struct varlena *value_of(const char *bytes, size_t len) {
 
 /* ---- what is refused ---- */
 
-/* Returns a string as a message shows it: cut after a whole character if it is too long. */
-static char *shown(const char *text, size_t len) {
-    size_t cut = (size_t)pg_mbcliplen(text, (int)len, 60);
-    return cut == len ? pnstrdup(text, len) : psprintf("%s...", pnstrdup(text, cut));
+/* Appends a character, or its escape. Control characters are escaped, and characters that are invisible or change the direction. */
+static void append_escaped(StringInfo made, const char *text, int size, pg_wchar code) {
+    const char *name = code == '\t' ? "\\t" : code == '\n' ? "\\n" : code == '\r' ? "\\r" : code == '\\' ? "\\\\" : code == '`' ? "\\`" : NULL;
+    if (name) appendStringInfoString(made, name);
+    else if (code < 0x20 || (code >= 0x7F && code < 0xA0) || (code >= 0x200B && code <= 0x200F) || (code >= 0x2028 && code <= 0x202E) ||
+             (code >= 0x2060 && code <= 0x206F) || code == 0xFEFF)
+        appendStringInfo(made, "\\u{%x}", code);
+    else appendBinaryStringInfo(made, text, size);
 }
 
-/* Returns a message that says where a string that is not a tag is wrong: at which character, and in which subtag. */
-static char *why_no_tag(const char *text, size_t len) {
+/* Returns a text as the messages of all languages show it: in backticks, with escapes, and only its first characters if it is longer. */
+static char *quoted_start(const char *text, size_t len, int most) {
+    StringInfoData made;
+    const char *end = text + len;
+    initStringInfo(&made);
+    appendStringInfoChar(&made, '`');
+    for (int count = 0; text < end && count < most; count++) {
+        int size = pg_mblen(text);
+        bool is_ascii = size == 1 && !(*text & 0x80);
+        append_escaped(&made, text, size, is_ascii ? (pg_wchar)*text : GetDatabaseEncoding() == PG_UTF8 ? utf8_to_unicode((const unsigned char *)text) : 'a');
+        text += size;
+    }
+    appendStringInfoString(&made, text < end && most > 1 ? "...`" : "`");
+    return made.data;
+}
+
+static char *quoted(const char *text, size_t len) { return quoted_start(text, len, 80); }
+
+static void refuse_tag(const char *text, size_t len) {
     langtag_span subtag;
     size_t offset = 0;
     uint32 answer = langtag_refused(text, len, &subtag, &offset);
-    int place = pg_mbstrlen_with_len(text, (int)offset) + 1;
-    if (len == 0) return pstrdup("A language tag is not empty.");
-    if (answer == LANGTAG_REFUSED_BYTE)
-        return psprintf("Invalid character \"%s\" at character %d: expected a letter, a digit or a hyphen.",
-                        pnstrdup(text + offset, pg_mblen(text + offset)), place);
-    if (answer == LANGTAG_REFUSED_END) return pstrdup("Unexpected end: expected a subtag.");
-    if (subtag.len == 0) return psprintf("Empty subtag at character %d.", place);
-    return psprintf("Unexpected subtag \"%s\" at character %d.", shown(text + subtag.start, subtag.len), place);
+    const char *why = answer == LANGTAG_REFUSED_BYTE
+                          ? psprintf("invalid character %s: expected a letter, a digit or a hyphen", quoted_start(text + offset, len - offset, 1))
+                      : answer == LANGTAG_REFUSED_END ? "unexpected end: expected a subtag"
+                      : subtag.len == 0               ? "empty subtag"
+                                                      : psprintf("unexpected subtag %s", quoted(text + subtag.start, subtag.len));
+    ereport(ERROR, (errcode(ERRCODE_INVALID_TEXT_REPRESENTATION), errmsg_internal("invalid language tag %s: %s", quoted(text, len), why),
+                    errdetail("The error is at character %d.", pg_mbstrlen_with_len(text, (int)offset) + 1)));
 }
 
-static void refuse(const char *type, const char *text, size_t len, const char *why) {
-    ereport(ERROR, (errcode(ERRCODE_INVALID_TEXT_REPRESENTATION),
-                    errmsg("invalid input syntax for type %s: \"%s\"", type, shown(text, len)),
-                    errdetail_internal("%s", why)));
+static void refuse(const char *what, const char *text, size_t len, const char *rule) {
+    ereport(ERROR, (errcode(ERRCODE_INVALID_TEXT_REPRESENTATION), errmsg_internal("invalid %s %s", what, quoted(text, len)),
+                    errdetail_internal("%s", rule)));
 }
 
 /* ---- the types ---- */
 
 static void check_tag(const char *text, size_t len) {
-    if (langtag_kind(text, len) == LANGTAG_NONE) refuse("langtag", text, len, why_no_tag(text, len));
+    if (langtag_kind(text, len) == LANGTAG_NONE) refuse_tag(text, len);
 }
 
 static struct varlena *tag_of(const char *text, size_t len) {
@@ -104,7 +123,7 @@ static struct varlena *checked_tag(const char *text, size_t len) {
 
 static struct varlena *checked_range(const char *text, size_t len) {
     if (langtag_range_kind(text, len) == LANGTAG_RANGE_NONE)
-        refuse("langtag_range", text, len,
+        refuse("language range", text, len,
                "A language range is subtags of 1 to 8 letters or digits, or *, with hyphens between them.");
     return value_of(text, len);
 }
@@ -115,7 +134,7 @@ static struct varlena *checked_part(const char *text, size_t len) {
     memcpy(tag, "x-", 2);
     memcpy(tag + 2, text, len);
     if (len > 0 && langtag_kind(tag, len + 2) != LANGTAG_PRIVATE_USE)
-        refuse("langtag_part", text, len, "A part is subtags of 1 to 8 letters or digits with hyphens between them.");
+        refuse("part", text, len, "A part is subtags of 1 to 8 letters or digits with hyphens between them.");
     pfree(tag);
     return value_of(text, len);
 }
@@ -409,11 +428,9 @@ static Datum with_part(FunctionCallInfo fcinfo, uint32 part, const char *name) {
     len = langtag_with_part(BYTES(tag), LEN(tag), part, BYTES(given), LEN(given), VARDATA(changed), room);
     if (len == 0)
         ereport(ERROR, (errcode(ERRCODE_INVALID_PARAMETER_VALUE),
-                        errmsg("the %s of language tag \"%s\" cannot be set to \"%s\"", name,
-                               shown(BYTES(tag), LEN(tag)), shown(BYTES(given), LEN(given))),
-                        langtag_kind(BYTES(tag), LEN(tag)) != LANGTAG_NORMAL
-                            ? errdetail("A tag for private use or an irregular one has no such part.")
-                            : 0));
+                        langtag_kind(BYTES(tag), LEN(tag)) == LANGTAG_NORMAL
+                            ? errmsg_internal("invalid %s %s", name, quoted(BYTES(given), LEN(given)))
+                            : errmsg("not a normal language tag: %s has no %s", quoted(BYTES(tag), LEN(tag)), name)));
     SET_VARSIZE(changed, VARHDRSZ + len);
     langtag_recommend(VARDATA(changed), len);
     PG_RETURN_POINTER(changed);
@@ -439,14 +456,11 @@ static size_t write_keyword(const char *tag, size_t len, text *key, text *value,
  * refuses them there too. */
 static void refuse_keyword(struct varlena *tag, text *key, text *value) {
     char nothing[1];
-    const char *why = write_keyword("und", 3, key, NULL, nothing, 0) == 0    ? "A key is a letter or a digit, and then a letter."
-                      : write_keyword("und", 3, key, value, nothing, 0) == 0 ? "A value is subtags of 3 to 8 letters or digits with hyphens between them."
-                                                                             : "A tag for private use or an irregular one has no keywords.";
+    bool is_key = write_keyword("und", 3, key, NULL, nothing, 0) > 0, is_value = write_keyword("und", 3, key, value, nothing, 0) > 0;
     ereport(ERROR, (errcode(ERRCODE_INVALID_PARAMETER_VALUE),
-                    value == NULL ? errmsg("the keyword \"%s\" of language tag \"%s\" cannot be removed", shown(BYTES(key), LEN(key)), shown(BYTES(tag), LEN(tag)))
-                                  : errmsg("the keyword \"%s\" of language tag \"%s\" cannot be set to \"%s\"", shown(BYTES(key), LEN(key)),
-                                           shown(BYTES(tag), LEN(tag)), shown(BYTES(value), LEN(value))),
-                    errdetail("%s", why)));
+                    !is_key     ? errmsg("%s is not a key of the extension u", quoted(BYTES(key), LEN(key)))
+                    : !is_value ? errmsg("%s is not a value of a key: a subtag needs three to eight letters or digits", quoted(BYTES(value), LEN(value)))
+                                : errmsg("not a normal language tag: %s has no keywords", quoted(BYTES(tag), LEN(tag)))));
 }
 
 /* Sets a keyword, or removes it if the value is NULL. A tag or a key that is NULL gives NULL. The room is always enough: it is proved
@@ -507,7 +521,7 @@ Datum pg_langtag_suggestion(PG_FUNCTION_ARGS) {
 static void check_length(const char *what, struct varlena *text) {
     if (LEN(text) > LONGEST)
         ereport(ERROR, (errcode(ERRCODE_PROGRAM_LIMIT_EXCEEDED),
-                        errmsg("the %s has %zu bytes, and may have %d", what, LEN(text), LONGEST)));
+                        errmsg("%s is too long (%zu bytes, limit %d)", what, LEN(text), LONGEST)));
 }
 
 typedef size_t (*form_of)(const char *, size_t, char *, size_t);

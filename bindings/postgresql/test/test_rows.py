@@ -23,8 +23,20 @@ BEGIN
     EXECUTE query INTO said;
     RETURN coalesce(said, '-');
 EXCEPTION WHEN OTHERS THEN
-    GET STACKED DIAGNOSTICS state = RETURNED_SQLSTATE, why = PG_EXCEPTION_DETAIL;
-    RETURN state || CASE WHEN why ~ 'no such part|no keywords' THEN ' no parts' WHEN why ~ '^A key is ' THEN ' bad key' WHEN why ~ '^A value is ' THEN ' bad value' ELSE '' END;
+    GET STACKED DIAGNOSTICS state = RETURNED_SQLSTATE, why = MESSAGE_TEXT;
+    RETURN state || CASE WHEN why ~ '^not a normal language tag' THEN ' no parts' WHEN why ~ 'is not a key of' THEN ' bad key' WHEN why ~ 'is not a value of' THEN ' bad value' ELSE '' END;
+END $$;
+-- The message with which a type refuses a text, as the rows have it.
+CREATE FUNCTION message_of(type regtype, given text) RETURNS text LANGUAGE plpgsql AS $$
+DECLARE why text; made text;
+BEGIN
+    EXECUTE format('SELECT %L::%s', given, type) INTO made;
+    RETURN made;
+EXCEPTION WHEN OTHERS THEN
+    GET STACKED DIAGNOSTICS why = MESSAGE_TEXT;
+    SELECT string_agg(CASE WHEN b BETWEEN 32 AND 126 AND b NOT IN (92, 123, 125) THEN chr(b) ELSE '\\x' || lpad(to_hex(b), 2, '0') END, '' ORDER BY k) INTO made
+    FROM (SELECT k, get_byte(convert_to(why, 'UTF8'), k) AS b FROM generate_series(0, octet_length(convert_to(why, 'UTF8')) - 1) AS k) AS bytes;
+    RETURN made;
 END $$;
 -- All of a tag, as the rows have it, and that a tag is as its own text comes in.
 CREATE FUNCTION all_of(t langtag) RETURNS text LANGUAGE sql AS $$
@@ -112,6 +124,8 @@ QUERIES = {
     "suggestion": lambda tag: f"SELECT suggestion({text(tag)}::langtag)::text",
     "canonical": lambda tag: f"SELECT canonical(t)::text || CASE WHEN canonical(t)::text::langtag = canonical(t) THEN '' ELSE "
                              f"'another' END FROM (SELECT {text(tag)}::langtag AS t) s",
+    "message": lambda given: f"SELECT message_of('langtag', {text(given)})",
+    "range-message": lambda given: f"SELECT message_of('langtag_range', {text(given)})",
     "viable": lambda given: f"SELECT langtag_viable({text(given)})::text",
     "range": lambda given: f"SELECT 'range ' || ({text(given)}::langtag_range::text = {text(given)})",
     "match": lambda range, tag: f"SELECT concat_ws(' ', t <@ r, t ~ r) FROM (SELECT {text(tag)}::langtag AS t, "
@@ -221,6 +235,9 @@ class Rows(unittest.TestCase):
 
     def test_texts(self):
         self.ask("texts.txt", 500)
+
+    def test_messages(self):
+        self.ask("refused.txt", 28)
 
     def test_negotiation(self):
         self.ask("negotiation.txt", 95)
