@@ -1,13 +1,5 @@
-# Builds the Debian packages. Installs them by apt over a copy of this system that is thrown away, uses each, and purges them.
-debian_tools=""
-for tool in dpkg-buildpackage dh dh_python3 pip3; do has $tool || debian_tools+=" $tool"; done
-
-debian_built() {
-    (cd "$root" && cp --parents CHANGELOG.md LICENSE-APACHE LICENSE-MIT likely/LICENSE-UNICODE crates.txt "$work" && cp -r docs "$work") || return 1
-    [ -e "$work/crates" ] || ln -s "$root/crates" "$work" || return 1
-    debian/build "$archive" "$work/debian"
-}
-debian_lintian() { ls "$work"/debian/*.deb >/dev/null && ! lintian --tag-display-limit 0 --allow-root --info --display-info "$work"/debian/*.deb | grep .; }
+# Checks the Debian packages that bindings/release made. Installs them by apt over a copy of this system that is thrown away, uses each, and purges them.
+debian_lintian() { ! lintian --tag-display-limit 0 --allow-root --info --display-info "$work"/dist/*.deb | grep .; }
 
 # What a user does with the packages, in the copy, without a variable of these checks.
 cat >"$work/debian_used.sh" <<'END_OF_USE'
@@ -33,20 +25,19 @@ debian_installed() {
     mkdir -p "$room/upper" "$room/work" "$room/merged" || return 1
     said=$(unshare -m bash -ec 'mount -t overlay overlay -o "lowerdir=/,upperdir=$1/upper,workdir=$1/work" "$1/merged"
         mount -t proc proc "$1/merged/proc"; mount --rbind /dev "$1/merged/dev"; exec env -i PATH=/usr/sbin:/usr/bin:/sbin:/bin HOME=/root chroot "$1/merged" bash "$2" "$3" "$4"' \
-        bash "$room" "$work/debian_used.sh" "$work/bindings" "$work/debian" 2>"$work/log") || { tail -20 "$work/log"; return 1; }
+        bash "$room" "$work/debian_used.sh" "$work/bindings" "$work/dist" 2>"$work/log") || { tail -20 "$work/log"; return 1; }
     if [ -n "$prover" ]; then proved="True t"; else proved="False f"; fi
     diff <(echo "$said") <(wanted; wanted; echo "zh Hant TW ${proved% *}"
-        for server in "$work"/debian/postgresql-*.deb; do [ ! -e "$server" ] || echo "zh|Hant|TW|${proved#* }"; done) || return 1
+        for server in "$work"/dist/postgresql-*.deb; do [ ! -e "$server" ] || echo "zh|Hant|TW|${proved#* }"; done) || return 1
     # Nothing is left but what apt and dpkg note, and the files of this check.
     ! (cd "$room/upper" && find . \( -type f -o -type l -o -type c \) | grep -vE '^\./(tmp|dev|proc|run|root|var/(lib/(dpkg|apt)|log|cache|tmp))/|/ld\.so\.cache$' | grep .)
 }
 can_overlay() { [ "$(id -u)" = 0 ] && mkdir -p "$work/try/upper" "$work/try/work" "$work/try/merged" &&
     unshare -m mount -t overlay overlay -o "lowerdir=/,upperdir=$work/try/upper,workdir=$work/try/work" "$work/try/merged" 2>/dev/null; }
 
-if [ -n "$debian_tools" ]; then
-    not_run "Debian packages" "there is no$debian_tools (in Debian: apt-get install build-essential debhelper dh-python python3-pip)"
+if ! ls "$work"/dist/*.deb >/dev/null 2>&1; then
+    not_run "Debian packages" "bindings/release made none (in Debian: apt-get install build-essential debhelper dh-python python3-pip)"
 else
-    check "Debian: the packages build" debian_built
     if has lintian; then check "Debian: lintian says nothing" debian_lintian; else not_run "Debian: lintian" "it is not there"; fi
     if can_overlay; then
         check "Debian: apt installs the packages, each works, and nothing is left of them" debian_installed

@@ -33,12 +33,14 @@ sqlite_extension() {
     make -s -C sqlite CFLAGS="$strict" LANGTAG_ARCHIVE="$work/usr/lib/liblangtag_verified.a" LANGTAG_INCLUDE="$work/usr/include" || return 1
     ! nm -D --defined-only sqlite/sqlite_langtag.so | grep ' T langtag_' && mv sqlite/sqlite_langtag.so "$work/built"
 }
+sqlite_version() { sqlite3 :memory: ".load $work/built/sqlite_langtag" "SELECT langtag_version()" | diff - <(python3 -m langtag --version); }
 if ! has sqlite3; then
     not_run "SQLite: the extension" "there is no sqlite3"
 elif ! echo '#include <sqlite3ext.h>' | cc -E - >/dev/null 2>&1; then
     not_run "SQLite: the extension" "the headers of SQLite are not installed"
 else
     check "SQLite: the extension builds" sqlite_extension
+    check "SQLite: SQL says the versions of the program" sqlite_version
     check "SQLite: the rows, and what only SQL has" python3 sqlite/test_sqlite.py "$work/built/sqlite_langtag.so"
 fi
 unset PYTHONPATH

@@ -2,7 +2,7 @@
 # first program. Two runs of `bindings/release` have to make the same bytes.
 
 releases() {
-    (cd "$root" && cp --parents $(sed -n '/^LICENCES = /s/[^"]*"\([^"]*\)"[^"]*/\1 /gp' "$here/release") "$work") || return 1
+    (cd "$root" && cp --parents CHANGELOG.md $(sed -n '/^LICENCES = /s/[^"]*"\([^"]*\)"[^"]*/\1 /gp' "$here/release") "$work") || return 1
     cp -r "$root/docs" "$work" || return 1
     tar -C "$root" -c --exclude=out --exclude=must-fail crates crates.txt | tar -x -C "$work" || return 1
     export COMMIT=$(git -C "$root" rev-parse HEAD 2>/dev/null || echo "not known")
@@ -19,6 +19,8 @@ proves() {
     local said=$work/proved-txt prover
     prover=$(python3 "$here/targets.py" proved "$2" 2>/dev/null) || prover=
     (cd "$work/dist" && tar -xzOf $1 --wildcards '*/PROVED.txt') >"$said" || return 1
+    grep -x "commit $COMMIT" "$said" && grep -x "registry $(sed -n '1s/File-Date: //p' "$root/registry/language-subtag-registry")" "$said" || return 1
+    grep -x "cldr $(sed -n 's/^CLDR_VERSION = //p' postgresql/cldr_version.mk)" "$said" && grep -xE '[0-9]+ functions in [0-9]+ crates' "$said" || return 1
     grep -A1 -x "target $3" "$said" | grep -x "$(sha256sum <"$2" | cut -c1-64)  liblangtag_c.a" || return 1
     if [ -n "$prover" ]; then
         grep -x "proved by $prover" "$said" && ! (cd "$work/dist" && ls $1 | grep -F +cargo)

@@ -40,37 +40,52 @@ PyObject *lt_recommended(PyObject *object, PyObject *unused) {
     return lt_lacks(self) ? NULL : tag_of(self, lt_changed(self, langtag_recommend), self);
 }
 
-typedef size_t Form(const char *bytes, size_t len, char *buffer, size_t buffer_len);
+/* The arguments of a call that writes another text: those that it has. */
+typedef struct {
+    const Value *self;
+    size_t (*form)(const char *bytes, size_t len, char *buffer, size_t buffer_len);
+    uint32_t part;
+    Text key, value;
+} Written;
 
-static size_t write_form(const Value *self, Form *form, char *buffer, size_t room) {
-    const char *data = self->text.data;
-    size_t len = (size_t)self->text.len;
+typedef size_t Write(const Written *it, const char *data, size_t len, char *buffer, size_t room);
+
+static size_t write_form(const Written *it, const char *data, size_t len, char *buffer, size_t room) { return it->form(data, len, buffer, room); }
+
+static size_t write_part(const Written *it, const char *data, size_t len, char *buffer, size_t room) {
+    return langtag_with_part(data, len, it->part, it->value.data, (size_t)it->value.len, buffer, room);
+}
+
+static size_t write_keyword(const Written *it, const char *data, size_t len, char *buffer, size_t room) {
+    if (!it->value.owner) return langtag_without_keyword(data, len, it->key.data, (size_t)it->key.len, buffer, room);
+    return langtag_with_keyword(data, len, it->key.data, (size_t)it->key.len, it->value.data, (size_t)it->value.len, buffer, room);
+}
+
+static size_t written(const Written *it, Write *write, char *buffer, size_t room) {
+    const Value *self = it->self;
     LET_GO(self->text.len);
-    size_t wanted = form(data, len, buffer, room);
+    size_t wanted = write(it, self->text.data, (size_t)self->text.len, buffer, room);
     TAKE_BACK();
     return wanted;
 }
 
-/* Returns a form of a tag, as a Tag, or None if the library writes none. */
-static PyObject *form_of(const Value *self, Form *form) {
+/* Returns the Tag of the text that a call writes, or None if it writes none. The call writes into a buffer on the stack, and again if the
+ * buffer was too short. */
+static PyObject *tag_by_call(const Written *it, Write *write) {
     char room[192];
-    size_t wanted = write_form(self, form, room, sizeof room);
+    size_t wanted = written(it, write, room, sizeof room);
     if (!wanted) return lt_none();
-    if (wanted <= sizeof room) return tag_of(self, PyBytes_FromStringAndSize(room, (Py_ssize_t)wanted), NULL);
+    if (wanted <= sizeof room) return tag_of(it->self, PyBytes_FromStringAndSize(room, (Py_ssize_t)wanted), NULL);
     PyObject *made = PyBytes_FromStringAndSize(NULL, (Py_ssize_t)wanted);
-    if (made) write_form(self, form, PyBytes_AsString(made), wanted);
-    return tag_of(self, made, NULL);
-}
-
-static PyObject *tag_by(PyObject *object, Form *form) {
-    Value *self = (Value *)object;
-    return lt_lacks(self) ? NULL : form_of(self, form);
+    if (made) written(it, write, PyBytes_AsString(made), wanted);
+    return tag_of(it->self, made, NULL);
 }
 
 #define FORM(name, write)                                   \
     PyObject *name(PyObject *self, PyObject *unused) {      \
         (void)unused;                                       \
-        return tag_by(self, write);                         \
+        const Written it = {.self = (Value *)self, .form = write}; \
+        return lt_lacks((Value *)self) ? NULL : tag_by_call(&it, write_form); \
     }
 FORM(lt_canonical, langtag_canonical)
 FORM(lt_maximized, langtag_maximize)
@@ -94,56 +109,24 @@ PyObject *lt_fnv1a(PyObject *object, PyObject *unused) {
     return PyLong_FromUnsignedLongLong(langtag_hash(LANGTAG_HASH, self->text.data, (size_t)self->text.len));
 }
 
-/* Returns the tag with another part, or None if the library refuses the part. */
-static PyObject *with_part(const Value *self, uint32_t part, Text given) {
-    char nothing[1];
-    const char *data = self->text.data;
-    size_t len = (size_t)self->text.len, given_len = (size_t)given.len;
-    size_t wanted = langtag_with_part(data, len, part, given.data, given_len, nothing, 0);
-    if (!wanted) return lt_none();
-    PyObject *made = PyBytes_FromStringAndSize(NULL, (Py_ssize_t)wanted);
-    if (!made) return NULL;
-    langtag_with_part(data, len, part, given.data, given_len, PyBytes_AsString(made), wanted);
-    return tag_of(self, made, NULL);
-}
-
 PyObject *lt_set(PyObject *object, PyObject *arguments) {
-    Value *self = (Value *)object;
+    Written it = {.self = (Value *)object};
     unsigned int part;
     PyObject *from;
-    Text given;
-    if (lt_lacks(self) || !PyArg_ParseTuple(arguments, "IO", &part, &from) || lt_text(from, &given)) return NULL;
-    PyObject *made = with_part(self, part, given);
-    Py_DECREF(given.owner);
+    if (lt_lacks((Value *)object) || !PyArg_ParseTuple(arguments, "IO", &part, &from) || lt_text(from, &it.value)) return NULL;
+    it.part = part;
+    PyObject *made = tag_by_call(&it, write_part);
+    Py_DECREF(it.value.owner);
     return made;
 }
 
-/* Writes the tag with a keyword set, or removed if the value has no owner. Returns what the library returns. */
-static size_t write_keyword(const Value *self, Text key, Text value, char *buffer, size_t room) {
-    const char *data = self->text.data;
-    size_t len = (size_t)self->text.len, key_len = (size_t)key.len, value_len = (size_t)value.len;
-    if (!value.owner) return langtag_without_keyword(data, len, key.data, key_len, buffer, room);
-    return langtag_with_keyword(data, len, key.data, key_len, value.data, value_len, buffer, room);
-}
-
-/* Returns the tag with a keyword set or removed, or None if the library refuses it. */
-static PyObject *with_keyword(const Value *self, Text key, Text value) {
-    char nothing[1];
-    size_t wanted = write_keyword(self, key, value, nothing, 0);
-    if (!wanted) return lt_none();
-    PyObject *made = PyBytes_FromStringAndSize(NULL, (Py_ssize_t)wanted);
-    if (!made) return NULL;
-    write_keyword(self, key, value, PyBytes_AsString(made), wanted);
-    return tag_of(self, made, NULL);
-}
-
+/* A value that is None has no owner, and removes the keyword. */
 PyObject *lt_set_keyword(PyObject *object, PyObject *arguments) {
-    Value *self = (Value *)object;
-    PyObject *key_from, *value_from, *made = NULL;
-    Text key, value = {NULL, NULL, 0};
-    if (lt_lacks(self) || !PyArg_ParseTuple(arguments, "OO", &key_from, &value_from) || lt_text(key_from, &key)) return NULL;
-    if (value_from == Py_None || !lt_text(value_from, &value)) made = with_keyword(self, key, value);
-    Py_XDECREF(value.owner);
-    Py_DECREF(key.owner);
+    Written it = {.self = (Value *)object};
+    PyObject *key, *value, *made = NULL;
+    if (lt_lacks((Value *)object) || !PyArg_ParseTuple(arguments, "OO", &key, &value) || lt_text(key, &it.key)) return NULL;
+    if (value == Py_None || !lt_text(value, &it.value)) made = tag_by_call(&it, write_keyword);
+    Py_XDECREF(it.value.owner);
+    Py_DECREF(it.key.owner);
     return made;
 }

@@ -34,10 +34,10 @@ PyObject *lt_from_posix(PyObject *module, PyObject *from) {
     (void)module;
     Text name;
     if (lt_text(from, &name)) return NULL;
-    char none[1];
-    size_t wanted = langtag_from_posix(name.data, (size_t)name.len, none, 0);
-    PyObject *made = wanted ? PyBytes_FromStringAndSize(NULL, (Py_ssize_t)wanted) : lt_none();
-    if (made && wanted) langtag_from_posix(name.data, (size_t)name.len, PyBytes_AsString(made), wanted);
+    char room[192];
+    size_t wanted = langtag_from_posix(name.data, (size_t)name.len, room, sizeof room);
+    PyObject *made = wanted ? PyBytes_FromStringAndSize(wanted <= sizeof room ? room : NULL, (Py_ssize_t)wanted) : lt_none();
+    if (made && wanted > sizeof room) langtag_from_posix(name.data, (size_t)name.len, PyBytes_AsString(made), wanted);
     Py_DECREF(name.owner);
     return made;
 }
