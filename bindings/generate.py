@@ -8,6 +8,7 @@
     bindings/python/langtag/_declarations.py  the functions and structs for ctypes
     bindings/js/calls.js                      the functions in JavaScript, over the memory of the WebAssembly module
     bindings/js/test/signatures.js            the functions, for a test that calls each of them
+    docs/CALLS.md, README.md                  the calls of each language, by task, from bindings/calls.txt
 
 It also compares the declarations of langtag.h, which is written by hand. A function must have LANGTAG_PURE if its result is its only
 effect.
@@ -21,6 +22,7 @@ import pathlib
 import re
 import sys
 
+import calls_page
 import interface
 from interface import Function, Interface, Parameter
 from javascript import javascript
@@ -210,8 +212,9 @@ def main(root: pathlib.Path, is_check: bool) -> int:
     faults = wrong_header(it, (root / HEADER).read_text(encoding="utf-8"))
     if not it.functions or not it.structs:
         faults.append("crates/langtag_c has no functions, or no structs")
-    for name, written in FILES.items():
-        path, text = root / name, written(it)
+    faults += calls_page.faults(it, root)
+    for name, text in ({name: written(it) for name, written in FILES.items()} | calls_page.pages(root)).items():
+        path = root / name
         if not is_check:
             path.write_text(text, encoding="utf-8")
         elif not path.is_file() or path.read_text(encoding="utf-8") != text:

@@ -11,6 +11,7 @@ import sys
 import tempfile
 import unittest
 
+import calls_page
 import check_numbers
 import generate
 
@@ -18,7 +19,7 @@ ROOT = pathlib.Path(sys.argv[1] if sys.argv[1:] else pathlib.Path(__file__).pare
 HEADER, MODULE = generate.HEADER, "bindings/python/langtag/__init__.py"
 CRATE, SPANS = "crates/langtag_c/src", "crates/langtag_span/src"
 DATE = check_numbers.registry_date(ROOT)
-FILES = {HEADER, MODULE, check_numbers.DATED, "rows/table.txt", *generate.FILES, *(name for name, _ in check_numbers.VERSIONS + check_numbers.NUMBERS)}
+FILES = {HEADER, MODULE, check_numbers.DATED, "rows/table.txt", *generate.FILES, *calls_page.FILES, *(name for name, _ in check_numbers.VERSIONS + check_numbers.NUMBERS)}
 
 # A file, a text in it, the text that replaces it, and what the message has to name.
 PLANTED = [
@@ -49,6 +50,10 @@ PLANTED = [
     # The contract says what is written: exports.rs follows it.
     (CRATE, "ensures nothing { result ≡ false → language.new ≡ language.old }", "", "exports.rs"),
     *((name, "hash", "hush", name) for name in generate.FILES),
+    (calls_page.SOURCE, "langtag_viable, ", "", "no row with langtag_viable"),
+    (calls_page.SOURCE, "viableLength", "viableLen", "JavaScript has no viableLen"),
+    (calls_page.PAGE, "hash a tag", "hash a task", calls_page.PAGE),
+    (calls_page.README, "`langtag_parse`", "`langtag_parsed`", calls_page.README),
 ]
 
 

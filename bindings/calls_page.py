@@ -1,0 +1,122 @@
+"""Writes docs/CALLS.md and the table of README from bindings/calls.txt: a row for a task, and a column for a language. A name is linked to
+the first section of the language's page that shows it in code, or else to the file that declares it."""
+from __future__ import annotations
+
+import pathlib
+import re
+from typing import NamedTuple
+
+from interface import Interface
+
+SOURCE, PAGE, README = "bindings/calls.txt", "docs/CALLS.md", "README.md"
+SHORT = 8  # the rows of README's table
+
+
+class Language(NamedTuple):
+    """A language: its name, its page, the file that declares its calls, and the file in which every name has to be."""
+
+    name: str
+    page: str
+    declared: str
+    names: str
+
+
+LANGUAGES = [
+    Language("Rust", "rust/README.md", "rust/api.txt", "rust/api.txt"),
+    Language("C", "docs/C.md", "bindings/include/langtag.h", "bindings/include/langtag.h"),
+    Language("C++", "docs/C.md", "bindings/include/langtag.hpp", "bindings/include/langtag.h"),
+    Language("Python", "docs/PYTHON.md", "bindings/python/langtag/__init__.py", "bindings/python/langtag/_native.pyi"),
+    Language("JavaScript", "docs/JAVASCRIPT.md", "bindings/js/index.d.ts", "bindings/js/index.d.ts"),
+    Language("PostgreSQL", "docs/POSTGRESQL.md", "bindings/postgresql/langtag.sql.in", "bindings/postgresql/langtag.sql.in"),
+    Language("SQLite", "docs/SQLITE.md", "bindings/sqlite/sqlite_langtag.c", "bindings/sqlite/sqlite_langtag.c"),
+]
+IN_README = ["Python", "JavaScript", "Rust", "C"]
+OF_THE_LANGUAGE = {"==", "<", "=", "Hash", "std::hash", "to_ascii_lowercase", "lower", "COLLATE NOCASE"}  # what the language itself has
+FILES = {SOURCE, PAGE, README, *(name for language in LANGUAGES for name in language[1:])}
+
+HEAD = """\
+# Calls
+
+A row is a task, and a column has the names of a language. A link leads to the section of the language's page that shows the call, or to the
+file that declares it. `-` means that the language has no such call.
+
+"""
+
+
+def rows(root: pathlib.Path) -> list[list[str]]:
+    lines = (root / SOURCE).read_text(encoding="utf-8").splitlines()
+    return [line.split(" | ") for line in lines if line and not line.startswith("#")]
+
+
+def names_in(cell: str) -> list[str]:
+    return [] if cell == "-" else cell.split(", ")
+
+
+def pattern(name: str) -> str:
+    """Returns a regular expression for the last word of a name, such as distance of choice::distance."""
+    last = name.rpartition("::")[2]
+    return rf"(?<![\w]){re.escape(last)}(?!\w)"
+
+
+def sections(text: str) -> list[tuple[str, str]]:
+    """Returns the anchor of each section of a page, and the code in it."""
+    found = []
+    for part in re.split(r"(?m)^(?=## )", text)[1:]:
+        heading, _, body = part.partition("\n")
+        anchor = re.sub(r"[^\w -]", "", heading[3:].lower()).replace(" ", "-")
+        found.append((anchor, "\n".join(re.findall(r"(?ms)^```.*?^```|`[^`\n]+`", body))))
+    return [it for it in found if it[0] != "install"]
+
+
+class Linker:
+    """Finds where the names of a language are."""
+
+    def __init__(self, root: pathlib.Path, language: Language):
+        self.language, self.root = language, root
+        self.sections = sections((root / language.page).read_text(encoding="utf-8"))
+        self.known = "".join((root / name).read_text(encoding="utf-8") for name in {language.declared, language.names})
+
+    def place(self, name: str) -> str:
+        """Returns the path of a name, and the section if it is in the page of the language."""
+        for anchor, code in self.sections:
+            if re.search(pattern(name), code) and len(name) > 2:
+                return f"{self.language.page}#{anchor}"
+        return self.language.page if name in OF_THE_LANGUAGE else self.language.declared
+
+    def cell(self, text: str) -> str:
+        return ", ".join(f"[`{name}`]({pathlib.PurePosixPath('..') / self.place(name)})".replace("(../docs/", "(") for name in names_in(text)) or "-"
+
+    def unknown(self, text: str) -> list[str]:
+        return [name for name in names_in(text) if name not in OF_THE_LANGUAGE and not re.search(pattern(name), self.known)]
+
+
+def table(head: list[str], lines: list[list[str]]) -> str:
+    return "".join(" | ".join(line) + "\n" for line in [head, ["---|" * (len(head) - 1) + "---"], *lines])
+
+
+def short_table(all_rows: list[list[str]]) -> str:
+    """Returns the table of README."""
+    columns = [1 + [it.name for it in LANGUAGES].index(name) for name in IN_README]
+    lines = [[row[0], *(", ".join(f"`{name}`" for name in names_in(row[at])) or "-" for at in columns)] for row in all_rows[:SHORT]]
+    return table(["to", *IN_README], lines)
+
+
+def pages(root: pathlib.Path) -> dict[str, str]:
+    """Returns the text of docs/CALLS.md and of README."""
+    all_rows, linkers = rows(root), [Linker(root, language) for language in LANGUAGES]
+    heads = [f"[{language.name}]({pathlib.PurePosixPath('..') / language.page})".replace("(../docs/", "(") for language in LANGUAGES]
+    lines = [[row[0], *(linker.cell(cell) for linker, cell in zip(linkers, row[1:]))] for row in all_rows]
+    readme = (root / README).read_text(encoding="utf-8")
+    return {PAGE: HEAD + table(["to", *heads], lines),
+            README: re.sub(r"(?m)^to \|.*\n(?:.+\n)+", lambda _: short_table(all_rows), readme, count=1)}
+
+
+def faults(it: Interface, root: pathlib.Path) -> list[str]:
+    """Returns what is wrong in calls.txt: names that are nowhere declared, and functions of C that are in no row."""
+    all_rows = rows(root)
+    found = [f"{SOURCE}: {row[0]} has {len(row) - 1} columns" for row in all_rows if len(row) != len(LANGUAGES) + 1]
+    for at, language in enumerate(LANGUAGES, 1):
+        linker = Linker(root, language)
+        found += [f"{SOURCE}: {language.name} has no {name}" for row in all_rows for name in linker.unknown(row[at])]
+    named = {name for row in all_rows for name in names_in(row[2])}
+    return found + [f"{SOURCE} has no row with {function.name}" for function in it.functions if function.name not in named]
