@@ -41,9 +41,9 @@ is_extension_text-from_rule text (e, spells) = search (rules, subtags_spelled, t
 -- the extension that the subtags are
 extension_of_list : (ss : List (List ℕ)) → is_extension_list ss ≡ true → (e : Extension) × IsWellFormedExtension e × (extension_flat e ≡ ss)
 extension_of_list [] pass = absurd cc
-extension_of_list ([] ∷ ss) pass = absurd cc
-extension_of_list ((b ∷ c ∷ s) ∷ ss) pass = absurd cc
-extension_of_list ((b ∷ []) ∷ []) pass = absurd cc
+extension_of_list (s ∷ []) pass = absurd cc
+extension_of_list ([] ∷ s ∷ ss) pass = absurd cc
+extension_of_list ((b ∷ c ∷ bs) ∷ s ∷ ss) pass = absurd cc
 extension_of_list ((b ∷ []) ∷ s ∷ ss) pass =
     let both = and_parts (is_singleton b) (are_extension_subtags (s ∷ ss)) pass in
     (record { singleton = b; subtags = s ∷ ss }, record { singleton = both.0; some = omega arith; subtags = each_from_test is_extension_subtag (s ∷ ss) both.1 }, refl)

@@ -10,10 +10,16 @@ use Rattle.langtag_extension.specs.ExtensionTexts.{extension_texts}
 abbrev pub are_extension_subtags : List (List ℕ) → Bool
 are_extension_subtags texts = list_all is_extension_subtag texts
 
+abbrev pub is_singleton_alone : List ℕ → Bool
+is_singleton_alone [] = false
+is_singleton_alone (singleton ∷ []) = is_singleton singleton
+is_singleton_alone (singleton ∷ more ∷ others) = false
+
 -- whether the subtags are a singleton and at least one subtag of an extension
 abbrev pub is_extension_list : List (List ℕ) → Bool
-is_extension_list ((singleton ∷ []) ∷ first ∷ others) = is_singleton singleton && (is_extension_subtag first && are_extension_subtags others)
-is_extension_list texts = false
+is_extension_list [] = false
+is_extension_list (singleton ∷ []) = false
+is_extension_list (singleton ∷ first ∷ others) = is_singleton_alone singleton && are_extension_subtags (first ∷ others)
 
 abbrev pub is_extension_text : List ℕ → Bool
 is_extension_text text = is_extension_list (subtags text)

@@ -3,6 +3,7 @@ ghost use Rattle.std.specs.Prelude.{◌≡◌, ◌↔◌, Some, IsTrue, IfOk, If
 ghost use Rattle.langtag_scan.specs.Case.{are_alike};
 ghost use Rattle.langtag_scan.specs.Record as model;
 ghost use Rattle.langtag_extension.specs.Spelling.{SpellsExtension, IsExtension};
+ghost use Rattle.langtag_extension.specs.Decided as test;
 ghost use Rattle.langtag_extension.specs.Decided.{are_extension_subtags, is_extension_text, opens_alike};
 
 use crate::extension_iter::ExtensionIter;
@@ -264,15 +265,23 @@ pub(crate) fn is_extension(text: &str) -> bool
     ensures { result ≡ is_extension_text text.now }
 {
     let mut subtags = Subtags::new(text);
-    if let Some(opening) = subtags.next()
-        && let [singleton] = opening.as_bytes()
-        && is_singleton(*singleton)
-        && let Some(first) = subtags.next()
-        && is_extension_subtag(first.as_bytes())
-    {
-        return all_are_extension_subtags(subtags);
+    let opened = subtags
+        .next()
+        .is_some_and(|opening| is_singleton_alone(opening.as_bytes()));
+    let followed = subtags
+        .next()
+        .is_some_and(|first| is_extension_subtag(first.as_bytes()));
+    opened && followed && all_are_extension_subtags(subtags)
+}
+
+/// Returns whether the bytes are only a singleton.
+fn is_singleton_alone(bytes: &[u8]) -> bool
+    ensures { result ≡ test.is_singleton_alone bytes.now }
+{
+    match bytes {
+        [byte] => is_singleton(*byte),
+        _ => false,
     }
-    false
 }
 
 /// Returns whether all subtags that are left are subtags of an extension.

@@ -31,7 +31,6 @@ pub mod PartOffsets
 pub mod SpelledTexts
 pub mod FoundLaws
 pub mod RegisteredTags
-mod ViableLaws
 pub mod Digits
 pub mod FoldedNumbers
 pub mod Places

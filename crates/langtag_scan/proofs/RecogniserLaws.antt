@@ -13,7 +13,7 @@ use Rattle.langtag_scan.specs.Machine.{end_at, found_by, outcome, HasStopped, Is
 use Rattle.langtag_scan.specs.Position.{Begun, position_of, stage_after, part_before, ending_after, irregular_ending, ending_of, is_dead, begun_after}
 use Rattle.langtag_scan.specs.Stage.{Stage, Start, may_end}
 use Rattle.langtag_scan.specs.Tag.{IsPrivate, IsIrregular, IsIrregularAt, IsTag}
-use Rattle.langtag_scan.specs.Viable.{IsViable, IsStop}
+use Rattle.langtag_scan.specs.Viable.{IsViable, IsViableLength, IsStop}
 use Rattle.langtag_scan.specs.declared.finding.Finding.TheVariants as finding
 use Rattle.langtag_scan.specs.declared.state.Ending.{Ending}
 use Rattle.langtag_scan.specs.declared.state.Ending.TheVariants.{NoTag, Normal, PrivateUse, Irregular}
@@ -24,7 +24,7 @@ use Rattle.langtag_scan.proofs.ReadingLaws.{reads_viable, reads_ended}
 use Rattle.langtag_scan.proofs.Running.{found_after}
 use Rattle.langtag_scan.proofs.StageLaws.{after_not_start}
 use Rattle.std.proofs.lemmas.List.Sums.{fails_before_first}
-use Rattle.langtag_scan.proofs.TagLaws.{tag_irregular, viable_from_tag, no_tag_dead, prefixes_viable, stop_at, stop_whole}
+use Rattle.langtag_scan.proofs.TagLaws.{tag_irregular, viable_from_tag, no_tag_dead, prefixes_viable, stop_at, stop_whole, viable_up_to}
 
 -- ---- which prefixes are viable
 
@@ -140,12 +140,12 @@ tracks_first t b within next =
 -- after which no tag can follow
 pub dead_next :
     (t places : List ℕ) (i b : ℕ) → i < length t → b ≡ get_or t i 0 → IsViable (take i t) → Tracks (take i t) places (position_of (take i t)).begun →
-    is_dead (position_of (take i t ++ b ∷ [])) ≡ true → (IsTag t → ⊥) × IsStop t (i + 1)
+    is_dead (position_of (take i t ++ b ∷ [])) ≡ true → (IsTag t → ⊥) × IsViableLength t i × IsStop t (i + 1)
 dead_next t places i b within read viable known dead =
     let next = next_prefix t i b within read in
     let tracks = tracks_next t places i b _ within next refl known in
     let never = dead_not_viable (take (i + 1) t) _ tracks (ap (λ q. is_dead (position_of q)) (sym next) ∙ dead) in
-    (no_tag_dead t (i + 1) never, stop_at t (i + 1) (omega arith) (λ k below. prefixes_viable t i k viable (omega arith)) never)
+    (no_tag_dead t (i + 1) never, viable_up_to t i (omega arith) viable never, stop_at t (i + 1) (omega arith) (λ k below. prefixes_viable t i k viable (omega arith)) never)
 
 -- up to its end
 pub text_ended :

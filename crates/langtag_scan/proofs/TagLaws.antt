@@ -1,9 +1,9 @@
 -- Tags, the prefixes that some tag begins with, and where a text stops (RFC 5646 section 2.1).
-use Rattle.std.proofs.Common.{ℕ, ◌<◌, ◌≤◌, List, ◌++◌, length, take, drop, inl, inr, sym, subst, arith, append_assoc, take-append-drop, take-take}
+use Rattle.std.proofs.Common.{◌≡◌, ℕ, ◌+◌, ◌<◌, ◌≤◌, List, ◌++◌, length, take, drop, inl, inr, sym, subst, arith, append_assoc, take-append-drop, take-take}
 use Rattle.std.proofs.Math.Seq.{take-length}
 use Rattle.std.proofs.lemmas.Grind.{common_steps}
 use Rattle.langtag_scan.specs.Tag.{IsNormal, IsPrivate, IsIrregular, IsIrregularAt, IsTag}
-use Rattle.langtag_scan.specs.Viable.{IsViable, IsStop}
+use Rattle.langtag_scan.specs.Viable.{IsViable, IsViableLength, IsStop}
 
 -- ---- a text of one of the three kinds is a tag
 
@@ -46,3 +46,21 @@ stop_at t i within before dead = record { within = within; before = before; at =
 
 pub stop_whole : (t : List ℕ) → IsViable t → IsStop t (length t)
 stop_whole t viable = grind (arith, common_steps, take-length t, prefixes_viable t (length t))
+
+-- ---- the viable length
+
+-- a prefix that is viable, while one byte more is not
+pub viable_up_to : (t : List ℕ) (i : ℕ) → i ≤ length t → IsViable (take i t) → (IsViable (take (i + 1) t) → ⊥) → IsViableLength t i
+viable_up_to t i within viable dead = record {
+  within = within;
+  viable = λ k le. prefixes_viable t i k viable le;
+  longest = λ k above le longer. dead (prefixes_viable t k (i + 1) longer (omega arith));
+}
+
+-- the length of the text, if it is viable as a whole
+pub viable_whole : (t : List ℕ) (i n : ℕ) → i ≡ length t → n ≡ i → IsViable (take i t) → IsViableLength t n
+viable_whole t i n at is viable = record {
+  within = omega (arith, at, is);
+  viable = λ k le. prefixes_viable t i k viable (omega (arith, is));
+  longest = λ k above le longer. omega (arith, at, is);
+}

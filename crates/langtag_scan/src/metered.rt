@@ -16,11 +16,11 @@ use crate::source::ByteSource;
 #[derive(Drop)]
 pub struct Metered<'a> {
     bytes: &'a [u8],
-    /// At most two bytes, which follow `bytes`.
+    /// At most one byte, which follows `bytes`.
     end: &'static [u8],
     reads: u128,
     reach: usize,
-    ghost short: { length end.now ≤ 2 },
+    ghost short: { length end.now ≤ 1 },
     ghost reached: { reach ≤ length (bytes.now ++ end.now) },
 }
 
@@ -57,7 +57,7 @@ impl<'a> Metered<'a> {
 
     /// Returns a source over `bytes` followed by `end`, with no reads yet.
     pub(crate) fn followed(bytes: &'a [u8], end: &'static [u8]) -> Self
-        requires { length end.now ≤ 2 }
+        requires { length end.now ≤ 1 }
         ensures bytes { ⟦<Metered<'a> as ByteSource>⟧.bytes result ≡ bytes.now ++ end.now }
         ensures reads { ⟦<Metered<'a> as ByteSource>⟧.reads result ≡ 0 }
         ensures reach { ⟦<Metered<'a> as ByteSource>⟧.reach result ≡ 0 }

@@ -1,8 +1,8 @@
 //! The recognisers, which read a source of bytes in one pass.
-ghost use Rattle.std.specs.Prelude.{◌≡◌, ◌↔◌, ◌⊎◌, ℕ, ◌≤◌, ◌+◌, ◌^◌, max, List, IsTrue, MatchOption};
+ghost use Rattle.std.specs.Prelude.{◌≡◌, ◌↔◌, ◌⊎◌, ℕ, ◌≤◌, ◌+◌, ◌^◌, max, List, length, IsTrue, MatchOption, MatchResult};
 ghost use Rattle.langtag_scan.specs.Record.{Record, IsWellFormed, spell};
 ghost use Rattle.langtag_scan.specs.Tag.{IsNormal, IsPrivate, IsIrregularAt, IsIrregular, IsTag};
-ghost use Rattle.langtag_scan.specs.Viable.{IsStop, IsViable, IsIrregularPrefix, fill};
+ghost use Rattle.langtag_scan.specs.Viable.{IsStop, IsViable, IsViableLength, IsIrregularPrefix, fill};
 ghost use Rattle.langtag_scan.specs.Found.{finding, IsFoundOf, is_normal};
 
 use crate::ends::Marks;
@@ -43,36 +43,42 @@ pub fn recognise<S: ByteSource>(source: &mut S) -> Option<Found>
     ensures one_stop { (t : List ℕ) (n m : ℕ) → IsStop t n → IsStop t m → n ≡ m }
     ensures viable { (p : List ℕ) → IsViable p ↔ (IsTag (fill p) ⊎ IsIrregularPrefix p) }
 {
-    read(source)
+    read(source).ok()
 }
 
-/// Does the work of [`recognise`]. Only `recognise` states the laws, since each law of a function has to be proved at
-/// each of its returns.
+/// Reads a source up to the first byte that makes a tag impossible. Returns what the whole text is or, if it is not a
+/// tag, the length of the longest prefix with which some tag begins.
 #[inline(always)]
 #[tactic(auto, using(crate::proofs::RecogniserLaws::whole_stop, crate::proofs::RecogniserLaws::viable_nothing))]
-fn read<S: ByteSource>(source: &mut S) -> Option<Found>
+pub(crate) fn read<S: ByteSource>(source: &mut S) -> Result<Found, usize>
     requires { S.reads source.old ≤ 2 ^ 126 }
-    ensures found { MatchOption result (IsTag (S.bytes source.old) → ⊥) (λ found. IsFoundOf (S.bytes source.old) (finding found)) }
+    ensures found { MatchResult result (λ found. IsFoundOf (S.bytes source.old) (finding found)) (λ viable. IsTag (S.bytes source.old) → ⊥) }
+    ensures viable { MatchResult result (λ found. IsViableLength (S.bytes source.old) (length (S.bytes source.old))) (IsViableLength (S.bytes source.old)) }
     ensures bytes { S.bytes source.new ≡ S.bytes source.old }
     ensures reads { (n : ℕ) × IsStop (S.bytes source.old) n ×
         (S.reads source.new ≡ S.reads source.old + n) × (S.reach source.new ≡ max (S.reach source.old) n) }
 {
     let len = source.len();
     if len == 0 {
-        return None;
+        return Err(0);
     }
     // The first byte ends no part. It is read here, so that the address of the tables is found before the loop, and
     // not for each byte.
-    let mut state = State::start().after(source.byte(0))?;
+    let Some(mut state) = State::start().after(source.byte(0)) else {
+        return Err(0);
+    };
     let mut marks = Marks::new();
     let mut index = 1;
     while index < len {
-        state = state.after(source.byte(index))?;
+        let Some(next) = state.after(source.byte(index)) else {
+            return Err(index);
+        };
+        state = next;
         marks.set(state.part_before(), index);
         index += 1;
     }
     let finding = match state.ending() {
-        Ending::NoTag => return None,
+        Ending::NoTag => return Err(len),
         Ending::Normal(last) => {
             marks.set(last, len);
             Finding::Normal(marks.ends(len))
@@ -80,7 +86,7 @@ fn read<S: ByteSource>(source: &mut S) -> Option<Found>
         Ending::PrivateUse => Finding::PrivateUse,
         Ending::Irregular(index) => Finding::Irregular(index),
     };
-    Some(Found { finding })
+    Ok(Found { finding })
 }
 
 /// Decides whether the bytes of a source are a normal tag (rule `langtag` of RFC 5646 section 2.1), as [`recognise`]

@@ -1,9 +1,9 @@
 //! The length of the longest prefix of a text with which some tag begins.
-ghost use Rattle.std.specs.Prelude.{◌≡◌, ◌≤◌, ◌+◌, ◌++◌, ◌∷◌, [], length};
-ghost use Rattle.langtag_scan.specs.Viable.{IsStop, IsViableLength};
+ghost use Rattle.std.specs.Prelude.{◌≤◌, ◌++◌, ◌∷◌, [], ◌^◌};
+ghost use Rattle.langtag_scan.specs.Viable.{IsViableLength};
 
 use crate::metered::Metered;
-use crate::recogniser::recognise;
+use crate::recogniser::read;
 use crate::source::ByteSource;
 
 /// Returns the length in bytes of the longest prefix with which some tag begins (RFC 5646 section 2.1). For example, a
@@ -21,31 +21,28 @@ use crate::source::ByteSource;
 /// viable_len(b"de-x"); // 4
 /// viable_len(b""); // 0
 /// ```
-#[tactic(auto, using(crate::proofs::ViableLaws::viable_before))]
 pub fn viable_len(bytes: &[u8]) -> usize
     ensures { IsViableLength bytes.now result }
 {
-    len_before_stop(&mut Metered::followed(bytes, b"\xFF"))
+    viable_len_of(&mut Metered::of_bytes(bytes))
 }
 
 /// Returns what [`viable_len`] returns for the bytes followed by a hyphen: 3 for `zh`. The result shows whether another
 /// subtag may follow.
-#[tactic(auto, using(crate::proofs::ViableLaws::viable_hyphen_before))]
 pub fn viable_len_with_hyphen(bytes: &[u8]) -> usize
     ensures { IsViableLength (bytes.now ++ 45 ∷ []) result }
 {
-    len_before_stop(&mut Metered::followed(bytes, b"-\xFF"))
+    viable_len_of(&mut Metered::followed(bytes, b"-"))
 }
 
-/// Returns the index of the byte at which the recogniser stops. The source has to end with a byte that no tag contains,
-/// so that the recogniser stops.
-#[tactic(auto, using(crate::proofs::ViableLaws::stop_some))]
-fn len_before_stop<'a>(source: &mut Metered<'a>) -> usize
-    requires some { 1 ≤ length (⟦<Metered<'a> as ByteSource>⟧.bytes source.old) }
-    requires reads { ⟦<Metered<'a> as ByteSource>⟧.reads source.old ≡ 0 }
-    requires reach { ⟦<Metered<'a> as ByteSource>⟧.reach source.old ≡ 0 }
-    ensures { IsStop (⟦<Metered<'a> as ByteSource>⟧.bytes source.old) (result + 1) }
+/// Returns the length in bytes of the longest prefix of a source with which some tag begins.
+fn viable_len_of<'a>(source: &mut Metered<'a>) -> usize
+    requires { ⟦<Metered<'a> as ByteSource>⟧.reads source.old ≤ 2 ^ 126 }
+    ensures { IsViableLength (⟦<Metered<'a> as ByteSource>⟧.bytes source.old) result }
 {
-    let _ = recognise(source);
-    source.reach() - 1
+    let len = source.len();
+    match read(source) {
+        Ok(_) => len,
+        Err(viable) => viable,
+    }
 }

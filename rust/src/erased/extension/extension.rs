@@ -315,18 +315,22 @@ impl fmt::Display for ExtensionBuf {
 /// hyphens.
 pub(crate) fn is_extension(text: &str) -> bool {
     let mut subtags = Subtags::new(text);
-    if let Some(opening) = subtags.next() {
-        if let [singleton] = opening.as_bytes() {
-            if is_singleton(*singleton) {
-                if let Some(first) = subtags.next() {
-                    if is_extension_subtag(first.as_bytes()) {
-                        return all_are_extension_subtags(subtags);
-                    }
-                }
-            }
-        }
+    let opened = subtags
+        .next()
+        .is_some_and(|opening| is_singleton_alone(opening.as_bytes()));
+    let followed = subtags
+        .next()
+        .is_some_and(|first| is_extension_subtag(first.as_bytes()));
+    opened && followed && all_are_extension_subtags(subtags)
+}
+
+/// Returns whether the bytes are only a singleton.
+#[inline]
+fn is_singleton_alone(bytes: &[u8]) -> bool {
+    match bytes {
+        [byte] => is_singleton(*byte),
+        _ => false,
     }
-    false
 }
 
 /// Returns whether all subtags that are left are subtags of an extension.

@@ -16,7 +16,7 @@ use crate::erased::scan::source::ByteSource;
 /// ```
 pub struct Metered<'a> {
     bytes: &'a [u8],
-    /// At most two bytes, which follow `bytes`.
+    /// At most one byte, which follows `bytes`.
     end: &'static [u8],
     reads: u128,
     reach: usize,

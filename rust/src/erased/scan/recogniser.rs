@@ -28,29 +28,34 @@ use crate::erased::scan::state::{Ending, State};
 /// [RFC 5646 section 2.1]: https://www.rfc-editor.org/rfc/rfc5646#section-2.1
 #[inline(always)]
 pub fn recognise<S: ByteSource>(source: &mut S) -> Option<Found> {
-    read(source)
+    read(source).ok()
 }
 
-/// Does the work of [`recognise`]. Only `recognise` states the laws, since each law of a function
-/// has to be proved at each of its returns.
+/// Reads a source up to the first byte that makes a tag impossible. Returns what the whole text is
+/// or, if it is not a tag, the length of the longest prefix with which some tag begins.
 #[inline(always)]
-fn read<S: ByteSource>(source: &mut S) -> Option<Found> {
+pub(crate) fn read<S: ByteSource>(source: &mut S) -> Result<Found, usize> {
     let len = source.len();
     if len == 0 {
-        return None;
+        return Err(0);
     }
     // The first byte ends no part. It is read here, so that the address of the tables is found before the loop, and
     // not for each byte.
-    let mut state = State::start().after(source.byte(0))?;
+    let Some(mut state) = State::start().after(source.byte(0)) else {
+        return Err(0);
+    };
     let mut marks = Marks::new();
     let mut index = 1;
     while index < len {
-        state = state.after(source.byte(index))?;
+        let Some(next) = state.after(source.byte(index)) else {
+            return Err(index);
+        };
+        state = next;
         marks.set(state.part_before(), index);
         index += 1;
     }
     let finding = match state.ending() {
-        Ending::NoTag => return None,
+        Ending::NoTag => return Err(len),
         Ending::Normal(last) => {
             marks.set(last, len);
             Finding::Normal(marks.ends(len))
@@ -58,7 +63,7 @@ fn read<S: ByteSource>(source: &mut S) -> Option<Found> {
         Ending::PrivateUse => Finding::PrivateUse,
         Ending::Irregular(index) => Finding::Irregular(index),
     };
-    Some(Found { finding })
+    Ok(Found { finding })
 }
 
 /// Decides whether the bytes of a source are a normal tag (rule `langtag` of [RFC 5646 section

@@ -3,7 +3,7 @@
 //! The length of the longest prefix of a text with which some tag begins.
 
 use crate::erased::scan::metered::Metered;
-use crate::erased::scan::recogniser::recognise;
+use crate::erased::scan::recogniser::read;
 use crate::erased::scan::source::ByteSource;
 
 /// Returns the length in bytes of the longest prefix with which some tag begins ([RFC 5646 section
@@ -26,7 +26,7 @@ use crate::erased::scan::source::ByteSource;
 #[inline]
 #[must_use]
 pub fn viable_len(bytes: &[u8]) -> usize {
-    len_before_stop(&mut Metered::followed(bytes, b"\xFF"))
+    viable_len_of(&mut Metered::of_bytes(bytes))
 }
 
 /// Returns what [`viable_len`] returns for the bytes followed by a hyphen: 3 for `zh`. The result
@@ -34,13 +34,15 @@ pub fn viable_len(bytes: &[u8]) -> usize {
 #[inline]
 #[must_use]
 pub fn viable_len_with_hyphen(bytes: &[u8]) -> usize {
-    len_before_stop(&mut Metered::followed(bytes, b"-\xFF"))
+    viable_len_of(&mut Metered::followed(bytes, b"-"))
 }
 
-/// Returns the index of the byte at which the recogniser stops. The source has to end with a byte
-/// that no tag contains, so that the recogniser stops.
+/// Returns the length in bytes of the longest prefix of a source with which some tag begins.
 #[inline]
-fn len_before_stop<'a>(source: &mut Metered<'a>) -> usize {
-    let _ = recognise(source);
-    source.reach() - 1
+fn viable_len_of<'a>(source: &mut Metered<'a>) -> usize {
+    let len = source.len();
+    match read(source) {
+        Ok(_) => len,
+        Err(viable) => viable,
+    }
 }

@@ -7,7 +7,7 @@ use Rattle.langtag_scan.proofs.recogniser.recognise.Goals as goal
 
 pub returns : goal.returns
 returns g c = record {
-  found = c.read.ensures.found;
+  found = grind (arith, common_steps);
   bytes = c.read.ensures.bytes;
   reads = c.read.ensures.reads;
   normal_not_private = normal_no_private;
