@@ -9,8 +9,8 @@ GROWING = {
 
 # Derives of types that a neighbour has, too. A derived comparison compares the fields as their own types do.
 DERIVED = {
-    "AcceptLanguage": "Clone, PartialEq, Eq",
-    "AcceptLanguageError": "Clone, PartialEq, Eq",
+    "AcceptLanguage": "Clone, PartialEq, Eq, Hash",
+    "AcceptLanguageError": "Clone, PartialEq, Eq, Hash",
     "BestMatch": "PartialEq, Eq, Hash",
     "EditError": "Hash",
     "ElementPart": "Clone, Copy, PartialEq, Eq, Hash",
@@ -18,11 +18,12 @@ DERIVED = {
     "InRecommendedCase": "PartialEq, Eq, Hash",
     "KeyValue": "PartialEq, Eq, Hash",
     "KeywordError": "Hash",
-    "PosixError": "Clone, PartialEq, Eq",
+    "PosixError": "Clone, PartialEq, Eq, Hash",
     "Refusal": "Hash",
     "RefusalKind": "Hash",
     "SetKeywordError": "Hash",
-    "Transformation": "PartialEq, Eq",
+    "Transformation": "PartialEq, Eq, Hash",
+    "TypedLangTag": "Hash",
     "WantedRange": "PartialEq, Eq, Hash",
     "WantedRanges": "Clone",
     "WeightedRange": "Hash",

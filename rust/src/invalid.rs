@@ -47,6 +47,7 @@ macro_rules! errors {
             #[doc = concat!("let error = ", stringify!($name), "::new(\"_\").unwrap_err();")]
             /// assert_eq!(error.into_owned().0, "_");
             /// ```
+            #[inline]
             #[must_use]
             pub fn into_owned(self) -> $error<alloc::string::String> {
                 $error(self.0.into())
@@ -55,6 +56,7 @@ macro_rules! errors {
 
         #[cfg(feature = "alloc")]
         impl From<$error<&str>> for $error<alloc::string::String> {
+            #[inline]
             fn from(error: $error<&str>) -> Self {
                 error.into_owned()
             }

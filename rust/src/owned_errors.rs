@@ -131,7 +131,7 @@ impl fmt::Display for InvalidSubtagBuf {
 /// assert_eq!(count("de, fr;q=0.5".into()).ok(), Some(2));
 /// assert_eq!(count("de, fr_FR".into()).unwrap_err().to_string(), "element 1 has a bad language range");
 /// ```
-#[derive(Clone, Debug, PartialEq, Eq)]
+#[derive(Clone, Debug, PartialEq, Eq, Hash)]
 #[non_exhaustive]
 pub enum AcceptLanguageErrorBuf {
     /// A malformed element, as in [`AcceptLanguageError::BadElement`].
@@ -194,7 +194,7 @@ impl fmt::Display for AcceptLanguageErrorBuf {
 /// assert_eq!(read("C".into()), Err(PosixErrorBuf::NoTag("C".into())));
 /// ```
 #[cfg(feature = "data")]
-#[derive(Clone, Debug, PartialEq, Eq)]
+#[derive(Clone, Debug, PartialEq, Eq, Hash)]
 #[non_exhaustive]
 pub enum PosixErrorBuf {
     /// The name gives no tag.

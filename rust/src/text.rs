@@ -206,6 +206,7 @@ mod owned {
             impl FromStr for $owned {
                 type Err = $error<String>;
 
+                #[inline]
                 fn from_str(text: &str) -> Result<Self, Self::Err> {
                     match $name::new(text) {
                         Ok(lent) => Ok(lent.to_owned()),
@@ -217,6 +218,7 @@ mod owned {
             impl TryFrom<&str> for $owned {
                 type Error = $error<String>;
 
+                #[inline]
                 fn try_from(text: &str) -> Result<Self, Self::Error> {
                     text.parse()
                 }
@@ -300,12 +302,14 @@ mod owned {
     }
 
     impl Default for VariantsBuf {
+        #[inline]
         fn default() -> Self {
             Variants::EMPTY.to_owned()
         }
     }
 
     impl Default for ExtensionsBuf {
+        #[inline]
         fn default() -> Self {
             Extensions::EMPTY.to_owned()
         }

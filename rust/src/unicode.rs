@@ -281,7 +281,7 @@ pub fn write_without_keyword<'a, 'b>(
 /// assert_eq!(error.to_string(), "buffer is too short: 11 bytes are needed");
 /// # Ok::<(), Box<dyn std::error::Error>>(())
 /// ```
-#[derive(Clone, Copy, Debug, PartialEq, Eq)]
+#[derive(Clone, Copy, Debug, PartialEq, Eq, Hash)]
 #[non_exhaustive]
 pub enum WriteKeywordError {
     /// The key, the value or the tag does not allow the keyword.

@@ -3,7 +3,7 @@
 use core::iter::FusedIterator;
 
 use crate::erased::tag::*;
-use crate::matching::{Fallbacks, Filtered};
+use crate::matching::{Fallbacks, Filtered, WantedRanges};
 
 macro_rules! listed {
     ($($list:ident, $owned:ident: $walk:ident of $item:ident;)+) => {$(
@@ -53,6 +53,7 @@ listed! {
 impl FusedIterator for Subtags<'_> {}
 impl FusedIterator for Fallbacks<'_> {}
 impl FusedIterator for Filtered<'_, '_> {}
+impl FusedIterator for WantedRanges<'_> {}
 #[cfg(feature = "data")]
 impl FusedIterator for crate::unicode::AttributesIter<'_> {}
 #[cfg(feature = "data")]

@@ -14,7 +14,7 @@ use core::fmt;
 /// assert!(matches!(from_posix("POSIX"), Err(PosixError::NoTag("POSIX"))));
 /// ```
 #[cfg(feature = "alloc")]
-#[derive(Debug, Clone, PartialEq, Eq)]
+#[derive(Debug, Clone, PartialEq, Eq, Hash)]
 #[non_exhaustive]
 pub enum PosixError<'a> {
     /// The name, which gives no tag: `C`, `POSIX`, the empty text, or a text that is not a tag,

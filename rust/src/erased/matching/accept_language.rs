@@ -29,7 +29,7 @@ use core::cmp::Reverse;
 /// # }
 /// ```
 #[cfg(feature = "alloc")]
-#[derive(Debug, Clone, PartialEq, Eq)]
+#[derive(Debug, Clone, PartialEq, Eq, Hash)]
 pub struct AcceptLanguage<'a> {
     ranges: Vec<WeightedRange<'a>>,
 }

@@ -44,7 +44,7 @@ impl fmt::Display for ElementPart {
 /// assert!(matches!(error, Some(AcceptLanguageError::BadElement { index: 1, offset: 3, .. })));
 /// ```
 #[cfg(feature = "alloc")]
-#[derive(Debug, Clone, PartialEq, Eq)]
+#[derive(Debug, Clone, PartialEq, Eq, Hash)]
 #[non_exhaustive]
 pub enum AcceptLanguageError<'a> {
     /// The first malformed element.

@@ -24,7 +24,7 @@ use crate::erased::tag::private_use_lang_tag::PrivateUseLangTag;
 /// ```
 ///
 /// [RFC 5646 section 2.1]: https://www.rfc-editor.org/rfc/rfc5646#section-2.1
-#[derive(Clone, Copy, Debug, PartialEq, Eq)]
+#[derive(Clone, Copy, Debug, PartialEq, Eq, Hash)]
 pub enum TypedLangTag<'a> {
     /// A normal tag. The regular grandfathered tags are normal, too.
     Normal(NormalLangTag<'a>),

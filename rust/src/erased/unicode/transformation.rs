@@ -25,7 +25,7 @@ use crate::erased::unicode::keywords_iter::KeywordsIter;
 /// ```
 ///
 /// [RFC 6497 section 2.2]: https://www.rfc-editor.org/rfc/rfc6497#section-2.2
-#[derive(Clone, Copy, Debug, PartialEq, Eq)]
+#[derive(Clone, Copy, Debug, PartialEq, Eq, Hash)]
 pub struct Transformation<'a> {
     text: &'a str,
 }
