@@ -33,14 +33,20 @@ DERIVED = {
 CONST = {"with_ends", "with_found", "as_str", "as_lang_tag"}
 CONST_IN = {"lang_tag", "normal_lang_tag"}
 
-# Methods that return an error if allocation fails: as in `try_to_owned`, their names say so. And a method for which one of the
-# same name is written by hand, which takes more types.
+# Methods that return an error if allocation fails: as in `try_to_owned`, their names say so. And methods for which one of the same
+# name is written by hand, which takes more types.
 RENAMED = {"from_parts": "try_from_parts", "lenient": "try_lenient"}
-GETTER = [
+WRAPPED = [
     ("pub fn get(&self, singleton: Singleton)", "pub(crate) fn get_singleton(&self, singleton: Singleton)"),
     ("self.get(singleton)", "self.get_singleton(singleton)"),
     ("extensions.get(singleton)", "extensions.get_singleton(singleton)"),
     ("extensions().get(singleton)", "extensions().get_singleton(singleton)"),
+    ("pub fn matches_basic(&self, tag: &LangTag", "pub(crate) fn is_basic_match(&self, tag: &LangTag"),
+    ("pub fn matches_extended(&self, tag: &LangTag", "pub(crate) fn is_extended_match(&self, tag: &LangTag"),
+    ("range.matches_basic(&tag)", "range.is_basic_match(&tag)"),
+    ("range.matches_extended(&tag)", "range.is_extended_match(&tag)"),
+    ("pub fn look_up<'t>(&self, tags", "pub(crate) fn look_up_tag<'t>(&self, tags"),
+    ("accepted.look_up(tags, default)", "accepted.look_up_tag(tags, default)"),
 ]
 
 
@@ -48,7 +54,7 @@ def rename_calls(code):
     for place in range(len(code)):
         if code[place] in RENAMED and code[place + 1] == "(" and code[place - 1] in ("fn", ":"):
             code.replace(place, place + 1, RENAMED[code[place]])
-    for old, new in GETTER:
+    for old, new in WRAPPED:
         code.rewrite(old, new)
 
 

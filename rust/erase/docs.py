@@ -36,8 +36,9 @@ def with_names(text, module):
 
 
 def with_usual_calls(text):
-    """Changes calls in examples to those that Rust programs use, which do not return an error if allocation fails."""
+    """Changes calls in examples to those that Rust programs use, which do not return an error if allocation fails, or borrow more."""
     text = text.replace(".try_to_owned()?", ".to_owned()")
+    text = re.sub(r"(\baccepted\.look_up\(&[^()]*, )", r"\1&", text)
     return re.sub(r"String::from_str\(((?:[^()\"]|\"[^\"]*\")*)\)\?", r"\1.to_string()", text)
 
 

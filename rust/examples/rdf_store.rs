@@ -81,7 +81,7 @@ fn main() -> Result<(), Box<dyn std::error::Error>> {
         let range: LanguageRangeBuf = range.parse()?;
         let found = store
             .iter()
-            .filter(|literal| range.matches_basic(&literal.language.as_lang_tag()));
+            .filter(|literal| range.matches_basic(&literal.language));
         assert_eq!(
             found
                 .inspect(|literal| println!("{range}: {literal}"))

@@ -53,6 +53,31 @@ impl<'a> From<&LangTag<'a>> for LangTag<'a> {
     }
 }
 
+/// A closure of `filter` or `find` has a reference to what the iterator returns.
+///
+/// ```
+/// use langtag::{matching::LanguageRange, LangTag};
+///
+/// let (range, tags) = (LanguageRange::new("de")?, [LangTag::new("de-CH")?, LangTag::new("fr")?]);
+/// assert_eq!(tags.iter().filter(|tag| range.matches_basic(tag)).count(), 1);
+/// # Ok::<(), Box<dyn std::error::Error>>(())
+/// ```
+impl<'a> From<&&LangTag<'a>> for LangTag<'a> {
+    #[inline]
+    fn from(tag: &&LangTag<'a>) -> Self {
+        **tag
+    }
+}
+
+/// As from a reference to a reference to a [`LangTag`].
+#[cfg(feature = "alloc")]
+impl<'a> From<&&'a LangTagBuf> for LangTag<'a> {
+    #[inline]
+    fn from(tag: &&'a LangTagBuf) -> Self {
+        tag.as_lang_tag()
+    }
+}
+
 /// Every tag is a language range.
 ///
 /// ```

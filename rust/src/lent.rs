@@ -88,8 +88,6 @@ lent! {
     }
     LanguageRangeBuf: LanguageRange by as_language_range {
         is_basic() -> bool;
-        matches_basic(tag: &LangTag<'_>) -> bool;
-        matches_extended(tag: &LangTag<'_>) -> bool;
         fallbacks() -> Fallbacks<'_>;
     }
 }

@@ -24,6 +24,7 @@
 use crate::erased::range::is_range;
 use crate::lists::Ranges;
 pub use crate::lists::TagEntry;
+use crate::LangTag;
 
 pub use crate::erased::matching::{
     filter_basic, filter_extended, wanted_ranges, ElementPart, Fallbacks, Filtered,
@@ -33,6 +34,67 @@ pub use crate::erased::matching::{
 pub use crate::erased::matching::{AcceptLanguage, AcceptLanguageError, LanguageRangeBuf};
 #[cfg(feature = "alloc")]
 pub use crate::owned_errors::AcceptLanguageErrorBuf;
+
+impl LanguageRange<'_> {
+    /// Returns whether the range matches a tag by basic filtering ([RFC 4647 section 3.3.1]):
+    /// `de-DE` matches `de-DE-1996`, but neither `de-Deva` nor `de-Latn-DE`. The range `*` matches
+    /// every tag. In other ranges, `*` equals no subtag, so `de-*` matches nothing.
+    ///
+    /// ```
+    /// use langtag::matching::LanguageRange;
+    /// use langtag::LangTag;
+    ///
+    /// let range = LanguageRange::new("de-DE")?;
+    /// assert!(range.matches_basic(LangTag::new("de-DE-1996")?));
+    /// assert!(!range.matches_basic(LangTag::new("de-Latn-DE")?));
+    /// # Ok::<(), Box<dyn std::error::Error>>(())
+    /// ```
+    ///
+    /// [RFC 4647 section 3.3.1]: https://www.rfc-editor.org/rfc/rfc4647#section-3.3.1
+    #[inline]
+    #[must_use]
+    pub fn matches_basic<'t>(&self, tag: impl Into<LangTag<'t>>) -> bool {
+        self.is_basic_match(&tag.into())
+    }
+
+    /// Returns whether the range matches a tag by extended filtering ([RFC 4647 section 3.3.2]):
+    /// `de-DE` and `de-*-DE` match `de-Latn-DE-1996`. They do not match `de-x-DE`, because a
+    /// singleton is never skipped.
+    ///
+    /// ```
+    /// use langtag::matching::LanguageRange;
+    /// use langtag::LangTag;
+    ///
+    /// let range = LanguageRange::new("de-DE")?;
+    /// assert!(range.matches_extended(LangTag::new("de-Latn-DE-1996")?));
+    /// assert!(!range.matches_extended(LangTag::new("de-x-DE")?));
+    /// # Ok::<(), Box<dyn std::error::Error>>(())
+    /// ```
+    ///
+    /// [RFC 4647 section 3.3.2]: https://www.rfc-editor.org/rfc/rfc4647#section-3.3.2
+    #[inline]
+    #[must_use]
+    pub fn matches_extended<'t>(&self, tag: impl Into<LangTag<'t>>) -> bool {
+        self.is_extended_match(&tag.into())
+    }
+}
+
+#[cfg(feature = "alloc")]
+impl LanguageRangeBuf {
+    /// Returns what [`LanguageRange::matches_basic`] returns.
+    #[inline]
+    #[must_use]
+    pub fn matches_basic<'t>(&self, tag: impl Into<LangTag<'t>>) -> bool {
+        self.as_language_range().matches_basic(tag)
+    }
+
+    /// Returns what [`LanguageRange::matches_extended`] returns.
+    #[inline]
+    #[must_use]
+    pub fn matches_extended<'t>(&self, tag: impl Into<LangTag<'t>>) -> bool {
+        self.as_language_range().matches_extended(tag)
+    }
+}
 
 /// Returns the tag that lookup finds for a list of language ranges in order of preference, or the
 /// default if no range finds a tag ([RFC 4647 section 3.4]).
@@ -85,9 +147,27 @@ pub fn tag_for_header<'h, 't, T: TagEntry>(
     tags: &'t [T],
     default: &'t T,
 ) -> Result<&'t T, AcceptLanguageError<'h>> {
-    let accepted = AcceptLanguage::new(header)?;
-    let ranges = accepted.ranges().iter().map(|weighted| weighted.range);
-    Ok(found(ranges, tags).unwrap_or(default))
+    Ok(AcceptLanguage::new(header)?.look_up(tags, default))
+}
+
+#[cfg(feature = "alloc")]
+impl AcceptLanguage<'_> {
+    /// Returns the tag that lookup finds for the ranges, or the default, as [`look_up`] does.
+    ///
+    /// ```
+    /// use langtag::matching::AcceptLanguage;
+    /// use langtag::LangTagBuf;
+    ///
+    /// let tags: Vec<LangTagBuf> = vec!["de-CH".parse()?, "fr".parse()?];
+    /// let accepted = AcceptLanguage::lenient("fr;q=0.3, DE-ch-1996;q=0.9");
+    /// assert_eq!(accepted.look_up(&tags, &tags[1]), "de-CH");
+    /// # Ok::<(), Box<dyn std::error::Error>>(())
+    /// ```
+    #[must_use]
+    pub fn look_up<'t, T: TagEntry>(&self, tags: &'t [T], default: &'t T) -> &'t T {
+        let ranges = self.ranges().iter().map(|weighted| weighted.range);
+        found(ranges, tags).unwrap_or(default)
+    }
 }
 
 /// Returns the tag that lookup finds.

@@ -22,7 +22,7 @@ impl<'a> LangTag<'a> {
     /// [RFC 4647 section 3.3.2]: https://www.rfc-editor.org/rfc/rfc4647#section-3.3.2
     #[must_use]
     pub fn matches<'r>(self, range: impl Into<LanguageRange<'r>>) -> bool {
-        range.into().matches_extended(&self)
+        range.into().matches_extended(self)
     }
 }
 

@@ -288,7 +288,7 @@ fn same_choice(header: &str, texts: &[String]) {
 /// Compares the tags that look-up finds, with strict and with lenient reading of the header.
 fn same_look_up(header: &str, all: &str, spans: &[Span], tags: &[LangTag<'_>]) {
     let none = LangTag::new("x-none").unwrap();
-    let found = AcceptLanguage::lenient(header).look_up(tags, none);
+    let found = *AcceptLanguage::lenient(header).look_up(tags, &none);
     let ours = tags
         .iter()
         .position(|tag| tag.as_str().as_ptr() == found.as_str().as_ptr());

@@ -44,11 +44,11 @@ pub fn matches(range: Option<&str>, tag: Option<&str>) -> String {
         return "neither".into();
     };
     let (matches, owned) = (
-        (range.matches_basic(&tag), range.matches_extended(&tag)),
+        (range.matches_basic(tag), range.matches_extended(tag)),
         range.to_owned(),
     );
     assert_eq!(
-        (owned.matches_basic(&tag), owned.matches_extended(&tag)),
+        (owned.matches_basic(tag), owned.matches_extended(tag)),
         matches
     );
     let matches = match matches {
@@ -62,13 +62,13 @@ pub fn matches(range: Option<&str>, tag: Option<&str>) -> String {
 
 /// Returns the tag for a header, with strict and with lenient reading of the header.
 pub fn header(header: &str, tags: &str) -> String {
-    let tags = tags_of(tags);
+    let (tags, none) = (tags_of(tags), default());
     let accepted = AcceptLanguage::lenient(header);
-    let lenient = accepted.look_up(&tags, default());
+    let lenient = *accepted.look_up(&tags, &none);
     let ranges: Vec<_> = accepted.ranges().iter().map(|it| it.range).collect();
     assert_eq!(looked_up(&ranges, &tags), lenient);
     let lenient = shown(lenient);
-    match tag_for_header(header, &tags, &default()) {
+    match tag_for_header(header, &tags, &none) {
         Ok(tag) => format!("{} | {lenient}", shown(*tag)),
         Err(AcceptLanguageError::BadElement {
             header: kept,

@@ -26,7 +26,7 @@ pub fn langtag_range_kind(bytes: &[u8]) -> u32 {
 /// [RFC 4647 section 3.3.1]: https://www.rfc-editor.org/rfc/rfc4647#section-3.3.1
 pub fn langtag_matches_basic(range: &[u8], tag: &[u8]) -> bool {
     match (range_of(range), tag_of(tag)) {
-        (Some(range), Some(tag)) => range.matches_basic(&tag),
+        (Some(range), Some(tag)) => range.is_basic_match(&tag),
         _ => false,
     }
 }
@@ -38,7 +38,7 @@ pub fn langtag_matches_basic(range: &[u8], tag: &[u8]) -> bool {
 /// [RFC 4647 section 3.3.2]: https://www.rfc-editor.org/rfc/rfc4647#section-3.3.2
 pub fn langtag_matches_extended(range: &[u8], tag: &[u8]) -> bool {
     match (range_of(range), tag_of(tag)) {
-        (Some(range), Some(tag)) => range.matches_extended(&tag),
+        (Some(range), Some(tag)) => range.is_extended_match(&tag),
         _ => false,
     }
 }

@@ -109,8 +109,8 @@ impl<'a> Asked<'a> {
 
     fn matched(&self, tag: LangTag<'_>) -> Answer {
         let is_matched = self.range.is_some_and(|range| match self.options.basic {
-            true => range.matches_basic(&tag),
-            false => range.matches_extended(&tag),
+            true => range.matches_basic(tag),
+            false => range.matches_extended(tag),
         });
         let columns = if is_matched { "yes" } else { "no" };
         let line = match (self.options.tsv, is_matched) {

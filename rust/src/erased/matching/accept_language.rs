@@ -115,13 +115,16 @@ impl<'a> AcceptLanguage<'a> {
     ///
     /// let accepted = AcceptLanguage::new("fr;q=0.3, DE-ch-1996;q=0.9")?;
     /// let tags = [LangTag::new("de-CH")?, LangTag::new("fr")?];
-    /// assert_eq!(accepted.look_up(&tags, LangTag::new("en")?).as_str(), "de-CH");
+    /// assert_eq!(accepted.look_up(&tags, &LangTag::new("en")?).as_str(), "de-CH");
     /// # Ok(())
     /// # }
     /// ```
     #[inline]
-    #[must_use]
-    pub fn look_up<'t>(&self, tags: &[LangTag<'t>], default: LangTag<'t>) -> LangTag<'t> {
+    pub(crate) fn look_up_tag<'t>(
+        &self,
+        tags: &[LangTag<'t>],
+        default: LangTag<'t>,
+    ) -> LangTag<'t> {
         for weighted in self.ranges() {
             if let Some(tag) = tag_for(weighted.range, tags) {
                 return tag;
@@ -164,7 +167,7 @@ pub fn tag_for_header<'h, 't>(
     default: LangTag<'t>,
 ) -> Result<LangTag<'t>, AcceptLanguageError<'h>> {
     let accepted = AcceptLanguage::new(header)?;
-    Ok(accepted.look_up(tags, default))
+    Ok(accepted.look_up_tag(tags, default))
 }
 
 /// Returns the elements of a header, in order.

@@ -19,8 +19,8 @@ impl FilterRule {
     #[inline]
     pub(crate) fn matches(self, range: LanguageRange<'_>, tag: LangTag<'_>) -> bool {
         match self {
-            FilterRule::Basic => range.matches_basic(&tag),
-            FilterRule::Extended => range.matches_extended(&tag),
+            FilterRule::Basic => range.is_basic_match(&tag),
+            FilterRule::Extended => range.is_extended_match(&tag),
         }
     }
 }

@@ -158,8 +158,7 @@ impl<'a> LanguageRange<'a> {
     ///
     /// [RFC 4647 section 3.3.1]: https://www.rfc-editor.org/rfc/rfc4647#section-3.3.1
     #[inline]
-    #[must_use]
-    pub fn matches_basic(&self, tag: &LangTag<'_>) -> bool {
+    pub(crate) fn is_basic_match(&self, tag: &LangTag<'_>) -> bool {
         matches_basic(self.as_str(), tag.as_str())
     }
 
@@ -181,8 +180,7 @@ impl<'a> LanguageRange<'a> {
     ///
     /// [RFC 4647 section 3.3.2]: https://www.rfc-editor.org/rfc/rfc4647#section-3.3.2
     #[inline]
-    #[must_use]
-    pub fn matches_extended(&self, tag: &LangTag<'_>) -> bool {
+    pub(crate) fn is_extended_match(&self, tag: &LangTag<'_>) -> bool {
         matches_extended(self.as_str(), tag.as_str())
     }
 

@@ -20,7 +20,7 @@
 //! );
 //! let accepted = AcceptLanguage::new("en;q=0.5, de-CH")?;
 //! assert_eq!(accepted.ranges()[0].range.as_str(), "de-CH");
-//! assert_eq!(accepted.look_up(&[english, german], english).as_str(), "de");
+//! assert_eq!(accepted.look_up(&[english, german], &english).as_str(), "de");
 //! # Ok(())
 //! # }
 //! ```
