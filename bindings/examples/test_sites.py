@@ -1,9 +1,13 @@
 #!/usr/bin/env python3
-"""Tests the examples in which a reader picks a language: test_sites.py PLAYER, where PLAYER is the program built from player.cc.
-Without Flask, its test is left out, and the output says so."""
+"""Tests the examples in which a user picks a language: test_sites.py PLAYER, where PLAYER is the program built from player.cc.
+Without Flask, its test is left out, and the output says so. The middleware for Django is called with its settings and with a request that
+has only headers, so Django need not be there."""
+import importlib
 import subprocess
 import sys
+import types
 import unittest
+from unittest import mock
 
 try:
     import flask_site
@@ -40,6 +44,15 @@ class Sites(unittest.TestCase):
             got = client.get("/", query_string={} if wish is None else {"lang": wish}, headers={} if header is None else {"Accept-Language": header})
             self.assertEqual((got.headers["Content-Language"], got.headers.get("Set-Cookie")), (tag, f"lang={tag}; Path=/" if is_kept else None))
             self.assertIn(f'lang="{tag}" dir="{"rtl" if tag == "ar" else "ltr"}"><p>{flask_site.PAGES[tag]}', got.text)
+
+    def test_django(self):
+        settings = types.SimpleNamespace(LANGUAGES=[("en", "English"), ("zh-hant", "繁體中文"), ("de", "Deutsch")], LANGUAGE_CODE="en")
+        modules = {"django": types.ModuleType("django"), "django.conf": types.SimpleNamespace(settings=settings)}
+        with mock.patch.dict(sys.modules, modules):
+            middleware = importlib.import_module("django_middleware").best_language(lambda request: request.META["HTTP_ACCEPT_LANGUAGE"])
+        for header, code in [("zh-TW, en;q=0.9", "zh-hant"), ("gsw", "de"), ("de_CH", "de"), ("tlh, *;q=0.1", "en"), ("ja", "en"), ("", "en"), (None, "en")]:
+            request = types.SimpleNamespace(META={} if header is None else {"HTTP_ACCEPT_LANGUAGE": header})
+            self.assertEqual(middleware(request), code)
 
 
 if __name__ == "__main__":

@@ -66,13 +66,15 @@ pub fn best_for_accept_language(
 }
 
 /// Returns the index of the best tag for a list of language ranges in order of preference, as
-/// [`best_for_header`] does. A string that is not a language range is skipped. An extended range is
-/// read without its `*`: `zh-*-Hant` as `zh-Hant`.
+/// [`best_for_header`] does. A range is read as in a header: `zh_TW.UTF-8` as `zh-TW`. An extended
+/// range is read without its `*`: `zh-*-Hant` as `zh-Hant`. A string that is not a language range,
+/// such as `de;q=0`, is skipped.
 ///
 /// ```
 /// use langtag::choice::best_for_ranges;
 ///
 /// assert_eq!(best_for_ranges(&["nn", "de"], &["en", "nb"]), Some(1));
+/// assert_eq!(best_for_ranges(&["fi", "zh_TW"], &["en", "zh-Hant"]), Some(1));
 /// ```
 #[must_use]
 pub fn best_for_ranges(

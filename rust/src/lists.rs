@@ -161,12 +161,13 @@ impl<'a, R: AsRef<str>> Iterator for Ranges<'a, R> {
 impl<'a, R: AsRef<str>> crate::choice::RangeList<'a> for Ranges<'a, R> {
     #[inline]
     fn split_range(self) -> Option<(crate::matching::WantedRange<'a>, Self)> {
-        let mut rest = self;
-        let range = rest.next()?;
-        let wanted = crate::matching::WantedRange {
-            bytes: range.as_str().as_bytes(),
-            weight: 1000,
-        };
-        Some((wanted, rest))
+        let mut rest = self.0;
+        while let Some((first, others)) = rest.split_first() {
+            rest = others;
+            if let Some(wanted) = crate::erased::range::listed_range(first.as_ref().as_bytes()) {
+                return Some((wanted, Ranges(rest)));
+            }
+        }
+        None
     }
 }

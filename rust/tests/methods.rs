@@ -191,6 +191,10 @@ fn lists_with_other_texts() {
     );
     assert_eq!(best_for_header("*", &["en_US"]), None);
     assert_eq!(best_for_ranges(&["d!", "de"], &["en", "de"]), Some(1));
+    assert_eq!(
+        best_for_ranges(&["de;q=0", "zh_TW.UTF-8"], &["de", "zh-Hant"]),
+        Some(1)
+    );
     assert_eq!(best_for_ranges(&[""; 0], &["en", "de"]), None);
     assert_eq!(look_up(&["d!", "en_US", "de-CH"], &site, &"none"), &"de");
     assert_eq!(look_up(&["en"], &site, &"none"), &"none");
