@@ -27,7 +27,7 @@ use Rattle.langtag_keyword.proofs.ExtensionForms.{form_by, form_tested, forms-ne
 use Rattle.langtag_unicode.proofs.FormTwice.{language-parts, lower_fields, same_fields, unicode_language-fold}
 use Rattle.langtag_keyword.proofs.AliasCase.{alias_for-alike, type_alias_for-alike}
 use Rattle.langtag_keyword.proofs.KeywordsInForm.{same-values, values_in_form}
-use Rattle.langtag_unicode.proofs.TransformParts.{field_key-fold}
+use Rattle.langtag_unicode.proofs.WalkLaws.{field_key-fold}
 
 pub lower-twice : (ss : List (List ℕ)) → map fold_text (map fold_text ss) ≡ map fold_text ss
 lower-twice = map-twice fold_text fold_text-twice

@@ -5,7 +5,7 @@ use Rattle.std.specs.List.{AllByRecursion, flat_map, list_all, list_any}
 use Rattle.std.proofs.lemmas.Bool.Decides.{nat_tests}
 use Rattle.langtag.specs.FieldClasses.{is_region_field, is_script_field}
 use Rattle.langtag.specs.Fields.{Fields, subtag_of}
-use Rattle.langtag_scan.proofs.CaseLaw.{is_digit-fold, is_letter-fold, length-fold}
+use Rattle.langtag_scan.proofs.CaseLaw.{length-fold}
 use Rattle.langtag_scan.proofs.Disjoint.{first_no_digit, letter_no_digit, region_short, region_two_three, script_four, variant_long}
 use Rattle.langtag_scan.proofs.SubtagFacts.{of_extension_subtag}
 use Rattle.langtag_scan.proofs.SubtagLists.{each-append, each_from_test, each_subtag, subtags-joined}
@@ -26,6 +26,7 @@ use Rattle.langtag_unicode.proofs.CanonicalKeywords.{alike-back}
 use Rattle.langtag_unicode.proofs.FormRecords.{Good, good-value}
 use Rattle.langtag_unicode.proofs.IdentifierParts.{AreSubtags, language_primary, AreVariants}
 use Rattle.langtag_keyword.proofs.KeywordsInForm.{AreKeywords, values_in_form}
+use Rattle.langtag_unicode.proofs.WalkLaws.{field_key-fold}
 use Rattle.langtag_unicode.proofs.Apart.{Apart}
 use Rattle.langtag_keyword.proofs.Found.{both, found_has}
 
@@ -106,9 +107,6 @@ fields-long (s ∷ ss) are = grind (arith, nat_tests, fields-long ss, both)
 fields-value : (ss : List (List ℕ)) → are_fields true true ss ≡ true → IsValue (before_key is_field_key ss)
 fields-value [] are = absurd (false≢true are)
 fields-value (s ∷ ss) are = grind (arith, nat_tests, false≢true, both (leb 3 (length s)), fields-long ss)
-
-pub field_key-fold : (s : List ℕ) → is_field_key (fold_text s) ≡ is_field_key s
-field_key-fold s = grind (arith, nat_tests, is_letter-fold, is_digit-fold)
 
 record FoundField (key : List ℕ) (w : List (List ℕ)) : Type 0 where
   opens : is_field_key key ≡ true

@@ -1,7 +1,8 @@
 -- What a look-up and a walk have in common.
-use Rattle.std.proofs.Common.{◌≡◌, ℕ, Bool, true, false, cond, ◌&&◌, ◌==◌, not, List, [], ◌∷◌, ◌++◌, length, Option, Some, refl, ap, sym, ◌∙◌}
+use Rattle.std.proofs.Common.{◌≡◌, ℕ, Bool, true, false, cond, ◌&&◌, ◌==◌, not, List, [], ◌∷◌, ◌++◌, length, Option, Some, refl, ap, sym, ◌∙◌, arith}
 use Rattle.std.specs.List.{list_any}
 use Rattle.std.specs.Option.{option_map}
+use Rattle.std.proofs.lemmas.Bool.Decides.{nat_tests}
 use Rattle.std.proofs.lemmas.List.Folds.{list_any-append}
 use Rattle.std.proofs.lemmas.Map.Steps.{list_any_congr}
 use Rattle.langtag_scan.specs.Case.{fold_text, are_alike, Alike}
@@ -21,14 +22,11 @@ RespectsCase test = (a b : List ℕ) → Alike a b → test a ≡ test b
 is_key-alike : RespectsCase is_key
 is_key-alike a b same = ap (λ n. n == 2) (sym (length-fold a) ∙ ap length same ∙ length-fold b)
 
-is_field_key-fold : (s : List ℕ) → is_field_key (fold_text s) ≡ is_field_key s
-is_field_key-fold [] = refl
-is_field_key-fold (a ∷ []) = refl
-is_field_key-fold (a ∷ b ∷ []) = rw (is_letter-fold a, is_digit-fold b) refl
-is_field_key-fold (a ∷ b ∷ c ∷ s) = refl
+pub field_key-fold : (s : List ℕ) → is_field_key (fold_text s) ≡ is_field_key s
+field_key-fold s = grind (arith, nat_tests, is_letter-fold, is_digit-fold)
 
 is_field_key-alike : RespectsCase is_field_key
-is_field_key-alike a b same = sym (is_field_key-fold a) ∙ ap is_field_key same ∙ is_field_key-fold b
+is_field_key-alike a b same = sym (field_key-fold a) ∙ ap is_field_key same ∙ field_key-fold b
 
 -- a key is looked up in any case
 pub value_of-alike : (test : List ℕ → Bool) (k l : List ℕ) (ss : List (List ℕ)) → Alike k l → value_of test k ss ≡ value_of test l ss
