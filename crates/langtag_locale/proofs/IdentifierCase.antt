@@ -5,12 +5,12 @@ use Rattle.std.specs.List.{list_any}
 use Rattle.std.specs.Option.{is_some, option_map_or}
 use Rattle.std.specs.Prelude.{codes}
 use Rattle.std.specs.Str.{bytes_eq}
-use Rattle.langtag_likely.proofs.AlikeFields.{added-alike, alone_alike, by_options, by_same, known-alike, likely_for-alike, or_other-alike}
+use Rattle.langtag_likely.proofs.AlikeFields.{added-alike, by_options, by_same, known-alike, language-alike, likely_for-alike, or_other-alike}
 use Rattle.langtag.proofs.Alike.{AlikeFields, are_alike-left, are_alike-right}
-use Rattle.langtag_likely.specs.Aliases.{language_aliases, region_replacements}
-use Rattle.langtag_likely.specs.Likely.{language_alone, or_else, or_other}
+use Rattle.langtag_likely.specs.Aliases.{region_replacements}
+use Rattle.langtag_likely.specs.Likely.{or_else, or_other}
 use Rattle.langtag.specs.Fields.{Fields, subtag_of}
-use Rattle.langtag_likely.specs.Matching.{language_replaced, region_alone, with_language_from}
+use Rattle.langtag_likely.specs.Matching.{language_replaced, region_alone}
 use Rattle.langtag_scan.specs.Case.{Alike, are_alike, fold_text}
 use Rattle.langtag_scan.specs.Record.{one_flat}
 use Rattle.langtag_scan.specs.Subtags.{segments}
@@ -39,20 +39,6 @@ has-same : (v w : List (List ℕ)) → AreAlike v w → has_variant v ≡ has_va
 has-same v w alike = λ i x. (has-fold v x ∙ ap (list_any (bytes_eq (fold_text x))) alike ∙ sym (has-fold w x)) i
 
 -- ---- the steps
-
-replaced-alike : (f g : Fields) → AlikeFields f g → AlikeFields (language_replaced f) (language_replaced g)
-unfolding language_replaced
-replaced-alike f g h =
-    by_same (λ o p. AlikeFields (option_map_or (with_language_from f) o f) (option_map_or (with_language_from g) p g)) by_row _ _
-    (likely_for-alike language_aliases (language_alone f) (language_alone g) (alone_alike f g h.language))
-  where
-    by_row : (o : Option Fields) → AlikeFields (option_map_or (with_language_from f) o f) (option_map_or (with_language_from g) o g)
-    by_row None = h
-    by_row (Some to) = record {
-      language = refl;
-      script = or_other-alike f.script g.script to.script h.script;
-      region = or_other-alike f.region g.region to.region h.region;
-    }
 
 after-alike : (variants : List (List ℕ)) (l m : List ℕ) (a : TypeAlias) → Alike l m → Alike (language_after variants l a) (language_after variants m a)
 after-alike variants l m a alike =
@@ -171,7 +157,7 @@ pub identifier_form-alike : (v w : List (List ℕ)) (f g : Fields) → AreAlike 
 unfolding identifier_form
 identifier_form-alike v w f g alike h =
     subst (λ x. AlikeFields x (identifier_form w g)) (sym (identifier-same v w f alike))
-    (script-alike _ _ (sign-alike _ _ (region-alike _ _ (variant_region-alike w _ _ (sign-alike _ _ (variant_language-alike w _ _ (replaced-alike f g h)))))))
+    (script-alike _ _ (sign-alike _ _ (region-alike _ _ (variant_region-alike w _ _ (sign-alike _ _ (variant_language-alike w _ _ (language-alike f g h)))))))
 
 -- ---- variants
 
@@ -228,4 +214,4 @@ module _ (language other : List ℕ) (variants others : List (List ℕ)) (langua
 -- identifiers that are equal but for case have the same variants in their forms
 pub new_variants-alike : (v w : List (List ℕ)) (f g : Fields) → AreAlike v w → AlikeFields f g → new_variants v f ≡ new_variants w g
 new_variants-alike v w f g alike h =
-    in_alphabet-alike _ _ (forms-alike (language_replaced f).language (language_replaced g).language v w (replaced-alike f g h).language alike v w alike)
+    in_alphabet-alike _ _ (forms-alike (language_replaced f).language (language_replaced g).language v w (language-alike f g h).language alike v w alike)

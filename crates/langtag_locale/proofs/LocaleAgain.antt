@@ -8,7 +8,6 @@ use Rattle.langtag.specs.Repeat.{are_alike_bytes}
 use Rattle.langtag_extension.specs.Spelling.{find_extension}
 use Rattle.langtag.specs.Fields.{Fields}
 use Rattle.langtag_likely.specs.Matching.{language_replaced}
-use Rattle.langtag_scan.proofs.CaseLaw.{is_digit-fold, is_letter-fold}
 use Rattle.langtag_scan.proofs.SubtagLists.{each-append}
 use Rattle.langtag_scan.specs.Case.{are_alike, fold_byte, fold_text}
 use Rattle.langtag_scan.specs.CaseLaws.{are_alike-decides}
@@ -20,7 +19,7 @@ use Rattle.langtag_keyword.specs.Keywords.{before_key, is_key, value_of}
 use Rattle.langtag_locale.specs.Locale.{is_unicode_subtag}
 use Rattle.langtag_registry.specs.Canonical.{singletons}
 use Rattle.langtag_locale.specs.LocaleForm.{extension_at, extensions_in_order, locale_extension_form, new_variants}
-use Rattle.langtag_unicode.proofs.CanonicalKeywords.{form-blocks, key-fold, values, values-are}
+use Rattle.langtag_unicode.proofs.CanonicalKeywords.{form-blocks, key-fold, unicode_key-fold, values, values-are}
 use Rattle.langtag_keyword.proofs.Each.{each-alphabet, each-before}
 use Rattle.langtag_unicode.proofs.FormRecords.{Good}
 use Rattle.langtag_unicode.proofs.FormSizes.{are_apart}
@@ -92,12 +91,6 @@ module _ (es : List Extension) where
 -- each may be in `u`
 abbrev pub MayBeInU : List (List ℕ) → Type 0
 MayBeInU ss = AllByRecursion (λ s. IsTrue (is_unicode_subtag s)) ss
-
-unicode_key-fold : (s : List ℕ) → is_unicode_key (fold_text s) ≡ is_unicode_key s
-unicode_key-fold [] = refl
-unicode_key-fold (a ∷ []) = refl
-unicode_key-fold (a ∷ b ∷ []) = rw (is_letter-fold a, is_digit-fold a, is_letter-fold b) refl
-unicode_key-fold (a ∷ b ∷ c ∷ s) = refl
 
 unicode_subtag-fold : (s : List ℕ) → is_unicode_subtag (fold_text s) ≡ is_unicode_subtag s
 unicode_subtag-fold s = ap (λ b. not b || is_unicode_key (fold_text s)) (key-fold s) ∙ ap (λ b. not (is_key s) || b) (unicode_key-fold s)

@@ -23,7 +23,7 @@ use Rattle.langtag_keyword.specs.Transform.{is_field_key}
 use Rattle.langtag_unicode.proofs.CanonicalKeywords.{key-fold, unicode_key-fold}
 use Rattle.langtag_locale.proofs.IdentifierCase.{AreAlike, identifier_form-alike, new_variants-alike}
 use Rattle.langtag_locale.proofs.LocaleExtensions.{locale_form_by, locale_form_tested}
-use Rattle.langtag_unicode.proofs.TransformParts.{field_key-fold}
+use Rattle.langtag_unicode.proofs.WalkLaws.{field_key-fold}
 use Rattle.langtag_unicode.proofs.ExtensionCase.{before-fold, extension-twice, fields-fold, is_of-fold, is_transform-fold, keywords-fold, lower-twice, transform_value-fold, unicode-fold, variants-fold}
 
 pub alike-left : (s t : List ℕ) → are_alike (fold_text s) t ≡ are_alike s t

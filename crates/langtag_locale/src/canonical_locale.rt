@@ -115,8 +115,6 @@ fn counted_form_bytes(alloc: Global, tag: NormalLangTag<'_>) -> Result<Vec<u8>, 
 pub fn write_locale_form(tag: LangTag<'_>, buffer: &mut [u8]) -> Option<usize>
     ensures form { IfSome result (λ len. WritesWhole (λ form. spec.IsWholeForm (lang_tag_text tag.entry) (Some form)) buffer.old buffer.new len) }
     ensures none { result ≡ None → spec.IsWholeForm (lang_tag_text tag.entry) None }
-    ensures locale { (r : model.Record) → model.IsWellFormed r → IsTrue (identifier.is_locale_record r)
-        → IsTrue (identifier.is_locale_record (spec.locale_record r)) }
     ensures unchanged { result ≡ None → buffer.new ≡ buffer.old }
 {
     let locale = locale_for(tag)?;

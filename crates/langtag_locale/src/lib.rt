@@ -11,6 +11,7 @@
 #![tactic(auto)]
 
 mod canonical_locale;
+mod laws;
 mod locale;
 mod locale_extensions;
 mod locale_fields;

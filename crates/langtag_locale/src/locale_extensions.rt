@@ -137,11 +137,12 @@ pub(crate) fn push_identifier(out: &mut Output<'_>, fields: TagFields<'_>, varia
     ensures pushed { Pushes (identifier_flat (spec.identifier_form (segments_left variants.entry) (field_texts fields.entry))
         (spec.new_variants (segments_left variants.entry) (field_texts fields.entry))) out.old out.new }
 {
-    let form = identifier_form(fields, variants);
+    let replaced = language_replaced(fields);
+    let form = identifier_form(replaced, variants);
     out.push_subtag(form.language);
     push_field(out, form.script);
     push_field(out, form.region);
-    push_variants(out, language_replaced(fields).language, variants);
+    push_variants(out, replaced.language, variants);
 }
 
 /// Appends a field, unless it is empty.

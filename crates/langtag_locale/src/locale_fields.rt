@@ -3,7 +3,9 @@ ghost use Rattle.std.specs.Prelude.{◌≡◌, IfSome, IsTrue, map};
 ghost use Rattle.std.specs.List.{fold};
 ghost use Rattle.std.specs.Option.{option_map};
 ghost use Rattle.langtag.specs.FieldClasses.{is_language_field, is_region_field, is_script_field};
+ghost use Rattle.langtag.specs.Fields.{Fields};
 ghost use Rattle.langtag_likely.specs.Likely.{or_other};
+ghost use Rattle.langtag_likely.specs.Matching.{language_replaced};
 ghost use Rattle.langtag_likely.specs.Texts.{field_texts};
 ghost use Rattle.langtag_scan.specs.Subtags.{segments, segments_left};
 ghost use Rattle.langtag_locale.specs.LocaleAliases as list;
@@ -13,14 +15,16 @@ use crate::locale_tables as tables;
 use crate::locale_variants::variant_languages;
 use langtag::case_insensitive_eq;
 use langtag_keyword::{alias_for, is_among, split_first};
-use langtag_likely::{TagFields, add_likely, language_replaced, region_replacement};
+use langtag_likely::{TagFields, add_likely, region_replacement};
 
-/// Returns the form of the fields of a language identifier with these variants.
+/// Returns the form of the fields of a language identifier with these variants. The first step, which replaces the
+/// language, is done already.
 #[tactic(auto, unfolding(crate::specs::LocaleForm::identifier_form))]
-pub(crate) fn identifier_form<'a>(fields: TagFields<'a>, variants: Option<&str>) -> TagFields<'a>
-    ensures { field_texts result ≡ spec.identifier_form (segments_left variants.entry) (field_texts fields.entry) }
+pub(crate) fn identifier_form<'a>(replaced: TagFields<'a>, variants: Option<&str>) -> TagFields<'a>
+    ensures { (fields : Fields) → field_texts replaced.entry ≡ language_replaced fields
+        → field_texts result ≡ spec.identifier_form (segments_left variants.entry) fields }
 {
-    let fields = variant_language(language_replaced(fields), variants);
+    let fields = variant_language(replaced, variants);
     let fields = variant_region(sign_language(fields), variants);
     with_new_script(sign_language(with_new_region(fields)))
 }

@@ -88,11 +88,12 @@ fn text_of<'a>(subtag: Option<&'a str>) -> &'a [u8] {
 
 /// Appends the form of a language identifier with these fields and variants.
 pub(crate) fn push_identifier(out: &mut Output<'_>, fields: TagFields<'_>, variants: Option<&str>) {
-    let form = identifier_form(fields, variants);
+    let replaced = language_replaced(fields);
+    let form = identifier_form(replaced, variants);
     out.push_subtag(form.language);
     push_field(out, form.script);
     push_field(out, form.region);
-    push_variants(out, language_replaced(fields).language, variants);
+    push_variants(out, replaced.language, variants);
 }
 
 /// Appends a field, unless it is empty.

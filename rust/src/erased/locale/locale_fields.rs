@@ -4,15 +4,19 @@
 //! C).
 
 use crate::erased::keyword::{alias_for, is_among, split_first};
-use crate::erased::likely::{add_likely, language_replaced, region_replacement, TagFields};
+use crate::erased::likely::{add_likely, region_replacement, TagFields};
 use crate::erased::locale::locale_tables as tables;
 use crate::erased::locale::locale_variants::variant_languages;
 use crate::erased::tag::case_insensitive_eq;
 
-/// Returns the form of the fields of a language identifier with these variants.
+/// Returns the form of the fields of a language identifier with these variants. The first step,
+/// which replaces the language, is done already.
 #[inline]
-pub(crate) fn identifier_form<'a>(fields: TagFields<'a>, variants: Option<&str>) -> TagFields<'a> {
-    let fields = variant_language(language_replaced(fields), variants);
+pub(crate) fn identifier_form<'a>(
+    replaced: TagFields<'a>,
+    variants: Option<&str>,
+) -> TagFields<'a> {
+    let fields = variant_language(replaced, variants);
     let fields = variant_region(sign_language(fields), variants);
     with_new_script(sign_language(with_new_region(fields)))
 }

@@ -14,8 +14,8 @@ returns-clause-pushed c =
     let form : Fields = field_texts c.identifier_form-form.result in
     let script = one_flat (subtag_of form.script) in
     let region = one_flat (subtag_of form.region) in
-    let variants = variants_form c.language_replaced.result.language.now vs in
+    let variants = variants_form c.language_replaced-replaced.result.language.now vs in
     pushes_same (identifier_flat form variants) _ _ _
-    (ap (λ f. identifier_flat f variants) c.identifier_form-form.ensures ∙ ap (λ f. identifier_flat (identifier_form vs (field_texts c.args.fields)) (variants_form f.language vs)) c.language_replaced.ensures)
+    (ap (λ f. identifier_flat f variants) (c.identifier_form-form.ensures (field_texts c.args.fields) c.language_replaced-replaced.ensures) ∙ ap (λ f. identifier_flat (identifier_form vs (field_texts c.args.fields)) (variants_form f.language vs)) c.language_replaced-replaced.ensures)
     (pushes_both (form.language ∷ []) (script ++ (region ++ variants)) _ _ _ c.push_subtag.ensures.pushed
     (pushes_both script (region ++ variants) _ _ _ c.push_field.ensures.pushed (pushes_both region variants _ _ _ c.push_field-2.ensures.pushed c.push_variants.ensures.pushed)))
