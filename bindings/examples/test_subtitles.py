@@ -45,7 +45,7 @@ PICKED = [
 # A malformed line, and the message for it.
 POINTED = [
     ("de-419-DE Deutsch", "NAME:8: not a language tag: unexpected subtag `DE`\n  de-419-DE Deutsch\n         ^~\n"),
-    ("de_CH Deutsch", "NAME:8: not a language tag: invalid character '_': expected a letter, a digit or a hyphen\n  de_CH Deutsch\n    ^\n"),
+    ("de_CH Deutsch", "NAME:8: not a language tag: invalid character `_`: expected a letter, a digit or a hyphen\n  de_CH Deutsch\n    ^\n"),
     ("de--AT Deutsch", "NAME:8: not a language tag: empty subtag\n  de--AT Deutsch\n     ^\n"),
     ("de- Deutsch", "NAME:8: not a language tag: unexpected end: expected a subtag\n  de- Deutsch\n     ^\n"),
 ]

@@ -343,7 +343,7 @@ static void answer_edit(text *to, const text *arguments) {
     put_edited(to, tag, part, given);
 }
 
-enum { MOST_TAGS = 1024 };
+enum { MOST_TAGS = 1 << 20 };
 
 /* The tags of a text as spans of it, and one more span that reaches beyond the text. */
 static size_t find_tags(text words, langtag_span *tags) {
@@ -368,7 +368,7 @@ static void put_tag(text *to, text words, const langtag_span *tags, size_t count
 
 /* The tag that a call chooses, without and with a span that reaches beyond the text. */
 static void put_chosen(text *to, choice *choose, text header, text words) {
-    langtag_span tags[MOST_TAGS];
+    static langtag_span tags[MOST_TAGS];
     size_t count = find_tags(words, tags);
     size_t index = choose(header.at, header.len, words.at, words.len, tags, count);
     put_tag(to, words, tags, count, index);
@@ -378,7 +378,8 @@ static void put_chosen(text *to, choice *choose, text header, text words) {
 
 /* The result of the strict call: the tag, or the malformed element. */
 static void put_strictly(text *to, text header, text words) {
-    langtag_span tags[MOST_TAGS], bad;
+    static langtag_span tags[MOST_TAGS];
+    langtag_span bad;
     size_t count = find_tags(words, tags), index, commas = 0;
     uint32_t answer = langtag_tag_for_header(header.at, header.len, words.at, words.len, tags, count, &index, &bad);
     if (answer == LANGTAG_ACCEPTED_END) {
@@ -504,7 +505,7 @@ static void answer_best(text *to, const text *arguments) { put_chosen(to, langta
 
 /* Also with spans that reach beyond the texts. */
 static void answer_best_ranges(text *to, const text *arguments) {
-    langtag_span ranges[MOST_TAGS], tags[MOST_TAGS];
+    static langtag_span ranges[MOST_TAGS], tags[MOST_TAGS];
     const text *from = &arguments[0], *words = &arguments[1];
     size_t wanted = find_tags(*from, ranges), count = find_tags(*words, tags);
     size_t index = langtag_best_for_ranges(from->at, from->len, ranges, wanted, words->at, words->len, tags, count);
@@ -515,7 +516,7 @@ static void answer_best_ranges(text *to, const text *arguments) {
 
 /* The index, the distance and the range. All out arguments are written even if no tag is suitable. */
 static void answer_best_match(text *to, const text *arguments) {
-    langtag_span tags[MOST_TAGS];
+    static langtag_span tags[MOST_TAGS];
     text header = arguments[0], words = arguments[1];
     size_t count = find_tags(words, tags);
     langtag_best_match match = {{1, 2}, 3};

@@ -1,7 +1,7 @@
 /*
  * Tests of the C interface. `test CALLS FILE FLOOR ..` runs the rows of each file, which has to have at least FLOOR rows. It also
  * runs tests written by hand for what the rows do not have: limits of inputs, and arguments that have to stay unchanged.
- * `test --answer CALLS` answers the calls of standard input. CALLS is rows/calls.txt.
+ * `test --answer CALLS` answers the calls of standard input, and fails if an answer in a row differs. CALLS is rows/calls.txt.
  */
 #include "check.h"
 #include "rows.h"
@@ -25,7 +25,7 @@ static void test_rows(const char *name, int floor) {
 int main(int argc, char **argv) {
     bool is_asked = argc > 1 && strcmp(argv[1], "--answer") == 0;
     if (!read_calls(argv[argc > 1 ? 1 + is_asked : 0])) return printf("no table of calls\n"), 1;
-    if (is_asked) return ask_rows(stdin, "the standard input"), 0;
+    if (is_asked) return ask_rows(stdin, "the standard input"), failures != 0;
     for (int k = 2; k + 1 < argc; k += 2) test_rows(argv[k], atoi(argv[k + 1]));
     for (const call *it = calls; it->name; it++)
         if (it->asked == 0) failures++, printf("no row asks %s\n", it->name);

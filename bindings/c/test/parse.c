@@ -42,6 +42,27 @@ static void written_always(void) {
     }
 }
 
+/* 2 MB of variants, without a repeated one and with one. */
+static void many_variants(void) {
+    enum { MOST = 250000 };
+    static char tag[8 * MOST + 16] = "de";
+    langtag_repeated repeated;
+    size_t len = 2;
+    for (unsigned number = 0; number < MOST; number++) len += (size_t)sprintf(tag + len, "-a%06u", number);
+    CHECK(langtag_repeats(tag, len, &repeated) == 0);
+    len += (size_t)sprintf(tag + len, "-A000000");
+    CHECK(langtag_repeats(tag, len, &repeated) == LANGTAG_REPEATED_VARIANT && repeated.variant.start == len - 7);
+}
+
+/* A code that is longer than every code that has a suggestion. */
+static void long_codes(void) {
+    char code[4200], written[3];
+    memset(code, 'k', sizeof code), memcpy(code, "deu", 3);
+    for (size_t len = 4; len <= sizeof code; len++) CHECK(langtag_suggestion(LANGTAG_INVALID_LANGUAGE, code, len, written, sizeof written) == 0);
+    memcpy(code, "UK", 2);
+    for (size_t len = 3; len <= sizeof code; len++) CHECK(langtag_suggestion(LANGTAG_INVALID_REGION, code, len, written, sizeof written) == 0);
+}
+
 /* The date of the registry. */
 static void versions(void) {
     uint32_t date = langtag_registry_date();
@@ -53,4 +74,6 @@ void test_parse(void) {
     edges();
     written_always();
     versions();
+    many_variants();
+    long_codes();
 }
