@@ -10,8 +10,8 @@ elif [ ! -x "$("$pg_config" --bindir)/initdb" ]; then
 elif [ ! -f "$("$pg_config" --includedir-server)/postgres.h" ] || [ ! -f "$("$pg_config" --pgxs)" ]; then
     not_run "PostgreSQL: everything" "its headers are not installed (in Debian: apt-get install postgresql-server-dev-15)"
     return 0
-elif ! "$pg_config" --version | grep -q '^PostgreSQL 15\.'; then
-    not_run "PostgreSQL: everything" "this is $("$pg_config" --version), and 15 alone is asked"
+elif ! "$pg_config" --version | grep -qE '^PostgreSQL 1[5-7]\.'; then
+    not_run "PostgreSQL: everything" "this is $("$pg_config" --version), and 15 to 17 are asked"
     return 0
 elif [ "$(id -u)" = 0 ] && ! has setpriv; then
     not_run "PostgreSQL: everything" "a server does not run as root, and there is no setpriv"

@@ -3,7 +3,7 @@
  * grammar. index.d.ts documents each export.
  */
 import * as calls from "./calls.js";
-import { PROVED as isProved } from "./module.js";
+import * as built from "./module.js";
 import { NAMES } from "./names.js";
 
 /** The 26 grandfathered tags in their registered spelling (RFC 5646 section 2.1). The first seventeen are irregular. */
@@ -18,7 +18,7 @@ export const REGISTRY_DATE = String(calls.registryDate()).replace(/(....)(..)(..
 /** The version of Unicode's CLDR from which likely subtags, distances and aliases come, such as "48.2". */
 export const CLDR_VERSION = calls.cldrVersion();
 
-export const PROVED = isProved;
+export const PROVED = built.PROVED;
 
 const FNV1A = 0xcbf29ce484222325n; // the hash of an empty string
 

@@ -29,7 +29,10 @@ SELECT tag FROM texts WHERE tag > 'de-ch' AND tag <= 'zh' ORDER BY tag;
 SELECT tag FROM texts WHERE tag >= 'de-ch' AND tag < 'zh' ORDER BY tag;
 SELECT tag FROM texts WHERE tag IN ('DE', 'ZH-hant') ORDER BY tag;
 SELECT min(tag), max(tag) FROM texts;
-EXPLAIN (COSTS OFF) SELECT max(tag) FROM texts;
+-- The plan reads the index backwards. The lines above this one differ between versions of PostgreSQL.
+CREATE FUNCTION plan_of(query text) RETURNS SETOF text LANGUAGE plpgsql AS $$ BEGIN RETURN QUERY EXECUTE 'EXPLAIN (COSTS OFF) ' || query; END $$;
+SELECT substring(line, 'Index Only.*') AS line FROM plan_of('SELECT max(tag) FROM texts') AS line WHERE line ~ 'Index Only';
+DROP FUNCTION plan_of(text);
 RESET enable_seqscan;
 -- A hash index, and partitions by hash and by range
 CREATE TABLE hashed (tag langtag); CREATE INDEX hashed_tag ON hashed USING hash (tag); INSERT INTO hashed SELECT tag FROM texts;
