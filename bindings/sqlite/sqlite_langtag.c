@@ -162,10 +162,9 @@ static size_t write_keyword(text tag, text key, text value, char *buffer, size_t
 static const char *why_refused(text key, text value) {
     char none;
     const text und = {"und", 3}, absent = {NULL, 0};
-    if (write_keyword(und, key, absent, &none, 0) == 0)
-        return "langtag_set_keyword: the key is not a letter or a digit, and then a letter";
+    if (write_keyword(und, key, absent, &none, 0) == 0) return "langtag_set_keyword: not a key of the extension u";
     if (write_keyword(und, key, value, &none, 0) == 0)
-        return "langtag_set_keyword: the value is not subtags of 3 to 8 letters or digits";
+        return "langtag_set_keyword: not a value of a key: a subtag needs three to eight letters or digits";
     return "langtag_set_keyword: not a normal language tag";
 }
 
@@ -178,10 +177,14 @@ static void set_keyword(sqlite3_context *context, int count, sqlite3_value **val
         return;
     }
     if (!tag.at || !key.at || !langtag_kind(tag.at, tag.len)) return; /* NULL */
-    char none;
-    size_t len = write_keyword(tag, key, value, &none, 0);
+    char room[256];
+    const size_t len = write_keyword(tag, key, value, room, sizeof room);
     if (len == 0) {
         sqlite3_result_error(context, why_refused(key, value), -1);
+        return;
+    }
+    if (len <= sizeof room) {
+        sqlite3_result_text(context, room, (int)len, SQLITE_TRANSIENT);
         return;
     }
     char *made = sqlite3_malloc64(len);
@@ -241,7 +244,7 @@ static void distance(sqlite3_context *context, int count, sqlite3_value **values
  * allocated block. */
 static size_t chosen(sqlite3_context *context, int count, sqlite3_value **values, langtag_best_match *match) {
     if (count < 1) {
-        sqlite3_result_error(context, "langtag: a header is wanted", -1);
+        sqlite3_result_error(context, "langtag: expected a header", -1);
         return 0;
     }
     const text header = text_of(values[0]);

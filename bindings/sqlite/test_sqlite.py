@@ -84,8 +84,8 @@ def answer_tag(said):
 
 
 #: The answer for each message of langtag_set_keyword.
-REFUSED = {"the key is not a letter or a digit, and then a letter": "bad key", "not a normal language tag": "no parts",
-           "the value is not subtags of 3 to 8 letters or digits": "bad value"}
+REFUSED = {"not a key of the extension u": "bad key", "not a normal language tag": "no parts",
+           "not a value of a key: a subtag needs three to eight letters or digits": "bad value"}
 
 
 def answer_with_keyword(said):

@@ -61,7 +61,7 @@ test("validity and forms", { skip }, async () => {
     await type("tag", "zh-hant-TW");
     assert.deepEqual([(await forms())["With likely subtags"], (await forms())["Without them"]], ["zh-hant-TW", "zh-TW"]);
     await type("tag", "de-1996-1996");
-    assert.equal((await forms()).Validity, "not valid: variant '1996' is repeated");
+    assert.equal((await forms()).Validity, "not valid: variant 1996 is repeated");
     assert.deepEqual(await shown("#tag-text .invalid"), ["1996"]);
     assert.equal(await browser.value("document.getElementById('tag-text').innerText"), "de-1996-1996");
     assert.equal(await browser.value("document.querySelector('#tag-text .invalid').previousSibling.textContent"), "1996-");
@@ -106,8 +106,8 @@ test("a refusal, and what could stand there", { skip }, async () => {
         assert.deepEqual(could.map((it, index) => it.slice(0, wanted[index]?.length)), wanted);
     }
     const expected = "expected a letter, a digit or a hyphen";
-    for (const [text, told] of [["de_CH", `invalid character "_": ${expected} (character 3)`], ["de-\u{1f600}_", `invalid character "\u{1f600}": ${expected} (character 4)`],
-        ["\u{1f600}-a", `invalid character "\u{1f600}": ${expected} (character 1)`], ["de-419-DE", 'unexpected subtag "DE" (character 8)'],
+    for (const [text, told] of [["de_CH", `invalid character \`_\`: ${expected} (character 3)`], ["de-\u{1f600}_", `invalid character \`\u{1f600}\`: ${expected} (character 4)`],
+        ["\u{1f600}-a", `invalid character \`\u{1f600}\`: ${expected} (character 1)`], ["de-419-DE", "unexpected subtag `DE` (character 8)"],
         ["de--a", "empty subtag (character 4)"], ["en-a", "unexpected end: expected a subtag"]]) {
         await type("tag", text);
         assert.equal(await summary("tag"), `Not a tag: ${told}.`);
