@@ -198,6 +198,7 @@ fn lists_with_other_texts() {
     assert_eq!(best_for_ranges(&[""; 0], &["en", "de"]), None);
     assert_eq!(look_up(&["d!", "en_US", "de-CH"], &site, &"none"), &"de");
     assert_eq!(look_up(&["en"], &site, &"none"), &"none");
+    assert_eq!(look_up(&["d!", "de"], &["en", "de"], &"none"), &"de");
     assert_eq!(tag_for_header("de-CH", &site, &"none").unwrap(), &"de");
     let none: [LangTagBuf; 0] = [];
     assert_eq!(best_for_header("de", &none), None);
