@@ -8,10 +8,6 @@ use Rattle.langtag_keyword.specs.Form.{in_alphabet, put_among}
 use Rattle.langtag_keyword.specs.Keywords.{before_key}
 
 module _ {X : Type 0} (P : X → Type 0) where
-  pub each-front : (xs ys : List X) → AllByRecursion P (xs ++ ys) → AllByRecursion P xs
-  each-front [] ys all = tt
-  each-front (x ∷ xs) ys all = (all.0, each-front xs ys all.1)
-
   pub each-back : (xs ys : List X) → AllByRecursion P (xs ++ ys) → AllByRecursion P ys
   each-back [] ys all = all
   each-back (x ∷ xs) ys all = each-back xs ys all.1

@@ -1,4 +1,7 @@
 -- Lists without a repeat.
+use Rattle.std.proofs.Common.{rules}
+use Rattle.std.proofs.lemmas.Grind.{common_steps}
+use Rattle.std.proofs.Common.{arith}
 use Rattle.std.proofs.Common.{◌≡◌, ℕ, Bool, true, false, cond, ◌||◌, List, [], ◌∷◌, ◌++◌, length, Some, None, refl, ap, ◌∙◌}
 use Rattle.std.proofs.lemmas.List.Folds.{list_any-append}
 use Rattle.std.specs.Prelude.{slice_get}
@@ -27,9 +30,7 @@ module _ {A : Type 0} (alike : A → A → Bool) where
 
   none_after : (seen xs : List A) → AllByRecursion (λ y. list_any (alike y) seen ≡ false) xs → Apart xs → repeat_index_after alike seen xs ≡ None
   none_after seen [] new apart = refl
-  none_after seen (x ∷ xs) new apart =
-      ap (λ b. cond b (Some (length seen)) (repeat_index_after alike (seen ++ x ∷ []) xs)) new.0
-      ∙ none_after (seen ++ x ∷ []) xs (apart-push x seen xs new.1 apart.0) apart.1
+  none_after seen (x ∷ xs) new apart = grind (arith, common_steps, none_after (seen ++ x ∷ []) xs (apart-push x seen xs new.1 apart.0) apart.1, apart-push)
 
   none_before : (xs : List A) → AllByRecursion (λ y. list_any (alike y) [] ≡ false) xs
   none_before [] = tt

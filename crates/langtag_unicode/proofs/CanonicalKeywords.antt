@@ -1,4 +1,6 @@
 -- The extension `u` in canonical form stays in that form when a canonical keyword is set, or a key is removed.
+use Rattle.std.proofs.Common.{rules}
+use Rattle.std.proofs.lemmas.Grind.{common_steps}
 use Rattle.std.proofs.Common.{◌≡◌, ℕ, ◌==◌, ◌&&◌, ◌||◌, Bool, true, false, cond, IsTrue, List, [], ◌∷◌, ◌++◌, map, find, Option, None, Some, option_map, unwrap_or, refl, sym, ap, subst, ◌∙◌, arith}
 use Rattle.std.proofs.lemmas.Bool.{and_parts, false≢true}
 use Rattle.std.proofs.lemmas.Bool.Decides.{nat_tests}
@@ -87,11 +89,7 @@ pub form-blocks : (ss : List (List ℕ)) → form.keywords_form is_key unicode_v
 form-blocks = in_form.form-blocks is_key unicode_value
 
 pub alike-back : (a b : List ℕ) → are_alike a b ≡ false → are_alike b a ≡ false
-alike-back a b apart = by_test (are_alike b a) refl
-  where
-    by_test : (t : Bool) → are_alike b a ≡ t → are_alike b a ≡ false
-    by_test true alike = absurd (false≢true (sym apart ∙ (are_alike-decides a b).1 (sym ((are_alike-decides b a).0 alike))))
-    by_test false differ = differ
+alike-back a b apart = search (rules, apart, false≢true)
 
 -- the keys with one more key
 abbrev with_key : List ℕ → List (List ℕ) → List (List ℕ)
@@ -105,34 +103,16 @@ module _ (key : List ℕ) (lower : fold_text key ≡ key) where
   rise-keys ss = rise-put key (keys_in_order is_key ss) (rise-in_alphabet (filter is_key ss))
 
   pub split : (ss : List (List ℕ)) → KeySplit key (with_key key ss)
-  split ss =
-      key-split key (with_key key ss) lower (lower-keys ss) (rise-keys ss)
-      (among-put key key (keys_in_order is_key ss) ∙ ap (λ b. b || among key (keys_in_order is_key ss)) (alike-itself key))
+  split ss = grind (arith, common_steps, key-split, lower-keys, rise-keys, among-put, among, alike-itself)
 
   -- the form with a key more, which puts nothing if it has no value
   more-blocks : (ss : List (List ℕ)) → form.keywords_form is_key unicode_value ss ≡ blocks (values ss) (with_key key ss)
-  more-blocks ss =
-      form-blocks ss
-      ∙ sym
-      (blocks-put (values ss) key (keys_in_order is_key ss) lower (lower-in_alphabet (filter is_key ss)) (rise-in_alphabet (filter is_key ss))
-      (λ absent. by_value (value_of is_key key ss) (sym (keys-have is_key key ss) ∙ absent)))
-    where
-      by_value : (o : Option (List (List ℕ))) → is_some o ≡ false → option_map (λ w. map fold_text (subtags (unicode_value key (join w)))) o ≡ None
-      by_value None none = refl
-      by_value (Some w) none = absurd (false≢true (sym none))
+  more-blocks ss = grind (arith, common_steps, form-blocks, blocks-put, lower-in_alphabet, rise-in_alphabet, keys-have, false≢true)
 
   -- subtags with the same values of other keys have the same keys with this one
   same-keys :
       (ss ts : List (List ℕ)) → ((other : List ℕ) → are_alike key other ≡ false → value_of is_key other ts ≡ value_of is_key other ss) → with_key key ts ≡ with_key key ss
-  same-keys ss ts others =
-      same-risen (with_key key ts) (with_key key ss) (lower-keys ts) (lower-keys ss) (rise-keys ts) (rise-keys ss)
-      (λ k low. among-put k key (keys_in_order is_key ts) ∙ by_test k (are_alike key k) refl ∙ sym (among-put k key (keys_in_order is_key ss)))
-    where
-      by_test :
-          (k : List ℕ) (b : Bool) → are_alike key k ≡ b →
-          (are_alike key k || among k (keys_in_order is_key ts)) ≡ (are_alike key k || among k (keys_in_order is_key ss))
-      by_test k true alike = ap (λ b. b || among k (keys_in_order is_key ts)) alike ∙ sym (ap (λ b. b || among k (keys_in_order is_key ss)) alike)
-      by_test k false apart = ap (λ b. are_alike key k || b) (keys-have is_key k ts ∙ ap is_some (others k apart) ∙ sym (keys-have is_key k ss))
+  same-keys ss ts others = grind (arith, common_steps, same-risen, lower-keys, rise-keys, among-put, among, keys-have)
 
 module _ (ss : List (List ℕ)) (good : Good ss) (own : unicode_form ss ≡ ss) (key : List ℕ) (lower : fold_text key ≡ key) where
   abbrev s : KeySplit key (with_key key ss)

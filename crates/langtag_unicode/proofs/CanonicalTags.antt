@@ -1,4 +1,7 @@
 -- A tag whose extensions are in canonical form stays in that form when a canonical keyword is set.
+use Rattle.std.proofs.Common.{rules}
+use Rattle.std.proofs.lemmas.Grind.{common_steps}
+use Rattle.std.proofs.Common.{arith}
 use Rattle.std.proofs.Common.{◌≡◌, ℕ, ◌≤◌, ◌&&◌, ◌||◌, not, Bool, true, false, cond, List, [], ◌∷◌, ◌++◌, length, find, Option, None, Some, unwrap_or, refl, sym, ap, ◌∙◌, append-nil, append_assoc}
 use Rattle.std.proofs.lemmas.Bool.{false≢true}
 use Rattle.std.specs.List.{AllByRecursion}
@@ -39,11 +42,7 @@ record Absent (e : Extension) (es : List Extension) : Type 0 where
   others : find (is_of 117) es ≡ None
 
 absent-next : (e : Extension) (es : List Extension) → find (is_of 117) (e ∷ es) ≡ None → Absent e es
-absent-next e es none = by_test (is_of 117 e) refl none
-  where
-    by_test : (b : Bool) → is_of 117 e ≡ b → cond b (Some e) (find (is_of 117) es) ≡ None → Absent e es
-    by_test true is none = absurd cc
-    by_test false is none = record { first = is; others = none }
+absent-next e es none = grind (arith, common_steps)
 
 -- without a `u`, it makes no difference whether a `u` came before
 forms-absent : (t : Bool) (es : List Extension) → find (is_of 117) es ≡ None → forms_after true t es ≡ forms_after false t es
@@ -121,11 +120,7 @@ module _
             passed false absent.first (λ out. absent.others) later
 
 none-from : (es : List Extension) → is_some (find_extension 117 es) ≡ false → find (is_of 117) es ≡ None
-none-from es is = by_found (find (is_of 117) es) (ap is_some (sym (find_u es)) ∙ is)
-  where
-    by_found : (o : Option Extension) → is_some o ≡ false → o ≡ None
-    by_found None out = refl
-    by_found (Some e) out = absurd (false≢true (sym out))
+none-from es is = grind (arith, common_steps, find_u, false≢true)
 
 pub canonical_tag :
     (key : List ℕ) (v : List (List ℕ)) (r : Record) → keyword_error key v ≡ None → IsCanonicalKeyword key v → IsWellFormed r → extensions_record r ≡ r →

@@ -1,4 +1,6 @@
 -- The case of letters changes nothing in the forms of extensions but case.
+use Rattle.std.proofs.Common.{rules}
+use Rattle.std.proofs.lemmas.Grind.{common_steps}
 use Rattle.std.proofs.Common.{◌≡◌, ℕ, Bool, true, false, not, ◌&&◌, ◌||◌, ◌==◌, List, [], ◌∷◌, ◌++◌, map, Option, None, Some, option_map, unwrap_or, refl, ap, ◌∙◌, arith}
 use Rattle.std.specs.List.{list_any}
 use Rattle.std.proofs.lemmas.Bool.Decides.{nat_tests}
@@ -154,22 +156,11 @@ extension-twice e = rw (fold_byte-twice e.singleton, lower-twice e.subtags) refl
 -- ---- the forms of the first `u` and the first `t`
 
 one_form-fold : (u t : Bool) (e : Extension) → fold_extension (extension_form u t (fold_extension e)) ≡ fold_extension (extension_form u t e)
-one_form-fold u t e =
-    ap fold_extension
-    (form_tested u t _ _ (fold_extension e) (ap (λ b. b && not u) (is_of-fold 117 e))
-    (ap (λ b. b && not t && is_transform (map fold_text e.subtags)) (is_of-fold 116 e) ∙ ap (λ b. is_of 116 e && not t && b) (is_transform-fold e.subtags)))
-    ∙ by_tests (is_of 117 e && not u) (is_of 116 e && not t && is_transform e.subtags)
-  where
-    by_tests : (a b : Bool) → fold_extension (form_by a b (fold_extension e)) ≡ fold_extension (form_by a b e)
-    by_tests true b = ap (λ ss. fold_extension (record { singleton = 117; subtags = ss })) (unicode-fold e.subtags)
-    by_tests false true = ap (λ ss. fold_extension (record { singleton = 116; subtags = ss })) (transform_form-fold e.subtags)
-    by_tests false false = extension-twice e
+one_form-fold u t e = grind (arith, common_steps, form_tested, is_of-fold, is_transform-fold, form_by, unicode-fold, transform_form-fold, extension-twice)
 
 forms-fold : (u t : Bool) (es : List Extension) → map fold_extension (forms_after u t (map fold_extension es)) ≡ map fold_extension (forms_after u t es)
 forms-fold u t [] = refl
-forms-fold u t (e ∷ es) =
-    forms-next (λ a b. map fold_extension (forms_after (u || a) (t || b) (map fold_extension es))) _ _ _ _ _ _ _
-    (one_form-fold u t e) (is_of-fold 117 e) (is_of-fold 116 e) (forms-fold (u || is_of 117 e) (t || is_of 116 e) es)
+forms-fold u t (e ∷ es) = grind (arith, common_steps, forms-fold (u || is_of 117 e) (t || is_of 116 e) es, forms-next, one_form-fold, is_of-fold)
 
 abbrev with_extensions : List Extension → Record → Record
 with_extensions es r = record r { extensions = es }

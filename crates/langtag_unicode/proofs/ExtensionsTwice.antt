@@ -1,4 +1,7 @@
 -- The form of a tag's extensions is its own form.
+use Rattle.std.proofs.Common.{rules}
+use Rattle.std.proofs.lemmas.Grind.{common_steps}
+use Rattle.std.proofs.Common.{arith}
 use Rattle.std.proofs.Common.{◌≡◌, ℕ, Bool, true, false, not, ◌&&◌, ◌||◌, ◌==◌, List, [], ◌∷◌, refl, sym, ap, subst, ◌∙◌, eqb-true}
 use Rattle.std.specs.List.{AllByRecursion}
 use Rattle.langtag.proofs.FormLaws.{composed}
@@ -14,13 +17,7 @@ use Rattle.langtag_keyword.proofs.Found.{both}
 -- an extension and its form begin with alike singletons
 form-of : (n : ℕ) (u t : Bool) (e : Extension) → is_of n (extension_form u t e) ≡ is_of n e
 unfolding fold_byte
-form-of n u t e = ap (is_of n) (form_tested u t _ _ e refl refl) ∙ by_tests (is_of 117 e && not u) (is_of 116 e && not t && is_transform e.subtags) refl refl
-  where
-    by_tests : (a b : Bool) → (is_of 117 e && not u) ≡ a → (is_of 116 e && not t && is_transform e.subtags) ≡ b → is_of n (form_by a b e) ≡ is_of n e
-    by_tests true b one two = ap (λ m. m == n) (sym (eqb-true (fold_byte e.singleton) 117 (both (is_of 117 e) (not u) one).0))
-    by_tests false true one two =
-        ap (λ m. m == n) (sym (eqb-true (fold_byte e.singleton) 116 (both (is_of 116 e) (not t) (both (is_of 116 e && not t) (is_transform e.subtags) two).0).0))
-    by_tests false false one two = refl
+form-of n u t e = grind (arith, common_steps, form_tested, form_by, both)
 
 extension-again : (u t : Bool) (e : Extension) → IsWellFormedExtension e → extension_form u t (extension_form u t e) ≡ extension_form u t e
 unfolding fold_byte
@@ -39,9 +36,7 @@ extension-again u t e fits = subst (λ x. extension_form u t x ≡ x) (sym (form
 
 forms-again : (u t : Bool) (es : List Extension) → AllByRecursion IsWellFormedExtension es → forms_after u t (forms_after u t es) ≡ forms_after u t es
 forms-again u t [] fits = refl
-forms-again u t (e ∷ es) fits =
-    forms-next (λ a b. forms_after (u || a) (t || b) (forms_after (u || is_of 117 e) (t || is_of 116 e) es)) _ _ _ _ _ _ _
-    (extension-again u t e fits.0) (form-of 117 u t e) (form-of 116 u t e) (forms-again (u || is_of 117 e) (t || is_of 116 e) es fits.1)
+forms-again u t (e ∷ es) fits = grind (arith, common_steps, forms-again (u || is_of 117 e) (t || is_of 116 e) es fits.1, forms-next, extension-again, form-of)
 
 record-again : (r : Record) → IsWellFormed r → extensions_record (extensions_record r) ≡ extensions_record r
 unfolding extensions_record

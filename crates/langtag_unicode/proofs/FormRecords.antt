@@ -1,4 +1,6 @@
 -- The form of a tag is a tag: its extensions are well-formed.
+use Rattle.std.proofs.Common.{rules}
+use Rattle.std.proofs.lemmas.Grind.{common_steps}
 use Rattle.std.proofs.Common.{◌≡◌, ℕ, ◌+◌, ◌≤◌, ◌&&◌, ◌||◌, not, Bool, true, false, cond, IsTrue, List, [], ◌∷◌, ◌++◌, length, map, Option, Some, None, unwrap_or, refl, sym, ap, subst, ◌∙◌, arith, length-append}
 use Rattle.std.proofs.lemmas.Bool.{and_parts, false≢true}
 use Rattle.std.proofs.lemmas.Bool.Decides.{nat_tests}
@@ -150,9 +152,7 @@ one_part : (n a b c : ℕ) → n ≡ a + b → a ≡ c → 1 ≤ c → 1 ≤ n
 one_part n a b c both first some = omega (arith, both, first, some)
 
 pub good-unicode_form : (ss : List (List ℕ)) → Good ss → Good (unicode_form ss)
-good-unicode_form ss good =
-    each-append _ (in_alphabet (before_key is_key ss)) (form.keywords_form is_key unicode_value ss) (good-alphabet _ (good-before is_key ss good))
-    (good-keywords is_key unicode_value good-unicode ss good)
+good-unicode_form ss good = grind (arith, common_steps, each-append, good-alphabet, good-before, good-keywords, good-unicode)
 
 pub some-unicode_form : (ss : List (List ℕ)) → Good ss → 1 ≤ length ss → 1 ≤ length (unicode_form ss)
 some-unicode_form [] good some = absurd (omega (arith, some))
@@ -179,9 +179,7 @@ good-language : (ss : List (List ℕ)) → Good ss → Good (form.language_form 
 good-language ss good = grind (arith, nat_tests, good-after, good-fold, each-append, good-lower, good-one, good-alphabet)
 
 good-transform_form : (ss : List (List ℕ)) → Good ss → Good (transform_form ss)
-good-transform_form ss good =
-    each-append _ (form.language_form (before_key is_field_key ss)) (form.keywords_form is_field_key transform_value ss) (good-language _ (good-before is_field_key ss good))
-    (good-keywords is_field_key transform_value good-transform ss good)
+good-transform_form ss good = grind (arith, common_steps, each-append, good-language, good-before, good-keywords, good-transform)
 
 -- the form of `t` with some form of its language has a subtag
 module _ (language : List (List ℕ) → List (List ℕ)) (has : (s : List ℕ) (ss : List (List ℕ)) → 1 ≤ length (language (s ∷ ss))) where

@@ -45,14 +45,6 @@ abbrev pub are_apart : List ℕ → Bool
 are_apart [] = true
 are_apart (a ∷ xs) = list_all (λ b. not (fold_byte b == fold_byte a)) xs && are_apart xs
 
--- ---- keys
-
-pub key-two : (s : List ℕ) → is_key s ≡ true → length s ≡ 2
-key-two s is = eqb-true _ _ is
-
-pub field-two : (s : List ℕ) → is_field_key s ≡ true → length s ≡ 2
-field-two s is = grind (arith, common_steps, false≢true)
-
 -- ---- the whole tag
 
 -- a tag with other extensions is longer by what these have more

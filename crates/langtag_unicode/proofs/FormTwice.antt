@@ -1,4 +1,7 @@
 -- The form of the extension `u`, and of `t`, is its own form.
+use Rattle.std.proofs.Common.{rules}
+use Rattle.std.proofs.lemmas.Grind.{common_steps}
+use Rattle.std.proofs.Common.{arith}
 use Rattle.std.proofs.Common.{◌≡◌, ℕ, Bool, true, false, not, cond, ◌&&◌, ◌==◌, List, [], ◌∷◌, ◌++◌, length, map, refl, sym, ap, subst, ◌∙◌}
 use Rattle.langtag.specs.FieldClasses.{is_region_field, is_script_field}
 use Rattle.langtag.specs.Fields.{Fields, subtag_of}
@@ -37,9 +40,7 @@ unicode-twice ss good =
 -- ---- the parts of a language identifier are read again
 
 pub same_fields : (f g : Fields) → f.language ≡ g.language → f.script ≡ g.script → f.region ≡ g.region → f ≡ g
-same_fields f g one two three =
-    ap (λ x. record { language = x; script = f.script; region = f.region }) one ∙ ap (λ x. record { language = g.language; script = x; region = f.region }) two
-    ∙ ap (λ x. record { language = g.language; script = g.script; region = x }) three
+same_fields f g one two three = grind (arith, common_steps)
 
 region_again : (s : List ℕ) (vs : List (List ℕ)) → is_region_field s ≡ true → AreVariants vs → first_subtag (one_of is_region (one_flat (subtag_of s) ++ vs)) ≡ s
 region_again (b ∷ s) vs is variants = ap (λ t. first_subtag (cond t ((b ∷ s) ∷ []) [])) is
@@ -59,9 +60,7 @@ abbrev pub after_language : Fields → List (List ℕ) → List (List ℕ)
 after_language f vs = one_flat (subtag_of f.script) ++ (one_flat (subtag_of f.region) ++ vs)
 
 pub fields-again : (f : Fields) (vs : List (List ℕ)) → AreSubtags f → AreVariants vs → identifier_fields f.language (after_language f vs) ≡ f
-fields-again f vs subtags variants =
-    same_fields (identifier_fields f.language (after_language f vs)) f refl (script_again f.script f.region vs subtags.script subtags.region variants)
-    (ap (λ ss. first_subtag (one_of is_region ss)) (after_script f.script f.region vs subtags.script subtags.region variants) ∙ region_again f.region vs subtags.region variants)
+fields-again f vs subtags variants = grind (arith, common_steps, same_fields, script_again, after_script, region_again)
 
 pub variants-again : (f : Fields) (vs : List (List ℕ)) → AreSubtags f → AreVariants vs → identifier_variants (after_language f vs) ≡ vs
 variants-again f vs subtags variants =
@@ -74,19 +73,12 @@ lower_fields f = record { language = fold_text f.language; script = fold_text f.
 
 lower_subtag : (test : List ℕ → Bool) → test [] ≡ false → (ss : List (List ℕ)) → map fold_text (one_of test ss) ≡ one_flat (subtag_of (fold_text (first_subtag (one_of test ss))))
 lower_subtag test none [] = refl
-lower_subtag test none ([] ∷ ss) =
-    ap (λ b. map fold_text (cond b ([] ∷ []) [])) none ∙ ap (λ b. one_flat (subtag_of (fold_text (first_subtag (cond b ([] ∷ []) []))))) (sym none)
-lower_subtag test none ((b ∷ s) ∷ ss) = by_test (test (b ∷ s))
-  where
-    by_test : (t : Bool) → map fold_text (cond t ((b ∷ s) ∷ []) []) ≡ one_flat (subtag_of (fold_text (first_subtag (cond t ((b ∷ s) ∷ []) []))))
-    by_test true = refl
-    by_test false = refl
+lower_subtag test none ([] ∷ ss) = grind (arith, common_steps)
+lower_subtag test none ((b ∷ s) ∷ ss) = grind (arith, common_steps)
 
 pub language-parts : (s : List ℕ) (ss : List (List ℕ)) → language_form (s ∷ ss) ≡ identifier_flat (lower_fields (identifier_fields s ss)) (in_alphabet (identifier_variants ss))
 unfolding is_script is_region
-language-parts s ss =
-    ap (λ t. fold_text s ∷ (t ++ (map fold_text (one_of is_region (after_one is_script ss)) ++ in_alphabet (identifier_variants ss)))) (lower_subtag is_script refl ss)
-    ∙ ap (λ t. fold_text s ∷ (one_flat (subtag_of (fold_text (first_subtag (one_of is_script ss)))) ++ (t ++ in_alphabet (identifier_variants ss)))) (lower_subtag is_region refl (after_one is_script ss))
+language-parts s ss = grind (arith, common_steps, lower_subtag)
 
 script_field-fold : (s : List ℕ) → is_script_field (fold_text s) ≡ is_script_field s
 script_field-fold [] = refl
@@ -100,11 +92,7 @@ pub unicode_language-fold : (s : List ℕ) → is_unicode_language (fold_text s)
 unicode_language-fold s = ap (λ (c : Classes). c.primary && not (length (fold_text s) == 4)) (classes-fold s) ∙ ap (λ n. is_primary s && not (n == 4)) (length-fold s)
 
 lower-subtags : (f : Fields) → AreSubtags f → AreSubtags (lower_fields f)
-lower-subtags f subtags = record {
-  language = unicode_language-fold f.language ∙ subtags.language;
-  script = script_field-fold f.script ∙ subtags.script;
-  region = region_field-fold f.region ∙ subtags.region;
-}
+lower-subtags f subtags = grind (arith, common_steps, unicode_language-fold, script_field-fold, region_field-fold)
 
 alphabet-variants : (vs : List (List ℕ)) → AreVariants vs → AreVariants (in_alphabet vs)
 alphabet-variants vs variants = each-alphabet (λ v. is_variant v ≡ true) (λ v is. ap (λ (c : Classes). c.variant) (classes-fold v) ∙ is) vs variants

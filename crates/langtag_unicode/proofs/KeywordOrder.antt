@@ -1,4 +1,7 @@
 -- Keywords that change places leave each key its value, and so the form as it is.
+use Rattle.std.proofs.Common.{rules}
+use Rattle.std.proofs.lemmas.Grind.{common_steps}
+use Rattle.std.proofs.Common.{arith}
 use Rattle.std.proofs.Common.{◌≡◌, ℕ, Bool, true, false, cond, ◌&&◌, List, [], ◌∷◌, ◌++◌, map, Option, Some, option_map, refl, sym, ap, ◌∙◌, append-nil}
 use Rattle.std.proofs.lemmas.Bool.{false≢true}
 use Rattle.langtag_scan.specs.Case.{are_alike, fold_text}
@@ -24,9 +27,7 @@ module _ (opens : List ℕ → Bool) where
       (key : List ℕ) (xs rs qs : List (List ℕ)) (k l : List ℕ) → opens k ≡ true → opens l ≡ true → value_of opens key (k ∷ rs) ≡ value_of opens key (l ∷ qs) →
       value_of opens key (xs ++ k ∷ rs) ≡ value_of opens key (xs ++ l ∷ qs)
   value-same key [] rs qs k l is other same = same
-  value-same key (x ∷ xs) rs qs k l is other same =
-      ap (λ t. cond (opens x && are_alike x key) (Some t) (value_of opens key (xs ++ k ∷ rs))) (before-same xs rs qs k l is other)
-      ∙ ap (λ o. cond (opens x && are_alike x key) (Some (before_key opens (xs ++ l ∷ qs))) o) (value-same key xs rs qs k l is other same)
+  value-same key (x ∷ xs) rs qs k l is other same = grind (arith, common_steps, value-same key xs rs qs k l is other same, before-same)
 
   -- a keyword, and what follows it
   value-first :
@@ -38,30 +39,10 @@ module _ (opens : List ℕ → Bool) where
       (key : List ℕ) (before after : List (List ℕ)) (k l : List ℕ) (v w : List (List ℕ)) →
       IsKeyword opens k v → IsKeyword opens l w → are_alike k l ≡ false → before_key opens after ≡ [] →
       value_of opens key (before ++ k ∷ (v ++ l ∷ (w ++ after))) ≡ value_of opens key (before ++ l ∷ (w ++ k ∷ (v ++ after)))
-  value-moved key before after k l v w one two differ none = value-same key before _ _ k l one.0 two.0 pair
-    where
-      by_tests :
-          (a b : Bool) → are_alike k key ≡ a → are_alike l key ≡ b → (rest : Option (List (List ℕ))) → cond a (Some v) (cond b (Some w) rest) ≡ cond b (Some w) (cond a (Some v) rest)
-      by_tests true true first second rest =
-          absurd (false≢true (sym differ ∙ (are_alike-decides k l).1 ((are_alike-decides k key).0 first ∙ sym ((are_alike-decides l key).0 second))))
-      by_tests true false first second rest = refl
-      by_tests false true first second rest = refl
-      by_tests false false first second rest = refl
-
-      pair : value_of opens key (k ∷ (v ++ l ∷ (w ++ after))) ≡ value_of opens key (l ∷ (w ++ k ∷ (v ++ after)))
-      pair =
-          value-first key k v (l ∷ (w ++ after)) one (stops l (w ++ after) two.0)
-          ∙ ap (λ o. cond (are_alike k key) (Some v) o) (value-first key l w after two none)
-          ∙ by_tests (are_alike k key) (are_alike l key) refl refl (value_of opens key after)
-          ∙ ap (λ o. cond (are_alike l key) (Some w) o) (sym (value-first key k v after one none))
-          ∙ sym (value-first key l w (k ∷ (v ++ after)) two (stops k (v ++ after) one.0))
+  value-moved key before after k l v w one two differ none = search (rules, one, two, differ, none, value-same, false≢true, value-first, stops)
 
   moved : (start : List (List ℕ) → List (List ℕ)) (canonical : List ℕ → List ℕ → List ℕ) → OrderChangesNothing opens (λ ss. start (before_key opens ss) ++ form.keywords_form opens canonical ss)
-  moved start canonical before after k l v w one two differ none =
-      ap (λ t. start t ++ form.keywords_form opens canonical (before ++ k ∷ (v ++ l ∷ (w ++ after)))) (before-same before _ _ k l one.0 two.0)
-      ∙ ap (λ t. start (before_key opens (before ++ l ∷ (w ++ k ∷ (v ++ after)))) ++ t)
-      (same-values opens canonical _ _
-      (λ key low. ap (option_map (λ w. map fold_text (subtags (canonical key (join w))))) (value-moved key before after k l v w one two differ none)))
+  moved start canonical before after k l v w one two differ none = grind (arith, common_steps, before-same, same-values, value-moved)
 
 pub unicode_moved : OrderChangesNothing is_key unicode_form
 unicode_moved = moved is_key in_alphabet unicode_value

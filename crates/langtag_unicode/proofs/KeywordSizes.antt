@@ -1,4 +1,5 @@
 -- How long a tag may become when a keyword is set or removed.
+use Rattle.std.proofs.Common.{rules}
 use Rattle.std.proofs.Common.{◌≡◌, ℕ, ◌+◌, ◌≤◌, Bool, true, false, cond, List, [], ◌∷◌, ◌++◌, length, find, None, Some, unwrap_or, refl, arith}
 use Rattle.std.proofs.lemmas.Bool.{and_parts}
 use Rattle.std.proofs.lemmas.Grind.{common_steps}
@@ -22,24 +23,11 @@ use Rattle.langtag_keyword.proofs.KeywordEdits.{u-here, u-later}
 
 without-size : (key : List ℕ) (inside : Bool) (ss : List (List ℕ)) → size (without_within key inside ss) ≤ size ss
 without-size key inside [] = omega arith
-without-size key inside (s ∷ ss) = by_test (belongs key inside s) (without-size key true ss) (without-size key false ss)
-  where
-    by_test :
-        (b : Bool) → size (without_within key true ss) ≤ size ss → size (without_within key false ss) ≤ size ss →
-        size (cond b (without_within key true ss) (s ∷ without_within key false ss)) ≤ size (s ∷ ss)
-    by_test b gone kept = grind (arith, common_steps)
+without-size key inside (s ∷ ss) = grind (arith, common_steps, without-size key true ss, without-size key false ss, size)
 
 put-size : (key : List ℕ) (stands : Bool) (keyword ss : List (List ℕ)) → size (put_keyword key stands keyword ss) ≤ size keyword + size ss
 put-size key stands keyword [] = omega arith
-put-size key stands keyword (s ∷ ss) =
-    let less = without-size key false (s ∷ ss) in
-    let both = size-append keyword (without_keyword key (s ∷ ss)) in
-    by_test (is_place key stands s) (omega (arith, less, both)) (put-size key stands keyword ss)
-  where
-    by_test :
-        (b : Bool) → size (keyword ++ without_keyword key (s ∷ ss)) ≤ size keyword + size (s ∷ ss) → size (put_keyword key stands keyword ss) ≤ size keyword + size ss →
-        size (cond b (keyword ++ without_keyword key (s ∷ ss)) (s ∷ put_keyword key stands keyword ss)) ≤ size keyword + size (s ∷ ss)
-    by_test b here later = grind (arith, common_steps)
+put-size key stands keyword (s ∷ ss) = grind (arith, common_steps, put-size key stands keyword ss, without-size, size-append, size)
 
 -- a key that stands there is as long as the key
 standing-size : (key : List ℕ) (ss : List (List ℕ)) → length (unwrap_or (find (is_this_key key) ss) key) ≡ length key

@@ -1,4 +1,6 @@
 -- What a look-up and a walk have in common.
+use Rattle.std.proofs.Common.{rules}
+use Rattle.std.proofs.lemmas.Grind.{common_steps}
 use Rattle.std.proofs.Common.{◌≡◌, ℕ, Bool, true, false, cond, ◌&&◌, ◌==◌, not, List, [], ◌∷◌, ◌++◌, length, Option, Some, refl, ap, sym, ◌∙◌, arith}
 use Rattle.std.specs.List.{list_any}
 use Rattle.std.specs.Option.{option_map}
@@ -37,9 +39,7 @@ value_of-alike test k l (s ∷ ss) same = rw (are_alike-right s k l same, value_
 
 -- one more subtag that the key is not alike
 still-none : (key s : List ℕ) (before : List (List ℕ)) → list_any (are_alike key) before ≡ false → are_alike s key ≡ false → list_any (are_alike key) (before ++ s ∷ []) ≡ false
-still-none key s before none apart =
-    let other : are_alike key s ≡ false = (on_alike_equiv (λ t. t)).symm key s ∙ apart in
-    list_any-append (are_alike key) before (s ∷ []) ∙ rw (none, other) refl
+still-none key s before none apart = search (rules, none, apart, list_any-append)
 
 module _ (test : List ℕ → Bool) (respects : RespectsCase test) (key : List ℕ) (is : test key ≡ true) where
   -- a keyword that is listed or not, and the others
@@ -54,14 +54,9 @@ module _ (test : List ℕ → Bool) (respects : RespectsCase test) (key : List �
       (are_alike s key ≡ false → value_among key others ≡ option_map join (value_of test key ss)) →
       value_among key (cond (opened && not (list_any (are_alike s) before)) (record { key = s; value = join (before_key test ss) } ∷ others) others)
       ≡ option_map join (cond (opened && same) (Some (before_key test ss)) (value_of test key ss))
-  by_key before ss s others true true is_opened e none later =
-      let new : list_any (are_alike s) before ≡ false = list_any_congr (on_alike_equiv (λ t. t)) s key before e ∙ none in
-      rw (new, e) refl
-  by_key before ss s others true false is_opened e none later =
-      by_old (list_any (are_alike s) before) (record { key = s; value = join (before_key test ss) }) others (option_map join (value_of test key ss)) e (later e)
-  by_key before ss s others false true closed e none later =
-      let wrong : false ≡ true = sym closed ∙ respects s key (alike_is s key e) ∙ is in
-      absurd cc
+  by_key before ss s others true true is_opened e none later = grind (arith, common_steps, list_any_congr, by_old, alike_is)
+  by_key before ss s others true false is_opened e none later = grind (arith, common_steps, list_any_congr, by_old, alike_is)
+  by_key before ss s others false true closed e none later = grind (arith, common_steps, list_any_congr, by_old, alike_is)
   by_key before ss s others false false closed e none later = later e
 
   listed-after : (before ss : List (List ℕ)) → list_any (are_alike key) before ≡ false → value_among key (keywords_after test before ss) ≡ option_map join (value_of test key ss)
