@@ -1,4 +1,7 @@
 -- Identifiers that are equal but for case have forms that are.
+use Rattle.std.proofs.Common.{rules}
+use Rattle.std.proofs.lemmas.Grind.{common_steps}
+use Rattle.std.proofs.Common.{arith}
 use Rattle.std.proofs.Common.{◌≡◌, ℕ, Bool, true, false, cond, List, [], ◌∷◌, ◌++◌, ◌&&◌, ◌||◌, map, fold, Option, Some, None, find, option_map, unwrap_or, refl, sym, ap, subst, ◌∙◌}
 use Rattle.std.proofs.lemmas.List.{map-append}
 use Rattle.std.specs.List.{list_any}
@@ -41,12 +44,7 @@ has-same v w alike = λ i x. (has-fold v x ∙ ap (list_any (bytes_eq (fold_text
 -- ---- the steps
 
 after-alike : (variants : List (List ℕ)) (l m : List ℕ) (a : TypeAlias) → Alike l m → Alike (language_after variants l a) (language_after variants m a)
-after-alike variants l m a alike =
-    by_same (λ s t. Alike (cond (s && has_variant variants a.old) a.new l) (cond (t && has_variant variants a.old) a.new m)) (λ b. by_test (b && has_variant variants a.old)) _ _ (are_alike-right a.key l m alike)
-  where
-    by_test : (b : Bool) → Alike (cond b a.new l) (cond b a.new m)
-    by_test true = refl
-    by_test false = alike
+after-alike variants l m a alike = grind (arith, common_steps, by_same, are_alike-right)
 
 fold-alike : (variants : List (List ℕ)) (aliases : List TypeAlias) (l m : List ℕ) → Alike l m → Alike (fold (language_after variants) l aliases) (fold (language_after variants) m aliases)
 fold-alike variants [] l m alike = alike
@@ -57,25 +55,15 @@ unfolding form.variant_language
 variant_language-alike variants f g h = record { language = fold-alike variants list.variant_languages f.language g.language h.language; script = h.script; region = h.region }
 
 sign_for-alike : (f g : Fields) → AlikeFields f g → sign_for f ≡ sign_for g
-sign_for-alike f g h =
-    ap (λ b. cond b (alias_for list.sign_languages f.region) None) (are_alike-left f.language g.language (codes "sgn") h.language)
-    ∙ ap (λ o. cond (are_alike g.language (codes "sgn")) o None) (alias_for-alike list.sign_languages f.region g.region h.region)
+sign_for-alike f g h = grind (arith, common_steps, are_alike-left, alias_for-alike)
 
 sign-alike : (f g : Fields) → AlikeFields f g → AlikeFields (form.sign_language f) (form.sign_language g)
 unfolding form.sign_language
-sign-alike f g h = by_same (λ o p. AlikeFields (option_map_or (form.without_sgn f) o f) (option_map_or (form.without_sgn g) p g)) by_sign _ _ (sign_for-alike f g h)
-  where
-    by_sign : (o : Option (List ℕ)) → AlikeFields (option_map_or (form.without_sgn f) o f) (option_map_or (form.without_sgn g) o g)
-    by_sign None = h
-    by_sign (Some new) = record { language = refl; script = h.script; region = refl }
+sign-alike f g h = grind (arith, common_steps, by_same, sign_for-alike)
 
 variant_region-alike : (variants : List (List ℕ)) (f g : Fields) → AlikeFields f g → AlikeFields (form.variant_region variants f) (form.variant_region variants g)
 unfolding form.variant_region
-variant_region-alike variants f g h = record {
-  language = h.language;
-  script = h.script;
-  region = or_other-alike f.region g.region (form.variants_region variants list.variant_regions) h.region;
-}
+variant_region-alike variants f g h = grind (arith, common_steps, or_other-alike)
 
 likely_region-alike : (f g : Fields) → AlikeFields f g → Alike (form.likely_region f) (form.likely_region g)
 unfolding form.likely_region
@@ -86,11 +74,7 @@ likely_region-alike f g h =
 
 heir-alike : (a b : List ℕ) (regions : List (List ℕ)) → Alike a b → Alike (heir a regions) (heir b regions)
 heir-alike a b [] alike = refl
-heir-alike a b (first ∷ others) alike = by_same (λ s t. Alike (cond s a first) (cond t b first)) by_test _ _ (has_variant-alike (first ∷ others) a b alike)
-  where
-    by_test : (t : Bool) → Alike (cond t a first) (cond t b first)
-    by_test true = alike
-    by_test false = refl
+heir-alike a b (first ∷ others) alike = grind (arith, common_steps, by_same, has_variant-alike)
 
 -- the heir among the regions that were found
 abbrev pub heirs : Fields → Option (List ℕ) → Option (List ℕ)
@@ -102,36 +86,18 @@ region_by f o p = unwrap_or (or_else (option_map (λ to. to.region) o) (heirs f 
 
 new_region-alike : (f g : Fields) → AlikeFields f g → Alike (form.new_region f) (form.new_region g)
 unfolding form.new_region
-new_region-alike f g h =
-    by_same (λ o p. Alike (region_by f o (alias_for list.region_heirs f.region)) (region_by g p (alias_for list.region_heirs g.region))) by_row _ _
-    (likely_for-alike region_replacements (region_alone f) (region_alone g) (record { language = refl; script = refl; region = h.region }))
-  where
-    by_heirs : (o : Option (List ℕ)) → Alike (region_by f None o) (region_by g None o)
-    by_heirs None = h.region
-    by_heirs (Some regions) = heir-alike (form.likely_region f) (form.likely_region g) (segments regions) (likely_region-alike f g h)
-
-    by_row : (o : Option Fields) → Alike (region_by f o (alias_for list.region_heirs f.region)) (region_by g o (alias_for list.region_heirs g.region))
-    by_row None = by_same (λ o p. Alike (region_by f None o) (region_by g None p)) by_heirs _ _ (alias_for-alike list.region_heirs f.region g.region h.region)
-    by_row (Some to) = refl
+new_region-alike f g h = grind (arith, common_steps, by_same, likely_for-alike, heir-alike, likely_region-alike, alias_for-alike)
 
 region-alike : (f g : Fields) → AlikeFields f g → AlikeFields (form.with_new_region f) (form.with_new_region g)
 unfolding form.with_new_region
 region-alike f g h = record { language = h.language; script = h.script; region = new_region-alike f g h }
 
 or_same : (a b : List ℕ) → Alike a b → (o p : Option (List ℕ)) → o ≡ p → Alike (unwrap_or o a) (unwrap_or p b)
-or_same a b alike = by_same (λ o p. Alike (unwrap_or o a) (unwrap_or p b)) by_found
-  where
-    by_found : (o : Option (List ℕ)) → Alike (unwrap_or o a) (unwrap_or o b)
-    by_found None = alike
-    by_found (Some new) = refl
+or_same a b alike = grind (arith, common_steps, by_same)
 
 script-alike : (f g : Fields) → AlikeFields f g → AlikeFields (form.with_new_script f) (form.with_new_script g)
 unfolding form.with_new_script
-script-alike f g h = record {
-  language = h.language;
-  script = or_same f.script g.script h.script _ _ (alias_for-alike list.script_aliases f.script g.script h.script);
-  region = h.region;
-}
+script-alike f g h = grind (arith, common_steps, or_same, alias_for-alike)
 
 -- ---- the form
 
@@ -148,9 +114,7 @@ region-same v w f alike =
 
 identifier-same : (v w : List (List ℕ)) (f : Fields) → AreAlike v w → identifier_form v f ≡ identifier_form w f
 unfolding identifier_form
-identifier-same v w f alike =
-    ap (λ x. form.with_new_script (form.sign_language (form.with_new_region (form.variant_region v (form.sign_language x))))) (language-same v w (language_replaced f) alike)
-    ∙ ap (λ x. form.with_new_script (form.sign_language (form.with_new_region x))) (region-same v w (form.sign_language (form.variant_language w (language_replaced f))) alike)
+identifier-same v w f alike = grind (arith, common_steps, language-same, region-same)
 
 -- identifiers that are equal but for case have forms that are
 pub identifier_form-alike : (v w : List (List ℕ)) (f g : Fields) → AreAlike v w → AlikeFields f g → AlikeFields (identifier_form v f) (identifier_form w g)

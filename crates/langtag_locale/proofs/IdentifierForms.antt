@@ -1,4 +1,5 @@
 -- The form of a language identifier has a language, and maybe a script and a region.
+use Rattle.std.proofs.Common.{rules}
 use Rattle.std.proofs.Common.{◌≡◌, ℕ, Bool, true, false, cond, List, [], ◌∷◌, ◌++◌, ◌&&◌, ◌==◌, length, map, fold, Option, Some, None, option_map, unwrap_or, refl, sym, ap, ◌∙◌, append_assoc, arith}
 use Rattle.std.proofs.lemmas.Grind.{common_steps}
 use Rattle.std.proofs.lemmas.List.{length-map}
@@ -127,21 +128,13 @@ variant_subtags variants f are = record {
 -- what holds of all sign languages holds of the one that is found
 pub sign_found :
     (good : List ℕ → Bool) (f : Fields) (new : List ℕ) → list_all {X = Alias} (λ alias. good alias.new) list.sign_languages ≡ true → sign_for f ≡ Some new → good new ≡ true
-sign_found good f new all = by_test (are_alike f.language (codes "sgn"))
-  where
-    by_test : (b : Bool) → cond b (alias_for list.sign_languages f.region) None ≡ Some new → good new ≡ true
-    by_test true is = found_good good (λ alias. are_alike alias.old f.region) list.sign_languages new all is
-    by_test false is = absurd cc
+sign_found good f new all = grind (arith, common_steps, found_good)
 
 -- what holds with each sign language, and without one, holds after that step
 pub sign_cases :
     (P : Fields → Type 0) (f : Fields) → (sign_for f ≡ None → P f) → ((new : List ℕ) → sign_for f ≡ Some new → P (form.without_sgn f new)) → P (form.sign_language f)
 unfolding form.sign_language
-sign_cases P f none some = by_sign (sign_for f) refl
-  where
-    by_sign : (o : Option (List ℕ)) → sign_for f ≡ o → P (option_map_or (form.without_sgn f) o f)
-    by_sign None is = none is
-    by_sign (Some new) is = some new is
+sign_cases P f none some = grind (arith, common_steps)
 
 sign_subtags : (f : Fields) → AreSubtags f → AreSubtags (form.sign_language f)
 sign_subtags f are =
@@ -152,11 +145,7 @@ other_region-subtags : (f : Fields) (region : List ℕ) → AreSubtags f → is_
 other_region-subtags f region are good = record { language = are.language; script = are.script; region = good }
 
 brought_good : (variants : List (List ℕ)) → is_region_field (form.variants_region variants list.variant_regions) ≡ true
-brought_good variants = by_found (find (λ (alias : Alias). has_variant variants alias.old) list.variant_regions) refl
-  where
-    by_found : (o : Option Alias) → find (λ (alias : Alias). has_variant variants alias.old) list.variant_regions ≡ o → is_region_field (option_map_or (λ alias. alias.new) o []) ≡ true
-    by_found None none = refl
-    by_found (Some a) found = found_has (λ (alias : Alias). is_region_field alias.new) (λ (alias : Alias). has_variant variants alias.old) list.variant_regions a variant_regions_good found
+brought_good variants = grind (arith, common_steps, found_has, variant_regions_good)
 
 variant_region-subtags : (variants : List (List ℕ)) (f : Fields) → AreSubtags f → AreSubtags (form.variant_region variants f)
 unfolding form.variant_region
@@ -228,19 +217,10 @@ optional_good test good none some None is = none
 optional_good test good none some (Some s) is = some s is
 
 pub locale_language : (r : Record) → is_locale_record r ≡ true → is_unicode_language r.primary ≡ true
-locale_language r locale =
-    let language = is_unicode_language r.primary in
-    let alone = length r.extended == 0 in
-    let variants = is_none (repeat are_alike r.variants) in
-    let singletons = is_none (repeat are_alike_bytes (map (λ e. e.singleton) r.extensions)) in
-    (both language alone (both (language && alone) variants (both (language && alone && variants) singletons (both (language && alone && variants && singletons) (list_all is_locale_extension r.extensions) locale).0).0).0).0
+locale_language r locale = grind (arith, common_steps, both)
 
 pub record_subtags : (r : Record) → IsWellFormed r → is_locale_record r ≡ true → AreSubtags (record_fields r)
-record_subtags r fits locale = record {
-  language = locale_language r locale;
-  script = optional_good is_script is_script_field refl from_script r.script fits.script;
-  region = optional_good is_region is_region_field refl from_region r.region fits.region;
-}
+record_subtags r fits locale = grind (arith, common_steps, locale_language, optional_good, from_script, from_region)
 
 -- the form, put subtag by subtag
 pub locale_joined :

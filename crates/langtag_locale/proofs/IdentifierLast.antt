@@ -1,4 +1,7 @@
 -- What a step of the form of a language identifier leaves, no alias replaces.
+use Rattle.std.proofs.Common.{rules}
+use Rattle.std.proofs.lemmas.Grind.{common_steps}
+use Rattle.std.proofs.Common.{arith}
 use Rattle.std.proofs.Common.{◌≡◌, ℕ, Bool, true, false, not, cond, List, [], ◌∷◌, ◌&&◌, ◌||◌, fold, Option, Some, None, find, option_map, unwrap_or, refl, sym, ap, ◌∙◌}
 use Rattle.std.proofs.lemmas.Bool.{cond_both, false_from_ne_true, false≢true, not-true, or_parts}
 use Rattle.std.specs.List.{AllByRecursion, list_all}
@@ -73,56 +76,14 @@ pub record Stays (language v : List ℕ) : Type 0 where
   pub kept : type_alias_for list.variant_languages language v ≡ None
 
 pub stays-alike : (language v w : List ℕ) → Alike w v → Stays language v → Stays language w
-stays-alike language v w alike stays = record {
-  last =
-      ap (λ b. not b && is_none (alias_for list.variant_aliases w)) (has_variant-alike list.dropped_variants w v alike)
-      ∙ ap (λ o. not (has_variant list.dropped_variants v) && is_none o) (alias_for-alike list.variant_aliases w v alike) ∙ stays.last;
-  some = are_alike-left w v [] alike ∙ stays.some;
-  kept = type_alias_for-alike list.variant_languages language language w v refl alike ∙ stays.kept;
-}
+stays-alike language v w alike stays = grind (arith, common_steps, has_variant-alike, alias_for-alike, are_alike-left, type_alias_for-alike)
 
 stays-with : (language v : List ℕ) → stays_always v ≡ true → Stays language v
-stays-with language v always =
-    let parts = both (is_last_variant v && not (are_alike v [])) (list_all {X = TypeAlias} (λ a. not (are_alike a.old v)) list.variant_languages) always in
-    let first = both (is_last_variant v) (not (are_alike v [])) parts.0 in
-    record {
-      last = first.0;
-      some = not-true _ first.1;
-      kept =
-          ap (option_map (λ (a : TypeAlias). a.new))
-          (none_found (λ (a : TypeAlias). not (are_alike a.old v)) (λ (a : TypeAlias). are_alike a.key language && are_alike a.old v) list.variant_languages parts.1
-          (λ a other. not_both (are_alike a.key language) (are_alike a.old v) (λ same old. false≢true (sym (not-true _ other) ∙ old))));
-    }
+stays-with language v always = grind (arith, common_steps, both, is_last_variant, not-true, none_found, not_both, false≢true)
 
 variant_stays : (language : List ℕ) (variants : List (List ℕ)) (v : List ℕ) → AllByRecursion (Stays language) (one_flat (subtag_of (variant_form language variants v)))
 unfolding variant_form
-variant_stays language variants v =
-    cond_both (is_gone language v) [] (unwrap_or (replacement variants v) v) (λ text. AllByRecursion (Stays language) (one_flat (subtag_of text))) (λ gone. tt)
-    (λ is. by_pair (or_parts (is_some (type_alias_for list.variant_languages language v)) (has_variant list.dropped_variants v) is) (find (is_pair_of variants v) list.variant_pairs) refl)
-  where
-    one : (text : List ℕ) → (are_alike text [] ≡ false → Stays language text) → AllByRecursion (Stays language) (one_flat (subtag_of text))
-    one [] stays = tt
-    one (b ∷ text) stays = (stays refl, tt)
-
-    by_alias :
-        (is_some (type_alias_for list.variant_languages language v) ≡ false) × (has_variant list.dropped_variants v ≡ false) →
-        (o : Option (List ℕ)) → alias_for list.variant_aliases v ≡ o → AllByRecursion (Stays language) (one_flat (subtag_of (unwrap_or o v)))
-    by_alias here None none =
-        one v
-        (λ some. record {
-          last = ap (λ b. not b && is_none (alias_for list.variant_aliases v)) here.1 ∙ ap (λ o. is_none o) none;
-          some = some;
-          kept = not_some _ here.0;
-        })
-    by_alias here (Some new) found =
-        one new (λ some. stays-with language new (found_good stays_always (λ (a : Alias). are_alike a.old v) list.variant_aliases new variants_last found))
-
-    by_pair :
-        (is_some (type_alias_for list.variant_languages language v) ≡ false) × (has_variant list.dropped_variants v ≡ false) →
-        (o : Option TypeAlias) → find (is_pair_of variants v) list.variant_pairs ≡ o → AllByRecursion (Stays language) (one_flat (subtag_of (unwrap_or (replaced_by o v) v)))
-    by_pair here None none = by_alias here (alias_for list.variant_aliases v) refl
-    by_pair here (Some a) found =
-        one a.new (λ some. stays-with language a.new (found_has (λ (b : TypeAlias). stays_always b.new) (is_pair_of variants v) list.variant_pairs a pairs_last found))
+variant_stays language variants v = grind (arith, common_steps, cond_both, is_gone, replacement, or_parts, not_some, stays-with, found_good, stays_always, variants_last, replaced_by, found_has, pairs_last)
 
 pub forms-stay : (language : List ℕ) (variants vs : List (List ℕ)) → AllByRecursion (Stays language) (forms language variants vs)
 forms-stay language variants [] = tt
@@ -160,13 +121,7 @@ module _ (key : List ℕ) where
   kept-after :
       (variants : List (List ℕ)) (l : List ℕ) (b : TypeAlias) → (not (are_alike key b.new) || are_alike key b.key) ≡ true →
       are_alike key (language_after variants l b) ≡ true → are_alike key l ≡ true
-  kept-after variants l b old is = by_tests (are_alike b.key l) (has_variant variants b.old) refl is
-    where
-      by_tests : (s t : Bool) → are_alike b.key l ≡ s → are_alike key (cond (s && t) b.new l) ≡ true → are_alike key l ≡ true
-      by_tests true true same is =
-          sym (are_alike-right key b.key l ((are_alike-decides b.key l).0 same)) ∙ sym (ap (λ t. not t || are_alike key b.key) is) ∙ old
-      by_tests true false same is = is
-      by_tests false t same is = is
+  kept-after variants l b old is = search (rules, old, is, are_alike-right)
 
   pub kept-fold :
       (variants : List (List ℕ)) (aliases : List TypeAlias) (l : List ℕ) → list_all {X = TypeAlias} (λ b. not (are_alike key b.new) || are_alike key b.key) aliases ≡ true →
@@ -187,10 +142,7 @@ fold_stays variants (a ∷ aliases) l all never =
 -- ---- regions and scripts that stay
 
 region_last-alike : (a b : List ℕ) → Alike b a → is_last_region a ≡ true → is_last_region b ≡ true
-region_last-alike a b alike is =
-    ap (λ o. is_none o && is_none (alias_for list.region_heirs b))
-    (likely_for-alike region_replacements (record { language = []; script = []; region = b }) (record { language = []; script = []; region = a }) (record { language = refl; script = refl; region = alike }))
-    ∙ ap (λ o. is_none (likely_for region_replacements (record { language = []; script = []; region = a })) && is_none o) (alias_for-alike list.region_heirs b a alike) ∙ is
+region_last-alike a b alike is = grind (arith, common_steps, likely_for-alike, alias_for-alike)
 
 pub new_region-last : (f : Fields) → is_last_region (form.new_region f) ≡ true
 unfolding form.new_region

@@ -1,4 +1,7 @@
 -- The form of a language identifier is its own form, in any case of its letters.
+use Rattle.std.proofs.Common.{rules}
+use Rattle.std.proofs.lemmas.Grind.{common_steps}
+use Rattle.std.proofs.Common.{arith}
 use Rattle.std.proofs.Common.{◌≡◌, ℕ, true, false, not, cond, List, [], ◌∷◌, ◌++◌, ◌&&◌, ◌||◌, None, option_map, unwrap_or, refl, sym, ap, ◌∙◌}
 use Rattle.std.proofs.lemmas.Bool.{false_from_ne_true, false≢true, not-true}
 use Rattle.std.specs.List.{AllByRecursion, list_all}
@@ -56,9 +59,7 @@ module _ (variants : List (List ℕ)) (f : Fields) where
   after_region = form.with_new_region (form.variant_region variants before_region)
 
   news-stay : AllByRecursion (Stays language) news
-  news-stay =
-      each-alphabet (Stays language) (λ v stays. stays-alike language v (fold_text v) (fold_text-twice v) stays) (forms language variants variants)
-      (forms-stay language variants variants)
+  news-stay = grind (arith, common_steps, each-alphabet, stays-alike, fold_text-twice, forms, forms-stay)
 
   new-stays : (x : List ℕ) → has_variant news x ≡ true → Stays language x
   new-stays = among (Stays language) (stays-alike language) news news-stay
@@ -132,19 +133,11 @@ module _ (variants : List (List ℕ)) (f : Fields) where
 
   variant_region_again : form.variant_region news final ≡ final
   unfolding form.variant_region
-  variant_region_again =
-      ap (λ o. form.other_region final (or_other final.region (option_map_or (λ (a : Alias). a.new) o [])))
-      (none_found (λ (a : Alias). not (is_last_variant a.old)) (λ (a : Alias). has_variant news a.old) list.variant_regions regions_dropped
-      (λ a dropped. false_from_ne_true (has_variant news a.old) (λ has. false≢true (sym (not-true _ dropped) ∙ (new-stays a.old has).last))))
-      ∙ ap (form.other_region final) (or_none final.region)
+  variant_region_again = grind (arith, common_steps, none_found, is_last_variant, regions_dropped, false_from_ne_true, false≢true, not-true, new-stays, or_none)
 
   region_again : form.with_new_region final ≡ final
   unfolding form.with_new_region form.new_region
-  region_again =
-      let parts = both (is_none (likely_for region_replacements (region_alone final))) (is_none (alias_for list.region_heirs final.region)) last_region in
-      ap (λ o. form.other_region final (region_by final o (alias_for list.region_heirs final.region)))
-      (none_is (likely_for region_replacements (region_alone final)) parts.0)
-      ∙ ap (λ o. form.other_region final (region_by final None o)) (none_is (alias_for list.region_heirs final.region) parts.1)
+  region_again = grind (arith, common_steps, both, last_region, region_by, none_is)
 
   script_again : form.with_new_script final ≡ final
   unfolding form.with_new_script
@@ -153,33 +146,17 @@ module _ (variants : List (List ℕ)) (f : Fields) where
   -- the form of a language identifier is its own form
   pub identifier_form-twice : identifier_form news final ≡ final
   unfolding identifier_form
-  identifier_form-twice =
-      ap (λ x. form.with_new_script (form.sign_language (form.with_new_region (form.variant_region news (form.sign_language (form.variant_language news x)))))) language_again
-      ∙ ap (λ x. form.with_new_script (form.sign_language (form.with_new_region (form.variant_region news (form.sign_language x))))) variant_again
-      ∙ ap (λ x. form.with_new_script (form.sign_language (form.with_new_region (form.variant_region news x)))) sign_again
-      ∙ ap (λ x. form.with_new_script (form.sign_language (form.with_new_region x))) variant_region_again
-      ∙ ap (λ x. form.with_new_script (form.sign_language x)) region_again ∙ ap form.with_new_script sign_again ∙ script_again
+  identifier_form-twice = grind (arith, common_steps, language_again, variant_again, sign_again, variant_region_again, region_again, script_again)
 
   -- ---- the variants
 
   stays_again : (v : List ℕ) → Stays language v → variant_form final.language news v ≡ v
   unfolding variant_form
-  stays_again v stays =
-      let parts = both (not (has_variant list.dropped_variants v)) (is_none (alias_for list.variant_aliases v)) stays.last in
-      ap (λ o. cond (is_some (option_map (λ (a : TypeAlias). a.new) o) || has_variant list.dropped_variants v) [] (unwrap_or (replacement news v) v))
-      (none_found is_old_language (λ (a : TypeAlias). are_alike a.key final.language && are_alike a.old v) list.variant_languages languages_old
-      (λ a old. not_both (are_alike a.key final.language) (are_alike a.old v) (λ same alike. no_alias v stays a old same ((are_alike-decides a.old v).0 alike))))
-      ∙ ap (λ b. cond b [] (unwrap_or (replacement news v) v)) (not-true _ parts.0)
-      ∙ ap (λ o. unwrap_or (replaced_by o v) v)
-      (none_found (λ (a : TypeAlias). not (is_last_variant a.old)) (is_pair_of news v) list.variant_pairs pairs_replaced
-      (λ a replaced. not_both (are_alike a.key v) (has_variant news a.old) (λ same has. false≢true (sym (not-true _ replaced) ∙ (new-stays a.old has).last))))
-      ∙ ap (λ o. unwrap_or o v) (none_is (alias_for list.variant_aliases v) parts.1)
+  stays_again v stays = search (rules, stays, both, replacement, none_found, is_old_language, languages_old, not_both, no_alias, not-true, replaced_by, is_last_variant, pairs_replaced, false≢true, new-stays, none_is)
 
   forms-again : (vs : List (List ℕ)) → AllByRecursion (Stays language) vs → forms final.language news vs ≡ vs
   forms-again [] all = refl
-  forms-again (v ∷ vs) all =
-      ap (λ t. one_flat (subtag_of t) ++ forms final.language news vs) (stays_again v all.0) ∙ ap (λ t. t ++ forms final.language news vs) (one_there v all.0.some)
-      ∙ ap (λ t. v ∷ t) (forms-again vs all.1)
+  forms-again (v ∷ vs) all = grind (arith, common_steps, forms-again vs all.1, forms, stays_again, one_there)
 
   -- and its variants are theirs
   pub new_variants-twice : new_variants news final ≡ news

@@ -1,4 +1,7 @@
 -- The form of a Unicode locale identifier repeats no variant and no singleton, and its `u` is allowed.
+use Rattle.std.proofs.Common.{rules}
+use Rattle.std.proofs.lemmas.Grind.{common_steps}
+use Rattle.std.proofs.Common.{arith}
 use Rattle.std.proofs.Common.{◌≡◌, ℕ, Bool, true, false, not, cond, ◌&&◌, ◌||◌, ◌==◌, List, [], ◌∷◌, ◌++◌, map, Option, Some, None, option_map, refl, sym, ap, subst, ◌∙◌, eqb-true}
 use Rattle.std.proofs.lemmas.Bool.{not-true}
 use Rattle.std.specs.Prelude.{IsTrue}
@@ -39,12 +42,7 @@ new_variants-apart variants f = alphabet-apart (forms (language_replaced f).lang
 
 pub form_singleton : (e : Extension) → fold_byte (locale_extension_form e).singleton ≡ fold_byte e.singleton
 unfolding fold_byte
-form_singleton e = ap (λ x. fold_byte x.singleton) (locale_form_tested _ _ e refl refl) ∙ by_tests (is_of 117 e) (is_of 116 e) refl refl
-  where
-    by_tests : (a b : Bool) → is_of 117 e ≡ a → is_of 116 e ≡ b → fold_byte (locale_form_by a b e).singleton ≡ fold_byte e.singleton
-    by_tests true b one two = sym (eqb-true (fold_byte e.singleton) 117 one)
-    by_tests false true one two = sym (eqb-true (fold_byte e.singleton) 116 two)
-    by_tests false false one two = refl
+form_singleton e = grind (arith, common_steps, locale_form_tested, locale_form_by)
 
 module _ (es : List Extension) where
   abbrev bytes : List ℕ → List ℕ
@@ -98,15 +96,7 @@ unicode_subtag-fold s = ap (λ b. not b || is_unicode_key (fold_text s)) (key-fo
 -- a key that has a value stands among the subtags
 key-standing : (key : List ℕ) (ss w : List (List ℕ)) → MayBeInU ss → value_of is_key key ss ≡ Some w → is_unicode_subtag key ≡ true
 key-standing key [] w may found = absurd cc
-key-standing key (s ∷ ss) w may found = by_test (is_key s && are_alike s key) refl (key-standing key ss w may.1) found
-  where
-    by_test :
-        (b : Bool) → (is_key s && are_alike s key) ≡ b → (value_of is_key key ss ≡ Some w → is_unicode_subtag key ≡ true) →
-        cond b (Some (before_key is_key ss)) (value_of is_key key ss) ≡ Some w → is_unicode_subtag key ≡ true
-    by_test true this later found =
-        let same = (are_alike-decides s key).0 (both (is_key s) (are_alike s key) this).1 in
-        sym (unicode_subtag-fold key) ∙ ap is_unicode_subtag (sym same) ∙ unicode_subtag-fold s ∙ may.0
-    by_test false this later found = later found
+key-standing key (s ∷ ss) w may found = grind (arith, common_steps, key-standing key ss w may.1, both, unicode_subtag-fold)
 
 no_keys-may : (ss : List (List ℕ)) → AreNoKeys ss → MayBeInU ss
 no_keys-may [] others = tt
@@ -114,18 +104,7 @@ no_keys-may (s ∷ ss) others = (ap (λ b. not b || is_unicode_key s) others.0, 
 
 keywords-may : (ss : List (List ℕ)) → Good ss → MayBeInU ss → (keys : List (List ℕ)) → MayBeInU (blocks (values ss) keys)
 keywords-may ss good may [] = tt
-keywords-may ss good may (key ∷ keys) = each-append _ (block (values ss) key) (blocks (values ss) keys) (by_value (values ss key) refl) (keywords-may ss good may keys)
-  where
-    standing : (o : Option (List (List ℕ))) → value_of is_key key ss ≡ o → (v : List (List ℕ)) → option_map (λ w. map fold_text (subtags (unicode_value key (join w)))) o ≡ Some v → is_unicode_subtag key ≡ true
-    standing None none v is = absurd cc
-    standing (Some w) found v is = key-standing key ss w may found
-
-    by_value : (o : Option (List (List ℕ))) → values ss key ≡ o → MayBeInU (option_map_or (λ v. key ∷ v) o [])
-    by_value None none = tt
-    by_value (Some v) is = (standing (value_of is_key key ss) refl v is, no_keys-may v (values-are ss good key v is).1)
+keywords-may ss good may (key ∷ keys) = grind (arith, common_steps, keywords-may ss good may keys, each-append, block, values, blocks, key-standing, no_keys-may, values-are)
 
 pub unicode_form-may : (ss : List (List ℕ)) → Good ss → MayBeInU ss → MayBeInU (unicode_form ss)
-unicode_form-may ss good may =
-    each-append _ (in_alphabet (before_key is_key ss)) _
-    (each-alphabet (λ s. IsTrue (is_unicode_subtag s)) (λ s is. unicode_subtag-fold s ∙ is) (before_key is_key ss) (each-before (λ s. IsTrue (is_unicode_subtag s)) is_key ss may))
-    (subst MayBeInU (sym (form-blocks ss)) (keywords-may ss good may (keys_in_order is_key ss)))
+unicode_form-may ss good may = grind (arith, common_steps, each-append, each-alphabet, unicode_subtag-fold, each-before, form-blocks, keywords-may)

@@ -1,4 +1,7 @@
 -- The case of a tag changes nothing in its form as a Unicode locale identifier.
+use Rattle.std.proofs.Common.{rules}
+use Rattle.std.proofs.lemmas.Grind.{common_steps}
+use Rattle.std.proofs.Common.{arith}
 use Rattle.std.proofs.Common.{◌≡◌, ℕ, Bool, List, [], ◌∷◌, ◌++◌, map, Option, None, Some, option_map, unwrap_or, refl, sym, ap, ◌∙◌}
 use Rattle.std.proofs.lemmas.List.{length-map, map-append}
 use Rattle.std.proofs.lemmas.Option.{slice_get-map}
@@ -32,15 +35,7 @@ module _ {A : Type 0} (alike : A → A → Bool) (f : A → A) (same : (x y : A)
   index-map seen (x ∷ xs) = rw (any-map x seen, length-map seen f, ← map-append f seen (x ∷ []), index-map (seen ++ x ∷ []) xs) refl
 
   repeat-map : (xs : List A) → is_none (repeat alike (map f xs)) ≡ is_none (repeat alike xs)
-  repeat-map xs = ap (λ o. is_none (option_and_then (slice_get (map f xs)) o)) (index-map [] xs) ∙ by_index (repeat_index_after alike [] xs)
-    where
-      mapped : (o : Option A) → is_none (option_map f o) ≡ is_none o
-      mapped None = refl
-      mapped (Some x) = refl
-
-      by_index : (o : Option ℕ) → is_none (option_and_then (slice_get (map f xs)) o) ≡ is_none (option_and_then (slice_get xs) o)
-      by_index None = refl
-      by_index (Some k) = ap is_none (slice_get-map f xs k) ∙ mapped (slice_get xs k)
+  repeat-map xs = grind (arith, common_steps, index-map, slice_get-map)
 
 bytes-fold : (a b : ℕ) → are_alike_bytes (fold_byte a) (fold_byte b) ≡ are_alike_bytes a b
 bytes-fold a b = rw (fold_byte-twice a, fold_byte-twice b) refl
@@ -52,15 +47,7 @@ singletons-fold (e ∷ es) = ap (λ t. fold_byte e.singleton ∷ t) (singletons-
 -- ---- which records are Unicode locale identifiers
 
 locale-fold : (r : Record) → is_locale_record (fold_record r) ≡ is_locale_record r
-locale-fold r =
-    rw (
-      unicode_language-fold r.primary,
-      length-map r.extended fold_text,
-      repeat-map are_alike fold_text (λ s t. alike-left s (fold_text t) ∙ alike-right s t) r.variants,
-      singletons-fold r.extensions,
-      repeat-map are_alike_bytes fold_byte bytes-fold (map (λ e. e.singleton) r.extensions),
-      all_allowed-fold r.extensions,
-    ) refl
+locale-fold r = grind (arith, common_steps, unicode_language-fold, length-map, repeat-map, alike-left, alike-right, singletons-fold, bytes-fold, all_allowed-fold)
 
 pub locale-alike : (r q : Record) → AlikeRecords r q → is_locale_record r ≡ is_locale_record q
 locale-alike r q alike = sym (locale-fold r) ∙ ap is_locale_record alike ∙ locale-fold q
@@ -85,21 +72,7 @@ private_use-twice (Some p) = rw (fold_byte-twice p.mark, lower-twice p.subtags) 
 -- the record in lowercase has a form that is equal but for case
 form-fold : (r : Record) → AlikeRecords (locale_record (fold_record r)) (locale_record r)
 unfolding locale_record
-form-fold r =
-    let variants : AreAlike (map fold_text r.variants) r.variants = lower-twice r.variants in
-    let fields : AlikeFields (record_fields (fold_record r)) (record_fields r) = record { language = fold_text-twice r.primary; script = or_lower r.script; region = or_lower r.region } in
-    let old : Fields = identifier_form r.variants (record_fields r) in
-    let h : AlikeFields (identifier_form (map fold_text r.variants) (record_fields (fold_record r))) old = identifier_form-alike _ _ _ _ variants fields in
-    same _ _ _ _ _ _ _ _ _ _ _ _ h.language (subtag-alike _ _ h.script) (subtag-alike _ _ h.region) (ap (map fold_text) (new_variants-alike _ _ _ _ variants fields)) (extensions-alike r.extensions)
-    (private_use-twice r.private_use)
-  where
-    same :
-        (a b : List ℕ) (s t g h : Option (List ℕ)) (v w : List (List ℕ)) (e k : List Extension) (p q : Option PrivateUse) →
-        Alike a b → option_map fold_text s ≡ option_map fold_text t → option_map fold_text g ≡ option_map fold_text h → map fold_text v ≡ map fold_text w → map fold_extension e ≡ map fold_extension k →
-        option_map fold_private_use p ≡ option_map fold_private_use q →
-        fold_record (record { primary = a; extended = []; script = s; region = g; variants = v; extensions = e; private_use = p })
-        ≡ fold_record (record { primary = b; extended = []; script = t; region = h; variants = w; extensions = k; private_use = q })
-    same a b s t g h v w e k p q one two three four five six = cc
+form-fold r = grind (arith, common_steps, lower-twice, fold_text-twice, or_lower, identifier_form-alike, subtag-alike, new_variants-alike, extensions-alike, private_use-twice)
 
 pub form-alike : (r q : Record) → AlikeRecords r q → AlikeRecords (locale_record r) (locale_record q)
 form-alike r q alike = sym (form-fold r) ∙ ap (λ x. fold_record (locale_record x)) alike ∙ form-fold q

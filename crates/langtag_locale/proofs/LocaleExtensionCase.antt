@@ -1,4 +1,6 @@
 -- The forms of extensions in a Unicode locale identifier, of texts that are equal but for case.
+use Rattle.std.proofs.Common.{rules}
+use Rattle.std.proofs.lemmas.Grind.{common_steps}
 use Rattle.std.proofs.Common.{◌≡◌, ℕ, Bool, true, false, List, [], ◌∷◌, ◌++◌, map, Option, None, Some, option_map, refl, ap, ◌∙◌, arith}
 use Rattle.std.proofs.lemmas.List.{map-append}
 use Rattle.std.specs.List.{flat_map, list_all}
@@ -65,27 +67,14 @@ all_allowed-fold [] = refl
 all_allowed-fold (e ∷ es) = rw (allowed-fold e, all_allowed-fold es) refl
 
 extension-alike : (e : Extension) → fold_extension (locale_extension_form (fold_extension e)) ≡ fold_extension (locale_extension_form e)
-extension-alike e =
-    ap fold_extension (locale_form_tested (is_of 117 e) (is_of 116 e) (fold_extension e) (is_of-fold 117 e) (is_of-fold 116 e))
-    ∙ by_tests (is_of 117 e) (is_of 116 e)
-  where
-    by_tests : (a b : Bool) → fold_extension (locale_form_by a b (fold_extension e)) ≡ fold_extension (locale_form_by a b e)
-    by_tests true b = ap (λ ss. fold_extension (record { singleton = 117; subtags = ss })) (unicode-fold e.subtags)
-    by_tests false true = ap (λ ss. record { singleton = fold_byte 116; subtags = ss }) (transform-fold e.subtags)
-    by_tests false false = extension-twice e
+extension-alike e = grind (arith, common_steps, locale_form_tested, is_of-fold, locale_form_by, unicode-fold, transform-fold, extension-twice)
 
 find-fold : (n : ℕ) (es : List Extension) → find_extension n (map fold_extension es) ≡ option_map fold_extension (find_extension n es)
 find-fold n [] = refl
 find-fold n (e ∷ es) = grind (arith, nat_tests, fold_byte-twice e.singleton, find-fold n es)
 
 at-fold : (es : List Extension) (n : ℕ) → map fold_extension (extension_at (map fold_extension es) n) ≡ map fold_extension (extension_at es n)
-at-fold es n = ap (λ o. map fold_extension (option_map_or (λ e. locale_extension_form e ∷ []) o [])) (find-fold n es) ∙ by_found (find_extension n es)
-  where
-    by_found :
-        (o : Option Extension) →
-        map fold_extension (option_map_or (λ e. locale_extension_form e ∷ []) (option_map fold_extension o) []) ≡ map fold_extension (option_map_or (λ e. locale_extension_form e ∷ []) o [])
-    by_found None = refl
-    by_found (Some e) = ap (λ x. x ∷ []) (extension-alike e)
+at-fold es n = grind (arith, common_steps, find-fold, extension-alike)
 
 all-fold : (es : List Extension) (ns : List ℕ) → map fold_extension (flat_map (extension_at (map fold_extension es)) ns) ≡ map fold_extension (flat_map (extension_at es) ns)
 all-fold es [] = refl

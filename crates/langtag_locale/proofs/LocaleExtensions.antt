@@ -1,4 +1,6 @@
 -- A list of extensions, of which some were found to be allowed.
+use Rattle.std.proofs.Common.{rules}
+use Rattle.std.proofs.lemmas.Grind.{common_steps}
 use Rattle.std.proofs.Common.{◌≡◌, ◌==◌, ◌<◌, List, ℕ, Bool, [], ◌∷◌, ◌++◌, ◌&&◌, true, false, cond, length, get_or, map, Option, None, Some, option_map, refl, sym, ap, ◌∙◌, arith, append-nil}
 use Rattle.std.proofs.lemmas.Bool.{false≢true}
 use Rattle.std.proofs.lemmas.Bool.Decides.{nat_tests}
@@ -100,21 +102,7 @@ none_spelled (e ∷ es) text spells none = absurd (omega (arith, length-join (e.
 -- a singleton with which no text begins
 pub not_noted : (singleton : ℕ) (es : List Extension) → of_singleton singleton (map extension_spelling es) ≡ [] → find_extension singleton es ≡ None
 not_noted singleton [] none = refl
-not_noted singleton (e ∷ es) none = by_test (are_alike_bytes singleton e.singleton) refl (not_noted singleton es)
-  where
-    others : List (List ℕ)
-    others = of_singleton singleton (map extension_spelling es)
-
-    first : cond (are_alike_bytes singleton e.singleton) (extension_spelling e ∷ others) others ≡ []
-    first = sym (ap (λ b. cond (are_alike_bytes singleton b) (extension_spelling e ∷ others) others) (first_byte-spelling e)) ∙ none
-
-    by_test :
-        (b : Bool) → are_alike_bytes singleton e.singleton ≡ b → (others ≡ [] → find_extension singleton es ≡ None) → find_extension singleton (e ∷ es) ≡ None
-    by_test true same later = absurd (omega (arith, ap length (sym (ap (λ b. cond b (extension_spelling e ∷ others) others) same) ∙ first)))
-    by_test false apart later =
-        let other : (fold_byte e.singleton == fold_byte singleton) ≡ false = grind (arith, nat_tests, apart) in
-        ap (λ b. cond b (Some e) (find_extension singleton es)) other
-        ∙ later (sym (ap (λ b. cond b (extension_spelling e ∷ others) others) apart) ∙ first)
+not_noted singleton (e ∷ es) none = grind (arith, common_steps, not_noted singleton es, first_byte-spelling)
 
 -- ---- the forms
 

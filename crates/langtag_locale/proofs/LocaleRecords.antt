@@ -1,4 +1,6 @@
 -- The form of a Unicode locale identifier is a tag.
+use Rattle.std.proofs.Common.{rules}
+use Rattle.std.proofs.lemmas.Grind.{common_steps}
 use Rattle.std.proofs.Common.{◌≡◌, ℕ, ◌≤◌, Bool, true, false, List, [], ◌∷◌, length, Option, Some, None, inl, inr, refl, sym, ap, subst, ◌∙◌, arith}
 use Rattle.std.proofs.lemmas.Bool.Decides.{nat_tests}
 use Rattle.std.specs.Prelude.{IfSome, IsTrue}
@@ -92,32 +94,16 @@ transform_language_good : (ss : List (List ℕ)) → is_language_or_none ss ≡ 
 transform_language_good ss is = grind (arith, nat_tests, both, identifier_good, form_subtags, fields_good, new_variants_good, different_variants)
 
 transform_good : (ss : List (List ℕ)) → Good ss → is_transform ss ≡ true → Good (locale_transform_form ss)
-transform_good ss good is =
-    each-append _ (transform_language_form (before_key is_field_key ss)) (keywords_form is_field_key transform_value ss)
-    (transform_language_good (before_key is_field_key ss) (both (is_language_or_none (before_key is_field_key ss)) (are_fields false false ss) is).0)
-    (good-keywords is_field_key transform_value good-transform ss good)
+transform_good ss good is = grind (arith, common_steps, each-append, transform_language_good, both, good-keywords, good-transform)
 
 -- ---- extensions
 
 extension_good : (e : Extension) → IsWellFormedExtension e → is_locale_extension e ≡ true → IsWellFormedExtension (locale_extension_form e)
 unfolding class.is_singleton class.is_letter class.is_digit class.is_mark
-extension_good e fits allowed = subst IsWellFormedExtension (sym (locale_form_tested _ _ e refl refl)) (by_tests (is_of 117 e) (is_of 116 e) refl refl)
-  where
-    by_tests : (a b : Bool) → is_of 117 e ≡ a → is_of 116 e ≡ b → IsWellFormedExtension (locale_form_by a b e)
-    by_tests true b one two = record { singleton = refl; some = some-unicode_form e.subtags fits.subtags fits.some; subtags = good-unicode_form e.subtags fits.subtags }
-    by_tests false true one two = record {
-      singleton = refl;
-      some = some-transform transform_language_form (λ s ss. omega arith) e.subtags fits.subtags fits.some;
-      subtags = transform_good e.subtags fits.subtags (transform_allowed e one two allowed);
-    }
-    by_tests false false one two = fits
+extension_good e fits allowed = grind (arith, common_steps, locale_form_tested, locale_form_by, some-unicode_form, good-unicode_form, some-transform, transform_good, transform_allowed)
 
 at_good : (es : List Extension) → AllByRecursion IsWellFormedExtension es → list_all is_locale_extension es ≡ true → (n : ℕ) → AllByRecursion IsWellFormedExtension (extension_at es n)
-at_good es fits allowed n = by_found (find_extension n es) refl
-  where
-    by_found : (o : Option Extension) → find_extension n es ≡ o → AllByRecursion IsWellFormedExtension (option_map_or (λ e. locale_extension_form e ∷ []) o [])
-    by_found None none = tt
-    by_found (Some e) found = (extension_good e (extension_found n es fits e found) (found_has is_locale_extension _ es e allowed found), tt)
+at_good es fits allowed n = grind (arith, common_steps, extension_good, extension_found, found_has)
 
 extensions_good :
     (es : List Extension) → AllByRecursion IsWellFormedExtension es → list_all is_locale_extension es ≡ true → (ns : List ℕ) → AllByRecursion IsWellFormedExtension (flat_map (extension_at es) ns)

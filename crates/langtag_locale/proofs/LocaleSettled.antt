@@ -1,4 +1,7 @@
 -- The form of a Unicode locale identifier is a Unicode locale identifier.
+use Rattle.std.proofs.Common.{rules}
+use Rattle.std.proofs.lemmas.Grind.{common_steps}
+use Rattle.std.proofs.Common.{arith}
 use Rattle.std.proofs.Common.{◌≡◌, ℕ, Bool, true, false, cond, ◌&&◌, List, [], ◌∷◌, ◌++◌, map, Option, Some, None, refl, sym, ap, ◌∙◌}
 use Rattle.std.specs.List.{AllByRecursion, flat_map, list_all}
 use Rattle.std.specs.Option.{is_none, option_map_or}
@@ -76,13 +79,7 @@ form-allowed e fits allowed = ap is_locale_extension (locale_form_tested _ _ e r
 forms-allowed :
     (es : List Extension) → AllByRecursion IsWellFormedExtension es → list_all is_locale_extension es ≡ true → (ns : List ℕ) → list_all is_locale_extension (flat_map (extension_at es) ns) ≡ true
 forms-allowed es fits allowed [] = refl
-forms-allowed es fits allowed (n ∷ ns) = by_found (find_extension n es) refl (forms-allowed es fits allowed ns)
-  where
-    by_found :
-        (o : Option Extension) → find_extension n es ≡ o → list_all is_locale_extension (flat_map (extension_at es) ns) ≡ true →
-        list_all is_locale_extension (option_map_or (λ e. locale_extension_form e ∷ []) o [] ++ flat_map (extension_at es) ns) ≡ true
-    by_found None none later = later
-    by_found (Some e) found later = both_true _ _ (form-allowed e (extension_found n es fits e found) (found_has is_locale_extension _ es e allowed found)) later
+forms-allowed es fits allowed (n ∷ ns) = grind (arith, common_steps, forms-allowed es fits allowed ns, both_true, form-allowed, extension_found, found_has)
 
 -- ---- the record
 

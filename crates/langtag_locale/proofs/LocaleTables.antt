@@ -1,4 +1,7 @@
 -- The tables of language identifiers have what the lists say, and what replaces a field has its class: by computation.
+use Rattle.std.proofs.Common.{rules}
+use Rattle.std.proofs.lemmas.Grind.{common_steps}
+use Rattle.std.proofs.Common.{arith}
 use Rattle.std.proofs.Common.{◌≡◌, ℕ, Bool, true, false, cond, List, [], ◌∷◌, map, option_map, Option, None, Some, refl, sym, ap, ◌∙◌}
 use Rattle.std.specs.Prelude.{find}
 use Rattle.std.specs.List.{list_all}
@@ -70,19 +73,11 @@ scripts_good = refl
 pub found_good :
     (good : List ℕ → Bool) (test : Alias → Bool) (aliases : List Alias) (new : List ℕ) → list_all (λ alias. good alias.new) aliases ≡ true →
     option_map (λ alias. alias.new) (find test aliases) ≡ Some new → good new ≡ true
-found_good good test aliases new all is = by_found (find test aliases) refl is
-  where
-    by_found : (o : Option Alias) → find test aliases ≡ o → option_map (λ alias. alias.new) o ≡ Some new → good new ≡ true
-    by_found None found is = absurd cc
-    by_found (Some a) found is = let same : a.new ≡ new = cc in ap good (sym same) ∙ found_has (λ (alias : Alias). good alias.new) test aliases a all found
+found_good good test aliases new all is = grind (arith, common_steps, found_has)
 
 -- the heir is good if the likely region is good where it is among the regions
 pub heir_good :
     (good : List ℕ → Bool) (likely : List ℕ) (regions : List (List ℕ)) → (has_variant regions likely ≡ true → good likely ≡ true) → good [] ≡ true → list_all good regions ≡ true →
     good (heir likely regions) ≡ true
 heir_good good likely [] one none all = none
-heir_good good likely (first ∷ others) one none all = by_test (has_variant (first ∷ others) likely) refl
-  where
-    by_test : (b : Bool) → has_variant (first ∷ others) likely ≡ b → good (cond b likely first) ≡ true
-    by_test true has = one has
-    by_test false none = (both (good first) (list_all good others) all).0
+heir_good good likely (first ∷ others) one none all = grind (arith, common_steps, both)

@@ -1,4 +1,7 @@
 -- The form of a Unicode locale identifier is its own form, and alike identifiers have the same form.
+use Rattle.std.proofs.Common.{rules}
+use Rattle.std.proofs.lemmas.Grind.{common_steps}
+use Rattle.std.proofs.Common.{arith}
 use Rattle.std.proofs.Common.{◌≡◌, ℕ, Bool, true, false, cond, ◌||◌, ◌==◌, List, [], ◌∷◌, ◌++◌, Option, None, Some, option_map, unwrap_or, refl, sym, ap, subst, ◌∙◌, eqb-true}
 use Rattle.std.specs.List.{AllByRecursion, flat_map, list_all, list_any}
 use Rattle.std.specs.Option.{option_map_or}
@@ -34,36 +37,7 @@ found-again :
     (n : ℕ) (es : List Extension) (ns : List ℕ) →
     find_extension n (flat_map (extension_at es) ns) ≡ cond (list_any (λ m. fold_byte m == fold_byte n) ns) (option_map locale_extension_form (find_extension n es)) None
 found-again n es [] = refl
-found-again n es (m ∷ ns) = by_found (find_extension m es) refl (found-again n es ns)
-  where
-    either_none : (b : Bool) (o : Option Extension) → o ≡ None → cond b o None ≡ None
-    either_none true o none = none
-    either_none false o none = refl
-
-    by_found :
-        (o : Option Extension) → find_extension m es ≡ o →
-        find_extension n (flat_map (extension_at es) ns) ≡ cond (list_any (λ k. fold_byte k == fold_byte n) ns) (option_map locale_extension_form (find_extension n es)) None →
-        find_extension n (option_map_or (λ e. locale_extension_form e ∷ []) o [] ++ flat_map (extension_at es) ns)
-        ≡ cond ((fold_byte m == fold_byte n) || list_any (λ k. fold_byte k == fold_byte n) ns) (option_map locale_extension_form (find_extension n es)) None
-    by_found None none later = by_same (fold_byte m == fold_byte n) refl
-      where
-        by_same :
-            (b : Bool) → (fold_byte m == fold_byte n) ≡ b →
-            find_extension n (flat_map (extension_at es) ns) ≡ cond (b || list_any (λ k. fold_byte k == fold_byte n) ns) (option_map locale_extension_form (find_extension n es)) None
-        by_same true same =
-            let absent : option_map locale_extension_form (find_extension n es) ≡ None = ap (option_map locale_extension_form) (sym (same-found m n es (eqb-true _ _ same)) ∙ none) in
-            later ∙ either_none (list_any (λ k. fold_byte k == fold_byte n) ns) _ absent ∙ sym absent
-        by_same false other = later
-    by_found (Some e) found later =
-        ap (λ b. cond (b == fold_byte n) (Some (locale_extension_form e)) (find_extension n (flat_map (extension_at es) ns))) (form_singleton e ∙ eqb-true _ _ (found_is _ es e found))
-        ∙ by_same (fold_byte m == fold_byte n) refl
-      where
-        by_same :
-            (b : Bool) → (fold_byte m == fold_byte n) ≡ b →
-            cond b (Some (locale_extension_form e)) (find_extension n (flat_map (extension_at es) ns))
-            ≡ cond (b || list_any (λ k. fold_byte k == fold_byte n) ns) (option_map locale_extension_form (find_extension n es)) None
-        by_same true same = ap (option_map locale_extension_form) (sym found ∙ same-found m n es (eqb-true _ _ same))
-        by_same false other = later
+found-again n es (m ∷ ns) = grind (arith, common_steps, found-again n es ns, same-found, form_singleton, found_is)
 
 -- each singleton is among them: by computation
 all_singletons : list_all (λ n. list_any (λ m. fold_byte m == fold_byte n) singletons) singletons ≡ true

@@ -72,9 +72,6 @@ record_form-none r outside = grind (arith, nat_tests)
 pub none_form : (tag : List ℕ) → (IsLocale tag → ⊥) → IsLocaleForm tag None
 none_form tag outside = record { part = λ r spells. record_form-none r (λ locale. outside (r, spells, locale)); absent = λ other. refl }
 
-form_from : (tag form : List ℕ) (is : IsLocale tag) → IsLocaleForm tag (Some form) → form ≡ locale_text is.0
-form_from tag form is of = grind (arith, nat_tests)
-
 -- ---- the form of any tag
 
 pub own_form : (tag : List ℕ) (form : Option (List ℕ)) → IsLocale tag → IsLocaleForm tag form → IsWholeForm tag form

@@ -1,4 +1,7 @@
 -- The form of any tag is that of a Unicode locale identifier, and its own form; alike tags have the same form.
+use Rattle.std.proofs.Common.{rules}
+use Rattle.std.proofs.lemmas.Grind.{common_steps}
+use Rattle.std.proofs.Common.{arith}
 use Rattle.std.proofs.Common.{◌≡◌, ℕ, Bool, true, false, cond, List, [], ◌∷◌, map, Option, Some, None, inl, inr, refl, sym, ap, ◌∙◌}
 use Rattle.std.proofs.lemmas.Option.{none-some}
 use Rattle.langtag.specs.Part.{PartOf}
@@ -49,14 +52,7 @@ part-alike f same a b x y alike p q = elim (normal_or_not a) [
 replaced-fold : (es : List (List ℕ)) (r : Record) → fold_record (replace_language es r) ≡ replace_language (map fold_text es) (fold_record r)
 replaced-fold [] r = refl
 replaced-fold (e ∷ f ∷ es) r = refl
-replaced-fold (e ∷ []) r =
-    by_test (is_registered_extlang e)
-    ∙ ap (λ b. cond b (record (fold_record r) { primary = fold_text e; extended = [] }) (fold_record r)) (sym (registered_extlang-alike (fold_text e) e (fold_text-twice e)))
-  where
-    by_test :
-        (b : Bool) → fold_record (cond b (record r { primary = e; extended = [] }) r) ≡ cond b (record (fold_record r) { primary = fold_text e; extended = [] }) (fold_record r)
-    by_test true = refl
-    by_test false = refl
+replaced-fold (e ∷ []) r = grind (arith, common_steps, registered_extlang-alike, fold_text-twice)
 
 replaced-alike : (r q : Record) → AlikeRecords r q → AlikeRecords (extlang_replaced r) (extlang_replaced q)
 replaced-alike r q alike = replaced-fold r.extended r ∙ ap (λ x. replace_language x.extended x) alike ∙ sym (replaced-fold q.extended q)
