@@ -1,6 +1,5 @@
 -- The lengths of subtags and of tags.
-use Rattle.std.proofs.Common.{◌≡◌, ℕ, ◌+◌, ◌≤◌, ◌&&◌, ◌==◌, not, Bool, true, List, [], ◌∷◌, ◌++◌, length, refl, sym, ap, ◌∙◌, arith, eqb-true, rules}
-use Rattle.std.proofs.lemmas.Bool.{false≢true}
+use Rattle.std.proofs.Common.{◌≡◌, ℕ, ◌+◌, ◌≤◌, ◌&&◌, ◌==◌, not, Bool, true, List, [], ◌∷◌, ◌++◌, length, refl, sym, ap, ◌∙◌, arith, rules}
 use Rattle.std.proofs.lemmas.Grind.{common_steps}
 use Rattle.std.specs.List.{flat_map, list_all}
 use Rattle.langtag_scan.proofs.Joins.{length-join}
@@ -9,8 +8,6 @@ use Rattle.langtag_scan.specs.Case.{fold_byte}
 use Rattle.langtag_scan.specs.Record.{Extension, Record, extension_flat, spell}
 use Rattle.langtag_scan.specs.Subtags.{join, subtags}
 use Rattle.langtag_keyword.specs.Keys.{length_with_hyphens}
-use Rattle.langtag_keyword.specs.Keywords.{is_key}
-use Rattle.langtag_keyword.specs.Transform.{is_field_key}
 use Rattle.langtag_keyword.proofs.SubtagTexts.{length-with_hyphens}
 use Rattle.langtag_scan.proofs.PartOffsets.{length-spell}
 

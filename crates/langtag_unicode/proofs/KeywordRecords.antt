@@ -1,15 +1,12 @@
 -- A tag with a keyword set or removed is a tag: its extensions are well-formed.
-use Rattle.std.proofs.Common.{rules}
 use Rattle.std.proofs.lemmas.Grind.{common_steps}
-use Rattle.std.proofs.Common.{◌≡◌, ℕ, Bool, true, false, cond, ◌||◌, List, [], ◌∷◌, ◌++◌, find, Option, None, Some, unwrap_or, refl, ap, arith}
+use Rattle.std.proofs.Common.{◌≡◌, ℕ, Bool, true, false, List, [], ◌∷◌, find, Option, None, Some, unwrap_or, refl, arith}
 use Rattle.std.proofs.lemmas.Bool.{and_parts, false≢true}
 use Rattle.std.specs.List.{AllByRecursion}
-use Rattle.std.specs.Option.{is_some}
-use Rattle.langtag_extension.specs.Spelling.{find_extension}
-use Rattle.langtag_scan.specs.Class.{is_alphanumeric, is_digit, is_extension_subtag, is_letter, is_mark, is_singleton}
+use Rattle.langtag_scan.specs.Class.{is_digit, is_extension_subtag, is_letter, is_mark, is_singleton}
 use Rattle.langtag_scan.specs.Record.{Extension, IsWellFormed, IsWellFormedExtension, Record}
 use Rattle.langtag_scan.proofs.SubtagLists.{each-append}
-use Rattle.langtag_keyword.specs.Edit.{at_place, belongs, changed_from, edited, edited_record, extension_of, is_place, is_place_of_u, is_this_key, is_unicode_key, keyword_error, put_keyword, without_keyword, without_within}
+use Rattle.langtag_keyword.specs.Edit.{at_place, changed_from, edited, edited_record, extension_of, is_this_key, is_unicode_key, keyword_error, put_keyword, without_within}
 use Rattle.langtag_unicode.proofs.FormRecords.{Good, good-key}
 use Rattle.langtag_keyword.proofs.KeywordLaws.{allowed_from, types-each}
 

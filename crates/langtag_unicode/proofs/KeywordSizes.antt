@@ -1,6 +1,5 @@
 -- How long a tag may become when a keyword is set or removed.
-use Rattle.std.proofs.Common.{rules}
-use Rattle.std.proofs.Common.{◌≡◌, ℕ, ◌+◌, ◌≤◌, Bool, true, false, cond, List, [], ◌∷◌, ◌++◌, length, find, None, Some, unwrap_or, refl, arith}
+use Rattle.std.proofs.Common.{◌≡◌, ℕ, ◌+◌, ◌≤◌, Bool, true, false, List, [], ◌∷◌, length, find, None, Some, unwrap_or, refl, arith}
 use Rattle.std.proofs.lemmas.Bool.{and_parts}
 use Rattle.std.proofs.lemmas.Grind.{common_steps}
 use Rattle.std.specs.List.{flat_map}
@@ -13,7 +12,7 @@ use Rattle.langtag_scan.specs.Case.{are_alike}
 use Rattle.langtag_scan.specs.Record.{Extension, Record, extension_flat, spell}
 use Rattle.langtag_scan.specs.Subtags.{subtags}
 use Rattle.langtag_scan.specs.Tag.{IsNormal}
-use Rattle.langtag_keyword.specs.Edit.{at_place, belongs, changed_from, edited_record, extension_of, is_place, is_place_of_u, is_this_key, put_keyword, with_keyword, without_keyword, without_within}
+use Rattle.langtag_keyword.specs.Edit.{at_place, changed_from, edited_record, extension_of, is_place_of_u, is_this_key, put_keyword, with_keyword, without_keyword, without_within}
 use Rattle.langtag_keyword.specs.Keywords.{is_key}
 use Rattle.langtag_keyword.proofs.ExtensionsPut.{flat-last}
 use Rattle.langtag_unicode.proofs.FormSizes.{bytes-most, extensions-length, size, size-append, subtags-size}

@@ -8,7 +8,6 @@ use Rattle.std.proofs.lemmas.Bool.Decides.{nat_tests}
 use Rattle.std.proofs.lemmas.List.Folds.{list_any-append}
 use Rattle.std.proofs.lemmas.Map.Steps.{list_any_congr}
 use Rattle.langtag_scan.specs.Case.{fold_text, are_alike, Alike}
-use Rattle.langtag_scan.specs.CaseLaws.{on_alike_equiv}
 use Rattle.langtag_scan.specs.Subtags.{join}
 use Rattle.langtag_scan.proofs.CaseLaw.{is_letter-fold, is_digit-fold, length-fold}
 use Rattle.langtag_keyword.specs.Keywords.{Keyword, before_key, value_among, value_of, is_key, keywords_after, keywords_of}
