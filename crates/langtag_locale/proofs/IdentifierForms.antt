@@ -1,12 +1,10 @@
 -- The form of a language identifier has a language, and maybe a script and a region.
-use Rattle.std.proofs.Common.{rules}
-use Rattle.std.proofs.Common.{◌≡◌, ℕ, Bool, true, false, cond, List, [], ◌∷◌, ◌++◌, ◌&&◌, ◌==◌, length, map, fold, Option, Some, None, option_map, unwrap_or, refl, sym, ap, ◌∙◌, append_assoc, arith}
+use Rattle.std.proofs.Common.{◌≡◌, ℕ, Bool, true, false, cond, List, [], ◌∷◌, ◌++◌, ◌&&◌, length, fold, Option, Some, None, option_map, unwrap_or, refl, sym, ap, ◌∙◌, append_assoc, arith}
 use Rattle.std.proofs.lemmas.Grind.{common_steps}
 use Rattle.std.proofs.lemmas.List.{length-map}
 use Rattle.std.specs.List.{flat_map, list_all}
-use Rattle.std.specs.Option.{is_none, option_map_or}
-use Rattle.std.specs.Prelude.{IfSome, IsTrue, codes, find}
-use Rattle.langtag.specs.Repeat.{are_alike_bytes, repeat}
+use Rattle.std.specs.Option.{option_map_or}
+use Rattle.std.specs.Prelude.{IfSome, IsTrue}
 use Rattle.langtag_case.proofs.RecommendedLaws.{recommended_alike}
 use Rattle.langtag_case.specs.RecommendedCase.{recommended_text}
 use Rattle.langtag.proofs.FieldClasses.{from_region, from_script}
@@ -29,7 +27,7 @@ use Rattle.langtag_scan.specs.Subtags.{segments}
 use Rattle.langtag_scan.specs.Tag.{IsNormal}
 use Rattle.langtag_keyword.specs.Alias.{Alias, TypeAlias, alias_for}
 use Rattle.langtag_keyword.specs.Form.{is_unicode_language}
-use Rattle.langtag_locale.specs.Locale.{is_locale_extension, is_locale_record}
+use Rattle.langtag_locale.specs.Locale.{is_locale_record}
 use Rattle.langtag_locale.specs.LocaleAliases as list
 use Rattle.langtag_locale.specs.LocaleForm as form
 use Rattle.langtag_locale.specs.LocaleForm.{IsLocaleForm, extensions_in_order, has_variant, identifier_form, language_after, locale_record, locale_text, new_variants, record_fields, sign_for}

@@ -2,17 +2,17 @@
 use Rattle.std.proofs.Common.{rules}
 use Rattle.std.proofs.lemmas.Grind.{common_steps}
 use Rattle.std.proofs.Common.{arith}
-use Rattle.std.proofs.Common.{◌≡◌, ℕ, true, false, not, cond, List, [], ◌∷◌, ◌++◌, ◌&&◌, ◌||◌, None, option_map, unwrap_or, refl, sym, ap, ◌∙◌}
+use Rattle.std.proofs.Common.{◌≡◌, ℕ, true, false, not, List, [], ◌∷◌, ◌&&◌, ◌||◌, None, unwrap_or, refl, sym, ap, ◌∙◌}
 use Rattle.std.proofs.lemmas.Bool.{false_from_ne_true, false≢true, not-true}
 use Rattle.std.specs.List.{AllByRecursion, list_all}
-use Rattle.std.specs.Option.{is_none, is_some, option_map_or}
+use Rattle.std.specs.Option.{is_some, option_map_or}
 use Rattle.std.specs.Prelude.{codes}
-use Rattle.langtag_likely.specs.Aliases.{language_aliases, region_replacements}
+use Rattle.langtag_likely.specs.Aliases.{language_aliases}
 use Rattle.langtag_likely.specs.Likely.{language_alone, likely_for, or_other}
 use Rattle.langtag.specs.Fields.{Fields, subtag_of}
-use Rattle.langtag_likely.specs.Matching.{language_replaced, region_alone, with_language_from}
+use Rattle.langtag_likely.specs.Matching.{language_replaced, with_language_from}
 use Rattle.langtag_scan.proofs.CaseLaw.{fold_text-twice}
-use Rattle.langtag_scan.specs.Case.{Alike, are_alike, fold_text}
+use Rattle.langtag_scan.specs.Case.{Alike, are_alike}
 use Rattle.langtag_scan.specs.CaseLaws.{are_alike-decides}
 use Rattle.langtag_scan.specs.Record.{one_flat}
 use Rattle.langtag_keyword.specs.Alias.{Alias, TypeAlias, alias_for, type_alias_for}

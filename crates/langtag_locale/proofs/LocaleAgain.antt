@@ -1,8 +1,7 @@
 -- The form of a Unicode locale identifier repeats no variant and no singleton, and its `u` is allowed.
-use Rattle.std.proofs.Common.{rules}
 use Rattle.std.proofs.lemmas.Grind.{common_steps}
 use Rattle.std.proofs.Common.{arith}
-use Rattle.std.proofs.Common.{◌≡◌, ℕ, Bool, true, false, not, cond, ◌&&◌, ◌||◌, ◌==◌, List, [], ◌∷◌, ◌++◌, map, Option, Some, None, option_map, refl, sym, ap, subst, ◌∙◌, eqb-true}
+use Rattle.std.proofs.Common.{◌≡◌, ℕ, true, false, not, ◌||◌, ◌==◌, List, [], ◌∷◌, ◌++◌, map, Option, Some, None, refl, ap, ◌∙◌, eqb-true}
 use Rattle.std.proofs.lemmas.Bool.{not-true}
 use Rattle.std.specs.Prelude.{IsTrue}
 use Rattle.std.specs.List.{AllByRecursion, flat_map, list_all}
@@ -13,12 +12,10 @@ use Rattle.langtag.specs.Fields.{Fields}
 use Rattle.langtag_likely.specs.Matching.{language_replaced}
 use Rattle.langtag_scan.proofs.SubtagLists.{each-append}
 use Rattle.langtag_scan.specs.Case.{are_alike, fold_byte, fold_text}
-use Rattle.langtag_scan.specs.CaseLaws.{are_alike-decides}
 use Rattle.langtag_scan.specs.Record.{Extension}
-use Rattle.langtag_scan.specs.Subtags.{join, subtags}
 use Rattle.langtag_keyword.specs.Edit.{is_unicode_key}
-use Rattle.langtag_keyword.specs.Form.{in_alphabet, keys_in_order, is_of, unicode_form, unicode_value}
-use Rattle.langtag_keyword.specs.Keywords.{before_key, is_key, value_of}
+use Rattle.langtag_keyword.specs.Form.{unicode_form}
+use Rattle.langtag_keyword.specs.Keywords.{is_key, value_of}
 use Rattle.langtag_locale.specs.Locale.{is_unicode_subtag}
 use Rattle.langtag_registry.specs.Canonical.{singletons}
 use Rattle.langtag_locale.specs.LocaleForm.{extension_at, extensions_in_order, locale_extension_form, new_variants}

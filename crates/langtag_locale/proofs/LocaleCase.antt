@@ -1,27 +1,24 @@
 -- The case of a tag changes nothing in its form as a Unicode locale identifier.
-use Rattle.std.proofs.Common.{rules}
 use Rattle.std.proofs.lemmas.Grind.{common_steps}
 use Rattle.std.proofs.Common.{arith}
 use Rattle.std.proofs.Common.{◌≡◌, ℕ, Bool, List, [], ◌∷◌, ◌++◌, map, Option, None, Some, option_map, unwrap_or, refl, sym, ap, ◌∙◌}
 use Rattle.std.proofs.lemmas.List.{length-map, map-append}
 use Rattle.std.proofs.lemmas.Option.{slice_get-map}
-use Rattle.std.specs.Prelude.{slice_get}
 use Rattle.std.specs.List.{list_any}
-use Rattle.std.specs.Option.{is_none, option_and_then}
+use Rattle.std.specs.Option.{is_none}
 use Rattle.langtag.specs.Repeat.{are_alike_bytes, repeat, repeat_index_after}
 use Rattle.langtag_case.proofs.RecommendedLaws.{alike_recommended}
-use Rattle.langtag.proofs.Alike.{AlikeFields}
-use Rattle.langtag.specs.Fields.{Fields, subtag_of}
+use Rattle.langtag.specs.Fields.{subtag_of}
 use Rattle.langtag_scan.proofs.CaseLaw.{fold_byte-twice, fold_text-twice, spelled_alike}
 use Rattle.langtag_scan.specs.AlikeRecords.{AlikeRecords, fold_extension, fold_private_use, fold_record}
-use Rattle.langtag_scan.specs.Case.{Alike, are_alike, fold_byte, fold_text}
+use Rattle.langtag_scan.specs.Case.{Alike, fold_byte, fold_text}
 use Rattle.langtag_scan.specs.Record.{Extension, PrivateUse, Record, spell}
 use Rattle.langtag_locale.specs.Locale.{is_locale_record}
-use Rattle.langtag_locale.specs.LocaleForm.{identifier_form, locale_record, locale_text, record_fields}
+use Rattle.langtag_locale.specs.LocaleForm.{locale_record, locale_text}
 use Rattle.langtag_unicode.proofs.ExtensionCase.{lower-twice}
 use Rattle.langtag_locale.proofs.LocaleExtensionCase.{alike-left, alike-right, all_allowed-fold, extensions-alike}
 use Rattle.langtag_unicode.proofs.FormTwice.{unicode_language-fold}
-use Rattle.langtag_locale.proofs.IdentifierCase.{AreAlike, identifier_form-alike, new_variants-alike}
+use Rattle.langtag_locale.proofs.IdentifierCase.{identifier_form-alike, new_variants-alike}
 
 -- ---- what is repeated
 

@@ -1,10 +1,8 @@
 -- The forms of extensions in a Unicode locale identifier, of texts that are equal but for case.
-use Rattle.std.proofs.Common.{rules}
 use Rattle.std.proofs.lemmas.Grind.{common_steps}
-use Rattle.std.proofs.Common.{◌≡◌, ℕ, Bool, true, false, List, [], ◌∷◌, ◌++◌, map, Option, None, Some, option_map, refl, ap, ◌∙◌, arith}
+use Rattle.std.proofs.Common.{◌≡◌, ℕ, List, [], ◌∷◌, ◌++◌, map, option_map, refl, ap, arith}
 use Rattle.std.proofs.lemmas.List.{map-append}
 use Rattle.std.specs.List.{flat_map, list_all}
-use Rattle.std.specs.Option.{option_map_or}
 use Rattle.std.specs.Str.{bytes_eq}
 use Rattle.std.proofs.lemmas.Bool.Decides.{nat_tests}
 use Rattle.langtag_extension.specs.Spelling.{find_extension}
@@ -12,7 +10,7 @@ use Rattle.langtag.proofs.Alike.{AlikeFields}
 use Rattle.langtag.specs.Fields.{Fields, subtag_of}
 use Rattle.langtag_scan.proofs.CaseLaw.{fold_byte-twice, fold_text-twice}
 use Rattle.langtag_scan.specs.AlikeRecords.{fold_extension}
-use Rattle.langtag_scan.specs.Case.{are_alike, fold_byte, fold_text}
+use Rattle.langtag_scan.specs.Case.{are_alike, fold_text}
 use Rattle.langtag_scan.specs.Record.{Extension, one_flat}
 use Rattle.langtag_keyword.specs.Form as form
 use Rattle.langtag_keyword.specs.Form.{is_of, transform_value}

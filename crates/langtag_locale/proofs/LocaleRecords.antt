@@ -1,14 +1,11 @@
 -- The form of a Unicode locale identifier is a tag.
-use Rattle.std.proofs.Common.{rules}
 use Rattle.std.proofs.lemmas.Grind.{common_steps}
-use Rattle.std.proofs.Common.{◌≡◌, ℕ, ◌≤◌, Bool, true, false, List, [], ◌∷◌, length, Option, Some, None, inl, inr, refl, sym, ap, subst, ◌∙◌, arith}
+use Rattle.std.proofs.Common.{◌≡◌, ℕ, ◌≤◌, true, List, [], ◌∷◌, length, inl, inr, refl, sym, ap, ◌∙◌, arith}
 use Rattle.std.proofs.lemmas.Bool.Decides.{nat_tests}
 use Rattle.std.specs.Prelude.{IfSome, IsTrue}
 use Rattle.std.specs.List.{AllByRecursion, flat_map, list_all}
-use Rattle.std.specs.Option.{option_map_or}
 use Rattle.langtag_case.proofs.RecommendedLaws.{recommended_alike}
 use Rattle.langtag_extension.proofs.ExtensionLookUp.{extension_found}
-use Rattle.langtag_extension.specs.Spelling.{find_extension}
 use Rattle.langtag.specs.FieldClasses.{is_region_field, is_script_field}
 use Rattle.langtag.specs.Fields.{Fields, subtag_of}
 use Rattle.langtag_likely.specs.Matching.{language_replaced}
@@ -23,14 +20,12 @@ use Rattle.langtag_scan.specs.Stage.{Classes}
 use Rattle.langtag_scan.specs.Tag.{IsNormal, IsTag}
 use Rattle.langtag_tables.proofs.Letters.{primary_length}
 use Rattle.langtag_keyword.specs.Alias.{Alias, TypeAlias}
-use Rattle.langtag_keyword.specs.Form.{are_fields, is_language_or_none, is_of, is_transform, keywords_form, transform_value}
-use Rattle.langtag_keyword.specs.Keywords.{before_key}
+use Rattle.langtag_keyword.specs.Form.{is_language_or_none, is_transform}
 use Rattle.langtag_locale.specs.Locale.{is_locale_extension, is_locale_record}
 use Rattle.langtag_locale.specs.LocaleAliases as list
 use Rattle.langtag_registry.specs.Canonical.{singletons}
 use Rattle.langtag_locale.specs.LocaleForm.{extension_at, identifier_form, locale_extension_form, locale_record, locale_text, locale_transform_form, new_variants, record_fields, transform_language_form, variant_form}
 use Rattle.langtag_unicode.specs.Identifier.{identifier_flat}
-use Rattle.langtag_keyword.specs.Transform.{is_field_key}
 use Rattle.langtag_keyword.proofs.Each.{each-alphabet}
 use Rattle.langtag_unicode.proofs.FormRecords.{Good, good-keywords, good-transform, good-unicode_form, some-transform, some-unicode_form}
 use Rattle.langtag_locale.proofs.IdentifierForms.{form_subtags, record_subtags}

@@ -1,13 +1,11 @@
 -- The form of a Unicode locale identifier is a Unicode locale identifier.
-use Rattle.std.proofs.Common.{rules}
 use Rattle.std.proofs.lemmas.Grind.{common_steps}
 use Rattle.std.proofs.Common.{arith}
-use Rattle.std.proofs.Common.{◌≡◌, ℕ, Bool, true, false, cond, ◌&&◌, List, [], ◌∷◌, ◌++◌, map, Option, Some, None, refl, sym, ap, ◌∙◌}
+use Rattle.std.proofs.Common.{◌≡◌, ℕ, Bool, true, false, cond, ◌&&◌, List, [], ◌∷◌, map, refl, sym, ap, ◌∙◌}
 use Rattle.std.specs.List.{AllByRecursion, flat_map, list_all}
-use Rattle.std.specs.Option.{is_none, option_map_or}
+use Rattle.std.specs.Option.{is_none}
 use Rattle.langtag.specs.Repeat.{are_alike_bytes, repeat}
 use Rattle.langtag_extension.proofs.ExtensionLookUp.{extension_found}
-use Rattle.langtag_extension.specs.Spelling.{find_extension}
 use Rattle.langtag.specs.Fields.{Fields}
 use Rattle.langtag_scan.proofs.SubtagLists.{each_from_test, test_from_each}
 use Rattle.langtag_scan.specs.Case.{are_alike, fold_byte}

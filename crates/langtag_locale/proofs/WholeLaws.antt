@@ -1,15 +1,13 @@
 -- The form of any tag is that of a Unicode locale identifier, and its own form; alike tags have the same form.
-use Rattle.std.proofs.Common.{rules}
 use Rattle.std.proofs.lemmas.Grind.{common_steps}
 use Rattle.std.proofs.Common.{arith}
-use Rattle.std.proofs.Common.{◌≡◌, ℕ, Bool, true, false, cond, List, [], ◌∷◌, map, Option, Some, None, inl, inr, refl, sym, ap, ◌∙◌}
+use Rattle.std.proofs.Common.{◌≡◌, ℕ, cond, List, [], ◌∷◌, map, Option, Some, None, inl, inr, refl, sym, ap, ◌∙◌}
 use Rattle.std.proofs.lemmas.Option.{none-some}
 use Rattle.langtag.specs.Part.{PartOf}
 use Rattle.langtag.specs.Registered.{IsGrandfathered}
 use Rattle.langtag_registry.proofs.AlikeForms.{grandfathered_alike, preferred_tag-alike}
 use Rattle.langtag_registry.proofs.ReplacedSubtags.{registered_extlang-alike}
 use Rattle.langtag_registry.specs.Fields.{preferred_tag}
-use Rattle.langtag_registry.specs.Registered.{is_registered_extlang}
 use Rattle.langtag_scan.proofs.CaseLaw.{alike_normal, alike_parts, fold_text-twice}
 use Rattle.langtag_scan.proofs.NormalTexts.{normal_or_not}
 use Rattle.langtag_scan.specs.AlikeRecords.{AlikeRecords, fold_record}
