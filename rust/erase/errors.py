@@ -31,6 +31,8 @@ class Item:
 
     def __init__(self, code, place):
         while code[place] not in ("struct", "enum"):
+            if not code[place]:
+                raise ValueError("no struct or enum")
             place = code.after(place)
         self.kind, self.name, self.start = code[place], code[place + 1], place
         generic = code.tokens[place + 3] if code[place + 2] == "<" else None

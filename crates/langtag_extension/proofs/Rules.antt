@@ -1,16 +1,19 @@
 -- The one list that spells a text is found again in it, and the tests of its subtags say whether there is one.
-use Rattle.std.proofs.Common.{◌≡◌, ◌↔◌, ℕ, Bool, true, IsTrue, List, [], ◌∷◌, drop, refl, ap, ◌∙◌, arith, map, rules}
+use Rattle.std.proofs.Common.{◌≡◌, ◌↔◌, ℕ, Bool, true, IsTrue, List, [], ◌∷◌, drop, ◌==◌, refl, ap, ◌∙◌, arith, map, rules}
 use Rattle.std.specs.List.{list_all, AllByRecursion, flat_map}
 use Rattle.std.proofs.lemmas.Bool.{and_parts}
 use Rattle.std.proofs.lemmas.Grind.{common_steps}
+use Rattle.langtag_scan.specs.Case.{fold_text, are_alike}
 use Rattle.langtag_scan.specs.Class.{is_singleton, is_extension_subtag}
 use Rattle.langtag_scan.specs.Record.{Extension, IsWellFormedExtension, extension_flat}
 use Rattle.langtag_scan.specs.Subtags.{join, subtags}
+use Rattle.langtag_scan.proofs.AlikeClasses.{each_test-fold, subtags_test-fold, alike_subtags_test}
+use Rattle.langtag_scan.proofs.CaseLaw.{classes-fold, length-fold, join-fold}
 use Rattle.langtag_scan.proofs.BoolFacts.{between_true}
 use Rattle.langtag_scan.proofs.SubtagFacts.{IsSubtag, of_one, of_extension_subtag, singleton_alphanumeric}
 use Rattle.langtag_scan.proofs.SubtagLists.{each_from_test, test_from_each, each_subtag, subtags-joined, join-subtags, length-after_first, each-append}
-use Rattle.langtag_extension.specs.ExtensionTexts.{goes_on, opens, groups, extension_texts}
-use Rattle.langtag_extension.specs.Decided.{is_extension_list, is_extension_text, are_extension_texts, is_extensions_text, are_extension_subtags}
+use Rattle.langtag_extension.specs.ExtensionTexts.{goes_on, opens, put_first, groups, group_texts, extension_texts}
+use Rattle.langtag_extension.specs.Decided.{is_singleton_alone, is_extension_list, is_extension_text, are_extension_texts, is_extensions_text, are_extension_subtags}
 use Rattle.langtag_extension.specs.Spelling.{extension_spelling, SpellsExtension, IsExtension, SpellsExtensions, IsExtensions}
 use Rattle.langtag_extension.proofs.WalkLemmas.{groups-first}
 use Rattle.langtag_extension.proofs.Joins.{join-group_texts, join-spellings}
@@ -55,6 +58,21 @@ IsExtension-from_test text pass = grind (arith, common_steps, extension_of_list 
 -- an answer that is the test decides the rule
 pub IsExtension-decided : (text : List ℕ) (answer : Bool) → answer ≡ is_extension_text text → IsTrue answer ↔ IsExtension text
 IsExtension-decided text answer tested = grind (arith, common_steps, IsExtension-from_test text, is_extension_text-from_rule text)
+
+-- an extension in another case is one
+alike_singleton : (s : List ℕ) → is_singleton_alone (fold_text s) ≡ is_singleton_alone s
+alike_singleton [] = refl
+alike_singleton (b ∷ []) = ap (λ c. c.singleton) (classes-fold (b ∷ []))
+alike_singleton (b ∷ c ∷ s) = refl
+
+alike_lists : (texts : List (List ℕ)) → is_extension_list (map fold_text texts) ≡ is_extension_list texts
+alike_lists [] = refl
+alike_lists (singleton ∷ []) = refl
+alike_lists (singleton ∷ first ∷ others) =
+    rw (alike_singleton singleton, each_test-fold is_extension_subtag (λ s. ap (λ c. c.extension_subtag) (classes-fold s)) (first ∷ others)) refl
+
+pub alike_extension : (t u : List ℕ) → IsTrue (are_alike t u) → IsTrue (is_extension_text t) → IsExtension u
+alike_extension t u alike is = IsExtension-from_test u (alike_subtags_test is_extension_list alike_lists t u alike is)
 
 -- the steps from the one to the other
 pub ruleset extension_rules = (IsExtension-from_test, is_extension_text-from_rule, IsExtension-decided)
@@ -123,6 +141,31 @@ IsExtensions-from_test text pass =
 -- an answer that is the test decides the rule
 pub IsExtensions-decided : (text : List ℕ) (answer : Bool) → answer ≡ is_extensions_text text → IsTrue answer ↔ IsExtensions text
 IsExtensions-decided text answer tested = grind (arith, common_steps, IsExtensions-from_test text, is_extensions_text-from_rule text)
+
+-- extensions in another case are cut at the same subtags
+opens-fold : (group : List (List ℕ)) → opens (map fold_text group) ≡ opens group
+opens-fold [] = refl
+opens-fold (s ∷ group) = ap (λ n. n == 1) (length-fold s)
+
+put_first-fold : (s : List ℕ) (gs : List (List (List ℕ))) → put_first (fold_text s) (map (map fold_text) gs) ≡ map (map fold_text) (put_first s gs)
+put_first-fold s [] = refl
+put_first-fold s (group ∷ gs) = grind (arith, common_steps, opens-fold group)
+
+groups-fold : (ss : List (List ℕ)) → groups (map fold_text ss) ≡ map (map fold_text) (groups ss)
+groups-fold [] = refl
+groups-fold (s ∷ ss) = ap (put_first (fold_text s)) (groups-fold ss) ∙ put_first-fold s (groups ss)
+
+are_extension_texts-fold : (gs : List (List (List ℕ))) → are_extension_texts (map join (map (map fold_text) gs)) ≡ are_extension_texts (map join gs)
+are_extension_texts-fold [] = refl
+are_extension_texts-fold (group ∷ gs) =
+    rw (join-fold group, subtags_test-fold is_extension_list alike_lists (join group), are_extension_texts-fold gs) refl
+
+alike_extension_lists : (ss : List (List ℕ)) → are_extension_texts (group_texts (map fold_text ss)) ≡ are_extension_texts (group_texts ss)
+alike_extension_lists ss = ap (λ gs. are_extension_texts (map join gs)) (groups-fold ss) ∙ are_extension_texts-fold (groups ss)
+
+pub alike_extensions : (t u : List ℕ) → IsTrue (are_alike t u) → IsTrue (is_extensions_text t) → IsExtensions u
+alike_extensions t u alike are =
+    IsExtensions-from_test u (alike_subtags_test (λ ss. are_extension_texts (group_texts ss)) alike_extension_lists t u alike are)
 
 -- the steps from the one to the other
 pub ruleset extensions_rules = (IsExtensions-from_test, is_extensions_text-from_rule, IsExtensions-decided)

@@ -97,9 +97,10 @@ impl<'a> Extension<'a> {
     /// Returns whether another text equals this text, ignoring the case of ASCII letters:
     /// `Extension::new("u-co")?.eq_str("U-CO")` is `true`. It is proved that comparisons and hashes also ignore case,
     /// and that a clone is the same value.
-    #[tactic(auto, using(langtag_scan::proofs::CaseOrder::bytes_ends_first))]
+    #[tactic(auto, using(langtag_scan::proofs::CaseOrder::bytes_ends_first, crate::proofs::Rules::alike_extension))]
     pub fn eq_str(&self, other: &str) -> bool
         ensures test { result ≡ are_alike (extension_text self.now) other.now }
+        ensures in_class { IsTrue result → IsExtension other.now }
 
         ensures compared { ExtensionsCompareByCase }
         ensures cloned { (copy : Extension) → ⟦<Extension<'a> as Clone>⟧.is_clone self.now copy → copy ≡ self.now }

@@ -104,9 +104,10 @@ impl<'a> Extensions<'a> {
     /// Returns whether another text equals this text, ignoring the case of ASCII letters:
     /// `Extensions::new("u-co")?.eq_str("U-CO")` is `true`. It is proved that comparisons and hashes also ignore case,
     /// and that a clone is the same value.
-    #[tactic(auto, using(langtag_scan::proofs::CaseOrder::bytes_ends_first))]
+    #[tactic(auto, using(langtag_scan::proofs::CaseOrder::bytes_ends_first, crate::proofs::Rules::alike_extensions))]
     pub fn eq_str(&self, other: &str) -> bool
         ensures test { result ≡ are_alike (extensions_text self.now) other.now }
+        ensures in_class { IsTrue result → IsExtensions other.now }
 
         ensures compared { ExtensionListsCompareByCase }
         ensures cloned { (copy : Extensions) → ⟦<Extensions<'a> as Clone>⟧.is_clone self.now copy → copy ≡ self.now }

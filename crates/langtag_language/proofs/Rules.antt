@@ -1,14 +1,17 @@
 -- A rule and its test say the same: one list of subtags spells a text, and it is what stands between the hyphens.
-use Rattle.std.proofs.Common.{◌≡◌, ◌↔◌, ℕ, true, Bool, IsTrue, List, ◌∷◌, sym, ap, ◌∙◌, arith}
+use Rattle.std.proofs.Common.{◌≡◌, ◌↔◌, ℕ, true, Bool, IsTrue, List, [], ◌∷◌, map, refl, sym, ap, ◌∙◌, arith}
 use Rattle.std.proofs.lemmas.Bool.{leb-true, le-leb, and_parts}
-use Rattle.std.proofs.lemmas.List.{nil_from_length}
+use Rattle.std.proofs.lemmas.List.{nil_from_length, length-map}
 use Rattle.std.proofs.lemmas.Grind.{common_steps}
+use Rattle.langtag_scan.specs.Case.{fold_text, are_alike}
 use Rattle.langtag_scan.specs.Class.{is_extended}
 use Rattle.langtag_scan.specs.Subtags.{join, subtags}
+use Rattle.langtag_scan.proofs.AlikeClasses.{each_test-fold, alike_subtags_test}
+use Rattle.langtag_scan.proofs.CaseLaw.{classes-fold, length-fold}
 use Rattle.langtag_scan.proofs.SubtagFacts.{of_primary, of_extended}
 use Rattle.langtag_scan.proofs.SubtagLists.{each_from_test, test_from_each, each_subtag, subtags-joined, join-subtags}
 use Rattle.langtag_language.specs.Language.{SpellsLanguageExtension, IsLanguageExtension, SpellsLanguage, IsLanguage}
-use Rattle.langtag_language.specs.Decided.{are_extended, are_language, is_language_extension, is_language}
+use Rattle.langtag_language.specs.Decided.{are_extended, are_extended_within, extended_room, are_language_extension, are_language, is_language_extension, is_language}
 
 -- ---- extlang
 
@@ -38,6 +41,18 @@ IsLanguageExtension-decided text answer same = (λ h. IsLanguageExtension-from_t
 -- the steps from the one to the other
 pub ruleset extension_rules = (SpellsLanguageExtension-from_test, IsLanguageExtension-from_test, is_language_extension-from_rule, IsLanguageExtension-decided)
 
+-- subtags in other cases are as many, and of the same class
+alike_extended : (room : ℕ) (texts : List (List ℕ)) → are_extended_within room (map fold_text texts) ≡ are_extended_within room texts
+alike_extended room texts = rw (length-map texts fold_text, each_test-fold is_extended (λ s. ap (λ c. c.extended) (classes-fold s)) texts) refl
+
+alike_extension_lists : (texts : List (List ℕ)) → are_language_extension (map fold_text texts) ≡ are_language_extension texts
+alike_extension_lists [] = refl
+alike_extension_lists (first ∷ others) = alike_extended 3 (first ∷ others)
+
+pub alike_language_extension : (t u : List ℕ) → IsTrue (are_alike t u) → IsTrue (is_language_extension t) → IsLanguageExtension u
+alike_language_extension t u alike is =
+    IsLanguageExtension-from_test u (alike_subtags_test are_language_extension alike_extension_lists t u alike is)
+
 -- what the subtags of a language extension are
 pub ruleset extension_members = (SpellsLanguageExtension-from_test, are_extended-from_test)
 
@@ -64,6 +79,15 @@ is_language-from_rule text r = grind (arith, common_steps, subtags-language, tes
 -- both ways, of an answer that is the test
 pub IsLanguage-decided : (text : List ℕ) (answer : Bool) → answer ≡ is_language text → IsTrue answer ↔ IsLanguage text
 IsLanguage-decided text answer same = (λ h. IsLanguage-from_test text (sym same ∙ h), λ r. same ∙ is_language-from_rule text r)
+
+-- a language in another case is a language
+alike_language_lists : (texts : List (List ℕ)) → are_language (map fold_text texts) ≡ are_language texts
+alike_language_lists [] = refl
+alike_language_lists (primary ∷ extended) =
+    rw (ap (λ c. c.primary) (classes-fold primary), length-fold primary, alike_extended (extended_room primary) extended) refl
+
+pub alike_language : (t u : List ℕ) → IsTrue (are_alike t u) → IsTrue (is_language t) → IsLanguage u
+alike_language t u alike is = IsLanguage-from_test u (alike_subtags_test are_language alike_language_lists t u alike is)
 
 -- the steps from the one to the other
 pub ruleset language_rules = (IsLanguage-from_test, is_language-from_rule, IsLanguage-decided)

@@ -97,9 +97,10 @@ impl<'a> Language<'a> {
     /// Returns whether another string equals this string, ignoring the case of ASCII letters:
     /// `Language::new("zh-yue")?.eq_str("ZH-YUE")` is `true`. It is proved that comparisons and hashes also ignore
     /// case, and that a clone is the same value.
-    #[tactic(auto, using(langtag_scan::proofs::CaseOrder::bytes_ends_first))]
+    #[tactic(auto, using(langtag_scan::proofs::CaseOrder::bytes_ends_first, crate::proofs::Rules::alike_language))]
     pub fn eq_str(&self, other: &str) -> bool
         ensures test { result ≡ are_alike (language_text self.now) other.now }
+        ensures in_class { IsTrue result → IsLanguage other.now }
 
         ensures compared { LanguagesCompareByCase }
         ensures cloned { (copy : Language) → ⟦<Language<'a> as Clone>⟧.is_clone self.now copy → copy ≡ self.now }

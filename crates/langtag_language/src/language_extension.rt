@@ -95,9 +95,10 @@ impl<'a> LanguageExtension<'a> {
     /// Returns whether another string equals this string, ignoring the case of ASCII letters:
     /// `LanguageExtension::new("min-nan")?.eq_str("MIN-NAN")` is `true`. It is proved that comparisons and hashes also
     /// ignore case, and that a clone is the same value.
-    #[tactic(auto, using(langtag_scan::proofs::CaseOrder::bytes_ends_first))]
+    #[tactic(auto, using(langtag_scan::proofs::CaseOrder::bytes_ends_first, crate::proofs::Rules::alike_language_extension))]
     pub fn eq_str(&self, other: &str) -> bool
         ensures test { result ≡ are_alike (language_extension_text self.now) other.now }
+        ensures in_class { IsTrue result → IsLanguageExtension other.now }
 
         ensures compared { LanguageExtensionsCompareByCase }
         ensures cloned { (copy : LanguageExtension) → ⟦<LanguageExtension<'a> as Clone>⟧.is_clone self.now copy → copy ≡ self.now }

@@ -1,11 +1,14 @@
 -- The one list of variants that spells a text is the list of its subtags, and the test says whether there is one.
-use Rattle.std.proofs.Common.{◌≡◌, ◌↔◌, ℕ, Bool, IsTrue, List, sym, ◌∙◌, ap, arith}
+use Rattle.std.proofs.Common.{◌≡◌, ◌↔◌, ℕ, Bool, IsTrue, List, map, sym, ◌∙◌, ap, arith}
 use Rattle.std.proofs.lemmas.Grind.{common_steps}
+use Rattle.langtag_scan.specs.Case.{fold_text, are_alike}
 use Rattle.langtag_scan.specs.Class.{is_variant}
 use Rattle.langtag_scan.specs.Subtags.{subtags}
+use Rattle.langtag_scan.proofs.AlikeClasses.{each_test-fold, alike_subtags_test}
+use Rattle.langtag_scan.proofs.CaseLaw.{classes-fold}
 use Rattle.langtag_scan.proofs.SubtagFacts.{of_variant}
 use Rattle.langtag_scan.proofs.SubtagLists.{each_from_test, test_from_each, each_subtag, subtags-joined, join-subtags, length-subtags}
-use Rattle.langtag_place.specs.Decided.{is_variants}
+use Rattle.langtag_place.specs.Decided.{are_variants, is_variants}
 use Rattle.langtag_place.specs.Variants.{IsVariants, SpellsVariants}
 
 -- one text, one list
@@ -30,6 +33,13 @@ IsVariants-decided text answer tested = grind (arith, common_steps, IsVariants-f
 
 -- the steps from the one to the other
 pub ruleset variants_rules = (SpellsVariants-subtags, IsVariants-from_test, is_variants-from_rule, IsVariants-decided)
+
+-- variants in other cases are variants
+alike_lists : (texts : List (List ℕ)) → are_variants (map fold_text texts) ≡ are_variants texts
+alike_lists = each_test-fold is_variant (λ s. ap (λ c. c.variant) (classes-fold s))
+
+pub alike_variants : (t u : List ℕ) → IsTrue (are_alike t u) → IsTrue (is_variants t) → IsVariants u
+alike_variants t u alike are = IsVariants-from_test u (alike_subtags_test are_variants alike_lists t u alike are)
 
 -- no more of them than `count` can answer
 pub ruleset few_variants = (length-subtags)

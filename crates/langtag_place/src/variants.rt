@@ -99,9 +99,10 @@ impl<'a> Variants<'a> {
     /// Returns whether another string equals this string, ignoring the case of ASCII letters:
     /// `Variants::new("rozaj")?.eq_str("ROZAJ")` is `true`. It is proved that comparisons and hashes also ignore case,
     /// and that a clone is the same value.
-    #[tactic(auto, using(langtag_scan::proofs::CaseOrder::bytes_ends_first))]
+    #[tactic(auto, using(langtag_scan::proofs::CaseOrder::bytes_ends_first, crate::proofs::Rules::alike_variants))]
     pub fn eq_str(&self, other: &str) -> bool
         ensures test { result ≡ are_alike (variants_text self.now) other.now }
+        ensures in_class { IsTrue result → IsVariants other.now }
 
         ensures compared { VariantListsCompareByCase }
         ensures cloned { (copy : Variants) → ⟦<Variants<'a> as Clone>⟧.is_clone self.now copy → copy ≡ self.now }

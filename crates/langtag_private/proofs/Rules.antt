@@ -1,15 +1,18 @@
 -- The rule and its test say the same: one private list spells a text, and it is what stands between the hyphens.
-use Rattle.std.proofs.Common.{◌≡◌, ◌↔◌, ℕ, true, Bool, IsTrue, List, [], ◌∷◌, drop, sym, ap, ◌∙◌, arith}
+use Rattle.std.proofs.Common.{◌≡◌, ◌↔◌, ℕ, true, Bool, IsTrue, List, [], ◌∷◌, drop, map, ◌&&◌, refl, sym, ap, ◌∙◌, arith}
 use Rattle.std.proofs.lemmas.Bool.{and_parts}
 use Rattle.std.proofs.lemmas.Grind.{common_steps}
+use Rattle.langtag_scan.specs.Case.{fold_text, are_alike}
 use Rattle.langtag_scan.specs.Class.{is_mark, is_private_subtag}
 use Rattle.langtag_scan.specs.Record.{PrivateUse, IsWellFormedPrivateUse, private_use_flat}
 use Rattle.langtag_scan.specs.Subtags.{join, subtags}
 use Rattle.langtag_scan.specs.Tag.{IsPrivate}
+use Rattle.langtag_scan.proofs.AlikeClasses.{each_test-fold, alike_subtags_test}
+use Rattle.langtag_scan.proofs.CaseLaw.{classes-fold, is_mark-fold}
 use Rattle.langtag_scan.proofs.SubtagFacts.{of_one, of_private_subtag, mark_alphanumeric}
 use Rattle.langtag_scan.proofs.SubtagLists.{each_from_test, test_from_each, each_subtag, subtags-joined, join-subtags, length-after_first}
 use Rattle.langtag_private.specs.PrivateUse.{EachPrivateUseSpelling}
-use Rattle.langtag_private.specs.Decided.{are_private, are_private_use, is_private_use_text}
+use Rattle.langtag_private.specs.Decided.{are_private, is_mark_alone, are_private_use, is_private_use_text}
 
 -- one text, one list
 pub subtags-private : (text : List ℕ) (p : PrivateUse) → IsWellFormedPrivateUse p → join (private_use_flat p) ≡ text → subtags text ≡ private_use_flat p
@@ -44,6 +47,22 @@ IsPrivate-decided text answer same = (λ h. IsPrivate-from_test text (sym same �
 
 -- the steps from the one to the other
 pub ruleset private_rules = (IsPrivate-from_test, is_private_use-from_rule, IsPrivate-decided)
+
+-- a private use part in another case is one
+alike_mark : (s : List ℕ) → is_mark_alone (fold_text s) ≡ is_mark_alone s
+alike_mark [] = refl
+alike_mark (b ∷ []) = is_mark-fold b
+alike_mark (b ∷ c ∷ s) = refl
+
+alike_lists : (texts : List (List ℕ)) → are_private_use (map fold_text texts) ≡ are_private_use texts
+alike_lists [] = refl
+alike_lists (mark ∷ []) = refl
+alike_lists (mark ∷ first ∷ others) =
+    ap (λ is. is && are_private (map fold_text (first ∷ others))) (alike_mark mark)
+    ∙ ap (λ are. is_mark_alone mark && are) (each_test-fold is_private_subtag (λ s. ap (λ c. c.private_subtag) (classes-fold s)) (first ∷ others))
+
+pub alike_private_use : (t u : List ℕ) → IsTrue (are_alike t u) → IsTrue (is_private_use_text t) → IsPrivate u
+alike_private_use t u alike is = IsPrivate-from_test u (alike_subtags_test are_private_use alike_lists t u alike is)
 
 -- ---- the subtags after the mark
 

@@ -94,9 +94,10 @@ impl<'a> PrivateUse<'a> {
     /// Returns whether another string equals this string, ignoring the case of ASCII letters:
     /// `PrivateUse::new("x-twain")?.eq_str("X-TWAIN")` is `true`. It is proved that comparisons and hashes also ignore
     /// case, and that a clone is the same value.
-    #[tactic(auto, using(langtag_scan::proofs::CaseOrder::bytes_ends_first))]
+    #[tactic(auto, using(langtag_scan::proofs::CaseOrder::bytes_ends_first, crate::proofs::Rules::alike_private_use))]
     pub fn eq_str(&self, other: &str) -> bool
         ensures test { result ≡ are_alike (private_use_text self.now) other.now }
+        ensures in_class { IsTrue result → IsPrivateUse other.now }
 
         ensures compared { PrivateUsesCompareByCase }
         ensures cloned { (copy : PrivateUse) → ⟦<PrivateUse<'a> as Clone>⟧.is_clone self.now copy → copy ≡ self.now }

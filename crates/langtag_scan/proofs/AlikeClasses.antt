@@ -47,7 +47,7 @@ subtags-fold (b ∷ t) = segments-fold (b ∷ t)
 
 -- a test of lists of subtags that the fold does not change has the same result for the subtags of alike texts
 module _ (test : List (List ℕ) → Bool) (same : (ss : List (List ℕ)) → test (map fold_text ss) ≡ test ss) where
-  subtags_test-fold : (t : List ℕ) → test (subtags (fold_text t)) ≡ test (subtags t)
+  pub subtags_test-fold : (t : List ℕ) → test (subtags (fold_text t)) ≡ test (subtags t)
   subtags_test-fold t = ap test (subtags-fold t) ∙ same (subtags t)
 
   pub alike_subtags_test : (t u : List ℕ) → IsTrue (are_alike t u) → IsTrue (test (subtags t)) → IsTrue (test (subtags u))
