@@ -7,6 +7,7 @@
 mod alias;
 mod alias_tables;
 mod alphabet;
+mod edited_subtags;
 mod extension_form;
 mod keys;
 mod keyword_check;

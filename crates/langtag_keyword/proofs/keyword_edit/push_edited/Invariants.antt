@@ -4,7 +4,7 @@ use Rattle.langtag_extension.specs.Spelling.{SpellsExtensions}
 use Rattle.langtag_extension.specs.Text.{extensions_left, extensions_text}
 use Rattle.langtag_scan.specs.Record.{Extension, extension_flat}
 use Rattle.langtag_keyword.specs.Edit.{changed_from, with_changed_u}
-use Rattle.langtag_keyword.specs.EditText.{edited_by}
+use Rattle.langtag_keyword.specs.EditText.{edited_by, replaces}
 use Rattle.langtag_keyword.proofs.ExtensionsPut.{AreLeft}
 use Rattle.langtag_keyword.proofs.keyword_edit.push_edited.Given as goal
 
@@ -14,7 +14,7 @@ invariant-loop-extension l = record {
   same_buffer : l.out.buffer.ghost_name ≡ l.fn.out.buffer.ghost_name;
   so_far :
       (es : List Extension) → SpellsExtensions es (extensions_text l.fn.extensions) →
-      AreLeft (λ left. flat_map extension_flat (changed_from (edited_by l.edit) l.stands left)) (flat_map extension_flat (with_changed_u (edited_by l.edit) es))
+      AreLeft (λ left. flat_map extension_flat (changed_from (edited_by l.edit) (replaces l.place) left)) (flat_map extension_flat (with_changed_u (edited_by l.edit) es))
       (extensions_left l.rest) l.fn.out l.out;
 }
 

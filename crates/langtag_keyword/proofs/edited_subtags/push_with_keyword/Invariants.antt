@@ -4,7 +4,7 @@ use Rattle.langtag_output.specs.declared.output.Output.{Output}
 use Rattle.langtag_output.specs.Output.{Pushes}
 use Rattle.langtag_keyword.specs.Edit.{with_keyword}
 use Rattle.langtag_keyword.proofs.KeywordEdits.{put_at_standing}
-use Rattle.langtag_keyword.proofs.keyword_edit.push_with_keyword.Given as goal
+use Rattle.langtag_keyword.proofs.edited_subtags.push_with_keyword.Given as goal
 
 -- the keyword, and those that stay of the rest, are put after those before them
 abbrev pub invariant-loop-rest : goal.invariant-loop-rest

@@ -1,6 +1,6 @@
 use Rattle.std.proofs.Common.{◌∷◌, sym, ◌∙◌}
 use Rattle.langtag_output.proofs.Pushed.{pushes_ended, pushes_next, pushes_same}
-use Rattle.langtag_keyword.proofs.keyword_edit.push_keyword.Goals as goal
+use Rattle.langtag_keyword.proofs.edited_subtags.push_keyword.Goals as goal
 
 pub loop-subtag-preserved : goal.loop-subtag-preserved
 loop-subtag-preserved c = record {

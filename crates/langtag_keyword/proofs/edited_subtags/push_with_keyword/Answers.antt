@@ -4,7 +4,7 @@ use Rattle.langtag_output.proofs.Pushed.{pushes_both, pushes_next, pushes_same}
 use Rattle.langtag_scan.specs.Subtags.{segments_left, subtags}
 use Rattle.langtag_keyword.specs.Edit.{is_place, without_keyword}
 use Rattle.langtag_keyword.proofs.KeywordEdits.{put-here, put-later, put_at_standing, standing-some, standing-text}
-use Rattle.langtag_keyword.proofs.keyword_edit.push_with_keyword.Goals as goal
+use Rattle.langtag_keyword.proofs.edited_subtags.push_with_keyword.Goals as goal
 
 pub returns-then-is_place-clause-pushed : goal.returns-then-is_place-clause-pushed
 returns-then-is_place-clause-pushed c =
@@ -17,7 +17,7 @@ returns-then-is_place-clause-pushed c =
     let others = segments_left c.split_first.result.1 in
     let cut : left ≡ first ∷ others = ap segments_left c.in-Some.is ∙ c.split_first.ensures in
     let here : is_place key (is_some standing) first ≡ true =
-    ap (λ b. is_place key b first) (standing-some c.standing_key-standing.result ∙ sym c.is_some.ensures) ∙ sym c.is_place.ensures ∙ c.if-is_place.true in
+    ap (λ b. is_place key b first) (standing-some c.standing_key-standing.result) ∙ sym c.is_place.ensures ∙ c.if-is_place.true in
     let same : c.unwrap_or.result.now ≡ unwrap_or standing key = ap (λ t. t.now) c.unwrap_or.ensures ∙ standing-text c.standing_key-standing.result c.args.key in
     let keyword = c.unwrap_or.result.now ∷ value in
     let all : keyword ++ without_keyword key left ≡ put left =
@@ -36,7 +36,7 @@ loop-rest-preserved c =
     let first = c.split_first.result.0.now in
     let others = segments_left c.split_first.result.1 in
     let later : is_place key (is_some standing) first ≡ false =
-    ap (λ b. is_place key b first) (standing-some c.standing_key-standing.result ∙ sym c.is_some.ensures) ∙ sym c.is_place.ensures ∙ c.if-is_place.false in
+    ap (λ b. is_place key b first) (standing-some c.standing_key-standing.result) ∙ sym c.is_place.ensures ∙ c.if-is_place.false in
     let all : put (segments_left c.loop-rest.rest) ≡ first ∷ put others =
     ap (λ r. put (segments_left r)) c.in-Some.is ∙ ap put c.split_first.ensures ∙ put-later key first others (is_some standing) (unwrap_or standing key ∷ value) later in
     record {

@@ -3,7 +3,7 @@ use Rattle.langtag_scan.specs.Subtags.{segments_left}
 use Rattle.langtag_output.specs.declared.output.Output.{Output}
 use Rattle.langtag_output.specs.Output.{Pushes}
 use Rattle.langtag_keyword.specs.Edit.{without_keyword, without_within}
-use Rattle.langtag_keyword.proofs.keyword_edit.push_without_keyword.Given as goal
+use Rattle.langtag_keyword.proofs.edited_subtags.push_without_keyword.Given as goal
 
 -- those that stay of the rest are put after those before them
 abbrev pub invariant-loop-rest : goal.invariant-loop-rest

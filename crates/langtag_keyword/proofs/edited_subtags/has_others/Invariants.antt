@@ -1,7 +1,7 @@
 use Rattle.std.proofs.Common.{◌≡◌}
 use Rattle.langtag_scan.specs.Subtags.{subtags}
 use Rattle.langtag_keyword.specs.Edit.{without_keyword, without_within}
-use Rattle.langtag_keyword.proofs.keyword_edit.has_others.Given as goal
+use Rattle.langtag_keyword.proofs.edited_subtags.has_others.Given as goal
 
 -- none of those before this one stays
 abbrev pub invariant-loop-subtag : goal.invariant-loop-subtag

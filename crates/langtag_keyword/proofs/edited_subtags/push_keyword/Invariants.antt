@@ -2,7 +2,7 @@ use Rattle.std.proofs.Common.{◌≡◌, ◌∷◌}
 use Rattle.langtag_scan.specs.Subtags.{subtags}
 use Rattle.langtag_output.specs.declared.output.Output.{Output}
 use Rattle.langtag_output.specs.Output.{Pushes}
-use Rattle.langtag_keyword.proofs.keyword_edit.push_keyword.Given as goal
+use Rattle.langtag_keyword.proofs.edited_subtags.push_keyword.Given as goal
 
 -- those that are left are put after those before them
 abbrev pub invariant-loop-subtag : goal.invariant-loop-subtag
