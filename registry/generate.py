@@ -1,6 +1,6 @@
 #!/usr/bin/env python3
 """Writes files from IANA's language subtag registry, which is beside this file in its original format (RFC 5646 section 3.1.1): the
-tables and lists of the crate langtag_registry, the pages of proofs that compare them, and the names of subtags for Python and JavaScript.
+tables and lists of the crate langtag_registry, and the pages of proofs that compare them.
 
 usage: generate.py            writes them from the registry whose checksum is beside it
        generate.py --accept   writes them from a newer registry, and its checksum
@@ -29,7 +29,6 @@ TABLES = "crates/langtag_registry/src/tables.rt"
 LISTS = "crates/langtag_registry/specs/Subtags.antt"
 PROOFS = "crates/langtag_registry/proofs"
 MODULE = "bindings/postgresql/registry_date.mk"
-NAMES = "bindings/names.txt"
 
 # The lists: the Types of their records.
 SUBTAGS = ["language", "extlang", "script", "region", "variant"]
@@ -173,30 +172,9 @@ def module_date(registry):
     return f"# The date of the registry in the library. Written by registry/generate.py. Do not edit.\nREGISTRY_DATE = {registry.date}\n"
 
 
-# On this day the languages of ISO 639-3 were added to those of ISO 639-1 and 639-2.
-ALL_LANGUAGES = "2009-07-29"
-
-
-def is_named(record):
-    """Returns whether a record gets a name for display. Private use, rare languages and collections with three letters get none."""
-    if "Private use" in record.values("Description"):
-        return False
-    is_common = record.value("Added") < ALL_LANGUAGES and record.value("Scope") != "collection"
-    return record.kind != "language" or len(record.text) == 2 or is_common
-
-
-def names(registry):
-    """Returns lines with a subtag or a grandfathered tag, and its first description. The case of the letters distinguishes the
-    kinds of subtags."""
-    extended = [record for record in registry.all("extlang") if any(len(prefix) == 2 for prefix in record.values("Prefix"))]
-    named = [record for kind in ("language", "script", "region", "variant", "grandfathered") for record in registry.all(kind) if is_named(record)]
-    found = {record.text: re.sub(r" \((macrolanguage|individual language)\)$", "", record.value("Description")) for record in extended + named}
-    return "".join(f"{text} {found[text]}\n" for text in sorted(found))
-
-
 def written(registry):
     """Returns the files that are made from a registry: the path and the text of each."""
-    files = {TABLES: tables(registry), LISTS: lists(registry), MODULE: module_date(registry), NAMES: names(registry)}
+    files = {TABLES: tables(registry), LISTS: lists(registry), MODULE: module_date(registry)}
     return files | {f"{PROOFS}/{name}.antt": page() for name, page in PAGES.items()}
 
 

@@ -15,7 +15,7 @@ import premises
 import records
 
 PAGES = [f"{generate.PROOFS}/{name}.antt" for name in generate.PAGES]
-FILES = [generate.REGISTRY, generate.CHECKSUM, generate.TABLES, generate.LISTS, generate.MODULE, generate.NAMES, *PAGES]
+FILES = [generate.REGISTRY, generate.CHECKSUM, generate.TABLES, generate.LISTS, generate.MODULE, *PAGES]
 STANDING = (generate.ROOT / generate.REGISTRY).read_text(encoding="utf-8")
 DATE = STANDING.splitlines()[0].removeprefix("File-Date: ")
 NEWER = STANDING.replace(f"File-Date: {DATE}", "File-Date: 2099-12-31", 1)

@@ -317,11 +317,18 @@ export function bestForRanges<Tag extends Text>(ranges: Iterable<Text>, tags: It
 export function bestForRanges<Tag extends Text, Otherwise>(ranges: Iterable<Text>, tags: Iterable<Tag>, otherwise: Otherwise): Tag | Otherwise;
 
 /**
- * Returns an English name of a tag, made of the registry's descriptions of its subtags: "Portuguese (Brazil)" for pt-BR. The languages of
- * ISO 639-1 and 639-2, scripts, regions and variants have a name, and other subtags are shown as they are. For names in other languages,
- * use `Intl.DisplayNames`.
+ * Returns an English name of a tag, made of CLDR's names for the subtags of its canonical form: "Portuguese (Brazil)" for pt-BR. A subtag
+ * for which CLDR has no name is shown as it is, and so are extensions and private use. The variants are in alphabetical order. For names
+ * in other languages, use `Intl.DisplayNames`.
  */
 export function describe(tag: Text): string;
+
+/**
+ * Returns the name of a tag's language in the language itself, from CLDR: "Deutsch" for de-DE, "繁體中文" for zh-TW. Returns undefined if
+ * CLDR has none. If CLDR has a name for the language in the tag's script or region, it returns that name. The script is the tag's own, or
+ * the likely script of the language in the region. If there is no name in that script, it returns undefined.
+ */
+export function autonym(tag: Text): string | undefined;
 
 /** Returns the length of the longest prefix with which some tag begins: 3 for "i-no". */
 export function viableLength(text: Text): number;

@@ -4,7 +4,7 @@
  */
 import * as calls from "./calls.js";
 import * as built from "./module.js";
-import { NAMES } from "./names.js";
+import { AUTONYMS, NAMES } from "./names.js";
 
 /** The 26 grandfathered tags in their registered spelling (RFC 5646 section 2.1). The first seventeen are irregular. */
 export const GRANDFATHERED = Object.freeze([
@@ -542,16 +542,33 @@ export function bestForRanges(ranges, tags, otherwise) {
     return chosen(calls.bestForRanges, [...several(ranges, "ranges")].map((range) => textOf(range, "a string, a LanguageRange or a LanguageTag")), tags, otherwise);
 }
 
-let names; // the keys are subtags in the recommended case, and grandfathered tags; filled by the first call of describe
+/** Returns a function that returns the name of a key. The lines are split when it is first called. */
+function namesIn(lines) {
+    let names;
+    return (key) => {
+        names ??= new Map(lines.split("\n").map((line) => [line.slice(0, line.indexOf(" ")), line.slice(line.indexOf(" ") + 1)]));
+        return names.get(key);
+    };
+}
+
+const englishName = namesIn(NAMES), ownName = namesIn(AUTONYMS); // the keys are subtags, or tags, in the recommended case
 
 export function describe(value) {
-    names ??= new Map(NAMES.split("\n").map((line) => [line.slice(0, line.indexOf(" ")), line.slice(line.indexOf(" ") + 1)]));
-    const tag = tagOf(value).toRecommended();
-    if (tag.grandfathered !== undefined || tag.language === undefined) return names.get(tag.text) ?? tag.text;
-    const name = (subtag) => names.get(subtag) ?? subtag;
-    const language = names.get(tag.extendedLanguages[0] ?? tag.language) ?? tag.language;
-    const subtags = [tag.script, tag.region, ...tag.variants].filter(Boolean).map(name);
+    const tag = tagOf(value).canonical().toRecommended();
+    if (tag.language === undefined) return tag.text;
+    const name = (subtag) => englishName(subtag) ?? subtag;
+    const subtags = [tag.script, tag.region, ...[...tag.variants].sort()].filter(Boolean).map(name);
     const extensions = [...tag.extensions].map(([singleton, rest]) => [singleton, ...rest].join("-"));
     const inside = [...subtags, ...extensions, tag.privateUse ?? []].flat().join(", ").replaceAll("(", "[").replaceAll(")", "]");
-    return inside === "" ? language : `${language} (${inside})`;
+    return inside === "" ? name(tag.language) : `${name(tag.language)} (${inside})`;
+}
+
+export function autonym(value) {
+    const tag = tagOf(value).canonical().toRecommended();
+    if (tag.language === undefined) return undefined;
+    const { script } = tag.base.maximize();
+    const isUsual = script === undefined || script === new LanguageTag(tag.language).maximize().script;
+    const written = tag.script ?? (isUsual ? undefined : script);
+    const asked = [[written, tag.region, ...tag.variants], [written, tag.region], [written], ...(isUsual ? [[]] : [])];
+    return asked.map((subtags) => ownName([tag.language, ...subtags.filter(Boolean)].join("-"))).find((name) => name !== undefined);
 }

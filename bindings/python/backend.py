@@ -25,7 +25,7 @@ HERE = pathlib.Path(__file__).resolve().parent
 CLONE = HERE.parent if (HERE.parent / "archive").is_file() else None  # the folder bindings, if this is a clone
 NAME = "liblangtag_verified.so.1"
 TIME = 315532800  # the first second of 1980, the earliest that a wheel can say
-MODULE_FILES = r"\w+\.pyi?|py\.typed|names\.txt"
+MODULE_FILES = r"\w+\.pyi?|py\.typed|names\.txt|autonyms\.txt"
 SDIST_FILES = r"pyproject\.toml|backend\.py|README\.md|PROVED\.txt|native/.*|(examples|rows)/.*"
 EXAMPLES = r"(negotiate|count_tags)\.py"
 
@@ -144,7 +144,7 @@ def module_files(proved: bool) -> dict[str, bytes]:
     examples = HERE / "examples" if CLONE is None else CLONE / "examples"
     files = {f"langtag/{name}": content for name, content in tree(HERE / "langtag", MODULE_FILES).items()}
     if CLONE is not None:
-        files["langtag/names.txt"] = (CLONE / "names.txt").read_bytes()
+        files |= {f"langtag/{name}": (CLONE / name).read_bytes() for name in ("names.txt", "autonyms.txt")}
     shown = {f"langtag/examples/{name}": content for name, content in tree(examples, EXAMPLES).items()}
     return {**files, **shown, "langtag/_proved.py": f"PROVED = {proved}\n".encode()}
 

@@ -378,13 +378,24 @@ class Negotiation(unittest.TestCase):
         self.assertLess(time.monotonic() - begun, 10)
 
 
-#: Tags with their names. JavaScript's tests have the same list.
+#: Tags with their English names, of which the last are CLDR's own cases, and tags with the names of their languages in themselves.
+#: JavaScript's tests have the same lists.
 NAMES = (
-    ("pt-BR", "Portuguese (Brazil)"), ("sr-Latn", "Serbian (Latin)"), ("zh-yue-HK", "Yue Chinese (Hong Kong)"), ("yue", "Yue Chinese"),
-    ("ZH-hant-tw", "Chinese (Han [Traditional variant], Taiwan, Province of China)"), ("el", "Modern Greek (1453-)"), ("ms", "Malay"),
-    ("es-419", "Spanish (Latin America and the Caribbean)"), ("fil", "Filipino"), ("i-klingon", "Klingon"), ("ART-lojban", "Lojban"),
+    ("pt-BR", "Portuguese (Brazil)"), ("sr-Latn", "Serbian (Latin)"), ("zh-yue-HK", "Cantonese (Hong Kong SAR China)"),
+    ("yue", "Cantonese"), ("ZH-hant-tw", "Chinese (Traditional, Taiwan)"), ("zh-TW", "Chinese (Taiwan)"), ("el", "Greek"),
+    ("ckb", "Central Kurdish"), ("iw", "Hebrew"), ("es-419", "Spanish (Latin America)"), ("i-klingon", "Klingon"),
+    ("ART-lojban", "Lojban"), ("i-default", "i-default"), ("en-GB-oed", "English (United Kingdom, Oxford English Dictionary spelling)"),
     ("x-a", "x-a"), ("de-1996-u-co-phonebk-x-mine", "German (German orthography of 1996, u-co-phonebk, x-mine)"),
-    ("sgn-ase", "sgn-ase"), ("qt-FQ-1997", "qt (FQ, 1997)"), ("aaa-Qaaa", "aaa (Qaaa)"), ("und-a-bb-A-cc", "Undetermined (a-bb)"),
+    ("sgn-ase", "American Sign Language"), ("qt-FQ-1997", "qt (FQ, 1997)"), ("aaa-Qaaa", "aaa (Qaaa)"),
+    ("und-a-bb-A-cc", "Unknown language (a-bb)"),
+    ("en-MM", "English (Myanmar [Burma])"), ("es", "Spanish"), ("es-Cyrl-MX", "Spanish (Cyrillic, Mexico)"), ("hi-Latn", "Hindi (Latin)"),
+    ("nl-BE", "Dutch (Belgium)"), ("nl-Latn-BE", "Dutch (Latin, Belgium)"), ("zh-Hans-fonipa", "Chinese (Simplified, IPA Phonetics)"),
+    ("en-Latn-GB-scouse-fonipa", "English (Latin, United Kingdom, IPA Phonetics, Scouse)"),
+)
+AUTONYMS = (
+    ("de-DE", "Deutsch"), ("de-AT", "Österreichisches Deutsch"), ("zh-TW", "繁體中文"), ("zh-Hans-SG", "简体中文"), ("zh-CN", "中文"),
+    ("sr-Latn-RS", "srpski"), ("sr-ME", "srpski"), ("sr", "српски"), ("el-polyton", "Ἑλληνικά"), ("iw", "עברית"),
+    ("EN-gb-x-a", "British English"), ("ru-Latn", None), ("tlh", None), ("x-a", None), ("i-default", None),
 )
 
 
@@ -399,7 +410,15 @@ class Names(unittest.TestCase):
     def test_that_each_language_of_two_letters_has_one(self):
         letters = "abcdefghijklmnopqrstuvwxyz"
         for text in map("".join, itertools.product(letters, letters)):
-            self.assertEqual(Tag(text).is_valid, langtag.describe(text) != text, text)
+            if text != "bh":  # a collection of languages, for which CLDR has no name
+                self.assertEqual(Tag(text).is_valid, langtag.describe(text) != text, text)
+
+    def test_autonyms(self):
+        for text, name in AUTONYMS:
+            for tag in (text, text.encode(), Tag(text)):
+                self.assertEqual(langtag.autonym(tag), name, text)
+        with self.assertRaises(InvalidTag):
+            langtag.autonym("de_CH")
 
 
 class Edits(unittest.TestCase):
@@ -660,7 +679,7 @@ for call in (
     *(lambda it=it, call=call: call(it) for it in (5, None, Tag("de")) for call in (
         langtag.kind, langtag.viable, langtag.stop, Tag.from_posix, langtag.unknown_modifier, Tag("de").keyword)),
     *(lambda it=it, call=call: call(it) for it in (5, None, Range("de"), made, "de_") for call in (
-        Range("de").matches_basic, Range("de").matches_extended, lambda it: langtag.distance("de", it), lambda it: langtag.distance(it, "de"), langtag.describe)),
+        Range("de").matches_basic, Range("de").matches_extended, lambda it: langtag.distance("de", it), lambda it: langtag.distance(it, "de"), langtag.describe, langtag.autonym)),
     *(lambda it=it, call=call: call(it) for it in ([5], [None], [Range("de")], [made], ["de_"], 5, None, "de", {5: 6}) for call in (
         lambda tags: langtag.best_for_header("de", tags), lambda tags: langtag.match_for_header("de", tags), lambda tags: langtag.tag_for_header("de", tags),
         lambda tags: langtag.best_for_ranges(["de"], tags), lambda tags: langtag.look_up(["de"], tags), lambda tags: langtag.best_for_header("de," * 2000, tags))),

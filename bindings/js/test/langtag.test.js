@@ -235,17 +235,36 @@ test("Intl takes a tag as its text", () => {
 
 test("names", () => {
     for (const [text, name] of [
-        ["pt-BR", "Portuguese (Brazil)"], ["sr-Latn", "Serbian (Latin)"], ["zh-yue-HK", "Yue Chinese (Hong Kong)"], ["yue", "Yue Chinese"],
-        ["ZH-hant-tw", "Chinese (Han [Traditional variant], Taiwan, Province of China)"], ["el", "Modern Greek (1453-)"], ["ms", "Malay"],
-        ["es-419", "Spanish (Latin America and the Caribbean)"], ["fil", "Filipino"], ["i-klingon", "Klingon"], ["ART-lojban", "Lojban"],
-        ["x-a", "x-a"], ["de-1996-u-co-phonebk-x-mine", "German (German orthography of 1996, u-co-phonebk, x-mine)"],
-        ["sgn-ase", "sgn-ase"], ["qt-FQ-1997", "qt (FQ, 1997)"], ["aaa-Qaaa", "aaa (Qaaa)"], ["und-a-bb-A-cc", "Undetermined (a-bb)"],
+        ["pt-BR", "Portuguese (Brazil)"], ["sr-Latn", "Serbian (Latin)"], ["zh-yue-HK", "Cantonese (Hong Kong SAR China)"],
+        ["yue", "Cantonese"], ["ZH-hant-tw", "Chinese (Traditional, Taiwan)"], ["zh-TW", "Chinese (Taiwan)"], ["el", "Greek"],
+        ["ckb", "Central Kurdish"], ["iw", "Hebrew"], ["es-419", "Spanish (Latin America)"], ["i-klingon", "Klingon"],
+        ["ART-lojban", "Lojban"], ["i-default", "i-default"],
+        ["en-GB-oed", "English (United Kingdom, Oxford English Dictionary spelling)"], ["x-a", "x-a"],
+        ["de-1996-u-co-phonebk-x-mine", "German (German orthography of 1996, u-co-phonebk, x-mine)"],
+        ["sgn-ase", "American Sign Language"], ["qt-FQ-1997", "qt (FQ, 1997)"], ["aaa-Qaaa", "aaa (Qaaa)"],
+        ["und-a-bb-A-cc", "Unknown language (a-bb)"],
+        ["en-MM", "English (Myanmar [Burma])"], ["es", "Spanish"], ["es-Cyrl-MX", "Spanish (Cyrillic, Mexico)"],
+        ["hi-Latn", "Hindi (Latin)"], ["nl-BE", "Dutch (Belgium)"], ["nl-Latn-BE", "Dutch (Latin, Belgium)"],
+        ["zh-Hans-fonipa", "Chinese (Simplified, IPA Phonetics)"],
+        ["en-Latn-GB-scouse-fonipa", "English (Latin, United Kingdom, IPA Phonetics, Scouse)"],
     ]) {
         assert.equal(langtag.describe(text), name);
         assert.equal(langtag.describe(LanguageTag.parse(text)), name);
     }
     assert.throws(() => langtag.describe("de_CH"), InvalidTag);
     for (const code of ["aa", "de", "iw", "zu"]) assert.notEqual(langtag.describe(code), code);
+});
+
+test("names of languages in themselves", () => {
+    for (const [text, name] of [
+        ["de-DE", "Deutsch"], ["de-AT", "Österreichisches Deutsch"], ["zh-TW", "繁體中文"], ["zh-Hans-SG", "简体中文"], ["zh-CN", "中文"],
+        ["sr-Latn-RS", "srpski"], ["sr-ME", "srpski"], ["sr", "српски"], ["el-polyton", "Ἑλληνικά"], ["iw", "עברית"],
+        ["EN-gb-x-a", "British English"], ["ru-Latn", undefined], ["tlh", undefined], ["x-a", undefined], ["i-default", undefined],
+    ]) {
+        assert.equal(langtag.autonym(text), name);
+        assert.equal(langtag.autonym(LanguageTag.parse(text)), name);
+    }
+    assert.throws(() => langtag.autonym("de_CH"), InvalidTag);
 });
 
 test("edits", () => {
