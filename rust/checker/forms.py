@@ -38,6 +38,8 @@ SUGGESTING = "InvalidSubtag"
 # InvalidLangTag also says why.
 REFUSED = {"InvalidLangTag": "write_tag"}
 NO_TEXT = "InvalidSingleton"
+# The variant that contains the refused name, and the beginning of its message.
+NO_NAME, NAME_MESSAGE = "PosixError::NoTag", '"no language in the locale name {}"'
 IMPLS = """impl{generics} fmt::Display for {type} {{ fn fmt(&self, f: &mut fmt::Formatter<'_>) -> fmt::Result {{ {body} }} }}
 impl{bound} core::error::Error for {type} {{}}"""
 
@@ -126,6 +128,8 @@ def without_messages(item):
 
 def arm(name, variant, opens, message):
     """Returns the `match` arm that writes the message of a variant: `{0}` is its field, which the pattern names."""
+    if f"{name}::{variant}" == NO_NAME:
+        return f"{NO_NAME}(value) => write!(f, {NAME_MESSAGE}, crate::message::Quoted(value.as_bytes()))"
     fields = re.findall(r"\{(\w+)\}", message)
     if opens == "(":
         pattern = "(value)" if fields else "(_)"

@@ -14,6 +14,9 @@ SUGGESTING = {"InvalidSubtag"}
 REFUSING, LOCATING = "Invalid", "InvalidLangTag"
 WITHOUT_TEXT = {"InvalidSingleton"}  # it may contain a byte or a character
 
+# The message of a variant that contains a refused text.
+NAMED = {("PosixError", "NoTag"): "no language in the locale name {}"}
+
 DISPLAY = """
 
 impl{bound} fmt::Display for {type} {{
@@ -91,6 +94,8 @@ def messages_of_enum(code, item):
 
 
 def arm_of(name, variant, opening, message):
+    if (name, variant) in NAMED:
+        return f'{name}::{variant}(value) => write!(f, "{NAMED[name, variant]}", crate::message::Quoted(value.as_bytes())),'
     used = re.findall(r"\{(\w+)\}", message)
     fields = {"(": "(value)" if used else "(_)", "{": f" {{ {', '.join([*used, '..'])} }}"}.get(opening, "")
     message = message.replace("{0}", "{value}")

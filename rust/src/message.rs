@@ -9,12 +9,21 @@ const MOST: usize = 80;
 
 /// Writes a space, and the string between backticks.
 pub(crate) fn write_text(f: &mut fmt::Formatter<'_>, text: &[u8]) -> fmt::Result {
-    write!(f, " `{}`", Escaped(text))
+    write!(f, " {}", Quoted(text))
 }
 
 /// Writes a space, the string, and why it is not a tag.
 pub(crate) fn write_tag(f: &mut fmt::Formatter<'_>, text: &[u8]) -> fmt::Result {
-    write!(f, " `{}`: {}", Escaped(text), Reason(text))
+    write!(f, " {}: {}", Quoted(text), Reason(text))
+}
+
+/// A string between backticks.
+pub(crate) struct Quoted<'a>(pub(crate) &'a [u8]);
+
+impl fmt::Display for Quoted<'_> {
+    fn fmt(&self, f: &mut fmt::Formatter<'_>) -> fmt::Result {
+        write!(f, "`{}`", Escaped(self.0))
+    }
 }
 
 /// The characters of a string, and its bytes that are not UTF-8, with escapes. A long string is cut,
@@ -73,11 +82,11 @@ impl fmt::Display for Reason<'_> {
         let subtag = &self.0[refusal.start..refusal.end];
         match refusal.kind {
             RefusalKind::Subtag if subtag.is_empty() => f.write_str("empty subtag"),
-            RefusalKind::Subtag => write!(f, "unexpected subtag `{}`", Escaped(subtag)),
+            RefusalKind::Subtag => write!(f, "unexpected subtag {}", Quoted(subtag)),
             RefusalKind::Byte => write!(
                 f,
-                "invalid character `{}`: expected a letter, a digit or a hyphen",
-                Escaped(first_character(&self.0[refusal.offset..]))
+                "invalid character {}: expected a letter, a digit or a hyphen",
+                Quoted(first_character(&self.0[refusal.offset..]))
             ),
             RefusalKind::End => f.write_str("unexpected end: expected a subtag"),
         }

@@ -310,6 +310,10 @@ fn errors_with_more_than_a_text() {
         PosixErrorBuf::from(from_posix("C").unwrap_err()),
         PosixErrorBuf::NoTag("C".into())
     );
+    assert_eq!(
+        from_posix("\t_DE").unwrap_err().to_string(),
+        r"no language in the locale name `\t_DE`"
+    );
 }
 
 #[test]

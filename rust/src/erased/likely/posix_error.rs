@@ -26,10 +26,13 @@ pub enum PosixError<'a> {
 
 #[cfg(feature = "alloc")]
 impl fmt::Display for PosixError<'_> {
-    #[inline]
     fn fmt(&self, f: &mut fmt::Formatter<'_>) -> fmt::Result {
         match self {
-            PosixError::NoTag(value) => write!(f, "no locale's name that says a language: {value}"),
+            PosixError::NoTag(value) => write!(
+                f,
+                "no language in the locale name {}",
+                crate::message::Quoted(value.as_bytes())
+            ),
             PosixError::Memory(_) => f.write_str("out of memory"),
         }
     }
