@@ -199,8 +199,8 @@ def matching_tables(matching):
         f"//! The rules of language matching of Unicode's CLDR {version()}, in tables (the notice: likely/LICENSE-UNICODE). Written by likely/generate.py. Do not edit.\n",
         numbers("LANGUAGE_RULE_KEYS", "The desired and the supported language of each rule, as one number, in rising order.", 32, map(matching.language_key, matching.languages)),
         numbers("LANGUAGE_RULE_DISTANCES", "The distance that each rule of `LANGUAGE_RULE_KEYS` gives.", 8, [row[2] for row in matching.languages]),
-        numbers("RELATED_KEYS", "The keys, in rising order, of the two-letter languages that are the desired language of a rule, or replace a two-letter language.", 16,
-                sorted(letter_number(text) for text in matching.related)),
+        numbers("SHORT_ALIAS_KEYS", "The keys, in rising order, of the two-letter languages that are replaced.", 16,
+                [letter_number(row[0]) for row in matching.aliases if len(row[0]) == 2]),
         numbers("SCRIPT_RULE_KEYS", "The desired and the supported language of each rule, both with their scripts, as one number, in rising order.", 64, map(matching.script_key, matching.scripts)),
         numbers("SCRIPT_RULE_DISTANCES", "The distance that each rule of `SCRIPT_RULE_KEYS` gives.", 8, [row[2] for row in matching.scripts]),
     ] + [

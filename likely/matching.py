@@ -46,7 +46,6 @@ class Matching:
         self.replacements = sorted((row for row in read("region-alias.txt") if len(row) == 2), key=lambda row: folded_number(row[0]))
         self.languages = self.both_ways(((d, s), int(n), one_way) for d, s, n, one_way in read("language-distance.txt"))
         self.languages.sort(key=self.language_key)
-        self.related = {text for text in [row[0] for row in self.languages] + [row[1] for row in self.aliases if len(row[0]) == 2] if len(text) == 2}
         self.scripts = self.both_ways((((d, a), (s, b)), int(n), one_way) for d, a, s, b, n, one_way in read("script-distance.txt"))
         self.scripts.sort(key=self.script_key)
         self.sets = self.region_sets(read("region-sets.txt"), {row[0]: set(row[1:]) for row in read("region-groups.txt")})

@@ -1,6 +1,7 @@
 pub mod AlikeDistances
 pub mod ChoiceLaws
+pub mod FarTags
 pub mod FoundLaws
-pub mod LoneLanguages
 pub mod MatchingTables
+pub mod NearLanguages
 pub mod ReadRanges

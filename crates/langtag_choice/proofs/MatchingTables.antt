@@ -9,7 +9,6 @@ use Rattle.langtag_scan.specs.Case.{folded_number, fold_byte, are_alike}
 use Rattle.langtag_scan.specs.Class.{are_alphanumeric, are_letters, is_letter, is_digit}
 use Rattle.langtag_scan.proofs.FoldedNumbers.{folded_number-tells}
 use Rattle.langtag_tables.specs.Numbers.{letter_number}
-use Rattle.langtag_likely.specs.Aliases.{language_aliases}
 use Rattle.langtag_likely.specs.Likely.{are_alike_fields, Likely, language_alone, without_region}
 use Rattle.langtag.specs.Fields.{Fields}
 use Rattle.langtag_likely.specs.Numbers.{first_index, key_number}
@@ -17,7 +16,6 @@ use Rattle.langtag_likely.proofs.KeyNumbers.{test_at, are_plain, is_numbered, ke
 use Rattle.langtag_likely.proofs.RowLaws.{is_language, language-tells}
 use Rattle.langtag.proofs.Alike.{alike_length}
 use Rattle.langtag_choice.specs.Distance.{is_among, maghreb, en_us, americas, cnsar, language_distance, script_distance}
-use Rattle.langtag_choice.specs.Lone.{replacing}
 use Rattle.langtag_choice.specs.MatchingData as list
 use Rattle.langtag_choice.specs.MatchingData.{language_rules, script_rules}
 use Rattle.langtag_choice.specs.Pairs.{language_pair, script_pair}
@@ -25,7 +23,6 @@ use Rattle.langtag_choice.specs.Rules.{Rule, fits, distance_by}
 use Rattle.langtag_choice.specs.Sets.{set_of}
 use Rattle.langtag_choice.specs.declared.matching_tables.TheConstants as table
 use Rattle.langtag_choice.specs.declared.region_distance.SetName.{SetName}
-use Rattle.langtag_choice.proofs.LoneLanguages.{is_listed}
 
 abbrev pub distance_of : Rule → ℕ
 distance_of rule = rule.distance
@@ -133,16 +130,6 @@ script_rule_number rule = script_pair rule.desired rule.supported
 pub script_rules_listed : AreRules list.script_rules script_rule_number is_script_rule table.SCRIPT_RULE_KEYS table.SCRIPT_RULE_DISTANCES 51
 unfolding list.script_rules key_number letter_number folded_number is_letter is_digit fold_byte
 script_rules_listed = record { numbers = refl; key_count = refl; distances_are = refl; distance_count = refl; between = refl; good = refl; short = refl }
-
--- ---- related languages
-
-pub desired_listed : list_all is_listed (map (λ rule. rule.desired.language) list.language_rules) ≡ true
-unfolding list.language_rules letter_number is_letter fold_byte
-desired_listed = refl
-
-pub replacing_listed : list_all is_listed (replacing language_aliases) ≡ true
-unfolding language_aliases letter_number is_letter fold_byte
-replacing_listed = refl
 
 -- ---- sets of regions
 

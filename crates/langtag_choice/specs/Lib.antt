@@ -1,10 +1,11 @@
 pub mod Best
 pub mod ChoiceLaws
 pub mod Distance
+pub mod FirstLetters
 pub mod Found
 pub mod ListTexts
-pub mod Lone
 pub mod MatchingData
+pub mod NearLanguages
 pub mod Nearness
 pub mod Pairs
 pub mod Rules

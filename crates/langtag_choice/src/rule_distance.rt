@@ -73,7 +73,7 @@ fn script_pair(desired: TagFields<'_>, supported: TagFields<'_>) -> u64
 }
 
 #[tactic(auto, using(crate::proofs::MatchingTables::language_rules_listed))]
-fn language_rule_keys() -> &'static [u32]
+pub(crate) fn language_rule_keys() -> &'static [u32]
     ensures numbers { result.now ≡ map (λ rule. language_pair rule.desired rule.supported) language_rules }
     ensures climbs { IsTrue (climbs_from 0 result.now) }
     ensures count { length result.now ≡ length language_rules }

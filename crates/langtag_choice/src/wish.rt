@@ -1,34 +1,35 @@
 //! A range that a tag can serve.
 ghost use Rattle.std.specs.Prelude.{◌≡◌, ◌≤◌, ◌==◌, ℕ, IsTrue, List, MatchOption, Some, false};
 ghost use Rattle.std.specs.Option.{ForSome, option_map};
-ghost use Rattle.langtag_choice.specs.Lone.{first_two, lone_head};
+ghost use Rattle.langtag_choice.specs.FirstLetters.{first_two};
+ghost use Rattle.langtag_choice.specs.NearLanguages.{HasNumber};
 ghost use Rattle.langtag_likely.specs.Matching.{matching_form};
 ghost use Rattle.langtag_likely.specs.Texts.{field_texts};
 ghost use Rattle.langtag_range.specs.Listed.{basic_text};
 ghost use Rattle.langtag_range.specs.Range.{is_language_range, is_star};
 ghost use Rattle.langtag_range.specs.Wanted.{hyphened};
 
-use crate::lone::{first_two, is_short, lone_letters};
+use crate::first_letters::{first_two, is_short, language_of};
+use crate::range_language::RangeLanguage;
 use crate::read_range::is_star;
 use langtag_likely::{TagFields, matching_form};
 use langtag_range::WantedRange;
 
 /// A range other than `*`, its weight, which is not 0, and the number of ranges before it. The matching form of the
-/// range is made once, and used for all tags. The two letters of the range's language are stored if the range begins
-/// with them and no other language is near that language.
+/// range is made once, and used for all tags, and so is its language if the range begins with it.
 #[derive(Clone, Copy)]
 pub(crate) struct Wish<'a> {
     pub(crate) range: &'a [u8],
     pub(crate) weight: u32,
     pub(crate) place: usize,
     pub(crate) form: Option<TagFields<'a>>,
-    lone: Option<(u8, u8)>,
+    language: Option<RangeLanguage>,
     ghost some: { (weight == 0) ≡ false },
     ghost in_class: { IsTrue (is_language_range (hyphened range.now)) },
     ghost no_star: { is_star (basic_text range.now) ≡ false },
     ghost known: { option_map field_texts form ≡ matching_form (basic_text range.now) },
-    ghost far: { ForSome lone (λ letters. lone_head (matching_form (basic_text range.now)) ≡ Some letters) },
-    ghost begins: { ForSome lone (λ letters. first_two (basic_text range.now) ≡ Some letters) },
+    ghost number: { ForSome language (λ own. MatchOption (matching_form (basic_text range.now)) ⊥ (HasNumber own.number)) },
+    ghost begins: { ForSome language (λ own. first_two (basic_text range.now) ≡ Some own.letters) },
 }
 
 impl<'a> Wish<'a> {
@@ -54,22 +55,25 @@ impl<'a> Wish<'a> {
             weight: wanted.weight,
             place,
             form,
-            lone: lone_letters(wanted.bytes, form),
+            language: RangeLanguage::of(wanted.bytes, form),
         })
     }
 
-    /// Returns whether the first letters of a tag show that it cannot serve the range: the tag has another two-letter
-    /// language, and no other language is near the language of the range.
+    /// Returns whether the first letters of a tag show that it cannot serve the range: the tag has a two-letter language
+    /// with which the range does not begin, and which is not near the language of the range.
     pub(crate) fn is_far_from(&self, tag: &[u8]) -> bool
         ensures far { IsTrue result → 50 ≤ distance_of_texts (basic_text self.now.range.now) tag.now }
         ensures kept { IsTrue result → kept (basic_text self.now.range.now) tag.now ≡ 0 }
     {
-        let Some(letters) = self.lone else {
+        let (Some(own), Some(letters)) = (self.language, first_two(tag)) else {
             return false;
         };
-        let Some(begins) = first_two(tag) else {
+        if letters == own.letters || !is_short(tag) {
             return false;
-        };
-        begins != letters && is_short(tag)
+        }
+        match language_of(letters) {
+            Some(other) => own.is_far(other),
+            None => false,
+        }
     }
 }

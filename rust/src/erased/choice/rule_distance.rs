@@ -48,7 +48,7 @@ fn script_pair(desired: TagFields<'_>, supported: TagFields<'_>) -> u64 {
 }
 
 #[inline]
-fn language_rule_keys() -> &'static [u32] {
+pub(crate) fn language_rule_keys() -> &'static [u32] {
     &tables::LANGUAGE_RULE_KEYS
 }
 

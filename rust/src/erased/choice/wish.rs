@@ -2,21 +2,22 @@
 
 //! A range that a tag can serve.
 
-use crate::erased::choice::lone::{first_two, is_short, lone_letters};
+use crate::erased::choice::first_letters::{first_two, is_short, language_of};
+use crate::erased::choice::range_language::RangeLanguage;
 use crate::erased::choice::read_range::is_star;
 use crate::erased::likely::{matching_form, TagFields};
 use crate::erased::range::WantedRange;
 
 /// A range other than `*`, its weight, which is not 0, and the number of ranges before it. The
-/// matching form of the range is made once, and used for all tags. The two letters of the range's
-/// language are stored if the range begins with them and no other language is near that language.
+/// matching form of the range is made once, and used for all tags, and so is its language if the
+/// range begins with it.
 #[derive(Clone, Copy)]
 pub(crate) struct Wish<'a> {
     pub(crate) range: &'a [u8],
     pub(crate) weight: u32,
     pub(crate) place: usize,
     pub(crate) form: Option<TagFields<'a>>,
-    lone: Option<(u8, u8)>,
+    language: Option<RangeLanguage>,
 }
 
 impl<'a> Wish<'a> {
@@ -32,19 +33,23 @@ impl<'a> Wish<'a> {
             weight: wanted.weight,
             place,
             form,
-            lone: lone_letters(wanted.bytes, form),
+            language: RangeLanguage::of(wanted.bytes, form),
         })
     }
 
     /// Returns whether the first letters of a tag show that it cannot serve the range: the tag has
-    /// another two-letter language, and no other language is near the language of the range.
+    /// a two-letter language with which the range does not begin, and which is not near the
+    /// language of the range.
     pub(crate) fn is_far_from(&self, tag: &[u8]) -> bool {
-        let Some(letters) = self.lone else {
+        let (Some(own), Some(letters)) = (self.language, first_two(tag)) else {
             return false;
         };
-        let Some(begins) = first_two(tag) else {
+        if letters == own.letters || !is_short(tag) {
             return false;
-        };
-        begins != letters && is_short(tag)
+        }
+        match language_of(letters) {
+            Some(other) => own.is_far(other),
+            None => false,
+        }
     }
 }

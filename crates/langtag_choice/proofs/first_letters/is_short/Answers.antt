@@ -1,8 +1,8 @@
 use Rattle.std.proofs.Common.{sym, subst, ◌∙◌}
 use Rattle.std.proofs.lemmas.List.{take_rest}
-use Rattle.langtag_choice.specs.Lone.{HasNoExtended}
-use Rattle.langtag_choice.proofs.LoneLanguages.{short_of_more, short_of_two}
-use Rattle.langtag_choice.proofs.lone.is_short.Goals as goal
+use Rattle.langtag_choice.specs.FirstLetters.{HasNoExtended}
+use Rattle.langtag_choice.proofs.FarTags.{short_of_more, short_of_two}
+use Rattle.langtag_choice.proofs.first_letters.is_short.Goals as goal
 
 pub returns-in-len2 : goal.returns-in-len2
 returns-in-len2 c = λ yes. short_of_two c.args.text.now c.in-len2.len_at_least c.in-len2.len_below

@@ -1,11 +1,8 @@
-// Made by rust/erase from crates/langtag_choice/src/lone.rt. Change that file, not this one.
+// Made by rust/erase from crates/langtag_choice/src/first_letters.rt. Change that file, not this one.
 
-//! Languages to which no other language is near. For such a language, the first letters of a tag
-//! show whether the tag has a different language.
+//! What the first letters of a tag show of its language.
 
 use crate::erased::choice::matching_tables as tables;
-use crate::erased::choice::read_range::starts;
-use crate::erased::likely::{language_number, TagFields};
 use crate::erased::range::is_separator;
 use crate::erased::scan::into_smallcase;
 
@@ -59,25 +56,20 @@ fn is_letter(byte: u8) -> bool {
     byte.is_ascii_alphabetic()
 }
 
-/// Returns the letters of a matching form's language if there are exactly two, the range begins
-/// with them, and no other language is near that language.
-pub(crate) fn lone_letters(range: &[u8], form: Option<TagFields<'_>>) -> Option<(u8, u8)> {
-    let Some(form) = form else { return None };
-    if form.language.len() != 2 || is_related(form.language) || !starts(range, form.language) {
+/// Returns the number of the language with which a tag begins, given by its two letters in
+/// lowercase. Returns `None` if they are not letters, or if the language is replaced.
+pub(crate) fn language_of(letters: (u8, u8)) -> Option<u32> {
+    if !letters.0.is_ascii_lowercase() || !letters.1.is_ascii_lowercase() {
         return None;
     }
-    first_two(form.language)
-}
-
-/// Returns whether a language of two letters is the desired language of a rule, or replaces a
-/// language of two letters.
-#[inline]
-fn is_related(language: &[u8]) -> bool {
-    let number = language_number(language) as u16;
-    related_keys().binary_search(&number).is_ok()
+    let number = u16::from(letters.0 - b'a' + 1) * 26 + u16::from(letters.1 - b'a' + 1);
+    if short_alias_keys().contains(&number) {
+        return None;
+    }
+    Some(u32::from(number))
 }
 
 #[inline]
-fn related_keys() -> &'static [u16] {
-    &tables::RELATED_KEYS
+fn short_alias_keys() -> &'static [u16] {
+    &tables::SHORT_ALIAS_KEYS
 }

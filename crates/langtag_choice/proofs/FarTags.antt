@@ -1,0 +1,197 @@
+-- Tags that are far from a range, as their first letters and the numbers of languages show, and that look-up does not find.
+use Rattle.std.proofs.Common.{◌≡◌, ℕ, Bool, true, false, ◌||◌, not, ◌==◌, List, [], ◌∷◌, length, inl, inr, refl, sym, ap, ◌∙◌, arith, ◌&&◌, ◌<◌, ◌≤◌, ◌+◌, ◌-◌, ◌*◌, cond, get_or, length-take, take, drop, Option, Some, None, IfSome, MatchOption, option_map, codes, lit≤}
+use Rattle.std.proofs.lemmas.Bool.Decides.{eqb_tells, nat_tests}
+use Rattle.std.proofs.lemmas.Bool.{and_parts, both_ways, eq-eqb, false_from_ne_true, not_from_true, or_cases, and_from, or_parts, not-true}
+use Rattle.std.proofs.lemmas.Grind.{common_steps}
+use Rattle.std.proofs.lemmas.List.Sums.{take_while-cons}
+use Rattle.std.specs.Char.{is_ascii_lowercase}
+use Rattle.std.specs.List.{list_all, after_first, before_first, position_or_len}
+use Rattle.langtag_scan.specs.Case.{are_alike, Alike, fold_byte}
+use Rattle.langtag_scan.specs.CaseLaws.{are_alike-decides}
+use Rattle.langtag_scan.specs.Class.{are_letters, is_extended, is_letter, is_primary}
+use Rattle.langtag_scan.proofs.Disjoint.{extended_three}
+use Rattle.langtag_tables.specs.Numbers.{letter, letter_number}
+use Rattle.langtag_tables.proofs.Letters.{letter_number-tells, number_of_two, primary_length, primary_letters}
+use Rattle.langtag_range.specs.Listed.{basic_text}
+use Rattle.langtag_range.specs.Wanted.{hyphened, is_separator}
+use Rattle.langtag_range.proofs.Prefixes.{length-alike}
+use Rattle.langtag_likely.specs.Aliases.{language_aliases}
+use Rattle.langtag_likely.specs.Likely.{Likely, known, language_alone, likely_for}
+use Rattle.langtag.specs.Fields.{Fields}
+use Rattle.langtag_likely.specs.Matching.{language_replaced, matching_fields, matching_form}
+use Rattle.langtag_likely.specs.TextFields.{last_language, counted_parts, text_fields}
+use Rattle.langtag_likely.proofs.AddedTwice.{either_way}
+use Rattle.langtag_likely.proofs.AlikeFields.{by_options}
+use Rattle.langtag_likely.proofs.CommonTexts.{some_length}
+use Rattle.langtag_likely.proofs.CompletedForms.{completed_language}
+use Rattle.langtag.proofs.Alike.{alike_length}
+use Rattle.langtag_likely.proofs.TextParts.{all_fields, next_part, no_fields}
+use Rattle.langtag_choice.specs.Distance.{distance_of_forms, distance_of_texts}
+use Rattle.langtag_choice.specs.FirstLetters.{HasNoExtended, IsLanguageOf, IsShort, first_two}
+use Rattle.langtag_choice.specs.NearLanguages.{AreFar, HasNumber, is_among_numbers}
+use Rattle.langtag_choice.specs.Nearness.{kept}
+use Rattle.langtag_choice.specs.declared.matching_tables.TheConstants.{SHORT_ALIAS_KEYS}
+use Rattle.langtag_choice.proofs.AlikeDistances.{matching_form-alike}
+
+-- ---- a language of two letters that is not replaced
+
+-- a row for a language of two letters has its number among the short keys
+abbrev is_listed : Likely → Bool
+is_listed row = are_letters row.from.language && (not (length row.from.language == 2) || is_among_numbers SHORT_ALIAS_KEYS (letter_number row.from.language))
+
+aliases_listed : list_all is_listed language_aliases ≡ true
+unfolding language_aliases letter_number is_letter fold_byte
+aliases_listed = refl
+
+module _ (key : Fields) (two : length key.language ≡ 2) (letters : are_letters key.language ≡ true) (absent : is_among_numbers SHORT_ALIAS_KEYS (letter_number key.language) ≡ false) where
+  same_number : (word : List ℕ) → are_letters word ≡ true → are_alike word key.language ≡ true → letter_number key.language ≡ letter_number word
+  same_number word plain alike = grind (arith, nat_tests, eqb_tells (letter_number key.language) (letter_number word), both_ways, letter_number-tells word key.language plain letters)
+
+  apart : (row : Likely) → is_listed row ≡ true → are_alike row.from.language key.language ≡ false
+  apart row listed = false_from_ne_true (are_alike row.from.language key.language) (λ alike.
+      let word = row.from.language in
+      let parts = and_parts (are_letters word) (not (length word == 2) || is_among_numbers SHORT_ALIAS_KEYS (letter_number word)) listed in
+      let number = same_number word parts.0 alike in
+      elim (or_cases (not (length word == 2)) (is_among_numbers SHORT_ALIAS_KEYS (letter_number word)) parts.1) [
+        | inl longer ↦ both_ways _ (not_from_true (length word == 2) (eq-eqb (length word) 2 (alike_length word key.language alike ∙ two))) longer
+        | inr found ↦ both_ways _ (ap (is_among_numbers SHORT_ALIAS_KEYS) (sym number) ∙ absent) found
+      ])
+
+  no_alias : (rows : List Likely) → list_all is_listed rows ≡ true → likely_for rows (language_alone key) ≡ None
+  no_alias [] all = refl
+  no_alias (row ∷ rows) all = grind (arith, nat_tests, and_parts (is_listed row) (list_all is_listed rows) all, apart row, no_alias rows)
+
+  not_replaced : language_replaced key ≡ key
+  unfolding language_replaced
+  not_replaced = rw (no_alias language_aliases aliases_listed) refl
+
+-- ---- heads
+
+head-alike : (a b : List ℕ) → Alike a b → first_two a ≡ first_two b
+head-alike a b alike = grind (arith, nat_tests)
+
+head-take : (n : ℕ) (text : List ℕ) → 2 ≤ length (take n text) → first_two (take n text) ≡ first_two text
+head-take n text long = grind (arith, common_steps)
+
+pub apart_letters : (a b : ℕ × ℕ) → not ((a.0 == b.0) && (a.1 == b.1)) ≡ true → Some a ≡ Some b → ⊥
+apart_letters a b apart same = grind (arith, nat_tests, both_ways, not-true, and_from (a.0 == b.0) (a.1 == b.1), eq-eqb a.0 b.0, eq-eqb a.1 b.1)
+
+-- ---- what a text begins with
+
+unmarked : (x : ℕ) (text : List ℕ) → is_separator x ≡ false → before_first is_separator (x ∷ text) ≡ x ∷ before_first is_separator text
+unmarked x text is = take_while-cons (λ b. not (is_separator b)) x text ∙ ap (λ b. cond (not b) (x ∷ before_first is_separator text) []) is
+
+pub few_extended : (text : List ℕ) → length text ≤ 2 → is_extended (before_first is_separator text) ≡ false
+few_extended text few =
+    grind (arith, nat_tests, false_from_ne_true, extended_three (before_first is_separator text), length-take (position_or_len is_separator text) text)
+
+-- no mark stands at the third place from 0 on
+longer : (x y z n : ℕ) (text : List ℕ) → is_separator n ≡ false → is_extended (before_first is_separator (x ∷ y ∷ z ∷ n ∷ text)) ≡ false
+unfolding is_extended
+longer x y z n text other = grind (arith, common_steps, false_from_ne_true, extended_three, unmarked)
+
+not_primary : (text : List ℕ) → length text ≤ 1 → is_primary text ≡ true → ⊥
+not_primary text few primary = let long = primary_length text primary in omega (arith, few, long)
+
+-- a text of two bytes, and one with a mark after two
+two_short : (a b : ℕ) → IsShort (a ∷ b ∷ [])
+unfolding is_extended
+two_short a b = grind (arith, nat_tests, not_primary (before_first is_separator (a ∷ b ∷ [])))
+
+marked_short : (a b m : ℕ) (rest : List ℕ) → is_separator m ≡ true → HasNoExtended rest → IsShort (a ∷ b ∷ m ∷ rest)
+marked_short a b m rest mark alone = grind (arith, nat_tests, not_primary (before_first is_separator (a ∷ b ∷ m ∷ rest)))
+
+pub short_of_two : (text : List ℕ) → 2 ≤ length text → length text < 3 → IsShort text
+short_of_two [] least most = absurd (omega (arith, least))
+short_of_two (a ∷ []) least most = absurd (omega (arith, least))
+short_of_two (a ∷ b ∷ []) least most = two_short a b
+short_of_two (a ∷ b ∷ m ∷ rest) least most = absurd (omega (arith, most))
+
+pub short_of_more : (text : List ℕ) → 3 ≤ length text → is_separator (get_or text 2 0) ≡ true → HasNoExtended (drop 3 text) → IsShort text
+short_of_more [] least mark alone = absurd (omega (arith, least))
+short_of_more (a ∷ []) least mark alone = absurd (omega (arith, least))
+short_of_more (a ∷ b ∷ []) least mark alone = absurd (omega (arith, least))
+short_of_more (a ∷ b ∷ m ∷ rest) least mark alone = marked_short a b m rest mark alone
+
+pub extended_letter : (text : List ℕ) → 1 ≤ length text → is_letter (get_or text 0 0) ≡ false → is_extended (before_first is_separator text) ≡ false
+unfolding is_extended
+extended_letter text some other = grind (arith, common_steps, unmarked, false_from_ne_true, and_parts, both_ways)
+
+pub extended_mark : (text : List ℕ) → 4 ≤ length text → is_separator (get_or text 3 0) ≡ false → is_extended (before_first is_separator text) ≡ false
+extended_mark text long other = grind (arith, common_steps, longer)
+
+-- ---- the language of a text
+
+no_extended : (text : List ℕ) → HasNoExtended text → (language : List ℕ) → last_language language (counted_parts text) ≡ language
+no_extended text none language = grind (arith, nat_tests, next_part, or_parts, not-true, unmarked, some_length)
+
+known_two : (text : List ℕ) → length text ≡ 2 → known (codes "und") text ≡ text
+known_two text two = rw (false_from_ne_true (are_alike (codes "und") text) (λ yes. let same = alike_length (codes "und") text yes in omega (arith, same, two))) refl
+
+module _ (text : List ℕ) (short : IsShort text) where
+  language_first : is_primary (before_first is_separator text) ≡ true → last_language (known (codes "und") (before_first is_separator text)) (counted_parts (after_first is_separator text)) ≡ before_first is_separator text
+  language_first primary =
+      no_extended (after_first is_separator text) (short primary).1 (known (codes "und") (before_first is_separator text)) ∙ known_two (before_first is_separator text) (short primary).0
+
+  -- the language is the text before the first separator
+  text_language : (f : Fields) → text_fields (hyphened text) ≡ Some f → (is_primary f.language ≡ true) × (length f.language ≡ 2) × (first_two f.language ≡ first_two text)
+  text_language f is = either_way (is_primary (before_first is_separator text))
+      (λ primary.
+      let same = all_fields text _ _ _ primary refl refl refl ∙ is in
+      let language : last_language (known (codes "und") (before_first is_separator text)) (counted_parts (after_first is_separator text)) ≡ f.language = cc in
+      rw (← language, language_first primary) (primary, (short primary).0, head-take (position_or_len is_separator text) text (primary_length (before_first is_separator text) primary)))
+      (λ not. absurd (let none = no_fields text not ∙ is in cc))
+
+-- the number of two letters
+number_of_letters : (language : List ℕ) (x y : ℕ) → length language ≡ 2 → first_two language ≡ Some (x, y) → letter_number language ≡ (x - 96) * 26 + (y - 96)
+unfolding letter_number
+number_of_letters [] x y two is = absurd cc
+number_of_letters (a ∷ []) x y two is = absurd cc
+number_of_letters (a ∷ b ∷ []) x y two is = number_of_two (a ∷ b ∷ []) two ∙ (let same : (fold_byte a, fold_byte b) ≡ (x, y) = cc in ap (λ p. (p.0 - 96) * 26 + (p.1 - 96)) same)
+number_of_letters (a ∷ b ∷ c ∷ rest) x y two is = absurd (omega (arith, two))
+
+pub language_of_letters : (x y number : ℕ) → number ≡ (x - 96) * 26 + (y - 96) → is_among_numbers SHORT_ALIAS_KEYS number ≡ false → IsLanguageOf (x, y) number
+unfolding matching_form
+language_of_letters x y number number_is absent text short letters = by_und (are_alike (basic_text text) (codes "und"))
+  where
+    by_fields : (o : Option Fields) → text_fields (hyphened text) ≡ o → IfSome (option_map matching_fields o) (HasNumber number)
+    by_fields None is = tt
+    by_fields (Some f) is =
+        let there = text_language text short f is in
+        let plain = primary_letters f.language there.0 in
+        let is_number : letter_number f.language ≡ number = number_of_letters f.language x y there.1 (there.2 ∙ letters) ∙ sym number_is in
+        let same = not_replaced f there.1 plain (ap (is_among_numbers SHORT_ALIAS_KEYS) is_number ∙ absent) in
+        let some : 0 < length (language_replaced f).language = rw same (omega (arith, there.1)) in
+        let language = completed_language (language_replaced f) some ∙ ap (λ f. f.language) same in
+        (ap are_letters language ∙ plain, ap letter_number language ∙ is_number)
+
+    by_und : (b : Bool) → IfSome (cond b None (option_map matching_fields (text_fields (hyphened text)))) (HasNumber number)
+    by_und true = tt
+    by_und false = by_fields (text_fields (hyphened text)) refl
+
+-- ---- how far it is
+
+-- what is alike has a form or has none
+form_alone : (range tag : List ℕ) (f : Fields) → matching_form range ≡ Some f → matching_form tag ≡ None → are_alike range tag ≡ false
+form_alone range tag f some none = false_from_ne_true (are_alike range tag) (λ yes.
+    by_options (λ a b. a ≡ Some f → b ≡ None → ⊥) (λ is not. cc) (λ a b alike is not. cc) _ _
+    (matching_form-alike range tag ((are_alike-decides range tag).0 yes)) some none)
+
+pub far_by_numbers :
+    (own other : ℕ) (range tag : List ℕ) → AreFar own other → MatchOption (matching_form range) ⊥ (HasNumber own) → IfSome (matching_form tag) (HasNumber other) → 50 ≤ distance_of_texts range tag
+unfolding distance_of_texts
+far_by_numbers own other range tag far desired supported = by_forms (matching_form range) (matching_form tag) refl refl desired supported
+  where
+    by_forms :
+        (r t : Option Fields) → matching_form range ≡ r → matching_form tag ≡ t → MatchOption r ⊥ (HasNumber own) → IfSome t (HasNumber other) → 50 ≤ distance_of_forms range tag r t
+    by_forms None t r_is t_is desired supported = absurd desired
+    by_forms (Some d) None r_is t_is desired supported = rw (form_alone range tag d r_is t_is) (lit≤ tt)
+    by_forms (Some d) (Some s) r_is t_is desired supported = let is = far d s desired supported in omega (arith, is)
+
+-- ---- what look-up keeps
+
+pub nothing_kept :
+    (letters begin : ℕ × ℕ) (range tag : List ℕ) → first_two range ≡ Some letters → first_two tag ≡ Some begin → (first_two tag ≡ Some letters → ⊥) → kept range tag ≡ 0
+unfolding kept
+nothing_kept letters begin range tag starts is other =
+    grind (arith, nat_tests, and_parts, length-alike, head-take, head-alike)
