@@ -5,3 +5,4 @@ pub mod FoundLaws
 pub mod MatchingTables
 pub mod NearLanguages
 pub mod ReadRanges
+pub mod SiteTags

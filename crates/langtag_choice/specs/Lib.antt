@@ -3,6 +3,7 @@ pub mod ChoiceLaws
 pub mod Distance
 pub mod FirstLetters
 pub mod Found
+pub mod KnownTexts
 pub mod ListTexts
 pub mod MatchingData
 pub mod NearLanguages
@@ -10,3 +11,4 @@ pub mod Nearness
 pub mod Pairs
 pub mod Rules
 pub mod Sets
+pub mod Sites

@@ -56,6 +56,6 @@ fn improve_for_range<'a, 't, T: TagList>(
         return;
     };
     for index in 0..tags.count() {
-        improve(found, &wish, tags.bytes_at(index), index);
+        improve(found, &wish, tags.known_at(index), index);
     }
 }

@@ -5,10 +5,12 @@ ghost use Rattle.langtag_range.specs.Listed.{listed_element};
 ghost use Rattle.langtag_range.specs.Range.{is_language_range};
 ghost use Rattle.langtag_range.specs.Wanted.{hyphened};
 ghost use Rattle.langtag_choice.specs.Best.{is_refused, rank, serves};
+ghost use Rattle.langtag_choice.specs.KnownTexts.{known_text};
 ghost use Rattle.langtag_choice.specs.Found.{AreOpen, CoversOpen, CoversRanges, IsOldOrAt, IsUnrefusedAt, IsReal, IsNotAfter, Keeps};
 
 use crate::candidate::Candidate;
 use crate::improve::{improve, limit};
+use crate::known_tag::KnownTag;
 use crate::range_list::RangeList;
 use crate::refused::is_refused;
 use crate::tag_list::TagList;
@@ -46,7 +48,7 @@ fn improve_at<'a, 't, R: RangeList<'a>, T: TagList>(
     ensures unrefused { AreOpen (R.elements ranges) (T.texts tags.now) found.old → AreOpen (R.elements ranges) (T.texts tags.now) found.new }
 {
     if is_open(ranges, tags, index) {
-        improve_for_tag(found, ranges, tags.bytes_at(index), index);
+        improve_for_tag(found, ranges, tags.known_at(index), index);
     }
 }
 
@@ -65,12 +67,12 @@ fn is_open<'a, R: RangeList<'a>, T: TagList>(ranges: R, tags: &T, index: usize) 
 fn improve_for_tag<'a, 't, R: RangeList<'a>>(
     found: &mut Option<Candidate<'a, 't>>,
     ranges: R,
-    tag: &'t [u8],
+    tag: KnownTag<'t>,
     index: usize,
 )
     ensures keeps { Keeps found.old found.new }
-    ensures covers { CoversRanges (R.elements ranges) tag.now index (length (R.elements ranges)) found.new }
-    ensures from { IsOldOrAt (R.elements ranges) tag.now index found.old found.new }
+    ensures covers { CoversRanges (R.elements ranges) (known_text tag.entry) index (length (R.elements ranges)) found.new }
+    ensures from { IsOldOrAt (R.elements ranges) (known_text tag.entry) index found.old found.new }
 {
     let mut place = 0;
     let mut left = ranges;
@@ -86,13 +88,13 @@ fn improve_for_pair<'a, 't>(
     found: &mut Option<Candidate<'a, 't>>,
     wanted: WantedRange<'a>,
     place: usize,
-    tag: &'t [u8],
+    tag: KnownTag<'t>,
     index: usize,
 )
     requires in_class { IsTrue (is_language_range (hyphened wanted.bytes.now)) }
     ensures keeps { Keeps found.old found.new }
-    ensures covers { IsTrue (serves (listed_element wanted.entry) tag.now) → IsNotAfter found.new (rank place (listed_element wanted.entry) index tag.now) }
-    ensures from { (elements : List Element) → slice_get elements place ≡ Some (listed_element wanted.entry) → IsOldOrAt elements tag.now index found.old found.new }
+    ensures covers { IsTrue (serves (listed_element wanted.entry) (known_text tag.entry)) → IsNotAfter found.new (rank place (listed_element wanted.entry) index (known_text tag.entry)) }
+    ensures from { (elements : List Element) → slice_get elements place ≡ Some (listed_element wanted.entry) → IsOldOrAt elements (known_text tag.entry) index found.old found.new }
 {
     if limit(found, wanted.weight, place) == 0 {
         return;

@@ -3,8 +3,10 @@ ghost use Rattle.std.specs.Prelude.{◌≡◌, ◌-◌, ◌≤◌, ℕ, List, Is
 ghost use Rattle.langtag_range.specs.Element.{Element};
 ghost use Rattle.langtag_choice.specs.Best as spec;
 ghost use Rattle.langtag_choice.specs.Found.{IsOf, IsNotAfter, Keeps, Takes, rank_of, wish_element};
+ghost use Rattle.langtag_choice.specs.KnownTexts.{known_text};
 
 use crate::candidate::{Candidate, Rank, Service};
+use crate::known_tag::KnownTag;
 use crate::nearness::measured;
 use crate::wish::Wish;
 
@@ -35,12 +37,12 @@ fn lack(weight: u32) -> u32
 pub(crate) fn improve<'a, 't>(
     found: &mut Option<Candidate<'a, 't>>,
     wish: &Wish<'a>,
-    tag: &'t [u8],
+    tag: KnownTag<'t>,
     index: usize,
 )
-    ensures { Takes wish.now tag.now index found.old found.new }
+    ensures { Takes wish.now (known_text tag.entry) index found.old found.new }
 {
-    if !wish.is_far_from(tag) {
+    if !tag.is_far_from(wish) {
         improve_near(found, wish, tag, index);
     }
 }
@@ -51,10 +53,10 @@ pub(crate) fn improve<'a, 't>(
 fn improve_near<'a, 't>(
     found: &mut Option<Candidate<'a, 't>>,
     wish: &Wish<'a>,
-    tag: &'t [u8],
+    tag: KnownTag<'t>,
     index: usize,
 )
-    ensures { Takes wish.now tag.now index found.old found.new }
+    ensures { Takes wish.now (known_text tag.entry) index found.old found.new }
 {
     let limit = limit(found, wish.weight, wish.place);
     let Some(next) = as_candidate(limit, wish, tag, index) else {
@@ -82,11 +84,11 @@ fn is_first(next: &Candidate<'_, '_>, found: &Option<Candidate<'_, '_>>) -> bool
 fn as_candidate<'a, 't>(
     limit: u8,
     wish: &Wish<'a>,
-    tag: &'t [u8],
+    tag: KnownTag<'t>,
     index: usize,
 ) -> Option<Candidate<'a, 't>>
-    ensures { MatchOption result (IsTrue (spec.serves (wish_element wish.now) tag.now) → limit ≤ spec.reach (wish_element wish.now).range tag.now)
-        (IsOf wish.now tag.now index) }
+    ensures { MatchOption result (IsTrue (spec.serves (wish_element wish.now) (known_text tag.entry)) → limit ≤ spec.reach (wish_element wish.now).range (known_text tag.entry))
+        (IsOf wish.now (known_text tag.entry) index) }
 {
     let near = measured(limit, wish, tag)?;
     let rank = Rank {
@@ -98,7 +100,7 @@ fn as_candidate<'a, 't>(
     Some(Candidate {
         rank,
         range: wish.range,
-        tag,
+        tag: tag.bytes(),
         form: near.form,
         index,
     })

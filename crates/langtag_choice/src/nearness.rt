@@ -8,10 +8,14 @@ ghost use Rattle.langtag_choice.specs.Best.{may_serve, reach};
 ghost use Rattle.langtag_choice.specs.Distance.{distance_of_texts, fields_distance, formless_distance, language_distance};
 ghost use Rattle.langtag_choice.specs.Found.{IsNear, IsNearer};
 ghost use Rattle.langtag.specs.Fields.{Fields};
+ghost use Rattle.langtag.specs.Text.{lang_tag_text};
+ghost use Rattle.langtag_choice.specs.KnownTexts.{known_text};
 ghost use Rattle.langtag_likely.specs.Matching.{completed, matching_form};
 ghost use Rattle.langtag_choice.specs.Nearness as spec;
 ghost use Rattle.langtag_likely.specs.Texts.{field_texts};
 
+use crate::known_tag::KnownTag;
+use crate::prepared_tag::PreparedTag;
 use crate::rule_distance::language_distance;
 use crate::tag_distance::places_distance;
 use crate::wish::Wish;
@@ -28,31 +32,54 @@ pub(crate) struct Nearness<'t> {
 /// Returns how near a tag is to a range that the tag may serve, if the distance is below a limit. The distance is 50
 /// if only look-up finds the tag.
 #[tactic(auto, unfolding(crate::specs::Best::reach))]
-pub(crate) fn measured<'t>(limit: u8, wish: &Wish<'_>, tag: &'t [u8]) -> Option<Nearness<'t>>
-    ensures { MatchOption result (IsTrue (may_serve (basic_text wish.now.range.now) tag.now) → limit ≤ reach (basic_text wish.now.range.now) tag.now)
-        (IsNear (basic_text wish.now.range.now) tag.now) }
+pub(crate) fn measured<'t>(limit: u8, wish: &Wish<'_>, tag: KnownTag<'t>) -> Option<Nearness<'t>>
+    ensures { MatchOption result (IsTrue (may_serve (basic_text wish.now.range.now) (known_text tag.entry)) → limit ≤ reach (basic_text wish.now.range.now) (known_text tag.entry))
+        (IsNear (basic_text wish.now.range.now) (known_text tag.entry)) }
 {
     if let Some(near) = nearer_than(limit.min(50), wish, tag) {
         return Some(near);
     }
-    if limit <= 50 || kept(wish.range, tag) == 0 {
+    if limit <= 50 || kept(wish.range, tag.bytes()) == 0 {
         return None;
     }
     Some(Nearness {
         distance: 50,
-        form: matching_form(tag),
+        form: tag.form(),
     })
 }
 
 /// Returns how near a tag is to a range (UTS #35, Language Matching), if it is nearer than a limit.
+fn nearer_than<'t>(limit: u8, wish: &Wish<'_>, tag: KnownTag<'t>) -> Option<Nearness<'t>>
+    ensures { MatchOption result (limit ≤ distance_of_texts (basic_text wish.now.range.now) (known_text tag.entry))
+        (IsNearer limit (distance_of_texts (basic_text wish.now.range.now) (known_text tag.entry)) (matching_form (known_text tag.entry))) }
+{
+    match tag {
+        KnownTag::Text(text) => nearer_text(limit, wish, text),
+        KnownTag::Prepared(tag) => nearer_prepared(limit, wish, tag),
+    }
+}
+
+/// Returns how near a text is to a range, if it is nearer than a limit.
 #[tactic(auto, unfolding(crate::specs::Distance::distance_of_texts), using(langtag_likely::proofs::CompletedForms::form_completed))]
-fn nearer_than<'t>(limit: u8, wish: &Wish<'_>, tag: &'t [u8]) -> Option<Nearness<'t>>
+fn nearer_text<'t>(limit: u8, wish: &Wish<'_>, tag: &'t [u8]) -> Option<Nearness<'t>>
     ensures { MatchOption result (limit ≤ distance_of_texts (basic_text wish.now.range.now) tag.now)
         (IsNearer limit (distance_of_texts (basic_text wish.now.range.now) tag.now) (matching_form tag.now)) }
 {
     match (wish.form, replaced_form(tag)) {
         (Some(desired), Some(supported)) => nearer_fields(limit, desired, supported),
         _ => equal_text(limit, wish.range, tag),
+    }
+}
+
+/// Returns how near a prepared tag is to a range, if it is nearer than a limit.
+#[tactic(auto, unfolding(crate::specs::Distance::distance_of_texts))]
+fn nearer_prepared<'t>(limit: u8, wish: &Wish<'_>, tag: &'t PreparedTag<'t>) -> Option<Nearness<'t>>
+    ensures { MatchOption result (limit ≤ distance_of_texts (basic_text wish.now.range.now) (lang_tag_text tag.now.tag))
+        (IsNearer limit (distance_of_texts (basic_text wish.now.range.now) (lang_tag_text tag.now.tag)) (matching_form (lang_tag_text tag.now.tag))) }
+{
+    match (wish.form, tag.form()) {
+        (Some(desired), Some(form)) => nearer_form(limit, desired, form),
+        _ => equal_text(limit, wish.range, tag.tag().as_bytes()),
     }
 }
 
@@ -70,7 +97,33 @@ fn nearer_fields<'t>(
     if language >= limit {
         return None;
     }
-    let form = completed(supported);
+    nearer_places(limit, language, desired, completed(supported))
+}
+
+/// Returns how near a matching form is to the form of a range, if it is nearer than a limit.
+fn nearer_form<'t>(limit: u8, desired: TagFields<'_>, form: TagFields<'t>) -> Option<Nearness<'t>>
+    ensures { MatchOption result (limit ≤ fields_distance (field_texts desired.entry) (field_texts form.entry))
+        (IsNearer limit (fields_distance (field_texts desired.entry) (field_texts form.entry)) (Some (field_texts form.entry))) }
+{
+    let language = language_distance(desired, form);
+    if language >= limit {
+        return None;
+    }
+    nearer_places(limit, language, desired, form)
+}
+
+/// Returns how near a matching form is to the form of a range, if it is nearer than a limit, given the distance of their
+/// languages.
+fn nearer_places<'t>(
+    limit: u8,
+    language: u8,
+    desired: TagFields<'_>,
+    form: TagFields<'t>,
+) -> Option<Nearness<'t>>
+    requires { language ≡ language_distance (field_texts desired) (field_texts form) }
+    ensures { MatchOption result (limit ≤ fields_distance (field_texts desired.entry) (field_texts form.entry))
+        (IsNearer limit (fields_distance (field_texts desired.entry) (field_texts form.entry)) (Some (field_texts form.entry))) }
+{
     let distance = language + places_distance(desired, form);
     if distance >= limit {
         return None;

@@ -2,8 +2,10 @@
 ghost use Rattle.std.specs.Prelude.{◌≡◌, ◌<◌, ℕ, List, Option, None, length, slice_index_or};
 ghost use Rattle.std.specs.Option.{ForSome, option_map};
 ghost use Rattle.langtag.specs.Text.{lang_tag_text};
+ghost use Rattle.langtag_choice.specs.KnownTexts.{known_text};
 ghost use Rattle.langtag_choice.specs.ListTexts.{tag_texts};
 
+use crate::known_tag::KnownTag;
 use langtag::LangTag;
 
 /// A list of tags with an index for each. An entry that is not a tag is allowed, but never chosen.
@@ -46,6 +48,14 @@ pub trait TagList {
     fn bytes_at(&self, index: usize) -> &[u8]
         requires { index < length (texts self.now) }
         ensures { ForSome (slice_index_or (texts self.now) index None) (λ text. result.now ≡ text) };
+
+    /// Returns the tag at an index as the choice reads it. Override this only for prepared tags.
+    fn known_at(&self, index: usize) -> KnownTag<'_>
+        requires { index < length (texts self.now) }
+        ensures { ForSome (slice_index_or (texts self.now) index None) (λ text. known_text result ≡ text) }
+    {
+        KnownTag::Text(self.bytes_at(index))
+    }
 }
 
 /// Tags in a slice.

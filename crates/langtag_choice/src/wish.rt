@@ -1,5 +1,5 @@
 //! A range that a tag can serve.
-ghost use Rattle.std.specs.Prelude.{◌≡◌, ◌≤◌, ◌==◌, ℕ, IsTrue, List, MatchOption, Some, false};
+ghost use Rattle.std.specs.Prelude.{◌≡◌, ◌≤◌, ◌<◌, ◌==◌, ℕ, IfSome, IsTrue, List, MatchOption, Some, false};
 ghost use Rattle.std.specs.Option.{ForSome, option_map};
 ghost use Rattle.langtag_choice.specs.FirstLetters.{first_two};
 ghost use Rattle.langtag_choice.specs.NearLanguages.{HasNumber};
@@ -73,6 +73,19 @@ impl<'a> Wish<'a> {
         }
         match language_of(letters) {
             Some(other) => own.is_far(other),
+            None => false,
+        }
+    }
+
+    /// Returns whether a tag cannot serve the range, given by its first letters and the number of its language: the
+    /// range does not begin with these letters, and the language is not near the language of the range.
+    pub(crate) fn is_far_from_language(&self, letters: (u8, u8), number: u32) -> bool
+        requires { number < 32768 }
+        ensures far { IsTrue result → (tag : List ℕ) → IfSome (matching_form tag) (HasNumber number) → 50 ≤ distance_of_texts (basic_text self.now.range.now) tag }
+        ensures kept { IsTrue result → (tag : List ℕ) → first_two tag ≡ Some letters → kept (basic_text self.now.range.now) tag ≡ 0 }
+    {
+        match self.language {
+            Some(own) => letters != own.letters && own.is_far(number),
             None => false,
         }
     }

@@ -5,6 +5,7 @@
 
 use crate::erased::choice::candidate::Candidate;
 use crate::erased::choice::improve::{improve, limit};
+use crate::erased::choice::known_tag::KnownTag;
 use crate::erased::choice::range_list::RangeList;
 use crate::erased::choice::refused::is_refused;
 use crate::erased::choice::tag_list::TagList;
@@ -34,7 +35,7 @@ fn improve_at<'a, 't, R: RangeList<'a>, T: TagList>(
     index: usize,
 ) {
     if is_open(ranges, tags, index) {
-        improve_for_tag(found, ranges, tags.bytes_at(index), index);
+        improve_for_tag(found, ranges, tags.known_at(index), index);
     }
 }
 
@@ -51,7 +52,7 @@ fn is_open<'a, R: RangeList<'a>, T: TagList>(ranges: R, tags: &T, index: usize) 
 fn improve_for_tag<'a, 't, R: RangeList<'a>>(
     found: &mut Option<Candidate<'a, 't>>,
     ranges: R,
-    tag: &'t [u8],
+    tag: KnownTag<'t>,
     index: usize,
 ) {
     let mut place = 0;
@@ -68,7 +69,7 @@ fn improve_for_pair<'a, 't>(
     found: &mut Option<Candidate<'a, 't>>,
     wanted: WantedRange<'a>,
     place: usize,
-    tag: &'t [u8],
+    tag: KnownTag<'t>,
     index: usize,
 ) {
     if limit(found, wanted.weight, place) == 0 {

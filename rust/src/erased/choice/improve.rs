@@ -3,6 +3,7 @@
 //! Improving the candidate by one more tag.
 
 use crate::erased::choice::candidate::{Candidate, Rank, Service};
+use crate::erased::choice::known_tag::KnownTag;
 use crate::erased::choice::nearness::measured;
 use crate::erased::choice::wish::Wish;
 
@@ -30,10 +31,10 @@ fn lack(weight: u32) -> u32 {
 pub(crate) fn improve<'a, 't>(
     found: &mut Option<Candidate<'a, 't>>,
     wish: &Wish<'a>,
-    tag: &'t [u8],
+    tag: KnownTag<'t>,
     index: usize,
 ) {
-    if !wish.is_far_from(tag) {
+    if !tag.is_far_from(wish) {
         improve_near(found, wish, tag, index);
     }
 }
@@ -44,7 +45,7 @@ pub(crate) fn improve<'a, 't>(
 fn improve_near<'a, 't>(
     found: &mut Option<Candidate<'a, 't>>,
     wish: &Wish<'a>,
-    tag: &'t [u8],
+    tag: KnownTag<'t>,
     index: usize,
 ) {
     let limit = limit(found, wish.weight, wish.place);
@@ -70,7 +71,7 @@ fn is_first(next: &Candidate<'_, '_>, found: &Option<Candidate<'_, '_>>) -> bool
 fn as_candidate<'a, 't>(
     limit: u8,
     wish: &Wish<'a>,
-    tag: &'t [u8],
+    tag: KnownTag<'t>,
     index: usize,
 ) -> Option<Candidate<'a, 't>> {
     let near = measured(limit, wish, tag)?;
@@ -83,7 +84,7 @@ fn as_candidate<'a, 't>(
     Some(Candidate {
         rank,
         range: wish.range,
-        tag,
+        tag: tag.bytes(),
         form: near.form,
         index,
     })

@@ -2,6 +2,8 @@
 
 //! How near a tag is to a range.
 
+use crate::erased::choice::known_tag::KnownTag;
+use crate::erased::choice::prepared_tag::PreparedTag;
 use crate::erased::choice::rule_distance::language_distance;
 use crate::erased::choice::tag_distance::places_distance;
 use crate::erased::choice::wish::Wish;
@@ -19,29 +21,50 @@ pub(crate) struct Nearness<'t> {
 
 /// Returns how near a tag is to a range that the tag may serve, if the distance is below a limit.
 /// The distance is 50 if only look-up finds the tag.
-pub(crate) fn measured<'t>(limit: u8, wish: &Wish<'_>, tag: &'t [u8]) -> Option<Nearness<'t>> {
+pub(crate) fn measured<'t>(limit: u8, wish: &Wish<'_>, tag: KnownTag<'t>) -> Option<Nearness<'t>> {
     if let Some(near) = nearer_than(limit.min(50), wish, tag) {
         return Some(near);
     }
-    if limit <= 50 || kept(wish.range, tag) == 0 {
+    if limit <= 50 || kept(wish.range, tag.bytes()) == 0 {
         return None;
     }
     Some(Nearness {
         distance: 50,
-        form: matching_form(tag),
+        form: tag.form(),
     })
 }
 
 /// Returns how near a tag is to a range (UTS #35, Language Matching), if it is nearer than a limit.
-fn nearer_than<'t>(limit: u8, wish: &Wish<'_>, tag: &'t [u8]) -> Option<Nearness<'t>> {
+fn nearer_than<'t>(limit: u8, wish: &Wish<'_>, tag: KnownTag<'t>) -> Option<Nearness<'t>> {
+    match tag {
+        KnownTag::Text(text) => nearer_text(limit, wish, text),
+        KnownTag::Prepared(tag) => nearer_prepared(limit, wish, tag),
+    }
+}
+
+/// Returns how near a text is to a range, if it is nearer than a limit.
+fn nearer_text<'t>(limit: u8, wish: &Wish<'_>, tag: &'t [u8]) -> Option<Nearness<'t>> {
     match (wish.form, replaced_form(tag)) {
         (Some(desired), Some(supported)) => nearer_fields(limit, desired, supported),
         _ => equal_text(limit, wish.range, tag),
     }
 }
 
+/// Returns how near a prepared tag is to a range, if it is nearer than a limit.
+fn nearer_prepared<'t>(
+    limit: u8,
+    wish: &Wish<'_>,
+    tag: &'t PreparedTag<'t>,
+) -> Option<Nearness<'t>> {
+    match (wish.form, tag.form()) {
+        (Some(desired), Some(form)) => nearer_form(limit, desired, form),
+        _ => equal_text(limit, wish.range, tag.tag().as_bytes()),
+    }
+}
+
 /// Returns how near a tag is to a range, by their fields. It adds the tag's likely subtags only if
 /// the language is near enough.
+#[inline]
 fn nearer_fields<'t>(
     limit: u8,
     desired: TagFields<'_>,
@@ -51,7 +74,28 @@ fn nearer_fields<'t>(
     if language >= limit {
         return None;
     }
-    let form = completed(supported);
+    nearer_places(limit, language, desired, completed(supported))
+}
+
+/// Returns how near a matching form is to the form of a range, if it is nearer than a limit.
+#[inline]
+fn nearer_form<'t>(limit: u8, desired: TagFields<'_>, form: TagFields<'t>) -> Option<Nearness<'t>> {
+    let language = language_distance(desired, form);
+    if language >= limit {
+        return None;
+    }
+    nearer_places(limit, language, desired, form)
+}
+
+/// Returns how near a matching form is to the form of a range, if it is nearer than a limit, given
+/// the distance of their languages.
+#[inline]
+fn nearer_places<'t>(
+    limit: u8,
+    language: u8,
+    desired: TagFields<'_>,
+    form: TagFields<'t>,
+) -> Option<Nearness<'t>> {
     let distance = language + places_distance(desired, form);
     if distance >= limit {
         return None;

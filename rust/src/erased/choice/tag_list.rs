@@ -2,6 +2,7 @@
 
 //! The lists of tags from which one can be chosen.
 
+use crate::erased::choice::known_tag::KnownTag;
 use crate::erased::tag::LangTag;
 
 /// A list of tags with an index for each. An entry that is not a tag is allowed, but never chosen.
@@ -38,6 +39,12 @@ pub trait TagList {
     /// Returns the text of the tag at an index. If the entry is not a tag, any text may be
     /// returned.
     fn bytes_at(&self, index: usize) -> &[u8];
+
+    /// Returns the tag at an index as the choice reads it. Override this only for prepared tags.
+    #[inline]
+    fn known_at(&self, index: usize) -> KnownTag<'_> {
+        KnownTag::Text(self.bytes_at(index))
+    }
 }
 
 /// Tags in a slice.

@@ -52,4 +52,15 @@ impl<'a> Wish<'a> {
             None => false,
         }
     }
+
+    /// Returns whether a tag cannot serve the range, given by its first letters and the number of
+    /// its language: the range does not begin with these letters, and the language is not near the
+    /// language of the range.
+    #[inline]
+    pub(crate) fn is_far_from_language(&self, letters: (u8, u8), number: u32) -> bool {
+        match self.language {
+            Some(own) => letters != own.letters && own.is_far(number),
+            None => false,
+        }
+    }
 }

@@ -1,0 +1,104 @@
+//! A tag with what the choice computes of it.
+ghost use Rattle.std.specs.Prelude.{◌≡◌, ◌<◌, IfSome, Some};
+ghost use Rattle.std.specs.Option.{ForSome, option_map};
+ghost use Rattle.langtag.specs.Text.{lang_tag_text};
+ghost use Rattle.langtag_choice.specs.FirstLetters.{first_two};
+ghost use Rattle.langtag_choice.specs.NearLanguages.{HasNumber};
+ghost use Rattle.langtag_likely.specs.Matching.{matching_form};
+ghost use Rattle.langtag_likely.specs.Texts.{field_texts};
+
+use crate::first_letters::first_two;
+use crate::wish::Wish;
+use langtag::LangTag;
+use langtag_likely::{TagFields, language_number, matching_form};
+
+/// A tag with what the choice computes of it: its matching form, the number of its language, and its first letters.
+///
+/// ```
+/// use langtag::LangTag;
+/// use langtag_choice::{PreparedTag, Site};
+///
+/// let prepared = [PreparedTag::new(LangTag::new("en")?), PreparedTag::new(LangTag::new("zh-Hant")?)];
+/// Site::of(&prepared).best_for_header(b"zh-TW"); // Some(1)
+/// ```
+#[derive(Clone, Copy)]
+pub struct PreparedTag<'t> {
+    tag: LangTag<'t>,
+    form: Option<TagFields<'t>>,
+    head: Option<Head>,
+    ghost known: { option_map field_texts form ≡ matching_form (lang_tag_text tag) },
+    ghost begins: { ForSome head (λ head. first_two (lang_tag_text tag) ≡ Some head.letters) },
+    ghost number: { ForSome head (λ head. IfSome (matching_form (lang_tag_text tag)) (HasNumber head.number)) },
+}
+
+/// The first two letters of a tag, in lowercase, and the number of the language of its matching form.
+#[derive(Clone, Copy)]
+struct Head {
+    letters: (u8, u8),
+    number: u32,
+    ghost most: { number < 32768 },
+}
+
+impl<'t> PreparedTag<'t> {
+    ghost use Rattle.std.specs.Prelude.{◌≤◌, IsTrue};
+    ghost use Rattle.langtag_choice.specs.Distance.{distance_of_texts};
+    ghost use Rattle.langtag_choice.specs.Nearness.{kept};
+    ghost use Rattle.langtag_range.specs.Listed.{basic_text};
+
+    /// Returns the tag with what the choice computes of it.
+    pub fn new(tag: LangTag<'t>) -> PreparedTag<'t>
+        ensures { result.tag ≡ tag.entry }
+    {
+        let form = matching_form(tag.as_bytes());
+        PreparedTag {
+            tag,
+            form,
+            head: Head::of(tag.as_bytes(), form),
+        }
+    }
+
+    /// Returns the tag.
+    pub fn tag(&self) -> LangTag<'t>
+        ensures { result ≡ self.now.tag }
+    {
+        self.tag
+    }
+
+    /// Returns the matching form of the tag.
+    pub(crate) fn form(&self) -> Option<TagFields<'t>>
+        ensures { option_map field_texts result ≡ matching_form (lang_tag_text self.now.tag) }
+    {
+        self.form
+    }
+
+    /// Returns whether the first letters and the language of the tag show that it cannot serve a range.
+    pub(crate) fn is_far_from(&self, wish: &Wish<'_>) -> bool
+        ensures far { IsTrue result → 50 ≤ distance_of_texts (basic_text wish.now.range.now) (lang_tag_text self.now.tag) }
+        ensures kept { IsTrue result → kept (basic_text wish.now.range.now) (lang_tag_text self.now.tag) ≡ 0 }
+    {
+        match self.head {
+            Some(head) => wish.is_far_from_language(head.letters, head.number),
+            None => false,
+        }
+    }
+}
+
+impl Head {
+    ghost use Rattle.std.specs.Prelude.{MatchOption};
+
+    /// Returns the first letters of a text and the number of its language, or `None` if the language has more than
+    /// three letters.
+    fn of(text: &[u8], form: Option<TagFields<'_>>) -> Option<Head>
+        requires { option_map field_texts form.entry ≡ matching_form text.now }
+        ensures begins { ForSome result (λ head. first_two text.now ≡ Some head.letters) }
+        ensures number { ForSome result (λ head. IfSome (matching_form text.now) (HasNumber head.number)) }
+    {
+        let letters = first_two(text)?;
+        let number = match form {
+            Some(form) if form.language.len() <= 3 => language_number(form.language),
+            Some(_) => return None,
+            None => 0,
+        };
+        Some(Head { letters, number })
+    }
+}

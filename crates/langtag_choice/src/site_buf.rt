@@ -1,0 +1,49 @@
+//! A site that owns what it prepared.
+ghost use Rattle.std.specs.Prelude.{◌≡◌, IfOk};
+ghost use Rattle.langtag_choice.specs.Sites.{prepared_tags};
+
+use crate::prepared_tag::PreparedTag;
+use crate::site::Site;
+use langtag::LangTag;
+use std::alloc::{AllocError, Global};
+
+/// A [`Site`] that owns its prepared tags.
+///
+/// ```
+/// use langtag::LangTag;
+/// use langtag_choice::SiteBuf;
+///
+/// let tags = [LangTag::new("en")?, LangTag::new("zh-Hant")?];
+/// let site = SiteBuf::new(alloc, &tags)?;
+/// site.as_site().best_for_header(b"zh-TW,zh;q=0.9"); // Some(1)
+/// ```
+#[derive(Drop)]
+pub struct SiteBuf<'t> {
+    tags: Vec<PreparedTag<'t>>,
+}
+
+impl<'t> SiteBuf<'t> {
+    /// Prepares tags.
+    ///
+    /// # Errors
+    ///
+    /// Returns an error if allocation fails.
+    pub fn new(alloc: Global, tags: &[LangTag<'t>]) -> Result<SiteBuf<'t>, AllocError>
+        ensures { IfOk result (λ site. prepared_tags site.tags.items ≡ tags.now) }
+    {
+        let mut prepared = Vec::with_capacity(alloc, tags.len())?;
+        for tag in tags {
+            prepared
+                .push(PreparedTag::new(*tag))
+                .map_err(AllocError::from)?;
+        }
+        Ok(SiteBuf { tags: prepared })
+    }
+
+    /// Returns the site.
+    pub fn as_site(&self) -> Site<'_, 't>
+        ensures { result.tags.now ≡ self.now.tags.items }
+    {
+        Site::of(self.tags.as_slice())
+    }
+}
