@@ -47,11 +47,11 @@ EXPORTED_BY = {"langtag_keyword": "langtag_unicode", "langtag_case": "langtag_sc
 # the module `erased`.
 REPLACED = set("""
     look_up tag_for_header canonical extlang_form write_canonical maximized minimized write_maximized write_minimized
-    write_from_posix extensions_form write_extensions_form locale_form write_locale_form write_with_keyword write_without_keyword
+    write_from_posix extensions_form write_extensions_form locale_form write_locale_form write_with_keyword write_without_keyword Site
 """.split())
 HIDDEN = set("""
     put_part is_among_first Part Replacement Keys element_at is_empty_element listed_range locale_place split_wanted weight_of
-    fault_at suggested_language suggested_region
+    fault_at suggested_language suggested_region PreparedTag SiteBuf
 """.split())
 
 

@@ -21,9 +21,11 @@ use crate::erased::choice;
 use crate::matching::AcceptLanguage;
 use crate::LangTag;
 
-pub use crate::erased::choice::{BestMatch, KnownTag, PreparedTag, RangeList, Site, TagList, FORMLESS_DISTANCE};
+pub use crate::erased::choice::{BestMatch, KnownTag, RangeList, TagList, FORMLESS_DISTANCE};
 use crate::lists::Ranges;
 pub use crate::lists::TagEntry;
+#[cfg(feature = "alloc")]
+pub use crate::site::Site;
 
 /// Returns the index of the best tag for an `Accept-Language` header ([RFC 9110 section 12.5.4]),
 /// or `None` if no tag is suitable. A malformed element is read as far as possible: `de_CH` as

@@ -144,6 +144,8 @@ mod owned_errors;
 #[cfg(feature = "serde")]
 mod serde;
 mod shown;
+#[cfg(all(feature = "alloc", feature = "data"))]
+mod site;
 #[cfg(feature = "data")]
 mod suggestion;
 mod text;

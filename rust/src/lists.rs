@@ -66,7 +66,7 @@ impl<E: TagEntry> TagEntry for &E {
 #[cfg(feature = "data")]
 mod of_tags {
     use super::TagEntry;
-    use crate::choice::TagList;
+    use crate::choice::{KnownTag, TagList};
     use crate::LangTag;
 
     impl<E: TagEntry> TagList for [E] {
@@ -126,6 +126,11 @@ mod of_tags {
         #[inline]
         fn bytes_at(&self, index: usize) -> &[u8] {
             (**self).bytes_at(index)
+        }
+
+        #[inline]
+        fn known_at(&self, index: usize) -> KnownTag<'_> {
+            (**self).known_at(index)
         }
     }
 }

@@ -14,9 +14,9 @@ use Rattle.langtag_range.proofs.AlikeTexts.{hyphened-fold, is_star-fold, subtags
 use Rattle.langtag_range.proofs.BasicForms.{basic_text-alike}
 use Rattle.langtag_likely.specs.Likely.{are_alike_fields, language_alone, known, without_region}
 use Rattle.langtag.specs.Fields.{Fields}
-use Rattle.langtag_likely.specs.Matching.{language_replaced, region_replaced, without_language, keeping_language, most_unknown, most_likely, matching_fields, matching_form}
+use Rattle.langtag_likely.specs.Matching.{without_language, keeping_language, most_unknown, most_likely, matching_fields, matching_form}
 use Rattle.langtag_likely.specs.TextFields.{text_fields, fields_of_subtags, counted, counts, last_language, after_language, script_of, after_script, region_of}
-use Rattle.langtag_likely.proofs.AlikeFields.{AlikeOptions, fields-right, likely_for-alike, alone_alike, or_other-alike, added-alike, by_options, by_same, language-alike, letters-alike, suffices-alike}
+use Rattle.langtag_likely.proofs.AlikeFields.{AlikeOptions, fields-right, alone_alike, added-alike, by_options, language-alike, letters-alike, suffices-alike}
 use Rattle.langtag.proofs.Alike.{AlikeFields, are_alike-left, are_alike-right}
 use Rattle.langtag_choice.specs.Distance.{by_language, distance_of_forms, is_among, language_distance, region_distance, script_distance, DistanceIgnoresCase, distance_of_texts}
 use Rattle.langtag_choice.specs.MatchingData.{language_rules}

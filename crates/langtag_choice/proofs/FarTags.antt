@@ -1,16 +1,16 @@
 -- Tags that are far from a range, as their first letters and the numbers of languages show, and that look-up does not find.
-use Rattle.std.proofs.Common.{◌≡◌, ℕ, Bool, true, false, ◌||◌, not, ◌==◌, List, [], ◌∷◌, length, inl, inr, refl, sym, ap, ◌∙◌, arith, ◌&&◌, ◌<◌, ◌≤◌, ◌+◌, ◌-◌, ◌*◌, cond, get_or, length-take, take, drop, Option, Some, None, IfSome, MatchOption, option_map, codes, lit≤}
+use Rattle.std.proofs.Common.{◌≡◌, ℕ, Bool, true, false, ◌||◌, not, ◌==◌, List, [], ◌∷◌, length, inl, inr, refl, sym, ap, ◌∙◌, arith, ◌&&◌, ◌<◌, ◌≤◌, ◌+◌, ◌-◌, ◌*◌, cond, get_or, length-take, take, drop, Option, Some, None, option_map, codes, lit≤}
 use Rattle.std.proofs.lemmas.Bool.Decides.{eqb_tells, nat_tests}
 use Rattle.std.proofs.lemmas.Bool.{and_parts, both_ways, eq-eqb, false_from_ne_true, not_from_true, or_cases, and_from, or_parts, not-true}
 use Rattle.std.proofs.lemmas.Grind.{common_steps}
 use Rattle.std.proofs.lemmas.List.Sums.{take_while-cons}
-use Rattle.std.specs.Char.{is_ascii_lowercase}
+use Rattle.std.specs.Option.{ForSome}
 use Rattle.std.specs.List.{list_all, after_first, before_first, position_or_len}
 use Rattle.langtag_scan.specs.Case.{are_alike, Alike, fold_byte}
 use Rattle.langtag_scan.specs.CaseLaws.{are_alike-decides}
 use Rattle.langtag_scan.specs.Class.{are_letters, is_extended, is_letter, is_primary}
 use Rattle.langtag_scan.proofs.Disjoint.{extended_three}
-use Rattle.langtag_tables.specs.Numbers.{letter, letter_number}
+use Rattle.langtag_tables.specs.Numbers.{letter_number}
 use Rattle.langtag_tables.proofs.Letters.{letter_number-tells, number_of_two, primary_length, primary_letters}
 use Rattle.langtag_range.specs.Listed.{basic_text}
 use Rattle.langtag_range.specs.Wanted.{hyphened, is_separator}
@@ -28,7 +28,7 @@ use Rattle.langtag.proofs.Alike.{alike_length}
 use Rattle.langtag_likely.proofs.TextParts.{all_fields, next_part, no_fields}
 use Rattle.langtag_choice.specs.Distance.{distance_of_forms, distance_of_texts}
 use Rattle.langtag_choice.specs.FirstLetters.{HasNoExtended, IsLanguageOf, IsShort, first_two}
-use Rattle.langtag_choice.specs.NearLanguages.{AreFar, HasNumber, is_among_numbers}
+use Rattle.langtag_choice.specs.NearLanguages.{AreFar, HasNumber, form_number, is_among_numbers}
 use Rattle.langtag_choice.specs.Nearness.{kept}
 use Rattle.langtag_choice.specs.declared.matching_tables.TheConstants.{SHORT_ALIAS_KEYS}
 use Rattle.langtag_choice.proofs.AlikeDistances.{matching_form-alike}
@@ -142,32 +142,37 @@ module _ (text : List ℕ) (short : IsShort text) where
       rw (← language, language_first primary) (primary, (short primary).0, head-take (position_or_len is_separator text) text (primary_length (before_first is_separator text) primary)))
       (λ not. absurd (let none = no_fields text not ∙ is in cc))
 
--- the number of two letters
-number_of_letters : (language : List ℕ) (x y : ℕ) → length language ≡ 2 → first_two language ≡ Some (x, y) → letter_number language ≡ (x - 96) * 26 + (y - 96)
-unfolding letter_number
-number_of_letters [] x y two is = absurd cc
-number_of_letters (a ∷ []) x y two is = absurd cc
-number_of_letters (a ∷ b ∷ []) x y two is = number_of_two (a ∷ b ∷ []) two ∙ (let same : (fold_byte a, fold_byte b) ≡ (x, y) = cc in ap (λ p. (p.0 - 96) * 26 + (p.1 - 96)) same)
-number_of_letters (a ∷ b ∷ c ∷ rest) x y two is = absurd (omega (arith, two))
+some_letters : (a b : ℕ × ℕ) → Some a ≡ Some b → a ≡ b
+some_letters a b is = cc
 
-pub language_of_letters : (x y number : ℕ) → number ≡ (x - 96) * 26 + (y - 96) → is_among_numbers SHORT_ALIAS_KEYS number ≡ false → IsLanguageOf (x, y) number
+-- the number of two letters
+number_of_letters : (language : List ℕ) (letters : ℕ × ℕ) → length language ≡ 2 → first_two language ≡ Some letters → letter_number language ≡ (letters.0 - 96) * 26 + (letters.1 - 96)
+number_of_letters [] letters two is = absurd cc
+number_of_letters (a ∷ []) letters two is = absurd cc
+number_of_letters (a ∷ b ∷ []) letters two is =
+    number_of_two (a ∷ b ∷ []) two ∙ ap (λ (p : ℕ × ℕ). (p.0 - 96) * 26 + (p.1 - 96)) (some_letters (fold_byte a, fold_byte b) letters is)
+number_of_letters (a ∷ b ∷ c ∷ rest) letters two is = absurd (omega (arith, two))
+
+pub language_of_letters :
+    (letters : ℕ × ℕ) (number : ℕ) → number ≡ (letters.0 - 96) * 26 + (letters.1 - 96) → is_among_numbers SHORT_ALIAS_KEYS number ≡ false → IsLanguageOf letters number
 unfolding matching_form
-language_of_letters x y number number_is absent text short letters = by_und (are_alike (basic_text text) (codes "und"))
+language_of_letters letters number number_is absent text short begins = by_und (are_alike (basic_text text) (codes "und"))
   where
-    by_fields : (o : Option Fields) → text_fields (hyphened text) ≡ o → IfSome (option_map matching_fields o) (HasNumber number)
-    by_fields None is = tt
-    by_fields (Some f) is =
+    by_fields : (o : Option Fields) → text_fields (hyphened text) ≡ o → ForSome (option_map matching_fields o) (HasNumber number)
+    by_fields None is form made = absurd cc
+    by_fields (Some f) is form made =
         let there = text_language text short f is in
         let plain = primary_letters f.language there.0 in
-        let is_number : letter_number f.language ≡ number = number_of_letters f.language x y there.1 (there.2 ∙ letters) ∙ sym number_is in
+        let is_number : letter_number f.language ≡ number = number_of_letters f.language letters there.1 (there.2 ∙ begins) ∙ sym number_is in
         let same = not_replaced f there.1 plain (ap (is_among_numbers SHORT_ALIAS_KEYS) is_number ∙ absent) in
         let some : 0 < length (language_replaced f).language = rw same (omega (arith, there.1)) in
-        let language = completed_language (language_replaced f) some ∙ ap (λ f. f.language) same in
+        let made_is : matching_fields f ≡ form = cc in
+        let language = ap (λ f. f.language) (sym made_is) ∙ completed_language (language_replaced f) some ∙ ap (λ f. f.language) same in
         (ap are_letters language ∙ plain, ap letter_number language ∙ is_number)
 
-    by_und : (b : Bool) → IfSome (cond b None (option_map matching_fields (text_fields (hyphened text)))) (HasNumber number)
-    by_und true = tt
-    by_und false = by_fields (text_fields (hyphened text)) refl
+    by_und : (b : Bool) → ForSome (cond b None (option_map matching_fields (text_fields (hyphened text)))) (HasNumber number)
+    by_und true form made = absurd cc
+    by_und false form made = by_fields (text_fields (hyphened text)) refl form made
 
 -- ---- how far it is
 
@@ -177,16 +182,25 @@ form_alone range tag f some none = false_from_ne_true (are_alike range tag) (λ 
     by_options (λ a b. a ≡ Some f → b ≡ None → ⊥) (λ is not. cc) (λ a b alike is not. cc) _ _
     (matching_form-alike range tag ((are_alike-decides range tag).0 yes)) some none)
 
+number_had : (own : ℕ) (f : Fields) → form_number (Some f) ≡ Some own → HasNumber own f
+number_had own f is = grind (arith, nat_tests)
+
+pub number_has : (f : Fields) (number : ℕ) → are_letters f.language ≡ true → number ≡ letter_number f.language → form_number (Some f) ≡ Some number
+number_has f number letters is = grind (arith, nat_tests)
+
+pub number_is : (o : Option Fields) (f : Fields) (number : ℕ) → o ≡ Some f → are_letters f.language ≡ true → number ≡ letter_number f.language → ForSome o (HasNumber number)
+number_is o f number is letters number_of g there = let same : f ≡ g = cc in (ap (λ f. are_letters f.language) (sym same) ∙ letters, ap (λ f. letter_number f.language) (sym same) ∙ sym number_of)
+
+-- a range and a tag whose languages are far
 pub far_by_numbers :
-    (own other : ℕ) (range tag : List ℕ) → AreFar own other → MatchOption (matching_form range) ⊥ (HasNumber own) → IfSome (matching_form tag) (HasNumber other) → 50 ≤ distance_of_texts range tag
+    (own other : ℕ) (range tag : List ℕ) → AreFar own other → form_number (matching_form range) ≡ Some own → ForSome (matching_form tag) (HasNumber other) → 50 ≤ distance_of_texts range tag
 unfolding distance_of_texts
-far_by_numbers own other range tag far desired supported = by_forms (matching_form range) (matching_form tag) refl refl desired supported
+far_by_numbers own other range tag far desired supported = by_forms (matching_form range) (matching_form tag) refl refl desired
   where
-    by_forms :
-        (r t : Option Fields) → matching_form range ≡ r → matching_form tag ≡ t → MatchOption r ⊥ (HasNumber own) → IfSome t (HasNumber other) → 50 ≤ distance_of_forms range tag r t
-    by_forms None t r_is t_is desired supported = absurd desired
-    by_forms (Some d) None r_is t_is desired supported = rw (form_alone range tag d r_is t_is) (lit≤ tt)
-    by_forms (Some d) (Some s) r_is t_is desired supported = let is = far d s desired supported in omega (arith, is)
+    by_forms : (r t : Option Fields) → matching_form range ≡ r → matching_form tag ≡ t → form_number r ≡ Some own → 50 ≤ distance_of_forms range tag r t
+    by_forms None t r_is t_is desired = absurd cc
+    by_forms (Some d) None r_is t_is desired = rw (form_alone range tag d r_is t_is) (lit≤ tt)
+    by_forms (Some d) (Some s) r_is t_is desired = let is = far d s (number_had own d desired) (supported s t_is) in omega (arith, is)
 
 -- ---- what look-up keeps
 

@@ -1,6 +1,6 @@
 -- The tags of a site by their indices.
-use Rattle.std.proofs.Common.{◌≡◌, ℕ, ◌<◌, List, length, length-map, get_or, Option, None, Some, map, arith, sym, ap, ◌∙◌}
-use Rattle.std.proofs.lemmas.List.{get_or-map}
+use Rattle.std.proofs.Common.{◌≡◌, ℕ, ◌<◌, List, length, get_or, None, Some, sym, ap, ◌∙◌}
+use Rattle.std.proofs.lemmas.List.{get_or-map, length-map}
 use Rattle.langtag.specs.Text.{lang_tag_text}
 use Rattle.langtag_choice.specs.ListTexts.{tag_texts}
 use Rattle.langtag_choice.specs.Sites.{prepared_tags}

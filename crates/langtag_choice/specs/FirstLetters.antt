@@ -1,7 +1,7 @@
 -- What the first letters of a tag show. Only contracts of private functions cite this page.
-use Rattle.std.specs.Prelude.{◌≡◌, ℕ, ◌==◌, ◌||◌, Bool, true, false, not, List, [], ◌∷◌, length, Option, Some, None, IfSome}
+use Rattle.std.specs.Prelude.{◌≡◌, ℕ, ◌==◌, ◌||◌, Bool, true, false, not, List, [], ◌∷◌, length, Option, Some, None}
 use Rattle.std.specs.List.{after_first, before_first}
-use Rattle.langtag.specs.Fields.{Fields}
+use Rattle.std.specs.Option.{ForSome}
 use Rattle.langtag_choice.specs.NearLanguages.{HasNumber}
 use Rattle.langtag_likely.specs.Matching.{matching_form}
 use Rattle.langtag_range.specs.Wanted.{is_separator}
@@ -29,4 +29,4 @@ IsShort text = is_primary (before_first is_separator text) ≡ true → (length 
 
 -- a short text that begins with two letters has, in its matching form, the language with this number
 abbrev pub IsLanguageOf : ℕ × ℕ → ℕ → Type 0
-IsLanguageOf letters number = (text : List ℕ) → IsShort text → first_two text ≡ Some letters → IfSome (matching_form text) (HasNumber number)
+IsLanguageOf letters number = (text : List ℕ) → IsShort text → first_two text ≡ Some letters → ForSome (matching_form text) (HasNumber number)

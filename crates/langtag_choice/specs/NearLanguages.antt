@@ -1,5 +1,5 @@
 -- The languages that are near another, by their numbers. Only contracts of private functions cite this page.
-use Rattle.std.specs.Prelude.{◌≡◌, ◌<◌, ◌+◌, ◌*◌, ℕ, ◌==◌, Bool, true, false, List, map}
+use Rattle.std.specs.Prelude.{◌≡◌, ◌<◌, ◌+◌, ℕ, ◌==◌, Bool, true, false, List, map, Option, None, Some, if◌then◌else◌}
 use Rattle.std.specs.List.{list_any}
 use Rattle.langtag.specs.Fields.{Fields}
 use Rattle.langtag_choice.specs.Distance.{language_distance}
@@ -22,6 +22,11 @@ HasRuleKeys from keys = (n : ℕ) → n < 32768 → is_among_numbers keys (from 
 -- the language of the fields has this number
 abbrev pub HasNumber : ℕ → Fields → Type 0
 HasNumber number fields = (are_letters fields.language ≡ true) × (letter_number fields.language ≡ number)
+
+-- the number of the language of a form, if the language has letters alone
+abbrev pub form_number : Option Fields → Option ℕ
+form_number None = None
+form_number (Some fields) = if are_letters fields.language then Some (letter_number fields.language) else None
 
 -- two languages, given by their numbers, differ, and there is no rule for them
 abbrev pub AreFar : ℕ → ℕ → Type 0

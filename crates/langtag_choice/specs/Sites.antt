@@ -1,7 +1,6 @@
 -- The tags of a site.
-use Rattle.std.specs.Prelude.{ℕ, List, map, Option}
+use Rattle.std.specs.Prelude.{List, map}
 use Rattle.langtag.specs.declared.lang_tag.LangTag.{LangTag}
-use Rattle.langtag_choice.specs.ListTexts.{tag_texts}
 use Rattle.langtag_choice.specs.declared.prepared_tag.PreparedTag.{PreparedTag}
 
 -- the tags that were prepared

@@ -71,7 +71,6 @@ fn is_letter(byte: u8) -> bool
 
 /// Returns the number of the language with which a tag begins, given by its two letters in lowercase. Returns `None` if
 /// they are not letters, or if the language is replaced.
-#[tactic(auto, using(crate::proofs::FarTags::language_of_letters))]
 pub(crate) fn language_of(letters: (u8, u8)) -> Option<u32>
     ensures language { ForSome result (spec.IsLanguageOf letters) }
     ensures most { ForSome result (λ number. number < 32768) }

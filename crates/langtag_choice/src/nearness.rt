@@ -120,7 +120,8 @@ fn nearer_places<'t>(
     desired: TagFields<'_>,
     form: TagFields<'t>,
 ) -> Option<Nearness<'t>>
-    requires { language ≡ language_distance (field_texts desired) (field_texts form) }
+    requires distance { language ≡ language_distance (field_texts desired) (field_texts form) }
+    requires most { language ≤ 80 }
     ensures { MatchOption result (limit ≤ fields_distance (field_texts desired.entry) (field_texts form.entry))
         (IsNearer limit (fields_distance (field_texts desired.entry) (field_texts form.entry)) (Some (field_texts form.entry))) }
 {

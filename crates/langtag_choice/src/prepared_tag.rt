@@ -1,5 +1,5 @@
 //! A tag with what the choice computes of it.
-ghost use Rattle.std.specs.Prelude.{◌≡◌, ◌<◌, IfSome, Some};
+ghost use Rattle.std.specs.Prelude.{◌≡◌, ◌<◌, Some};
 ghost use Rattle.std.specs.Option.{ForSome, option_map};
 ghost use Rattle.langtag.specs.Text.{lang_tag_text};
 ghost use Rattle.langtag_choice.specs.FirstLetters.{first_two};
@@ -28,7 +28,7 @@ pub struct PreparedTag<'t> {
     head: Option<Head>,
     ghost known: { option_map field_texts form ≡ matching_form (lang_tag_text tag) },
     ghost begins: { ForSome head (λ head. first_two (lang_tag_text tag) ≡ Some head.letters) },
-    ghost number: { ForSome head (λ head. IfSome (matching_form (lang_tag_text tag)) (HasNumber head.number)) },
+    ghost number: { ForSome head (λ head. ForSome (matching_form (lang_tag_text tag)) (HasNumber head.number)) },
 }
 
 /// The first two letters of a tag, in lowercase, and the number of the language of its matching form.
@@ -84,14 +84,13 @@ impl<'t> PreparedTag<'t> {
 }
 
 impl Head {
-    ghost use Rattle.std.specs.Prelude.{MatchOption};
-
     /// Returns the first letters of a text and the number of its language, or `None` if the language has more than
     /// three letters.
+    #[tactic(auto, using(crate::proofs::FarTags::number_is, langtag_likely::proofs::FieldClasses::language_letters))]
     fn of(text: &[u8], form: Option<TagFields<'_>>) -> Option<Head>
-        requires { option_map field_texts form.entry ≡ matching_form text.now }
+        requires { option_map field_texts form ≡ matching_form text.now }
         ensures begins { ForSome result (λ head. first_two text.now ≡ Some head.letters) }
-        ensures number { ForSome result (λ head. IfSome (matching_form text.now) (HasNumber head.number)) }
+        ensures number { ForSome result (λ head. ForSome (matching_form text.now) (HasNumber head.number)) }
     {
         let letters = first_two(text)?;
         let number = match form {

@@ -1,8 +1,8 @@
 //! The language of a range, and the languages that are near it.
 ghost use Rattle.std.specs.Prelude.{◌≡◌, ◌<◌, ◌≤◌, ◌*◌, ◌^◌, ℕ, IsTrue, Some, length, slice_index};
-ghost use Rattle.std.specs.Option.{ForSome, MatchOption, option_map};
+ghost use Rattle.std.specs.Option.{ForSome, option_map};
 ghost use Rattle.langtag_choice.specs.FirstLetters.{first_two};
-ghost use Rattle.langtag_choice.specs.NearLanguages.{AreFar, HasNumber, HasRuleKeys};
+ghost use Rattle.langtag_choice.specs.NearLanguages.{AreFar, HasRuleKeys, form_number};
 ghost use Rattle.langtag_likely.specs.Texts.{field_texts};
 ghost use Rattle.langtag_range.specs.Listed.{basic_text};
 ghost use Rattle.langtag_tables.specs.Numbers.{climbs_from};
@@ -25,8 +25,9 @@ pub(crate) struct RangeLanguage {
 
 impl RangeLanguage {
     /// Returns the language of a range with this matching form, or `None` if the range does not begin with it.
+    #[tactic(auto, using(crate::proofs::FarTags::number_has, langtag_likely::proofs::FieldClasses::language_letters))]
     pub(crate) fn of(range: &[u8], form: Option<TagFields<'_>>) -> Option<RangeLanguage>
-        ensures number { ForSome result (λ own. MatchOption (option_map field_texts form.entry) ⊥ (HasNumber own.number)) }
+        ensures number { ForSome result (λ own. form_number (option_map field_texts form.entry) ≡ Some own.number) }
         ensures begins { ForSome result (λ own. first_two (basic_text range.now) ≡ Some own.letters) }
     {
         let language = form?.language;

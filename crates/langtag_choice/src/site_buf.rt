@@ -31,7 +31,7 @@ impl<'t> SiteBuf<'t> {
     pub fn new(alloc: Global, tags: &[LangTag<'t>]) -> Result<SiteBuf<'t>, AllocError>
         ensures { IfOk result (λ site. prepared_tags site.tags.items ≡ tags.now) }
     {
-        let mut prepared = Vec::with_capacity(alloc, tags.len())?;
+        let mut prepared = Vec::new(alloc);
         for tag in tags {
             prepared
                 .push(PreparedTag::new(*tag))

@@ -1,8 +1,8 @@
 //! A range that a tag can serve.
-ghost use Rattle.std.specs.Prelude.{◌≡◌, ◌≤◌, ◌<◌, ◌==◌, ℕ, IfSome, IsTrue, List, MatchOption, Some, false};
+ghost use Rattle.std.specs.Prelude.{◌≡◌, ◌≤◌, ◌<◌, ◌==◌, ℕ, IsTrue, List, MatchOption, Some, false};
 ghost use Rattle.std.specs.Option.{ForSome, option_map};
 ghost use Rattle.langtag_choice.specs.FirstLetters.{first_two};
-ghost use Rattle.langtag_choice.specs.NearLanguages.{HasNumber};
+ghost use Rattle.langtag_choice.specs.NearLanguages.{HasNumber, form_number};
 ghost use Rattle.langtag_likely.specs.Matching.{matching_form};
 ghost use Rattle.langtag_likely.specs.Texts.{field_texts};
 ghost use Rattle.langtag_range.specs.Listed.{basic_text};
@@ -28,7 +28,7 @@ pub(crate) struct Wish<'a> {
     ghost in_class: { IsTrue (is_language_range (hyphened range.now)) },
     ghost no_star: { is_star (basic_text range.now) ≡ false },
     ghost known: { option_map field_texts form ≡ matching_form (basic_text range.now) },
-    ghost number: { ForSome language (λ own. MatchOption (matching_form (basic_text range.now)) ⊥ (HasNumber own.number)) },
+    ghost number: { ForSome language (λ own. form_number (matching_form (basic_text range.now)) ≡ Some own.number) },
     ghost begins: { ForSome language (λ own. first_two (basic_text range.now) ≡ Some own.letters) },
 }
 
@@ -65,14 +65,11 @@ impl<'a> Wish<'a> {
         ensures far { IsTrue result → 50 ≤ distance_of_texts (basic_text self.now.range.now) tag.now }
         ensures kept { IsTrue result → kept (basic_text self.now.range.now) tag.now ≡ 0 }
     {
-        let (Some(own), Some(letters)) = (self.language, first_two(tag)) else {
+        let Some(letters) = first_two(tag) else {
             return false;
         };
-        if letters == own.letters || !is_short(tag) {
-            return false;
-        }
         match language_of(letters) {
-            Some(other) => own.is_far(other),
+            Some(number) => self.is_far_from_language(letters, number) && is_short(tag),
             None => false,
         }
     }
@@ -81,7 +78,7 @@ impl<'a> Wish<'a> {
     /// range does not begin with these letters, and the language is not near the language of the range.
     pub(crate) fn is_far_from_language(&self, letters: (u8, u8), number: u32) -> bool
         requires { number < 32768 }
-        ensures far { IsTrue result → (tag : List ℕ) → IfSome (matching_form tag) (HasNumber number) → 50 ≤ distance_of_texts (basic_text self.now.range.now) tag }
+        ensures far { IsTrue result → (tag : List ℕ) → ForSome (matching_form tag) (HasNumber number) → 50 ≤ distance_of_texts (basic_text self.now.range.now) tag }
         ensures kept { IsTrue result → (tag : List ℕ) → first_two tag ≡ Some letters → kept (basic_text self.now.range.now) tag ≡ 0 }
     {
         match self.language {

@@ -35,6 +35,7 @@ mod refused;
 mod region_distance;
 mod rule_distance;
 mod site;
+mod site_buf;
 mod tag_distance;
 mod tag_list;
 mod wish;
@@ -47,5 +48,7 @@ pub use known_tag::KnownTag;
 pub use prepared_tag::PreparedTag;
 pub use range_list::RangeList;
 pub use site::Site;
+#[cfg(feature = "alloc")]
+pub use site_buf::SiteBuf;
 pub use tag_distance::{distance, FORMLESS_DISTANCE};
 pub use tag_list::TagList;

@@ -12,8 +12,8 @@ use crate::erased::tag::LangTag;
 ///
 /// ```
 /// # fn main() -> Result<(), Box<dyn std::error::Error>> {
-/// use langtag::LangTag;
-/// use langtag::choice::{PreparedTag, Site};
+/// use langtag::erased::tag::LangTag;
+/// use langtag::erased::choice::{PreparedTag, Site};
 ///
 /// let prepared = [PreparedTag::new(LangTag::new("en")?), PreparedTag::new(LangTag::new("zh-Hant")?)];
 /// assert_eq!(Site::of(&prepared).best_for_header(b"zh-TW"), Some(1));

@@ -19,8 +19,8 @@ use crate::erased::tag::LangTag;
 ///
 /// ```
 /// # fn main() -> Result<(), Box<dyn std::error::Error>> {
-/// use langtag::LangTag;
-/// use langtag::choice::{PreparedTag, Site};
+/// use langtag::erased::tag::LangTag;
+/// use langtag::erased::choice::{PreparedTag, Site};
 ///
 /// let tags = [PreparedTag::new(LangTag::new("en")?), PreparedTag::new(LangTag::new("zh-Hant")?)];
 /// let site = Site::of(&tags);

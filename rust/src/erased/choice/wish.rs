@@ -41,14 +41,11 @@ impl<'a> Wish<'a> {
     /// a two-letter language with which the range does not begin, and which is not near the
     /// language of the range.
     pub(crate) fn is_far_from(&self, tag: &[u8]) -> bool {
-        let (Some(own), Some(letters)) = (self.language, first_two(tag)) else {
+        let Some(letters) = first_two(tag) else {
             return false;
         };
-        if letters == own.letters || !is_short(tag) {
-            return false;
-        }
         match language_of(letters) {
-            Some(other) => own.is_far(other),
+            Some(number) => self.is_far_from_language(letters, number) && is_short(tag),
             None => false,
         }
     }

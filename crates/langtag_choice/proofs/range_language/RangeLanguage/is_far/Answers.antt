@@ -1,0 +1,10 @@
+use Rattle.std.proofs.Common.{sym, ◌∙◌}
+use Rattle.std.proofs.lemmas.Bool.{not-true}
+use Rattle.langtag_choice.proofs.NearLanguages.{far_without_rule}
+use Rattle.langtag_choice.proofs.range_language.RangeLanguage.is_far.Goals as goal
+
+pub returns-then-other-self : goal.returns-then-other-self
+returns-then-other-self c = λ yes.
+    let own = c.args.self.now in
+    far_without_rule own.number c.args.other c.requires (λ same. c.if-other-self.true same)
+    (own.all_keys c.args.other c.requires (sym c.contains.ensures.value ∙ not-true c.contains.result yes))

@@ -1,0 +1,54 @@
+// Made by rust/erase from crates/langtag_choice/src/site_buf.rt. Change that file, not this one.
+
+//! A site that owns what it prepared.
+
+use crate::erased::choice::prepared_tag::PreparedTag;
+use crate::erased::choice::site::Site;
+use crate::erased::tag::LangTag;
+#[cfg(feature = "alloc")]
+use crate::shim::{AllocError, TryItems};
+#[cfg(feature = "alloc")]
+use alloc::vec::Vec;
+
+/// A [`Site`] that owns its prepared tags.
+///
+/// ```
+/// # fn main() -> Result<(), Box<dyn std::error::Error>> {
+/// use langtag::erased::tag::LangTag;
+/// use langtag::erased::choice::SiteBuf;
+///
+/// let tags = [LangTag::new("en")?, LangTag::new("zh-Hant")?];
+/// let site = SiteBuf::new(&tags)?;
+/// assert_eq!(site.as_site().best_for_header(b"zh-TW,zh;q=0.9"), Some(1));
+/// # Ok(())
+/// # }
+/// ```
+#[cfg(feature = "alloc")]
+pub struct SiteBuf<'t> {
+    tags: Vec<PreparedTag<'t>>,
+}
+
+#[cfg(feature = "alloc")]
+impl<'t> SiteBuf<'t> {
+    /// Prepares tags.
+    ///
+    /// # Errors
+    ///
+    /// Returns an error if allocation fails.
+    pub fn new(tags: &[LangTag<'t>]) -> Result<SiteBuf<'t>, AllocError> {
+        let mut prepared = Vec::new();
+        for tag in tags {
+            prepared
+                .try_push(PreparedTag::new(*tag))
+                .map_err(AllocError::from)?;
+        }
+        Ok(SiteBuf { tags: prepared })
+    }
+
+    /// Returns the site.
+    #[inline]
+    #[must_use]
+    pub fn as_site(&self) -> Site<'_, 't> {
+        Site::of(self.tags.as_slice())
+    }
+}

@@ -1,0 +1,156 @@
+//! The tags of a site, prepared once for many choices.
+use crate::choice::{match_among, BestMatch, KnownTag, RangeList, TagEntry, TagList};
+use crate::erased::choice::PreparedTag;
+use crate::lists::Ranges;
+use crate::matching::AcceptLanguage;
+use crate::memory::or_abort;
+use crate::{AllocError, LangTag};
+use alloc::vec::Vec;
+
+/// The tags of a site that are known before the requests. What a choice needs of each tag is
+/// computed once, so a choice takes about a third of the time. It returns the same tag as
+/// [`best_for_header`](crate::choice::best_for_header) and its neighbours.
+///
+/// A `Site` can be shared by threads. It does not change: if the tags do, make another.
+///
+/// ```
+/// use langtag::choice::Site;
+/// use langtag::LangTagBuf;
+///
+/// let tags: Vec<LangTagBuf> = vec!["en".parse()?, "zh-Hans".parse()?, "zh-Hant".parse()?];
+/// let site = Site::new(&tags);
+/// let best = site.best_for_header("zh-TW,zh;q=0.9,en;q=0.8");
+/// assert_eq!(best.map(|tag| tag.as_str()), Some("zh-Hant"));
+/// assert_eq!(site.best_for_header("ja"), None);
+/// # Ok::<(), Box<dyn std::error::Error>>(())
+/// ```
+///
+/// A `static` keeps the site of a server:
+///
+/// ```
+/// use langtag::choice::Site;
+/// use std::sync::LazyLock;
+///
+/// static SITE: LazyLock<Site<&str>> = LazyLock::new(|| Site::new(&["en", "de", "pt-BR"]));
+///
+/// assert_eq!(SITE.best_for_header("gsw"), Some(&"de"));
+/// ```
+#[doc(alias = "matcher")]
+#[doc(alias = "negotiator")]
+#[derive(Clone)]
+pub struct Site<'t, E> {
+    tags: &'t [E],
+    prepared: Vec<Option<PreparedTag<'t>>>,
+}
+
+impl<'t, E: TagEntry> Site<'t, E> {
+    /// Prepares tags, which can be [`LangTag`], `LangTagBuf`, `&str` or `String`. A string that is
+    /// not a tag is never chosen.
+    #[must_use]
+    pub fn new(tags: &'t [E]) -> Site<'t, E> {
+        or_abort(Site::try_new(tags))
+    }
+
+    /// Prepares tags, as [`Site::new`] does.
+    ///
+    /// # Errors
+    ///
+    /// Returns an error if allocation fails.
+    pub fn try_new(tags: &'t [E]) -> Result<Site<'t, E>, AllocError> {
+        let mut prepared = Vec::new();
+        prepared.try_reserve_exact(tags.len())?;
+        prepared.extend(tags.iter().map(|entry| entry.tag().map(PreparedTag::new)));
+        Ok(Site { tags, prepared })
+    }
+
+    /// Returns the tags as they were given.
+    #[must_use]
+    pub fn tags(&self) -> &'t [E] {
+        self.tags
+    }
+
+    /// Returns the best tag for an `Accept-Language` header ([RFC 9110 section 12.5.4]), or `None`
+    /// if no tag is suitable.
+    ///
+    /// [RFC 9110 section 12.5.4]: https://www.rfc-editor.org/rfc/rfc9110#section-12.5.4
+    #[must_use]
+    pub fn best_for_header(&self, header: &(impl AsRef<[u8]> + ?Sized)) -> Option<&'t E> {
+        self.best_among(header.as_ref())
+    }
+
+    /// Returns the best tag for a parsed header, as
+    /// [`best_for_accept_language`](crate::choice::best_for_accept_language) chooses it.
+    #[must_use]
+    pub fn best_for_accept_language(&self, accepted: &AcceptLanguage<'_>) -> Option<&'t E> {
+        self.best_among(accepted.ranges())
+    }
+
+    /// Returns the best tag for a list of language ranges in order of preference.
+    ///
+    /// ```
+    /// use langtag::choice::Site;
+    ///
+    /// let site = Site::new(&["en", "nb"]);
+    /// assert_eq!(site.best_for_ranges(&["nn", "de"]), Some(&"nb"));
+    /// ```
+    #[must_use]
+    pub fn best_for_ranges(&self, ranges: &[impl AsRef<str>]) -> Option<&'t E> {
+        self.best_among(Ranges(ranges))
+    }
+
+    /// Returns the best tag for an `Accept-Language` header with the range that it serves, as
+    /// [`match_for_header`](crate::choice::match_for_header) does.
+    ///
+    /// ```
+    /// use langtag::choice::Site;
+    ///
+    /// let site = Site::new(&["en", "de"]);
+    /// let found = site.match_for_header("tlh, gsw").unwrap();
+    /// assert_eq!((site.tags()[found.index], found.range, found.distance), ("de", &b"gsw"[..], 8));
+    /// ```
+    #[must_use]
+    pub fn match_for_header<'a>(
+        &self,
+        header: &'a (impl AsRef<[u8]> + ?Sized),
+    ) -> Option<BestMatch<'a>> {
+        match_among(header.as_ref(), self)
+    }
+
+    /// Returns the best tag for any list of ranges.
+    #[must_use]
+    pub fn best_among<'a>(&self, ranges: impl RangeList<'a>) -> Option<&'t E> {
+        let index = crate::choice::best_among(ranges, self)?;
+        Some(&self.tags[index])
+    }
+}
+
+impl<E: TagEntry> TagList for Site<'_, E> {
+    #[inline]
+    fn count(&self) -> usize {
+        self.tags.len()
+    }
+
+    #[inline]
+    fn tag_at(&self, index: usize) -> Option<LangTag<'_>> {
+        self.prepared[index].as_ref().map(PreparedTag::tag)
+    }
+
+    #[inline]
+    fn bytes_at(&self, index: usize) -> &[u8] {
+        self.tags[index].tag_bytes()
+    }
+
+    #[inline]
+    fn known_at(&self, index: usize) -> KnownTag<'_> {
+        match &self.prepared[index] {
+            Some(tag) => KnownTag::Prepared(tag),
+            None => KnownTag::Text(self.tags[index].tag_bytes()),
+        }
+    }
+}
+
+impl<E: core::fmt::Debug> core::fmt::Debug for Site<'_, E> {
+    fn fmt(&self, f: &mut core::fmt::Formatter<'_>) -> core::fmt::Result {
+        f.debug_tuple("Site").field(&self.tags).finish()
+    }
+}
