@@ -51,7 +51,7 @@ REPLACED = set("""
 """.split())
 HIDDEN = set("""
     put_part is_among_first Part Replacement Keys element_at is_empty_element listed_range locale_place split_wanted weight_of
-    fault_at suggested_language suggested_region PreparedTag SiteBuf
+    fault_at suggested_language suggested_region PreparedTag OwnedSite
 """.split())
 
 

@@ -8,6 +8,7 @@ ghost use Rattle.langtag_likely.specs.Matching.{matching_form};
 ghost use Rattle.langtag_likely.specs.Texts.{field_texts};
 
 use crate::first_letters::first_two;
+use crate::known_tag::KnownTag;
 use crate::wish::Wish;
 use langtag::LangTag;
 use langtag_likely::{TagFields, language_number, matching_form};
@@ -45,9 +46,14 @@ impl<'t> PreparedTag<'t> {
     ghost use Rattle.langtag_choice.specs.Nearness.{kept};
     ghost use Rattle.langtag_range.specs.Listed.{basic_text};
 
-    /// Returns the tag with what the choice computes of it.
+    /// Returns the tag with what the choice computes of it. It is proved that a clone of a prepared tag, and of a
+    /// [`KnownTag`], is the same value.
     pub fn new(tag: LangTag<'t>) -> PreparedTag<'t>
-        ensures { result.tag ≡ tag.entry }
+        ensures tag { result.tag ≡ tag.entry }
+        ensures cloned { (prepared copy : PreparedTag) → ⟦<PreparedTag<'t> as Clone>⟧.is_clone prepared copy → copy ≡ prepared }
+        ensures clone_succeeds { (prepared : PreparedTag) → ⟦<PreparedTag<'t> as Clone>⟧.is_infallible prepared }
+        ensures known_cloned { (known copy : KnownTag) → ⟦<KnownTag<'t> as Clone>⟧.is_clone known copy → copy ≡ known }
+        ensures clone_succeeds_known { (known : KnownTag) → ⟦<KnownTag<'t> as Clone>⟧.is_infallible known }
     {
         let form = matching_form(tag.as_bytes());
         PreparedTag {

@@ -34,9 +34,11 @@ pub struct Site<'s, 't> {
 }
 
 impl<'s, 't> Site<'s, 't> {
-    /// Returns the site with these tags.
+    /// Returns the site with these tags. It is proved that a clone is the same value.
     pub fn of(tags: &'s [PreparedTag<'t>]) -> Site<'s, 't>
-        ensures { result.tags.now ≡ tags.now }
+        ensures tags { result.tags.now ≡ tags.now }
+        ensures cloned { (site copy : Site) → ⟦<Site<'s, 't> as Clone>⟧.is_clone site copy → copy ≡ site }
+        ensures clone_succeeds { (site : Site) → ⟦<Site<'s, 't> as Clone>⟧.is_infallible site }
     {
         Site { tags }
     }

