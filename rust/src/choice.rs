@@ -21,7 +21,9 @@ use crate::erased::choice;
 use crate::matching::AcceptLanguage;
 use crate::LangTag;
 
-pub use crate::erased::choice::{BestMatch, KnownTag, RangeList, TagList, FORMLESS_DISTANCE};
+pub use crate::erased::choice::{
+    BestMatch, KnownTag, PreparedTag, RangeList, TagList, FORMLESS_DISTANCE,
+};
 use crate::lists::Ranges;
 pub use crate::lists::TagEntry;
 #[cfg(feature = "alloc")]
