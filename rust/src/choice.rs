@@ -20,6 +20,7 @@ use crate::erased::choice;
 #[cfg(feature = "alloc")]
 use crate::matching::AcceptLanguage;
 use crate::LangTag;
+use core::fmt;
 
 pub use crate::erased::choice::{
     BestMatch, KnownTag, PreparedTag, RangeList, TagList, FORMLESS_DISTANCE,
@@ -157,4 +158,34 @@ pub fn match_among<'a>(
 #[must_use]
 pub fn distance<'a, 'b>(desired: impl Into<LangTag<'a>>, supported: impl Into<LangTag<'b>>) -> u8 {
     choice::distance(desired.into(), supported.into())
+}
+
+impl fmt::Debug for PreparedTag<'_> {
+    fn fmt(&self, f: &mut fmt::Formatter<'_>) -> fmt::Result {
+        f.debug_tuple("PreparedTag").field(&self.tag()).finish()
+    }
+}
+
+impl fmt::Debug for KnownTag<'_> {
+    fn fmt(&self, f: &mut fmt::Formatter<'_>) -> fmt::Result {
+        match self {
+            KnownTag::Text(text) => write!(f, "Text(\"{}\")", text.escape_ascii()),
+            KnownTag::Prepared(tag) => f.debug_tuple("Prepared").field(tag).finish(),
+        }
+    }
+}
+
+impl fmt::Debug for choice::Site<'_, '_> {
+    fn fmt(&self, f: &mut fmt::Formatter<'_>) -> fmt::Result {
+        f.debug_tuple("Site").field(&self.tags()).finish()
+    }
+}
+
+#[cfg(feature = "alloc")]
+impl fmt::Debug for choice::OwnedSite<'_> {
+    fn fmt(&self, f: &mut fmt::Formatter<'_>) -> fmt::Result {
+        f.debug_tuple("OwnedSite")
+            .field(&self.as_site().tags())
+            .finish()
+    }
 }
