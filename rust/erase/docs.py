@@ -96,7 +96,11 @@ def narrowed(before):
             out += [f"{mark} {it}" for it in wrapped(text, WIDTH - len(mark) - 1)]
             paragraph = []
         is_code ^= bool(re.match(r"\s*//[/!] ?```", line))
-        out.append(line)
+        item = None if is_code else re.fullmatch(r"(\s*//[/!] )- (.*)", line)
+        if item and len(line) > WIDTH:
+            out += [f"{item[1]}{'  ' if at else '- '}{it}" for at, it in enumerate(wrapped(item[2], WIDTH - len(item[1]) - 2))]
+        else:
+            out.append(line)
     return "\n".join(out[:-1])
 
 

@@ -1,6 +1,7 @@
-//! Reads and writes the articles of a site as JSON, with the feature `serde`. Tags are in a list and in an option, and
-//! are keys of a map. They need no attribute of serde. The owned types, such as `LangTagBuf`, are read from any input.
-//! The borrowed types, such as `LangTag`, need `#[serde(borrow)]`.
+//! Reads and writes the articles of a site as JSON, with the feature `serde`. Tags are in a list
+//! and in an option, and are keys of a map. They need no attribute of serde. The owned types, such
+//! as `LangTagBuf`, are read from any input. The borrowed types, such as `LangTag`, need
+//! `#[serde(borrow)]`.
 #[cfg(feature = "serde")]
 fn main() -> Result<(), Box<dyn std::error::Error>> {
     use langtag::LangTagBuf;

@@ -1,4 +1,5 @@
-//! A catalogue of messages by tag, with fallback by lookup (RFC 4647 section 3.4). Tags are found in any case.
+//! A catalogue of messages by tag, with fallback by lookup (RFC 4647 section 3.4). Tags are found
+//! in any case.
 //!
 //! ```sh
 //! cargo run --example catalogue
@@ -21,7 +22,8 @@ impl Catalogue {
             .insert(key, message.into());
     }
 
-    /// Returns the message in the language of a tag, or else in the nearest of its fallbacks: `de-CH-1996`, `de-CH`, `de`.
+    /// Returns the message in the language of a tag, or else in the nearest of its fallbacks:
+    /// `de-CH-1996`, `de-CH`, `de`.
     fn get<'t>(&self, tag: impl Into<LanguageRange<'t>>, key: &str) -> Option<&str> {
         let mut fallbacks = tag.into().fallbacks();
         fallbacks.find_map(|range| {

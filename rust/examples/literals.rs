@@ -1,5 +1,5 @@
-//! A small store of RDF's literals with language tags, by subject. It loads N-Triples, reports where a text is not a
-//! tag, and answers `FILTER langMatches(lang(?text), "de")`:
+//! A small store of RDF's literals with language tags, by subject. It loads N-Triples, reports
+//! where a text is not a tag, and answers `FILTER langMatches(lang(?text), "de")`:
 //!
 //! ```sh
 //! cargo run --features oxilangtag --example literals cities.nt de
@@ -12,8 +12,8 @@ use std::collections::{BTreeMap, BTreeSet};
 use std::error::Error;
 use std::fmt;
 
-/// A text and its language. Two literals are equal if their texts and their tags are equal, including case. Tags are
-/// normalized when they are loaded.
+/// A text and its language. Two literals are equal if their texts and their tags are equal,
+/// including case. Tags are normalized when they are loaded.
 #[derive(Clone, Debug, PartialEq, Eq, PartialOrd, Ord, Hash)]
 struct Literal {
     language: LanguageTag<String>,
@@ -111,8 +111,8 @@ impl Store {
     }
 }
 
-/// Returns whether SPARQL's langMatches holds (RFC 4647 section 3.3.1): the range is `*`, or the tag equals the range
-/// or begins with the range and a hyphen.
+/// Returns whether SPARQL's langMatches holds (RFC 4647 section 3.3.1): the range is `*`, or the
+/// tag equals the range or begins with the range and a hyphen.
 fn lang_matches(tag: &LanguageTag<String>, range: &str) -> bool {
     let begins = |text: &str| text.eq_ignore_ascii_case(range);
     let follows = tag.as_bytes().get(range.len());

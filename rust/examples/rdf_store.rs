@@ -1,4 +1,5 @@
-//! A store of RDF's literals with language tags, and SPARQL's `langMatches`: basic filtering (RFC 4647 section 3.3.1).
+//! A store of RDF's literals with language tags, and SPARQL's `langMatches`: basic filtering (RFC
+//! 4647 section 3.3.1).
 //!
 //! ```sh
 //! cargo run --example rdf_store

@@ -1,5 +1,6 @@
-//! Chooses the language of a page: the parameter `lang`, else the header `Accept-Language`, else the first language of the site. Sets
-//! `Content-Language` and `Vary`, and the direction of the text.
+//! Chooses the language of a page: the parameter `lang`, else the header `Accept-Language`, else
+//! the first language of the site. Sets `Content-Language` and `Vary`, and the direction of the
+//! text.
 //!
 //! ```sh
 //! cargo run --example server

@@ -9,8 +9,9 @@ use crate::matching::LanguageRange;
 #[cfg(feature = "alloc")]
 use crate::matching::LanguageRangeBuf;
 
-/// A string without the case of its ASCII letters. Use it to look up a string in a map with tags,
-/// parts or ranges as keys, without allocating.
+/// A string without the case of its ASCII letters.
+///
+/// Use it to look up a string in a map with tags, parts or ranges as keys, without allocating.
 ///
 /// Each string, borrowed or owned, and each tag implements this trait. A map whose keys are
 /// [`LangTagBuf`](crate::LangTagBuf) cannot be searched with a `&LangTag`, because no key contains

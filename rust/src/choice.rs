@@ -31,8 +31,9 @@ pub use crate::lists::TagEntry;
 pub use crate::site::Site;
 
 /// Returns the index of the best tag for an `Accept-Language` header ([RFC 9110 section 12.5.4]),
-/// or `None` if no tag is suitable. A malformed element is read as far as possible: `de_CH` as
-/// `de-CH`.
+/// or `None` if no tag is suitable.
+///
+/// A malformed element is read as far as possible: `de_CH` as `de-CH`.
 ///
 /// ```
 /// use langtag::choice::best_for_header;
@@ -51,8 +52,10 @@ pub fn best_for_header(
     choice::best_among(header.as_ref(), &tags)
 }
 
-/// Returns the index of the best tag for a parsed header, as [`best_for_header`] does. A tag that
-/// the header excludes by the weight 0 can be chosen, since [`AcceptLanguage`] has no such ranges.
+/// Returns the index of the best tag for a parsed header, as [`best_for_header`] does.
+///
+/// A tag that the header excludes by the weight 0 can be chosen, since [`AcceptLanguage`] has no
+/// such ranges.
 ///
 /// ```
 /// use langtag::choice::best_for_accept_language;
@@ -71,9 +74,11 @@ pub fn best_for_accept_language(
 }
 
 /// Returns the index of the best tag for a list of language ranges in order of preference, as
-/// [`best_for_header`] does. A range is read as in a header: `zh_TW.UTF-8` as `zh-TW`. An extended
-/// range is read without its `*`: `zh-*-Hant` as `zh-Hant`. A string that is not a language range,
-/// such as `de;q=0`, is skipped.
+/// [`best_for_header`] does.
+///
+/// A range is read as in a header: `zh_TW.UTF-8` as `zh-TW`. An extended range is read without its
+/// `*`: `zh-*-Hant` as `zh-Hant`. A string that is not a language range, such as `de;q=0`, is
+/// skipped.
 ///
 /// ```
 /// use langtag::choice::best_for_ranges;
@@ -90,8 +95,9 @@ pub fn best_for_ranges(
 }
 
 /// Returns the best tag for an `Accept-Language` header, as [`best_for_header`] chooses it, with
-/// the range that it serves and its distance from that range. If the distance is 50 or more, only
-/// lookup (RFC 4647 section 3.4) finds the tag.
+/// the range that it serves and its distance from that range.
+///
+/// If the distance is 50 or more, only lookup (RFC 4647 section 3.4) finds the tag.
 ///
 /// ```
 /// use langtag::choice::match_for_header;
@@ -140,9 +146,10 @@ pub fn match_among<'a>(
     choice::match_among(ranges, &tags)
 }
 
-/// Returns the distance from the tag that a user wants to the tag that a site has. It is 0 if
-/// language, script and region are equal, and [`FORMLESS_DISTANCE`] if the tags differ and one of
-/// them has no known language.
+/// Returns the distance from the tag that a user wants to the tag that a site has.
+///
+/// It is 0 if language, script and region are equal, and [`FORMLESS_DISTANCE`] if the tags differ
+/// and one of them has no known language.
 ///
 /// The distance is not symmetric: users of `gsw` read `de`, but not the reverse.
 ///

@@ -11,7 +11,9 @@ use crate::matching::{AcceptLanguage, LanguageRangeBuf};
 use crate::memory::{or_abort, AllocError};
 
 impl LangTag<'static> {
-    /// The tag `und`, for an undetermined language. It is the default.
+    /// The tag `und`, for an undetermined language.
+    ///
+    /// It is the default.
     ///
     /// ```
     /// use langtag::LangTag;
@@ -141,7 +143,9 @@ impl From<Singleton> for u8 {
 
 impl<'a> Extensions<'a> {
     /// Returns the extension with a singleton, which may be a [`Singleton`], a `char` or a `u8`, or
-    /// `None` if there is none. Case is ignored, and the first of repeated singletons counts.
+    /// `None` if there is none.
+    ///
+    /// Case is ignored, and the first of repeated singletons counts.
     ///
     /// ```
     /// use langtag::LangTag;

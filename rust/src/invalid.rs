@@ -68,8 +68,9 @@ compared!(InvalidSingleton, InvalidGrandfatheredTag);
 for_text_types!(errors);
 
 impl<T: AsRef<str>> InvalidLangTag<T> {
-    /// Returns where the string is wrong. It is `None` only if a program made the error from a
-    /// string that is a tag.
+    /// Returns where the string is wrong.
+    ///
+    /// It is `None` only if a program made the error from a string that is a tag.
     ///
     /// ```
     /// use langtag::{LangTag, RefusalKind};
@@ -84,8 +85,9 @@ impl<T: AsRef<str>> InvalidLangTag<T> {
         Refusal::of(self.0.as_ref().as_bytes())
     }
 
-    /// Returns the reason in words, as a value that can be displayed. The message of the error ends
-    /// with it.
+    /// Returns the reason in words, as a value that can be displayed.
+    ///
+    /// The message of the error ends with it.
     ///
     /// ```
     /// use langtag::LangTag;

@@ -32,13 +32,13 @@
 //! has a type of its own, such as [`Script`]. These are `Copy` values over a `&str`. Each has an
 //! owned form, such as `LangTagBuf`.
 //!
-//! module | what it has
+//! module | contains
 //! ---|---
 #![cfg_attr(
     feature = "data",
     doc = "[`choice`] | the best tag for an `Accept-Language` header, and the distance of two tags (UTS #35)"
 )]
-//! [`matching`] | language ranges, filters and lookup (RFC 4647); `Accept-Language` headers (RFC 9110)
+//! [`matching`] | language ranges, filters and lookup (RFC 4647); `Accept-Language` (RFC 9110)
 #![cfg_attr(
     feature = "data",
     doc = "[`registry`] | valid tags and canonical forms, by IANA's registry (RFC 5646)"
@@ -75,7 +75,7 @@
 //! feature | adds
 //! ---|---
 //! `alloc` (default) | owned forms, setters, and calls that return new tags
-//! `data` (default) | the modules with the registry's and CLDR's data: `choice`, `likely`, `registry` and `unicode`
+//! `data` (default) | `choice`, `likely`, `registry` and `unicode`, with their data
 //! `oxilangtag` | the module `oxilangtag`, with the names of that crate
 //! `serde` (releases only) | tags, parts and ranges as strings
 //!
@@ -109,7 +109,8 @@ mod shim;
 #[macro_use]
 mod text_types;
 
-// The modules that rust/erase makes. Some items are only for the C library, or for crates of Rattle.
+// The modules that rust/erase makes. Some items are only for the C library, or for crates of
+// Rattle.
 #[doc(hidden)]
 #[allow(dead_code, unused_imports, missing_docs)]
 pub mod erased;

@@ -25,8 +25,9 @@ pub use crate::erased::likely::{unknown_modifier, CLDR_VERSION};
 #[cfg(feature = "alloc")]
 pub use crate::owned_errors::PosixErrorBuf;
 
-/// Returns a tag with its likely script and region: `zh-Hant-TW` for `zh-TW`. If there are none, or
-/// the tag has both, it returns the tag.
+/// Returns a tag with its likely script and region: `zh-Hant-TW` for `zh-TW`.
+///
+/// If there are none, or the tag has both, it returns the tag.
 ///
 /// ```
 /// use langtag::likely::maximized;
@@ -80,7 +81,9 @@ pub fn try_minimized<'a>(tag: impl Into<LangTag<'a>>) -> Result<LangTagBuf, Allo
 }
 
 /// Writes a tag with its likely script and region to a buffer, as `maximized` returns it, and
-/// returns what was written. It does not allocate.
+/// returns what was written.
+///
+/// It does not allocate.
 ///
 /// # Errors
 ///
@@ -102,7 +105,9 @@ pub fn write_maximized<'a, 'b>(
 }
 
 /// Writes a tag without the script and the region that are likely anyway to a buffer, as
-/// `minimized` returns it, and returns what was written. It does not allocate.
+/// `minimized` returns it, and returns what was written.
+///
+/// It does not allocate.
 ///
 /// # Errors
 ///
@@ -124,7 +129,9 @@ pub fn write_minimized<'a, 'b>(
 }
 
 /// Writes the tag for a POSIX locale name to a buffer, as `from_posix` returns it, and returns what
-/// was written, or `None` if the name has no tag. It does not allocate.
+/// was written, or `None` if the name has no tag.
+///
+/// It does not allocate.
 ///
 /// # Errors
 ///

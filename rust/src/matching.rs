@@ -37,8 +37,10 @@ pub use crate::owned_errors::AcceptLanguageErrorBuf;
 
 impl LanguageRange<'_> {
     /// Returns whether the range matches a tag by basic filtering ([RFC 4647 section 3.3.1]):
-    /// `de-DE` matches `de-DE-1996`, but neither `de-Deva` nor `de-Latn-DE`. The range `*` matches
-    /// every tag. In other ranges, `*` equals no subtag, so `de-*` matches nothing.
+    /// `de-DE` matches `de-DE-1996`, but neither `de-Deva` nor `de-Latn-DE`.
+    ///
+    /// The range `*` matches every tag. In other ranges, `*` equals no subtag, so `de-*` matches
+    /// nothing.
     ///
     /// ```
     /// use langtag::matching::LanguageRange;
@@ -58,8 +60,9 @@ impl LanguageRange<'_> {
     }
 
     /// Returns whether the range matches a tag by extended filtering ([RFC 4647 section 3.3.2]):
-    /// `de-DE` and `de-*-DE` match `de-Latn-DE-1996`. They do not match `de-x-DE`, because a
-    /// singleton is never skipped.
+    /// `de-DE` and `de-*-DE` match `de-Latn-DE-1996`.
+    ///
+    /// They do not match `de-x-DE`, because a singleton is never skipped.
     ///
     /// ```
     /// use langtag::matching::LanguageRange;

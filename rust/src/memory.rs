@@ -110,8 +110,8 @@ impl<T> TryItems<T> for Vec<T> {
                 .map(|(index, item)| (key(item), index)),
         );
         order.sort_unstable();
-        // `order[place].1` is the old index of the item that belongs at the index `place`. If an earlier swap moved
-        // that item, the loop follows the swaps to its present index.
+        // `order[place].1` is the old index of the item that belongs at the index `place`. If an
+        // earlier swap moved that item, the loop follows the swaps to its present index.
         for place in 0..self.len() {
             let mut index = order[place].1;
             while index < place {

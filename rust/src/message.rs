@@ -26,8 +26,8 @@ impl fmt::Display for Quoted<'_> {
     }
 }
 
-/// The characters of a string, and its bytes that are not UTF-8, with escapes. A long string is cut,
-/// and ends with `...`.
+/// The characters of a string, and its bytes that are not UTF-8, with escapes. A long string is
+/// cut, and ends with `...`.
 struct Escaped<'a>(&'a [u8]);
 
 impl fmt::Display for Escaped<'_> {
@@ -53,8 +53,8 @@ impl fmt::Display for Escaped<'_> {
     }
 }
 
-/// Writes a character. Control characters are escaped, and so are the characters of Unicode that are
-/// invisible or change the direction of the string. All languages have this list.
+/// Writes a character. Control characters are escaped, and so are the characters of Unicode that
+/// are invisible or change the direction of the string. All languages have this list.
 fn write_escaped(f: &mut fmt::Formatter<'_>, character: char) -> fmt::Result {
     match character {
         '\t' => f.write_str("\\t"),

@@ -8,9 +8,10 @@ use crate::{choice, likely, registry, unicode};
 use crate::{matching::LanguageRange, LangTag};
 
 impl<'a> LangTag<'a> {
-    /// Returns whether extended filtering finds the tag for a language range ([RFC 4647 section
-    /// 3.3.2]), as [`LanguageRange::matches_extended`] does. For basic filtering, call
-    /// [`LanguageRange::matches_basic`].
+    /// Returns whether extended filtering finds the tag for a language range
+    /// ([RFC 4647 section 3.3.2]), as [`LanguageRange::matches_extended`] does.
+    ///
+    /// For basic filtering, call [`LanguageRange::matches_basic`].
     ///
     /// ```
     /// use langtag::{matching::LanguageRange, LangTag};

@@ -125,7 +125,9 @@ pub fn is_canonical<'a>(tag: impl Into<LangTag<'a>>) -> bool {
 }
 
 /// Writes the canonical form of a tag to a buffer, as `canonical` returns it, and returns what was
-/// written. It does not allocate. A buffer of [`canonical_bound`] bytes is long enough.
+/// written.
+///
+/// It does not allocate. A buffer of [`canonical_bound`] bytes is long enough.
 ///
 /// # Errors
 ///

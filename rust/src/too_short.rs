@@ -36,7 +36,8 @@ impl fmt::Display for TooShort {
 
 impl core::error::Error for TooShort {}
 
-/// Returns what was written to a buffer, if it has room for it. `len` is the length of the result, whether it was written or not.
+/// Returns what was written to a buffer, if it has room for it. `len` is the length of the result,
+/// whether it was written or not.
 #[cfg(feature = "data")]
 pub(crate) fn written(buffer: &[u8], len: usize) -> Result<&str, TooShort> {
     let bytes = buffer.get(..len).ok_or(TooShort { needed: len })?;

@@ -26,8 +26,9 @@ pub use crate::erased::unicode::{remove_keyword, set_keyword, SetKeywordError};
 pub use crate::erased::unicode::{AttributesIter, KeyValue, KeywordsIter, Transformation};
 
 /// Returns the value of a key of the extension `u`: `Some("")` for a key without a value, and
-/// `None` if the tag does not have the key ([RFC 6067 section 2.1]). The key is compared ignoring
-/// case, and the first of repeated keys counts.
+/// `None` if the tag does not have the key ([RFC 6067 section 2.1]).
+///
+/// The key is compared ignoring case, and the first of repeated keys counts.
 ///
 /// ```
 /// use langtag::unicode::keyword;
@@ -46,8 +47,9 @@ pub fn keyword<'a>(tag: impl Into<LangTag<'a>>, key: &str) -> Option<&'a str> {
     unicode::keyword(tag.into(), key)
 }
 
-/// Returns an iterator over the keywords of the extension `u`, in order. Repeated keys are left
-/// out.
+/// Returns an iterator over the keywords of the extension `u`, in order.
+///
+/// Repeated keys are left out.
 ///
 /// ```
 /// use langtag::unicode::keywords;
@@ -62,8 +64,9 @@ pub fn keywords<'a>(tag: impl Into<LangTag<'a>>) -> KeywordsIter<'a> {
     unicode::keywords(tag.into())
 }
 
-/// Returns an iterator over the attributes of the extension `u`, in order. Repeated attributes are
-/// left out.
+/// Returns an iterator over the attributes of the extension `u`, in order.
+///
+/// Repeated attributes are left out.
 ///
 /// ```
 /// use langtag::unicode::attributes;
@@ -163,7 +166,9 @@ pub fn try_locale_form<'a>(tag: impl Into<LangTag<'a>>) -> Result<Option<LangTag
 }
 
 /// Writes a tag with the canonical form of its extensions to a buffer, as `extensions_form` returns
-/// it, and returns what was written. It does not allocate.
+/// it, and returns what was written.
+///
+/// It does not allocate.
 ///
 /// # Errors
 ///
@@ -186,8 +191,9 @@ pub fn write_extensions_form<'a, 'b>(
 }
 
 /// Writes the canonical form of a tag as a Unicode locale identifier to a buffer, as `locale_form`
-/// returns it, and returns what was written, or `None` if the tag has no such form. It does not
-/// allocate.
+/// returns it, and returns what was written, or `None` if the tag has no such form.
+///
+/// It does not allocate.
 ///
 /// # Errors
 ///
@@ -211,8 +217,10 @@ pub fn write_locale_form<'a, 'b>(
 }
 
 /// Writes a tag with a value of a key of the extension `u` to a buffer, as
-/// [`LangTagBuf::set_keyword`] sets it, and returns what was written. It does not allocate. The
-/// lengths of the tag, the key and the value, and 4 more bytes, are always enough.
+/// [`LangTagBuf::set_keyword`] sets it, and returns what was written.
+///
+/// It does not allocate. The lengths of the tag, the key and the value, and 4 more bytes, are
+/// always enough.
 ///
 /// # Errors
 ///
@@ -241,8 +249,9 @@ pub fn write_with_keyword<'a, 'b>(
 }
 
 /// Writes a tag without a key of the extension `u` to a buffer, as [`LangTagBuf::remove_keyword`]
-/// removes it, and returns what was written. It does not allocate. The length of the tag is always
-/// enough.
+/// removes it, and returns what was written.
+///
+/// It does not allocate. The length of the tag is always enough.
 ///
 /// # Errors
 ///
@@ -268,7 +277,9 @@ pub fn write_without_keyword<'a, 'b>(
     Ok(written(buffer, len)?)
 }
 
-/// The error of [`write_with_keyword`] and [`write_without_keyword`]. The buffer is unchanged.
+/// The error of [`write_with_keyword`] and [`write_without_keyword`].
+///
+/// The buffer is unchanged.
 ///
 /// ```
 /// use langtag::unicode::{write_with_keyword, KeywordError, WriteKeywordError};

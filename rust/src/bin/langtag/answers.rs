@@ -11,7 +11,8 @@ use crate::pointer;
 
 /// The answer to a text.
 pub struct Answer {
-    /// The text to print, or `None` if nothing is printed, as for a tag that a range does not match.
+    /// The text to print, or `None` if nothing is printed, as for a tag that a range does not
+    /// match.
     pub line: Option<Vec<u8>>,
     /// Whether the text was accepted, and the answer is not negative.
     pub good: bool,
@@ -20,7 +21,8 @@ pub struct Answer {
 }
 
 impl Answer {
-    /// Returns the answer for a line: its columns, after the text itself if they are separated by tabs.
+    /// Returns the answer for a line: its columns, after the text itself if they are separated by
+    /// tabs.
     fn of(text: &[u8], columns: &[&str], options: &Options, between: &str) -> Answer {
         let mut line = Vec::new();
         if options.tsv {

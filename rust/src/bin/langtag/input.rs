@@ -42,9 +42,9 @@ impl From<AllocError> for Failure {
     }
 }
 
-/// Passes each of the given texts to `answer` or, if no texts are given, each line of standard input. A line ends only
-/// at LF, and a last line without LF counts unless it is empty. Before a read that may wait, all earlier answers are
-/// written.
+/// Passes each of the given texts to `answer` or, if no texts are given, each line of standard
+/// input. A line ends only at LF, and a last line without LF counts unless it is empty. Before a
+/// read that may wait, all earlier answers are written.
 pub fn texts<W: Write>(
     given: &[Vec<u8>],
     output: &mut W,

@@ -1,5 +1,5 @@
-//! The program `langtag`, which answers questions about language tags (BCP 47) in a shell. `langtag --help` shows its
-//! usage.
+//! The program `langtag`, which answers questions about language tags (BCP 47) in a shell.
+//! `langtag --help` shows its usage.
 mod answers;
 mod input;
 mod options;
@@ -32,7 +32,8 @@ fn failed(failure: Failure) -> ExitCode {
     ExitCode::from(failure.status())
 }
 
-/// Writes help to standard output, or an error in the arguments to standard error. Returns the exit status.
+/// Writes help to standard output, or an error in the arguments to standard error. Returns the exit
+/// status.
 fn said(words: &options::Words) -> ExitCode {
     match words {
         options::Words::Help(text) => match io::stdout().write_all(text.as_bytes()) {
@@ -46,7 +47,8 @@ fn said(words: &options::Words) -> ExitCode {
     }
 }
 
-/// Answers the texts, and returns whether the answers are good: all of them or, for `match`, at least one.
+/// Answers the texts, and returns whether the answers are good: all of them or, for `match`, at
+/// least one.
 fn run(options: &Options) -> Result<bool, Failure> {
     let stdout = io::stdout().lock();
     let mut output = BufWriter::new(stdout);
@@ -107,7 +109,8 @@ fn pairs(options: &Options, output: &mut impl Write) -> Result<bool, Failure> {
     Ok(all)
 }
 
-/// Writes an answer. If the texts are arguments or are typed at a terminal, it also writes why a text is refused.
+/// Writes an answer. If the texts are arguments or are typed at a terminal, it also writes why a
+/// text is refused.
 fn put(answer: &Answer, options: &Options, output: &mut impl Write) -> Result<(), Failure> {
     if let Some(line) = &answer.line {
         output.write_all(line).map_err(Failure::write)?;

@@ -46,7 +46,8 @@ fn repeated_singleton<'a>(tag: LangTag<'a>) -> &'a str {
     extension.map_or(tag.as_str(), |extension| &extension.as_str()[..1])
 }
 
-/// Returns a text that a terminal can show: without control characters, and shortened if it is long.
+/// Returns a text that a terminal can show: without control characters, and shortened if it is
+/// long.
 fn shown(text: &[u8]) -> String {
     let text = String::from_utf8_lossy(text);
     let mut shown: String = text
@@ -60,7 +61,8 @@ fn shown(text: &[u8]) -> String {
     shown
 }
 
-/// Returns the text and, on the next line, marks below some of its bytes. Returns the empty text for a long text.
+/// Returns the text and, on the next line, marks below some of its bytes. Returns the empty text
+/// for a long text.
 fn underlined(text: &[u8], marked: core::ops::Range<usize>) -> String {
     if text.len() > LONGEST {
         return String::new();

@@ -31,8 +31,10 @@ const MOST_WITH_SCRIPT: usize = MOST_WITH_KEYWORD + 5;
 ///
 /// The codeset is dropped. These modifiers name a script or a variant, ignoring case:
 ///
-/// - `latin`, `cyrillic`, `devanagari`, `iqtelif`, and the code of a script, such as `Cyrl` and `shaw`;
-/// - `valencia`, `tarask`, `ijekavian`, and `ijekavianlatin`, which names both a script and a variant.
+/// - `latin`, `cyrillic`, `devanagari`, `iqtelif`, and the code of a script, such as `Cyrl` and
+///   `shaw`;
+/// - `valencia`, `tarask`, `ijekavian`, and `ijekavianlatin`, which names both a script and a
+///   variant.
 ///
 /// Other modifiers are dropped, such as `euro`; [`unknown_modifier`] returns a modifier whose
 /// meaning is not known. A script after `_#`, as Java and Android print it, is read, too:
