@@ -14,8 +14,8 @@ use crate::matching::LanguageRangeBuf;
 /// Use it to look up a string in a map with tags, parts or ranges as keys, without allocating.
 ///
 /// Each string, borrowed or owned, and each tag implements this trait. A map whose keys are
-/// [`LangTagBuf`](crate::LangTagBuf) cannot be searched with a `&LangTag`, because no key contains
-/// a `LangTag` to borrow. Nor can it be searched with a `&str`, which is hashed with its case.
+/// `LangTagBuf` cannot be searched with a `&LangTag`, because no key contains a `LangTag` to
+/// borrow. Nor can it be searched with a `&str`, which is hashed with its case.
 ///
 /// ```
 /// # #[cfg(feature = "alloc")] {

@@ -14,6 +14,7 @@ macro_rules! lent {
         impl $owned {$(
             #[doc = concat!("Returns what [`", stringify!($name), "::", stringify!($call), "`] returns.")]
             #[inline]
+            #[must_use]
             pub fn $call(&self, $($argument: $type)?) -> $result {
                 self.$lend().$call($($argument)?)
             }
@@ -96,7 +97,6 @@ lent! {
 lent! {
     LangTagBuf: LangTag by as_lang_tag {
         is_valid() -> bool;
-        validate() -> Result<(), InvalidSubtag<'_>>;
         canonical() -> LangTagBuf;
         extlang_form() -> LangTagBuf;
         maximized() -> LangTagBuf;
@@ -112,6 +112,16 @@ lent! {
 
 #[cfg(feature = "data")]
 impl LangTagBuf {
+    /// Checks that the tag is valid, as [`LangTag::validate`] does.
+    ///
+    /// # Errors
+    ///
+    /// Returns the first subtag that makes the tag invalid.
+    #[inline]
+    pub fn validate(&self) -> Result<(), InvalidSubtag<'_>> {
+        self.as_lang_tag().validate()
+    }
+
     /// Returns what [`LangTag::keyword`] returns.
     #[must_use]
     pub fn keyword(&self, key: &str) -> Option<&str> {

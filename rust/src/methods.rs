@@ -7,7 +7,7 @@ use crate::unicode::{AttributesIter, KeywordsIter, Transformation};
 use crate::{choice, likely, registry, unicode};
 use crate::{matching::LanguageRange, LangTag};
 
-impl<'a> LangTag<'a> {
+impl LangTag<'_> {
     /// Returns whether extended filtering finds the tag for a language range
     /// ([RFC 4647 section 3.3.2]), as [`LanguageRange::matches_extended`] does.
     ///

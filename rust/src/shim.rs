@@ -1,4 +1,4 @@
-//! The items of Rattle's std and of derive_where that the modules made from the proved source use.
+//! The items of Rattle's std and of `derive_where` that the modules made from the proved source use.
 #[cfg(feature = "alloc")]
 pub use crate::memory::AllocError;
 #[cfg(feature = "alloc")]
