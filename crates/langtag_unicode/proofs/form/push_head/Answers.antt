@@ -1,3 +1,4 @@
+use Rattle.std.proofs.lemmas.Grind.{common_steps}
 use Rattle.std.proofs.Common.{◌∷◌, ◌++◌, [], length, take, sym, ap, ◌∙◌, arith}
 use Rattle.std.proofs.lemmas.List.{length-take}
 use Rattle.langtag_output.proofs.Pushed.{pushes_joined, pushes_same}
@@ -11,10 +12,7 @@ use Rattle.langtag_unicode.proofs.form.push_head.Goals as goal
 
 pub slice_bounds-push_subtag-end : goal.slice_bounds-push_subtag-end
 unfolding IsNormal
-slice_bounds-push_subtag-end c =
-    let (r, spells) = c.as_str-text.ensures.in_class in
-    let ends = c.ends.ensures r (spells.0, spells.1 ∙ c.as_str-text.ensures.same_text) in
-    omega (arith, length-take c.ends.result.variants c.as_bytes.result.now, head_inside r, ap (λ e. e.variants) ends, ap length spells.1, ap length c.as_bytes.ensures.value)
+slice_bounds-push_subtag-end c = grind (arith, common_steps, length-take, head_inside)
 
 pub returns-clause-pushed : goal.returns-clause-pushed
 returns-clause-pushed c = λ r spells.

@@ -1,4 +1,4 @@
-use Rattle.std.proofs.Common.{◌≡◌, None, Some, ap, ◌∙◌, arith}
+use Rattle.std.proofs.Common.{◌≡◌, None, ap, ◌∙◌, arith}
 use Rattle.std.proofs.lemmas.Grind.{common_steps}
 use Rattle.std.specs.Option.{option_map}
 use Rattle.langtag_extension.specs.Text.{singleton_byte}
@@ -18,13 +18,4 @@ returns-in_err-text-clause-first c =
     }
 
 pub returns-clause-first : goal.returns-clause-first
-returns-clause-first c =
-    let byte : singleton_byte c.in_ok-singleton.singleton ≡ 116 = grind (arith, common_steps) in
-    record {
-      part = λ r spells.
-          extension-some 116 r spells.0 c.extension_text.result.now (c.extension_text.ensures.part r spells ∙ ap (λ b. subtags_of b r) byte) (Some c.in_ok-text.text.now)
-          c.in_ok-text.ensures.same_text;
-      absent = λ other.
-          let nothing : Some c.in_ok-text.text.now ≡ None = c.in_ok-text.ensures.same_text ∙ nothing-some c.extension_text.result.now (c.extension_text.ensures.absent other) in
-          absurd cc;
-    }
+returns-clause-first c = grind (arith, common_steps, extension-some, nothing-some)
