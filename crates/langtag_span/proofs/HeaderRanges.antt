@@ -1,4 +1,6 @@
 -- Where the ranges of a header stand, by its items.
+use Rattle.std.proofs.Common.{rules}
+use Rattle.std.proofs.lemmas.Grind.{common_steps}
 use Rattle.std.proofs.Common.{◌≡◌, ℕ, suc, zero, ◌+◌, ◌<◌, ◌≤◌, Bool, true, false, cond, List, [], ◌∷◌, ◌++◌, is_some, length, take, get_or, Option, None, Some, unwrap_or, ap, refl, sym, subst, ◌∙◌, arith}
 use Rattle.std.specs.List.{AllByRecursion, cons_option, onto_first, slice_get, sum_by}
 use Rattle.std.proofs.lemmas.List.Quantifiers.{position-Some}
@@ -7,7 +9,6 @@ use Rattle.std.proofs.lemmas.List.Sums.{sum_by-append}
 use Rattle.std.proofs.lemmas.Option.{slice_get_read}
 use Rattle.std.specs.Option.{IfSome}
 use Rattle.std.proofs.lemmas.Bool.Decides.{nat_tests}
-use Rattle.langtag_match.specs.AcceptLanguage.{StandsAt}
 use Rattle.langtag_range.specs.Element.{Element, is_comma, items}
 use Rattle.langtag_range.specs.Wanted.{digits_behind, wanted, wanted_elements, wanted_items}
 use Rattle.langtag_match.proofs.Offsets.{item_stands, width}
@@ -25,10 +26,7 @@ alone_onto b parts other some all = grind (arith, nat_tests, slice_split-cons_no
 
 all_alone : (text : List ℕ) → AllByRecursion IsAlone (items text)
 all_alone [] = (refl, tt)
-all_alone (b ∷ text) = by_first (is_comma b) refl (all_alone text)
-  where
-    by_first : (cut : Bool) → is_comma b ≡ cut → AllByRecursion IsAlone (items text) → AllByRecursion IsAlone (items (b ∷ text))
-    by_first cut kept others = grind (arith, nat_tests, slice_split-cons_yes, length-slice_split, slice_split-cons_no, alone_onto)
+all_alone (b ∷ text) = grind (arith, common_steps, all_alone text, slice_split-cons_yes, length-slice_split, slice_split-cons_no, alone_onto)
 
 alone_at : (all : List (List ℕ)) (k : ℕ) (item : List ℕ) → AllByRecursion IsAlone all → slice_get all k ≡ Some item → IsAlone item
 alone_at [] k item alone is = absurd cc
@@ -58,18 +56,7 @@ module _ (header item : List ℕ) (n : ℕ) (below : n < length (items header)) 
   pub is_range_at :
       (start place : ℕ) (span : Span) (e : Element) (es : List Element) → start ≡ sum_by width (take n (items header)) → range_count (take n (items header)) ≡ place →
       wanted_elements item ≡ e ∷ es → span.start ≡ start + spaces_before item → span.len ≡ length e.range → IsRangeAt header place span
-  is_range_at start place span e es begins count is first size = record {
-    index = n;
-    item = item;
-    there = there;
-    start = start;
-    stands = subst (StandsAt header item n) (sym begins) (item_stands header n item there);
-    before = count;
-    element = e;
-    read = has_one item e es alone is;
-    begins = first;
-    size = size;
-  }
+  is_range_at start place span e es begins count is first size = search (rules, begins, count, is, first, size, there, item_stands, has_one, alone)
 
   module _ {X : Type 0} (yielded : List X) (x : X) (same : length yielded ≡ n) where
     counted : (b : Bool) → has_range item ≡ b → range_count (take (length (yielded ++ x ∷ [])) (items header)) ≡ range_count (take (length yielded) (items header)) + cond b 1 0

@@ -1,5 +1,5 @@
 -- The subtags of a span, one after another.
-use Rattle.std.proofs.Common.{◌≡◌, ℕ, ◌+◌, ◌-◌, ◌<◌, ◌≤◌, Bool, false, List, [], ◌∷◌, ◌++◌, length, take, drop, slice_index, refl, ap, sym, subst, ◌∙◌, arith}
+use Rattle.std.proofs.Common.{◌≡◌, ℕ, ◌+◌, ◌-◌, ◌<◌, ◌≤◌, Bool, false, List, [], ◌∷◌, ◌++◌, length, take, drop, slice_index, refl, ap, sym, ◌∙◌, arith}
 use Rattle.std.specs.List.{AllByRecursion, list_any}
 use Rattle.std.proofs.lemmas.Bool.{cases_lt}
 use Rattle.std.proofs.lemmas.Grind.{common_steps}
@@ -62,10 +62,7 @@ module _
 
   -- which are not empty either
   pub span-left : end_of after ≡ end_of before → HasSubtags text after
-  span-left ends = record {
-    within = omega (arith, ends, some.within);
-    some = (subst AllSome span-subtags some.some).1;
-  }
+  span-left ends = grind (arith, common_steps, span-subtags)
 
 -- ---- some first subtags
 
