@@ -35,10 +35,9 @@ done
 # with PARAMETER FILE..: prints the public functions of sources that have a parameter.
 with() { cat "${@:2}" | tr '\n' ' ' | grep -oE "pub (extern \"C\" )?fn [a-z_]+(<[^>]*>)?\([^)]*$1" | sed -E 's/^[^(<]* ([a-z_]+)[(<].*/\1/' | sort -u; }
 # Each function that allocates is called by an entry, and each entry that counts refused allocations is called by memory.c and sweep.c.
-# The four functions of langtag_unicode and langtag_locale have no entry: rust/tests/each_length.rs asks them.
 library=$(ls -d "$here"/../crates/*/src | grep -v '_\(answers\|bench\|check\|examples\|lines\|show\|tests\)/src$')
 for name in $(with 'alloc: Global' $(printf '%s/*.rt ' $library)); do
-    grep -qwE "(try_)?$name" "$crate"/src/*.rt "$here/../rust/tests/each_length.rs" || { echo "growth: no entry calls $name, which allocates"; exit 1; }
+    grep -qwE "(try_)?$name" "$crate"/src/*.rt || { echo "growth: no entry calls $name, which allocates"; exit 1; }
 done
 for name in $(with 'refused: ' "$crate"/src/*.rt); do
     for caller in memory sweep; do

@@ -19,3 +19,7 @@ size_t langtag_bench_extlang_form(const char *bytes, size_t len, char *into, siz
 size_t langtag_bench_maximized(const char *bytes, size_t len, char *into, size_t into_len, size_t *refused);
 size_t langtag_bench_minimized(const char *bytes, size_t len, char *into, size_t into_len, size_t *refused);
 size_t langtag_bench_from_posix(const char *bytes, size_t len, char *into, size_t into_len, size_t *refused);
+size_t langtag_bench_extensions_form(const char *bytes, size_t len, char *into, size_t into_len, size_t *refused);
+size_t langtag_bench_locale_form(const char *bytes, size_t len, char *into, size_t into_len, size_t *refused);
+size_t langtag_bench_set_keyword(const char *bytes, size_t len, const char *value, size_t value_len, char *into, size_t into_len, size_t *refused);
+size_t langtag_bench_remove_keyword(const char *bytes, size_t len, char *into, size_t into_len, size_t *refused);

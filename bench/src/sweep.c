@@ -130,6 +130,23 @@ static size_t sweep_rows(const char *path) {
 
 /* Calls that write a text, and the expected text. */
 typedef size_t write_call(const char *, size_t, char *, size_t, size_t *);
+
+static size_t set_true(const char *tag, size_t len, char *into, size_t into_len, size_t *failed) {
+    return langtag_bench_set_keyword(tag, len, "", 0, into, into_len, failed);
+}
+
+static size_t set_roc(const char *tag, size_t len, char *into, size_t into_len, size_t *failed) {
+    return langtag_bench_set_keyword(tag, len, "roc", 3, into, into_len, failed);
+}
+
+static size_t set_civil(const char *tag, size_t len, char *into, size_t into_len, size_t *failed) {
+    return langtag_bench_set_keyword(tag, len, "islamic-civil", 13, into, into_len, failed);
+}
+
+static size_t set_value(const char *value, size_t len, char *into, size_t into_len, size_t *failed) {
+    return langtag_bench_set_keyword("de-x-a", 6, value, len, into, into_len, failed);
+}
+
 static const struct {
     const char *name;
     write_call *call;
@@ -155,6 +172,34 @@ static const struct {
     {"recommended", langtag_bench_recommended, {"X-AA", "-A", ""}, {"x-aa", "-a", ""}},
     {"recommended", langtag_bench_recommended, {"MN-cYRL-mn", "-1ABC", "-X-a"}, {"mn-Cyrl-MN", "-1abc", "-x-a"}},
     {"recommended", langtag_bench_recommended, {"DE-LATN-DE", "-A-BB", ""}, {"de-Latn-DE", "-a-bb", ""}},
+    {"extensions_form", langtag_bench_extensions_form, {"de-u-co-eor-x", "-a", ""}, {"de-u-co-eor-x", "-a", ""}},
+    {"extensions_form", langtag_bench_extensions_form, {"de-u-co-eor-x-bb", "-a", ""}, {"de-u-co-eor-x-bb", "-a", ""}},
+    {"extensions_form", langtag_bench_extensions_form, {"en-US-t-it-m0-names-x", "-a", ""}, {"en-US-t-it-m0-prprname-x", "-a", ""}},
+    {"locale_form", langtag_bench_locale_form, {"de-u-co-eor-x", "-a", ""}, {"de-u-co-eor-x", "-a", ""}},
+    {"locale_form", langtag_bench_locale_form, {"de-u-co-eor-x-bb", "-a", ""}, {"de-u-co-eor-x-bb", "-a", ""}},
+    {"locale_form", langtag_bench_locale_form, {"en-US-t-it-m0-names-x", "-a", ""}, {"en-US-t-it-m0-prprname-x", "-a", ""}},
+    {"extensions_form", langtag_bench_extensions_form, {"hy-SU-x-aaa", "-a", ""}, {"hy-SU-x-aaa", "-a", ""}},
+    {"extensions_form", langtag_bench_extensions_form, {"de-u-ca", "-abcde", ""}, {"de-u-ca", "-abcde", ""}},
+    {"extensions_form", langtag_bench_extensions_form, {"x", "-a", ""}, {"x", "-a", ""}},
+    {"locale_form", langtag_bench_locale_form, {"hy-SU-x-aaa", "-a", ""}, {"hy-AM-x-aaa", "-a", ""}},
+    {"locale_form", langtag_bench_locale_form, {"de-u-ca", "-abcde", ""}, {"de-u-ca", "-abcde", ""}},
+    {"set_keyword", set_true, {"de-u-co-eor-x", "-a", ""}, {"de-u-ca-co-eor-x", "-a", ""}},
+    {"set_keyword", set_true, {"de-u-co-eor-x-bb", "-a", ""}, {"de-u-ca-co-eor-x-bb", "-a", ""}},
+    {"set_keyword", set_true, {"de-u-co-eor-x-aaa", "-a", ""}, {"de-u-ca-co-eor-x-aaa", "-a", ""}},
+    {"set_keyword", set_roc, {"de-u-co-eor-x", "-a", ""}, {"de-u-ca-roc-co-eor-x", "-a", ""}},
+    {"set_keyword", set_roc, {"de-u-co-eor-x-bb", "-a", ""}, {"de-u-ca-roc-co-eor-x-bb", "-a", ""}},
+    {"set_keyword", set_roc, {"de-u-co-eor-x-aaa", "-a", ""}, {"de-u-ca-roc-co-eor-x-aaa", "-a", ""}},
+    {"set_keyword", set_civil, {"de-u-co-eor-x", "-a", ""}, {"de-u-ca-islamic-civil-co-eor-x", "-a", ""}},
+    {"set_keyword", set_civil, {"de-u-co-eor-x-bb", "-a", ""}, {"de-u-ca-islamic-civil-co-eor-x-bb", "-a", ""}},
+    {"set_keyword", set_civil, {"de-u-co-eor-x-aaa", "-a", ""}, {"de-u-ca-islamic-civil-co-eor-x-aaa", "-a", ""}},
+    {"set_keyword", set_roc, {"de-u-ca", "-abcde", ""}, {"de-u-ca-roc", "", ""}},
+    {"set_keyword", set_value, {"abc", "-abcde", ""}, {"de-u-ca-abc", "-abcde", "-x-a"}},
+    {"set_keyword", set_value, {"abcd", "-abc", ""}, {"de-u-ca-abcd", "-abc", "-x-a"}},
+    {"remove_keyword", langtag_bench_remove_keyword, {"de-u-ca-roc-co-eor-x", "-a", ""}, {"de-u-co-eor-x", "-a", ""}},
+    {"remove_keyword", langtag_bench_remove_keyword, {"de-u-ca-roc-co-eor-x-bb", "-a", ""}, {"de-u-co-eor-x-bb", "-a", ""}},
+    {"remove_keyword", langtag_bench_remove_keyword, {"de-u-ca-roc-co-eor-x-aaa", "-a", ""}, {"de-u-co-eor-x-aaa", "-a", ""}},
+    {"remove_keyword", langtag_bench_remove_keyword, {"de-u-ca", "-abcde", "-x-a"}, {"de-x-a", "", ""}},
+    {"remove_keyword", langtag_bench_remove_keyword, {"de-x", "-a", ""}, {"de-x", "-a", ""}},
     {"from_posix", langtag_bench_from_posix, {"de_DE.", "a", ""}, {"de-DE", "", ""}},
     {"from_posix", langtag_bench_from_posix, {"sr_RS.UTF-8", ".a", "@latin"}, {"sr-Latn-RS", "", ""}},
     {"displayed", langtag_bench_displayed, {"X", "-A", ""}, {"x", "-a", ""}},

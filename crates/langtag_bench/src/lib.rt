@@ -11,4 +11,5 @@ mod memory;
 mod recognise;
 mod registry;
 mod repeats;
+mod unicode;
 mod written;
