@@ -1,6 +1,6 @@
 #!/usr/bin/env bash
 # Checks limits that no contract states, by entries of langtag_bench in the built code. It fails if
-# - a call of langtag, langtag_match or langtag_registry takes over 2.2 times the instructions for twice the text, from 20,000
+# - a call of the libraries takes over 2.2 times the instructions for twice the text, from 20,000
 #   bytes on, and of some shapes from 100,000 bytes on, or what growth.py allows where a square is documented (growth.c);
 # - such a call takes over three times the instructions for each byte that limits.txt has;
 # - it needs more stack than .ci/stack says, or over 1 MB for 2 MB of text;
@@ -46,7 +46,8 @@ for name in $(with 'refused: ' "$crate"/src/*.rt); do
 done
 
 build growth "$here/src/growth.c"
-python3 "$here/../bindings/c/growth/growth.py" "$target/growth" "$here/limits.txt" "$crate"/src/*.rt
+# bindings/c counts the functions that the entries of unicode.rt call.
+python3 "$here/../bindings/c/growth/growth.py" "$target/growth" "$here/limits.txt" $(ls "$crate"/src/*.rt | grep -v '/unicode\.rt$')
 
 build long_texts -DBYTES=1000000 "$here/src/growth.c"
 if (ulimit -s 1024 && exec "$target/long_texts"); then

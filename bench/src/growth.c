@@ -1,5 +1,5 @@
 /*
- * Measures how the instructions of calls of langtag, langtag_match and langtag_registry grow with their text, by the entries of
+ * Measures how the instructions of calls of the libraries grow with their text, by the entries of
  * langtag_bench. Filters and look-ups get twenty tags; their documentation says how they grow with the number of tags. The status
  * is 1 if a call reported that allocation failed.
  */
@@ -80,13 +80,6 @@ FUNCTION(extlang_form, result = langtag_bench_extlang_form(text, len, into, size
 FUNCTION(maximized, result = langtag_bench_maximized(text, len, into, sizeof into, &refused))
 FUNCTION(minimized, result = langtag_bench_minimized(text, len, into, sizeof into, &refused))
 FUNCTION(from_posix, result = langtag_bench_from_posix(text, len, into, sizeof into, &refused))
-FUNCTION(extensions_form, result = langtag_bench_extensions_form(text, len, into, sizeof into, &refused))
-FUNCTION(locale_form, result = langtag_bench_locale_form(text, len, into, sizeof into, &refused))
-/* A keyword of a tag that is the text, and a keyword whose value is the text after the first hyphen, if there is one. */
-FUNCTION(set_keyword, const char *rest = memchr(text, '-', len);
-         result = langtag_bench_set_keyword(text, len, "roc", 3, into, sizeof into, &refused);
-         if (rest) result += langtag_bench_set_keyword("de", 2, rest + 1, text + len - rest - 1, into, sizeof into, &refused))
-FUNCTION(remove_keyword, result = langtag_bench_remove_keyword(text, len, into, sizeof into, &refused))
 FUNCTION(misplaced_variant, result = langtag_bench_misplaced_variant(text, len))
 FUNCTION(misplaced_extlang, result = langtag_bench_misplaced_extlang(text, len))
 FUNCTION(fields, result = langtag_bench_fields(text, len))
@@ -129,10 +122,6 @@ static const struct function functions[] = {
     ENTRY(maximized),
     ENTRY(minimized),
     ENTRY(from_posix),
-    ENTRY(extensions_form),
-    ENTRY(locale_form),
-    ENTRY(set_keyword),
-    ENTRY(remove_keyword),
     ENTRY(misplaced_variant),
     ENTRY(misplaced_extlang),
     ENTRY(fields),

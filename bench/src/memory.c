@@ -91,7 +91,7 @@ static const struct row rows[] = {
     {"extensions_form", extensions_form, NULL, "de-u-co-eor", NULL, 1},
     {"extensions_form", extensions_form, NULL, LONG, NULL, 1},
     {"locale_form", locale_form, NULL, "en-US-t-it-m0-names", NULL, 1},
-    {"locale_form", locale_form, NULL, "hy-SU-u-ca-gregorian", NULL, 1},
+    {"locale_form", locale_form, NULL, "hy-SU-u-ca-islamicc", NULL, 1},
     {"set_keyword", set_keyword, NULL, LONG, NULL, 2},
     {"remove_keyword", remove_keyword, NULL, "th-u-ca-gregory-nu-thai", NULL, 2},
     {"remove_keyword", remove_keyword, NULL, LONG, NULL, 2},
