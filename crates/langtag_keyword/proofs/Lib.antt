@@ -12,6 +12,8 @@ pub mod KeywordEdits
 pub mod KeywordLaws
 pub mod KeywordTwice
 pub mod KeywordsInForm
+pub mod LeastLaws
+pub mod LeastTexts
 pub mod RisingTexts
 pub mod SubtagTexts
 pub mod WalkSteps

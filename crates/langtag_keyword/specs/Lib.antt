@@ -6,4 +6,5 @@ pub mod EditText
 pub mod Form
 pub mod Keys
 pub mod Keywords
+pub mod Least
 pub mod Transform

@@ -1,20 +1,45 @@
 //! Subtags in lowercase and in alphabetical order, written to an output.
 ghost use Rattle.std.specs.Prelude.{◌≡◌, ◌∷◌, [], map};
+ghost use Rattle.std.specs.List.{AllByRecursion};
 ghost use Rattle.std.specs.Option.{option_map};
 ghost use Rattle.langtag_output.specs.Output.{Pushes};
 ghost use Rattle.langtag_scan.specs.Case.{fold_text};
 ghost use Rattle.langtag_scan.specs.Subtags.{segments_left, subtags};
 ghost use Rattle.langtag_keyword.specs.Alphabet.{first_after, is_after, is_before_best};
+ghost use Rattle.langtag_scan.proofs.SubtagFacts.{IsSubtag};
 ghost use Rattle.langtag_keyword.specs.Form as spec;
+ghost use Rattle.langtag_keyword.specs.Least.{IsOffered, order_number};
 
+use crate::least_numbers::{LeastNumbers, order_number};
 use crate::subtags::split_first;
 use langtag_output::Output;
 use langtag_scan::{Subtags, into_smallcase};
 
+/// If subtags take at most this many bytes, each is found by a walk over all of them.
+const FEW: usize = 40;
+
 /// Appends subtags in lowercase and in alphabetical order, each once.
-///
-/// Each subtag is found by a walk over all subtags, so the time is quadratic in the number of subtags.
 pub(crate) fn push_in_alphabet(out: &mut Output<'_>, rest: Option<&str>)
+    requires { AllByRecursion IsSubtag (segments_left rest) }
+    ensures same_buffer { out.new.buffer.ghost_name ≡ out.old.buffer.ghost_name }
+    ensures pushed { Pushes (spec.in_alphabet (segments_left rest.entry)) out.old out.new }
+{
+    if are_few(rest) {
+        return push_few(out, rest);
+    }
+    push_many(out, rest);
+}
+
+/// Returns whether subtags take so few bytes that they are put in order one by one.
+pub fn are_few(rest: Option<&str>) -> bool {
+    match rest {
+        Some(text) => text.len() <= FEW,
+        None => true,
+    }
+}
+
+/// Appends what [`push_in_alphabet`] appends, in a time proportional to the square of the number of subtags.
+fn push_few(out: &mut Output<'_>, rest: Option<&str>)
     ensures same_buffer { out.new.buffer.ghost_name ≡ out.old.buffer.ghost_name }
     ensures pushed { Pushes (spec.in_alphabet (segments_left rest.entry)) out.old out.new }
 {
@@ -22,6 +47,35 @@ pub(crate) fn push_in_alphabet(out: &mut Output<'_>, rest: Option<&str>)
     while let Some(next) = first_after(rest, last) {
         push_lowercase(out, next);
         last = Some(next);
+    }
+}
+
+/// Appends what [`push_in_alphabet`] appends. Each walk over the subtags finds the next 512 of them, or more.
+// This function is not inlined, so that callers with few subtags do not use its stack.
+#[inline(never)]
+fn push_many(out: &mut Output<'_>, rest: Option<&str>)
+    requires { AllByRecursion IsSubtag (segments_left rest) }
+    ensures same_buffer { out.new.buffer.ghost_name ≡ out.old.buffer.ghost_name }
+    ensures pushed { Pushes (spec.in_alphabet (segments_left rest.entry)) out.old out.new }
+{
+    let mut least = LeastNumbers::new();
+    let mut more = true;
+    while more {
+        offer_each(&mut least, rest);
+        more = least.push_to(out);
+    }
+}
+
+/// Offers the numbers of subtags.
+fn offer_each(least: &mut LeastNumbers, rest: Option<&str>)
+    requires { AllByRecursion IsSubtag (segments_left rest) }
+    ensures { IsOffered (map order_number (segments_left rest.entry)) least.old least.new }
+{
+    let mut rest = rest;
+    while let Some(text) = rest {
+        let (subtag, others) = split_first(text);
+        least.offer(order_number(subtag.as_bytes()));
+        rest = others;
     }
 }
 

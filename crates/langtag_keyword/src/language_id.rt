@@ -1,8 +1,9 @@
 //! The language of the extension `t` (UTS #35, part 1, `unicode_language_id`).
 ghost use Rattle.std.specs.Prelude.{◌≡◌, map};
-ghost use Rattle.std.specs.List.{list_any};
+ghost use Rattle.std.specs.List.{AllByRecursion, list_any};
 ghost use Rattle.std.specs.Option.{option_map};
 ghost use Rattle.langtag_output.specs.Output.{Pushes};
+ghost use Rattle.langtag_scan.proofs.SubtagFacts.{IsSubtag};
 ghost use Rattle.langtag_scan.specs.Case.{are_alike, fold_text};
 ghost use Rattle.langtag_scan.specs.Class.{is_region, is_script};
 ghost use Rattle.langtag_scan.specs.Record.{one_flat};
@@ -27,6 +28,7 @@ pub(crate) fn is_language_id(text: &str) -> bool
 
 /// Appends a language with its script, region and variants in lowercase, and with the variants in order.
 pub(crate) fn push_language_id(out: &mut Output<'_>, text: &str)
+    requires { AllByRecursion IsSubtag (segments text.now) }
     ensures same_buffer { out.new.buffer.ghost_name ≡ out.old.buffer.ghost_name }
     ensures pushed { Pushes (spec.language_form (segments text.now)) out.old out.new }
 {

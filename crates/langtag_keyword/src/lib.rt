@@ -13,6 +13,7 @@ mod keyword_edit;
 mod keyword_error;
 mod keyword_form;
 mod language_id;
+mod least_numbers;
 mod subtags;
 mod transform_form;
 
@@ -21,11 +22,12 @@ pub use keyword_error::KeywordError;
 
 // For langtag_unicode, langtag_locale and langtag_span.
 pub use alias::{alias_for, type_alias_for};
-pub use alphabet::{is_after, is_before_best, push_lowercase};
+pub use alphabet::{are_few, is_after, is_before_best, push_lowercase};
 pub use extension_form::{is_of, push_extensions, push_unicode, subtags_of};
 pub use keyword_check::{invalid_type, is_unicode_key};
 pub use keyword_edit::{KeywordEdit, push_edited};
 pub use keyword_form::push_keywords;
 pub use language_id::{is_among, is_unicode_language, take_region, take_script};
+pub use least_numbers::{LeastNumbers, order_number};
 pub use subtags::{before_key, is_earlier_subtag, nonempty, preceding, split_first, value_in};
 pub use transform_form::is_transform;

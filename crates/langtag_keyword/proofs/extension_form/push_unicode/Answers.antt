@@ -1,9 +1,15 @@
-use Rattle.std.proofs.Common.{◌∷◌, [], ap}
+use Rattle.std.proofs.Common.{◌∷◌, [], ap, subst, sym}
 use Rattle.langtag_output.proofs.Pushed.{pushes_both, pushes_same}
+use Rattle.std.specs.List.{AllByRecursion}
+use Rattle.langtag_scan.proofs.SubtagFacts.{IsSubtag}
+use Rattle.langtag_keyword.proofs.SubtagTexts.{fits-before_key}
 use Rattle.langtag_scan.specs.Subtags.{segments_left, subtags}
 use Rattle.langtag_keyword.specs.Form.{in_alphabet, keywords_form, unicode_form, unicode_value}
 use Rattle.langtag_keyword.specs.Keywords.{before_key, is_key}
 use Rattle.langtag_keyword.proofs.extension_form.push_unicode.Goals as goal
+
+pub push_in_alphabet-requires : goal.push_in_alphabet-requires
+push_in_alphabet-requires c = subst (AllByRecursion IsSubtag) (sym c.preceding.ensures) (fits-before_key is_key (subtags c.args.text.now) c.requires)
 
 pub returns-clause-pushed : goal.returns-clause-pushed
 returns-clause-pushed c =

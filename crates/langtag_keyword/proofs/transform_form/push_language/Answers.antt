@@ -1,8 +1,16 @@
-use Rattle.std.proofs.Common.{sym, ap, ◌∙◌}
+use Rattle.std.proofs.Common.{sym, ap, subst, ◌∙◌}
 use Rattle.langtag_output.proofs.Pushed.{pushes_ended, pushes_same}
-use Rattle.langtag_scan.specs.Subtags.{segments_left}
+use Rattle.std.specs.List.{AllByRecursion}
+use Rattle.langtag_scan.proofs.SubtagFacts.{IsSubtag}
+use Rattle.langtag_keyword.proofs.SubtagTexts.{fits-before_key}
+use Rattle.langtag_keyword.specs.Transform.{is_field_key}
+use Rattle.langtag_scan.specs.Subtags.{segments_left, subtags}
 use Rattle.langtag_keyword.specs.Form.{language_form}
 use Rattle.langtag_keyword.proofs.transform_form.push_language.Goals as goal
+
+pub push_language_id-requires : goal.push_language_id-requires
+push_language_id-requires c =
+    subst (AllByRecursion IsSubtag) (sym c.preceding.ensures ∙ ap segments_left c.in-Some.is) (fits-before_key is_field_key (subtags c.args.text.now) c.requires)
 
 pub returns-in-Some-clause-pushed : goal.returns-in-Some-clause-pushed
 returns-in-Some-clause-pushed c =

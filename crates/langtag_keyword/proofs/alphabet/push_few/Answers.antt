@@ -5,7 +5,7 @@ use Rattle.langtag_scan.specs.Subtags.{segments_left}
 use Rattle.langtag_keyword.specs.Alphabet.{first_after}
 use Rattle.langtag_keyword.specs.Form.{in_alphabet}
 use Rattle.langtag_keyword.proofs.AlphabetLaws.{after_last, after_last-ended, after_last-next, after_last-none, rise-in_alphabet}
-use Rattle.langtag_keyword.proofs.alphabet.push_in_alphabet.Goals as goal
+use Rattle.langtag_keyword.proofs.alphabet.push_few.Goals as goal
 
 pub loop-next-init : goal.loop-next-init
 loop-next-init c = record {

@@ -1,0 +1,188 @@
+-- Numbers that rise, and the least of numbers in any order.
+use Rattle.std.proofs.Common.{◌≡◌, ℕ, zero, suc, ◌+◌, ◌<◌, ◌≤◌, Bool, true, false, cond, ◌==◌, ◌&&◌, ◌||◌, List, [], ◌∷◌, ◌++◌, length, get_or, take, refl, sym, ap, subst, ◌∙◌, arith}
+use Rattle.std.proofs.Math.Dec.{leb, ltb}
+use Rattle.std.specs.List.{filter, list_any}
+use Rattle.std.specs.List.Sorted.{IsNonDecreasing}
+use Rattle.std.proofs.lemmas.Bool.{false≢true}
+use Rattle.std.proofs.lemmas.Bool.Decides.{nat_tests}
+use Rattle.std.proofs.lemmas.List.Folds.{list_any_at, list_any-append}
+use Rattle.langtag_keyword.specs.Least.{HoldsLeast, IsOffered, Least, RisesFrom, has, is_within, rising_after}
+
+-- ---- numbers that rise
+
+pub low-rise : (l n : ℕ) (ns : List ℕ) → RisesFrom l ns → n ≤ l → has n ns ≡ false
+low-rise l n [] rise below = refl
+low-rise l n (m ∷ ms) rise below = grind (arith, nat_tests, low-rise m n ms rise.1)
+
+rise-weaker : (l m : ℕ) (ns : List ℕ) → l ≤ m → RisesFrom m ns → RisesFrom l ns
+rise-weaker l m [] below rise = tt
+rise-weaker l m (n ∷ ns) below rise = (omega (arith, below, rise.0), rise.1)
+
+-- numbers that rise are known by which numbers are among them
+pub same-rise : (l : ℕ) (xs ys : List ℕ) → RisesFrom l xs → RisesFrom l ys → ((n : ℕ) → has n xs ≡ has n ys) → xs ≡ ys
+same-rise l [] [] rx ry same = refl
+same-rise l [] (y ∷ ys) rx ry same = absurd (grind (arith, nat_tests, same y))
+same-rise l (x ∷ xs) [] rx ry same = absurd (grind (arith, nat_tests, same x))
+same-rise l (x ∷ xs) (y ∷ ys) rx ry same =
+    let one : x ≡ y = grind (arith, nat_tests, same x, same y, low-rise y x ys ry.1, low-rise x y xs rx.1) in
+    let rest : (n : ℕ) → has n xs ≡ has n ys = λ n. grind (arith, nat_tests, same n, low-rise x x xs rx.1, low-rise y y ys ry.1) in
+    ap (λ z. z ∷ xs) one ∙ ap (λ zs. y ∷ zs) (same-rise y xs ys (subst (λ z. RisesFrom z xs) one rx.1) ry.1 rest)
+
+-- ---- those that pass a test
+
+pub has-filter : (p : ℕ → Bool) (n : ℕ) (ns : List ℕ) → has n (filter p ns) ≡ (p n && has n ns)
+has-filter p n [] = grind arith
+has-filter p n (m ∷ ms) = grind (arith, nat_tests, has-filter p n ms)
+
+rise-filter : (p : ℕ → Bool) (l : ℕ) (ns : List ℕ) → RisesFrom l ns → RisesFrom l (filter p ns)
+rise-filter p l [] rise = tt
+rise-filter p l (n ∷ ns) rise = by_test (p n) (rise-filter p n ns rise.1)
+  where
+    by_test : (b : Bool) → RisesFrom n (filter p ns) → RisesFrom l (cond b (n ∷ filter p ns) (filter p ns))
+    by_test true later = (rise.0, later)
+    by_test false later = rise-weaker l n (filter p ns) (omega (arith, rise.0)) later
+
+rise-within : (last limit l : ℕ) (ns : List ℕ) → RisesFrom l ns → RisesFrom last (filter (is_within last limit) ns)
+rise-within last limit l [] rise = tt
+rise-within last limit l (n ∷ ns) rise =
+    by_test (is_within last limit n) refl (rise-filter (is_within last limit) n ns rise.1) (rise-within last limit n ns rise.1)
+  where
+    by_test :
+        (b : Bool) → is_within last limit n ≡ b → RisesFrom n (filter (is_within last limit) ns) → RisesFrom last (filter (is_within last limit) ns) →
+        RisesFrom last (cond b (n ∷ filter (is_within last limit) ns) (filter (is_within last limit) ns))
+    by_test true is above later = (grind (arith, nat_tests), above)
+    by_test false is above later = later
+
+-- ---- numbers above another one
+
+abbrev pub above : ℕ → List ℕ → List ℕ
+above last ns = filter (ltb last) ns
+
+pub above-all : (last l : ℕ) (ns : List ℕ) → last ≤ l → RisesFrom l ns → above last ns ≡ ns
+above-all last l [] below rise = refl
+above-all last l (n ∷ ns) below rise =
+    let inside : ltb last n ≡ true = grind (arith, nat_tests, rise.0) in
+    ap (λ b. cond b (n ∷ above last ns) (above last ns)) inside ∙ ap (λ ms. n ∷ ms) (above-all last n ns (omega (arith, below, rise.0)) rise.1)
+
+none-within : (last limit l : ℕ) (ns : List ℕ) → limit ≤ l → RisesFrom l ns → filter (is_within last limit) ns ≡ []
+none-within last limit l [] below rise = refl
+none-within last limit l (n ∷ ns) below rise =
+    let outside : is_within last limit n ≡ false = grind (arith, nat_tests, rise.0) in
+    ap (λ b. cond b (n ∷ filter (is_within last limit) ns) (filter (is_within last limit) ns)) outside ∙ none-within last limit n ns (omega (arith, below, rise.0)) rise.1
+
+pub above-split : (last limit l : ℕ) (ns : List ℕ) → last ≤ limit → RisesFrom l ns → above last ns ≡ filter (is_within last limit) ns ++ above limit ns
+above-split last limit l [] order rise = refl
+above-split last limit l (n ∷ ns) order rise =
+    by_tests (ltb last n) (leb n limit) (ltb limit n) refl refl refl (above-split last limit n ns order rise.1)
+  where
+    by_tests :
+        (a b c : Bool) → ltb last n ≡ a → leb n limit ≡ b → ltb limit n ≡ c → above last ns ≡ filter (is_within last limit) ns ++ above limit ns →
+        cond a (n ∷ above last ns) (above last ns) ≡ cond (a && b) (n ∷ filter (is_within last limit) ns) (filter (is_within last limit) ns) ++ cond c (n ∷ above limit ns) (above limit ns)
+    by_tests true true true is fits over later = absurd (grind (arith, nat_tests))
+    by_tests true true false is fits over later = ap (λ ms. n ∷ ms) later
+    by_tests true false true is fits over later =
+        let none = none-within last limit n ns (grind (arith, nat_tests)) rise.1 in
+        ap (λ ms. n ∷ ms) later ∙ ap (λ ms. n ∷ (ms ++ above limit ns)) none ∙ sym (ap (λ ms. ms ++ n ∷ above limit ns) none)
+    by_tests true false false is fits over later = absurd (grind (arith, nat_tests))
+    by_tests false b true is fits over later = absurd (grind (arith, nat_tests))
+    by_tests false b false is fits over later = later
+
+abbrev pub AllUpTo : ℕ → List ℕ → Type 0
+AllUpTo most [] = Unit
+AllUpTo most (n ∷ ns) = (n ≤ most) × AllUpTo most ns
+
+pub above-none : (most : ℕ) (ns : List ℕ) → AllUpTo most ns → above most ns ≡ []
+above-none most [] all = refl
+above-none most (n ∷ ns) all =
+    let below : ltb most n ≡ false = grind (arith, nat_tests, all.0) in
+    ap (λ b. cond b (n ∷ above most ns) (above most ns)) below ∙ above-none most ns all.1
+
+-- ---- numbers in order
+
+-- none is less than the one before it
+abbrev pub NeverFalls : ℕ → List ℕ → Type 0
+NeverFalls l [] = Unit
+NeverFalls l (n ∷ ns) = (l ≤ n) × NeverFalls n ns
+
+falls-never : (l : ℕ) (ns : List ℕ) → IsNonDecreasing ns → (0 < length ns → l ≤ get_or ns 0 0) → NeverFalls l ns
+falls-never l [] up first = tt
+falls-never l (n ∷ ns) up first = (
+  first (omega arith),
+  falls-never n ns (λ i j d le inside. up (suc i) (suc j) d (omega (arith, le)) (omega (arith, inside))) (λ some. up 0 1 0 (omega arith) (omega (arith, some))),
+)
+
+pub sorted : (ns : List ℕ) → IsNonDecreasing ns → NeverFalls 0 ns
+sorted ns up = falls-never 0 ns up (λ some. omega arith)
+
+low-sorted : (l n : ℕ) (ns : List ℕ) → NeverFalls l ns → n < l → has n ns ≡ false
+low-sorted l n [] up below = refl
+low-sorted l n (m ∷ ms) up below = grind (arith, nat_tests, low-sorted m n ms up.1)
+
+least-first : (l k : ℕ) (ns : List ℕ) → NeverFalls l ns → k < length ns → l ≤ get_or ns k 0
+least-first l k [] up inside = absurd (omega arith)
+least-first l zero (n ∷ ns) up inside = up.0
+least-first l (suc k) (n ∷ ns) up inside = omega (arith, up.0, least-first n k ns up.1 (omega (arith, inside)))
+
+-- those up to an index are those up to the number at that index
+pub has-take : (n k l : ℕ) (ns : List ℕ) → NeverFalls l ns → k < length ns → has n (take (suc k) ns) ≡ (leb n (get_or ns k 0) && has n ns)
+has-take n k l [] up inside = absurd (omega arith)
+has-take n zero l (m ∷ ms) up inside = grind (arith, nat_tests, low-sorted m n ms up.1)
+has-take n (suc k) l (m ∷ ms) up inside =
+    let within : k < length ms = omega (arith, inside) in
+    grind (arith, nat_tests, has-take n k m ms up.1 within, least-first m k ms up.1 within)
+
+-- ---- each once
+
+pub rise-rising : (last : ℕ) (ns : List ℕ) → RisesFrom last (rising_after last ns)
+rise-rising last [] = tt
+rise-rising last (n ∷ ns) = by_test (ltb last n) refl (rise-rising n ns) (rise-rising last ns)
+  where
+    by_test :
+        (b : Bool) → ltb last n ≡ b → RisesFrom n (rising_after n ns) → RisesFrom last (rising_after last ns) →
+        RisesFrom last (cond b (n ∷ rising_after n ns) (rising_after last ns))
+    by_test true is next same = (grind (arith, nat_tests), next)
+    by_test false is next same = same
+
+has-rising : (last n l : ℕ) (ns : List ℕ) → NeverFalls l ns → has n (rising_after last ns) ≡ (ltb last n && has n ns)
+has-rising last n l [] up = grind arith
+has-rising last n l (m ∷ ms) up = grind (arith, nat_tests, has-rising m n m ms up.1, has-rising last n m ms up.1, low-sorted m n ms up.1)
+
+-- the numbers that are kept, in order, are those of all numbers that are within the limits
+pub kept-within :
+    (least : Least) (all ns : List ℕ) → RisesFrom 0 all → HoldsLeast least all → NeverFalls 0 ns → ((n : ℕ) → has n ns ≡ has n least.kept) →
+    rising_after least.last ns ≡ filter (is_within least.last least.limit) all
+kept-within least all ns rise holds up same =
+    same-rise least.last _ _ (rise-rising least.last ns) (rise-within least.last least.limit 0 all rise)
+    (λ n. has-rising least.last n 0 ns up ∙ ap (λ b. ltb least.last n && b) (same n ∙ holds.same n) ∙ twice (ltb least.last n) (leb n least.limit) (has n all)
+    ∙ sym (has-filter (is_within least.last least.limit) n all))
+  where
+    twice : (a b c : Bool) → (a && ((a && b) && c)) ≡ ((a && b) && c)
+    twice true b c = refl
+    twice false b c = refl
+
+-- one number more was offered, and only the lower half of the numbers is kept
+pub thinned :
+    (last limit number : ℕ) (kept ns : List ℕ) → last < number → number ≤ limit → NeverFalls 0 ns → 511 < length ns →
+    ((n : ℕ) → has n ns ≡ has n (kept ++ number ∷ [])) →
+    IsOffered (number ∷ []) (record { last = last; limit = limit; kept = kept }) (record { last = last; limit = get_or ns 511 0; kept = take 512 ns })
+thinned last limit number kept ns over fits up long same =
+    let most = get_or ns 511 0 in
+    let there : has most ns ≡ true = list_any_at (λ m. m == most) ns 511 0 long (grind (arith, nat_tests)) in
+    let or-nothing : (n : ℕ) → has n (kept ++ number ∷ []) ≡ (has n kept || (number == n)) = λ n. grind (arith, nat_tests, list_any-append (λ m. m == n) kept (number ∷ [])) in
+    record {
+      last = refl;
+      holds = λ offered holds.
+          let bounds : (last < most) × (most ≤ limit) = bounded most there (or-nothing most) (has most offered) (holds.same most) in
+          record {
+            order = bounds.0;
+            same = λ n.
+                let of_offered : has n (offered ++ number ∷ []) ≡ (has n offered || (number == n)) = grind (arith, nat_tests, list_any-append (λ m. m == n) offered (number ∷ [])) in
+                let half = has-take n 511 0 ns up long in
+                grind (arith, nat_tests, half, same n, or-nothing n, holds.same n, of_offered, bounds.0, bounds.1);
+          };
+    }
+  where
+    bounded :
+        (most : ℕ) → has most ns ≡ true → has most (kept ++ number ∷ []) ≡ (has most kept || (number == most)) → (o : Bool) →
+        has most kept ≡ (is_within last limit most && o) → (last < most) × (most ≤ limit)
+    bounded most there or-nothing o kept-same = grind (arith, nat_tests, same most)
