@@ -18,7 +18,7 @@ DECLARATION = r"^(?:LANGTAG_PURE )?(\w+) (langtag_\w+)\(([^)]*)\);"
 
 # Windows gives a thread one page of its stack after another, so code that uses more than a page has to touch each page in order.
 # The code of these functions does not, so their wrappers do it first. Other functions use less than a page, which .ci/stack tests.
-DEEP = {name: 16 * 1024 for name in ("langtag_repeats", "langtag_is_locale", "langtag_locale_form")}
+DEEP = {name: 16 * 1024 for name in ("langtag_repeats", "langtag_extensions_form", "langtag_is_locale", "langtag_locale_form")}
 
 HEAD = """\
 /* Written by wrappers.py. */

@@ -178,7 +178,7 @@ shifted_number s n k r is number shift result =
 
 -- ---- texts in order
 
-each-number : (ss : List (List ℕ)) → AllByRecursion IsSubtag ss → AllByRecursion HasNumber (in_alphabet ss)
+pub each-number : (ss : List (List ℕ)) → AllByRecursion IsSubtag ss → AllByRecursion HasNumber (in_alphabet ss)
 each-number [] all = tt
 each-number (s ∷ ss) all = each-put HasNumber (fold_text s) (in_alphabet ss) (has_number s all.0) (each-number ss all.1)
 

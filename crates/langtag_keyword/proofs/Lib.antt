@@ -16,4 +16,5 @@ pub mod LeastLaws
 pub mod LeastTexts
 pub mod RisingTexts
 pub mod SubtagTexts
+pub mod VariantLengths
 pub mod WalkSteps

@@ -62,7 +62,7 @@ pub length-with_hyphens : (ss : List (List ℕ)) → length_with_hyphens ss ≡ 
 length-with_hyphens [] = refl
 length-with_hyphens (s ∷ ss) = omega (arith, length-with_hyphens ss, length-append s (hyphenated ss))
 
-length-more : (x : List ℕ) (xs : List (List ℕ)) → length_with_hyphens (x ∷ xs) - 1 ≡ length (join (x ∷ xs))
+pub length-more : (x : List ℕ) (xs : List (List ℕ)) → length_with_hyphens (x ∷ xs) - 1 ≡ length (join (x ∷ xs))
 length-more x xs = omega (arith, length-join x xs, length-with_hyphens xs)
 
 take-before : (bs ys : List (List ℕ)) → take (length_with_hyphens bs - 1) (join (bs ++ ys)) ≡ join bs

@@ -1,10 +1,11 @@
 //! The language of the extension `t` (UTS #35, part 1, `unicode_language_id`).
-ghost use Rattle.std.specs.Prelude.{◌≡◌, map};
-ghost use Rattle.std.specs.List.{AllByRecursion, list_any};
+ghost use Rattle.std.specs.Prelude.{◌≡◌, ◌-◌, ◌^◌, [], IsTrue, fold, length, map, min};
+ghost use Rattle.std.specs.List.{AllByRecursion, list_all, list_any};
 ghost use Rattle.std.specs.Option.{option_map};
-ghost use Rattle.langtag_output.specs.Output.{Pushes};
+ghost use Rattle.langtag_output.specs.Output.{Pushes, with_subtag};
 ghost use Rattle.langtag_scan.proofs.SubtagFacts.{IsSubtag};
 ghost use Rattle.langtag_scan.specs.Case.{are_alike, fold_text};
+ghost use Rattle.langtag_scan.specs.Class as class;
 ghost use Rattle.langtag_scan.specs.Class.{is_region, is_script};
 ghost use Rattle.langtag_scan.specs.Record.{one_flat};
 ghost use Rattle.langtag_scan.specs.Subtags.{segments, segments_left};
@@ -85,20 +86,50 @@ pub fn take_region<'a>(rest: Option<&'a str>) -> (Option<&'a str>, Option<&'a st
     (None, rest)
 }
 
-/// Returns whether all subtags are variants, and no two of them are equal. Each variant is compared with the variants
-/// after it.
+/// Returns whether all subtags are variants, and no two of them are equal.
+#[tactic(auto, using(crate::proofs::VariantLengths::not_variants))]
 fn are_variants(rest: Option<&str>) -> bool
     ensures { result ≡ spec.are_different_variants (segments_left rest.entry) }
 {
+    match rest {
+        Some(text) => are_all_variants(rest) && are_different(text),
+        None => true,
+    }
+}
+
+/// Returns whether all subtags are variants.
+fn are_all_variants(rest: Option<&str>) -> bool
+    ensures { result ≡ list_all class.is_variant (segments_left rest.entry) }
+{
     let mut rest = rest;
     while let Some(text) = rest {
-        let (variant, others) = split_first(text);
-        if !is_variant(variant.as_bytes()) || is_among(others, variant.as_bytes()) {
+        let (subtag, others) = split_first(text);
+        if !is_variant(subtag.as_bytes()) {
             return false;
         }
         rest = others;
     }
     true
+}
+
+/// Returns whether no two variants of a text are equal: whether they take as many bytes when each is written once.
+#[tactic(auto, using(crate::proofs::VariantLengths::are_subtags, crate::proofs::VariantLengths::different_length))]
+fn are_different(text: &str) -> bool
+    requires { IsTrue (list_all class.is_variant (segments text.now)) }
+    ensures { result ≡ spec.are_different_variants (segments text.now) }
+{
+    len_in_alphabet(text, &mut []) == text.len()
+}
+
+/// Returns the length of the text of some variants in alphabetical order, each once. It is written to a buffer if it
+/// fits.
+fn len_in_alphabet(text: &str, buffer: &mut [u8]) -> usize
+    requires { AllByRecursion IsSubtag (segments text.now) }
+    ensures { result ≡ min (length (fold with_subtag [] (spec.in_alphabet (segments text.now)))) (2 ^ 64 - 1) }
+{
+    let mut out = Output::new(buffer);
+    push_in_alphabet(&mut out, Some(text));
+    out.len()
 }
 
 /// Returns whether a variant is among the subtags of a text, ignoring case.

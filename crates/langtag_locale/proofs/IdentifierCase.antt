@@ -18,9 +18,8 @@ use Rattle.langtag_scan.specs.Subtags.{segments}
 use Rattle.langtag_keyword.specs.Alias.{Alias, TypeAlias, alias_for, type_alias_for}
 use Rattle.langtag_locale.specs.LocaleAliases as list
 use Rattle.langtag_locale.specs.LocaleForm as form
-use Rattle.langtag_locale.specs.LocaleForm.{has_variant, heir, identifier_form, is_pair_of, language_after, new_variants, sign_for, variant_form}
+use Rattle.langtag_locale.specs.LocaleForm.{forms, has_variant, heir, identifier_form, is_pair_of, language_after, new_variants, sign_for, variant_form}
 use Rattle.langtag_keyword.proofs.AlphabetTwice.{in_alphabet-alike}
-use Rattle.langtag_locale.proofs.VariantForms.{forms}
 use Rattle.langtag_keyword.proofs.AliasCase.{alias_for-alike, type_alias_for-alike}
 
 -- lists of texts that are alike, one by one

@@ -21,14 +21,13 @@ use Rattle.langtag_scan.specs.Subtags.{segments}
 use Rattle.langtag_keyword.specs.Alias.{Alias, TypeAlias, alias_for, type_alias_for}
 use Rattle.langtag_locale.specs.LocaleAliases as list
 use Rattle.langtag_locale.specs.LocaleForm as form
-use Rattle.langtag_locale.specs.LocaleForm.{has_variant, heir, is_pair_of, language_after, sign_for, variant_form}
+use Rattle.langtag_locale.specs.LocaleForm.{forms, has_variant, heir, is_pair_of, language_after, sign_for, variant_form}
 use Rattle.langtag_locale.proofs.IdentifierCase.{has_variant-alike, is_gone, region_by, replaced_by, replacement}
 use Rattle.langtag_keyword.proofs.AliasCase.{alias_for-alike, type_alias_for-alike}
 use Rattle.langtag_locale.proofs.IdentifierForms.{row_good, sign_cases, sign_found}
 use Rattle.langtag_locale.proofs.IdentifierTables.{heirs_last, is_last_language, is_last_region, is_last_script, is_last_sign, is_last_variant, is_old_language, no_region_last, pairs_last, replaced_last, replacements_last, scripts_last, sign_languages_last, stays_always, variants_last}
 use Rattle.langtag_locale.proofs.LocaleTables.{found_good, heir_good}
 use Rattle.langtag_keyword.proofs.Found.{both, found_has}
-use Rattle.langtag_locale.proofs.VariantForms.{forms}
 
 -- ---- what is not found
 

@@ -19,7 +19,7 @@ use Rattle.langtag_keyword.specs.Alias.{Alias, TypeAlias, alias_for, type_alias_
 use Rattle.langtag_keyword.specs.Form.{in_alphabet}
 use Rattle.langtag_locale.specs.LocaleAliases as list
 use Rattle.langtag_locale.specs.LocaleForm as form
-use Rattle.langtag_locale.specs.LocaleForm.{has_variant, identifier_form, is_pair_of, new_variants, sign_for, variant_form}
+use Rattle.langtag_locale.specs.LocaleForm.{forms, has_variant, identifier_form, is_pair_of, new_variants, sign_for, variant_form}
 use Rattle.langtag_keyword.proofs.AlphabetTwice.{in_alphabet-twice}
 use Rattle.langtag_keyword.proofs.Each.{each-alphabet}
 use Rattle.langtag_locale.proofs.IdentifierCase.{region_by, replaced_by, replacement}
@@ -28,7 +28,6 @@ use Rattle.langtag_locale.proofs.IdentifierForms.{fold_good}
 use Rattle.langtag_locale.proofs.IdentifierLast.{Stays, among, all_weaker, fold_stays, forms-stay, kept-fold, kept-sign, new_region-last, new_script-last, none_found, none_is, not_both, replaced-last, sign-good, sign-last, sign-region, stays-alike}
 use Rattle.langtag_locale.proofs.IdentifierTables.{is_last_language, is_last_region, is_last_script, is_last_sign, is_last_variant, is_old_language, languages_old, pairs_replaced, regions_dropped, sign_languages_last, variant_languages_last}
 use Rattle.langtag_keyword.proofs.Found.{both}
-use Rattle.langtag_locale.proofs.VariantForms.{forms}
 
 -- ---- the form of the form
 

@@ -18,7 +18,7 @@ use Rattle.langtag_keyword.specs.Form.{unicode_form}
 use Rattle.langtag_keyword.specs.Keywords.{is_key, value_of}
 use Rattle.langtag_locale.specs.Locale.{is_unicode_subtag}
 use Rattle.langtag_registry.specs.Canonical.{singletons}
-use Rattle.langtag_locale.specs.LocaleForm.{extension_at, extensions_in_order, locale_extension_form, new_variants}
+use Rattle.langtag_locale.specs.LocaleForm.{extension_at, extensions_in_order, forms, locale_extension_form, new_variants}
 use Rattle.langtag_unicode.proofs.CanonicalKeywords.{form-blocks, key-fold, unicode_key-fold, values, values-are}
 use Rattle.langtag_keyword.proofs.Each.{each-alphabet, each-before}
 use Rattle.langtag_unicode.proofs.FormRecords.{Good}
@@ -27,7 +27,6 @@ use Rattle.langtag_keyword.proofs.KeywordBlocks.{block, blocks}
 use Rattle.langtag_keyword.proofs.KeywordLaws.{AreNoKeys}
 use Rattle.langtag_locale.proofs.LocaleExtensions.{locale_form_by, locale_form_tested}
 use Rattle.langtag_keyword.proofs.Found.{both, found_is}
-use Rattle.langtag_locale.proofs.VariantForms.{forms}
 use Rattle.langtag_unicode.proofs.Apart.{Apart, alphabet-apart}
 
 -- ---- the variants

@@ -24,7 +24,7 @@ use Rattle.langtag_keyword.specs.Form.{is_language_or_none, is_transform}
 use Rattle.langtag_locale.specs.Locale.{is_locale_extension, is_locale_record}
 use Rattle.langtag_locale.specs.LocaleAliases as list
 use Rattle.langtag_registry.specs.Canonical.{singletons}
-use Rattle.langtag_locale.specs.LocaleForm.{extension_at, identifier_form, locale_extension_form, locale_record, locale_text, locale_transform_form, new_variants, record_fields, transform_language_form, variant_form}
+use Rattle.langtag_locale.specs.LocaleForm.{extension_at, forms, identifier_form, locale_extension_form, locale_record, locale_text, locale_transform_form, new_variants, record_fields, transform_language_form, variant_form}
 use Rattle.langtag_unicode.specs.Identifier.{identifier_flat}
 use Rattle.langtag_keyword.proofs.Each.{each-alphabet}
 use Rattle.langtag_unicode.proofs.FormRecords.{Good, good-keywords, good-transform, good-unicode_form, some-transform, some-unicode_form}
@@ -33,26 +33,9 @@ use Rattle.langtag_unicode.proofs.IdentifierParts.{AreSubtags, language_primary,
 use Rattle.langtag_locale.proofs.LocaleExtensions.{locale_form_by, locale_form_tested, transform_allowed}
 use Rattle.langtag_locale.proofs.LocaleTables.{found_good}
 use Rattle.langtag_keyword.proofs.Found.{both, found_has}
-use Rattle.langtag_locale.proofs.VariantForms.{forms}
+use Rattle.langtag_locale.proofs.VariantForms.{forms_good}
 
 -- ---- the variants
-
-pairs_good : list_all {X = TypeAlias} (λ alias. is_variant alias.new) list.variant_pairs ≡ true
-unfolding list.variant_pairs class.is_variant class.is_letter class.is_digit
-pairs_good = refl
-
-aliases_good : list_all {X = Alias} (λ alias. is_variant alias.new) list.variant_aliases ≡ true
-unfolding list.variant_aliases class.is_variant class.is_letter class.is_digit
-aliases_good = refl
-
-variant_good : (language : List ℕ) (variants : List (List ℕ)) (v : List ℕ) → is_variant v ≡ true → AreVariants (one_flat (subtag_of (variant_form language variants v)))
-unfolding variant_form
-variant_good language variants v is = grind (arith, nat_tests, found_good is_variant, aliases_good, found_has, pairs_good)
-
-forms_good : (language : List ℕ) (variants vs : List (List ℕ)) → AreVariants vs → AreVariants (forms language variants vs)
-forms_good language variants [] are = tt
-forms_good language variants (v ∷ vs) are =
-    each-append _ (one_flat (subtag_of (variant_form language variants v))) (forms language variants vs) (variant_good language variants v are.0) (forms_good language variants vs are.1)
 
 pub new_variants_good : (variants : List (List ℕ)) (f : Fields) → AreVariants variants → AreVariants (new_variants variants f)
 new_variants_good variants f are =

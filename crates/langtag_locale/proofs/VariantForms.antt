@@ -1,18 +1,23 @@
 -- The forms of variants: those of which none is left out, in order.
-use Rattle.std.proofs.Common.{◌≡◌, ℕ, Bool, true, false, ◌&&◌, List, [], ◌∷◌, ◌++◌, Option, Some, refl, ap, ◌∙◌}
+use Rattle.std.proofs.Common.{◌≡◌, ℕ, ◌<◌, Bool, true, false, ◌&&◌, List, [], ◌∷◌, ◌++◌, length, Option, Some, refl, ap, ◌∙◌, arith}
 use Rattle.std.proofs.lemmas.Bool.{false≢true}
-use Rattle.std.specs.List.{flat_map}
+use Rattle.std.specs.List.{AllByRecursion, list_all}
+use Rattle.std.proofs.lemmas.Bool.Decides.{nat_tests}
 use Rattle.langtag.specs.Fields.{subtag_of}
 use Rattle.langtag_scan.specs.Case.{fold_text}
 use Rattle.langtag_scan.specs.Record.{one_flat}
 use Rattle.langtag_keyword.specs.Alphabet.{is_after, is_before_best, is_better}
-use Rattle.langtag_locale.specs.LocaleForm.{variant_form}
+use Rattle.langtag_locale.specs.LocaleForm.{forms, variant_form}
+use Rattle.langtag_locale.specs.LocaleAliases as list
+use Rattle.langtag_locale.proofs.LocaleTables.{found_good}
+use Rattle.langtag_unicode.proofs.IdentifierParts.{AreVariants}
+use Rattle.langtag_scan.proofs.SubtagFacts.{IsSubtag, of_variant}
+use Rattle.langtag_scan.proofs.SubtagLists.{each-append}
+use Rattle.langtag_scan.specs.Class as class
+use Rattle.langtag_scan.specs.Class.{is_variant}
+use Rattle.langtag_keyword.specs.Alias.{Alias, TypeAlias}
 use Rattle.langtag_keyword.proofs.AlphabetLaws.{better, better-early, better-late, better-taken, found, found-next}
-use Rattle.langtag_keyword.proofs.Found.{both}
-
--- the forms of some of the variants
-abbrev pub forms : List ℕ → List (List ℕ) → List (List ℕ) → List (List ℕ)
-forms language variants some = flat_map (λ variant. one_flat (subtag_of (variant_form language variants variant))) some
+use Rattle.langtag_keyword.proofs.Found.{both, found_has}
 
 -- a form that is better than the best one
 pub better_found :
@@ -33,3 +38,42 @@ other_passed last best (b ∷ form) ss worse =
     by_after : (t : Bool) → is_after (fold_text (b ∷ form)) last ≡ t → (t && is_before_best (fold_text (b ∷ form)) best) ≡ false → better last (fold_text (b ∷ form)) best ≡ best
     by_after true after late = better-late last best (fold_text (b ∷ form)) late
     by_after false early late = better-early last best (fold_text (b ∷ form)) early
+
+-- ---- they are variants
+
+pairs_good : list_all {X = TypeAlias} (λ alias. is_variant alias.new) list.variant_pairs ≡ true
+unfolding list.variant_pairs class.is_variant class.is_letter class.is_digit
+pairs_good = refl
+
+aliases_good : list_all {X = Alias} (λ alias. is_variant alias.new) list.variant_aliases ≡ true
+unfolding list.variant_aliases class.is_variant class.is_letter class.is_digit
+aliases_good = refl
+
+pub variant_good : (language : List ℕ) (variants : List (List ℕ)) (v : List ℕ) → is_variant v ≡ true → AreVariants (one_flat (subtag_of (variant_form language variants v)))
+unfolding variant_form
+variant_good language variants v is = grind (arith, nat_tests, found_good is_variant, aliases_good, found_has, pairs_good)
+
+pub forms_good : (language : List ℕ) (variants vs : List (List ℕ)) → AreVariants vs → AreVariants (forms language variants vs)
+forms_good language variants [] are = tt
+forms_good language variants (v ∷ vs) are =
+    each-append _ (one_flat (subtag_of (variant_form language variants v))) (forms language variants vs) (variant_good language variants v are.0) (forms_good language variants vs are.1)
+
+variants_fit : (ss : List (List ℕ)) → AreVariants ss → AllByRecursion IsSubtag ss
+variants_fit [] are = tt
+variants_fit (s ∷ ss) are = (of_variant s are.0, variants_fit ss are.1)
+
+pub variant_fits : (language : List ℕ) (variants : List (List ℕ)) (v : List ℕ) → is_variant v ≡ true → AllByRecursion IsSubtag (one_flat (subtag_of (variant_form language variants v)))
+variant_fits language variants v is = variants_fit _ (variant_good language variants v is)
+
+pub forms_fit : (language : List ℕ) (variants vs : List (List ℕ)) → AreVariants vs → AllByRecursion IsSubtag (forms language variants vs)
+forms_fit language variants vs are = variants_fit _ (forms_good language variants vs are)
+
+-- ---- a form that is not empty
+
+pub one-form : (form : List ℕ) → 0 < length form → one_flat (subtag_of form) ≡ form ∷ []
+one-form [] some = absurd (omega (arith, some))
+one-form (b ∷ form) some = refl
+
+pub no-form : (form : List ℕ) → length form ≡ 0 → one_flat (subtag_of form) ≡ []
+no-form [] none = refl
+no-form (b ∷ form) none = absurd (omega (arith, none))

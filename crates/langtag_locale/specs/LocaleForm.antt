@@ -120,9 +120,13 @@ variant_form language variants variant =
     if is_some (type_alias_for variant_languages language variant) || has_variant dropped_variants variant then []
     else unwrap_or (or_else (option_map (λ alias. alias.new) (find (is_pair_of variants variant) variant_pairs)) (alias_for variant_aliases variant)) variant
 
+-- the forms of some of the variants, without those that are left out
+abbrev pub forms : List ℕ → List (List ℕ) → List (List ℕ) → List (List ℕ)
+forms language variants some = flat_map (λ variant. one_flat (subtag_of (variant_form language variants variant))) some
+
 -- the variants in their forms, each once, in lowercase and in alphabetical order
 abbrev pub variants_form : List ℕ → List (List ℕ) → List (List ℕ)
-variants_form language variants = in_alphabet (flat_map (λ variant. one_flat (subtag_of (variant_form language variants variant))) variants)
+variants_form language variants = in_alphabet (forms language variants variants)
 
 -- the variants of the form of a unicode_language_id
 abbrev pub new_variants : List (List ℕ) → Fields → List (List ℕ)

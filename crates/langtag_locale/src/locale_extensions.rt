@@ -13,6 +13,7 @@ ghost use Rattle.langtag_scan.specs.Record as model;
 ghost use Rattle.langtag_scan.specs.Subtags.{segments, segments_left, subtags};
 ghost use Rattle.langtag_locale.specs.Allowed.{AreAllowed, IsAllowed};
 ghost use Rattle.langtag_keyword.specs.Form.{is_language_id, is_transform};
+ghost use Rattle.langtag_unicode.proofs.IdentifierParts.{AreVariants};
 ghost use Rattle.langtag_unicode.specs.Identifier.{first_subtag, identifier_flat};
 ghost use Rattle.langtag_keyword.specs.Keywords.{before_key};
 ghost use Rattle.langtag_locale.specs.LocaleForm as spec;
@@ -133,6 +134,7 @@ fn text_of<'a>(subtag: Option<&'a str>) -> &'a [u8]
 
 /// Appends the form of a language identifier with these fields and variants.
 pub(crate) fn push_identifier(out: &mut Output<'_>, fields: TagFields<'_>, variants: Option<&str>)
+    requires { AreVariants (segments_left variants) }
     ensures same_buffer { out.new.buffer.ghost_name ≡ out.old.buffer.ghost_name }
     ensures pushed { Pushes (identifier_flat (spec.identifier_form (segments_left variants.entry) (field_texts fields.entry))
         (spec.new_variants (segments_left variants.entry) (field_texts fields.entry))) out.old out.new }

@@ -1,25 +1,80 @@
 //! The variants in the form of a Unicode locale identifier (UTS #35, part 1, Annex C).
 ghost use Rattle.std.specs.Prelude.{◌≡◌, find, map};
-ghost use Rattle.std.specs.List.{list_any};
+ghost use Rattle.std.specs.List.{AllByRecursion, list_any};
 ghost use Rattle.std.specs.Option.{option_map};
+ghost use Rattle.langtag.specs.Fields.{subtag_of};
 ghost use Rattle.langtag_output.specs.Output.{Pushes};
+ghost use Rattle.langtag_scan.proofs.SubtagFacts.{IsSubtag};
 ghost use Rattle.langtag_scan.specs.Case.{are_alike, fold_text};
+ghost use Rattle.langtag_scan.specs.Record.{one_flat};
 ghost use Rattle.langtag_scan.specs.Subtags.{segments_left};
 ghost use Rattle.langtag_keyword.specs.Alphabet as order;
+ghost use Rattle.langtag_keyword.specs.Least.{IsOffered, order_number};
+ghost use Rattle.langtag_unicode.proofs.IdentifierParts.{AreVariants};
 ghost use Rattle.langtag_locale.specs.LocaleAliases as list;
 ghost use Rattle.langtag_locale.specs.LocaleForm as spec;
 
 use crate::locale_tables as tables;
 use langtag::case_insensitive_eq;
 use langtag_keyword::{
-    alias_for, is_after, is_among, is_before_best, push_lowercase, split_first, type_alias_for,
+    LeastNumbers, alias_for, are_few, is_after, is_among, is_before_best, order_number,
+    push_lowercase, split_first, type_alias_for,
 };
 use langtag_output::Output;
 
 /// Appends the variants of a language identifier in their forms, each once, in lowercase and in alphabetical order.
-///
-/// Each variant is found by a walk over all variants, so the time is quadratic in the number of variants.
 pub(crate) fn push_variants(out: &mut Output<'_>, language: &[u8], variants: Option<&str>)
+    requires { AreVariants (segments_left variants) }
+    ensures same_buffer { out.new.buffer.ghost_name ≡ out.old.buffer.ghost_name }
+    ensures pushed { Pushes (spec.variants_form language.now (segments_left variants.entry)) out.old out.new }
+{
+    if are_few(variants) {
+        return push_few(out, language, variants);
+    }
+    push_many(out, language, variants);
+}
+
+/// Appends what [`push_variants`] appends. Each walk over the variants finds the next 512 forms, or more.
+// This function is not inlined, so that callers with few variants do not use its stack.
+#[inline(never)]
+fn push_many(out: &mut Output<'_>, language: &[u8], variants: Option<&str>)
+    requires { AreVariants (segments_left variants) }
+    ensures same_buffer { out.new.buffer.ghost_name ≡ out.old.buffer.ghost_name }
+    ensures pushed { Pushes (spec.variants_form language.now (segments_left variants.entry)) out.old out.new }
+{
+    let mut least = LeastNumbers::new();
+    let mut more = true;
+    while more {
+        offer_forms(&mut least, language, variants);
+        more = least.push_to(out);
+    }
+}
+
+/// Offers the numbers of the forms of variants.
+fn offer_forms(least: &mut LeastNumbers, language: &[u8], variants: Option<&str>)
+    requires { AreVariants (segments_left variants) }
+    ensures { IsOffered (map order_number (spec.forms language.now (segments_left variants.entry) (segments_left variants.entry))) least.old least.new }
+{
+    let mut rest = variants;
+    while let Some(text) = rest {
+        let (variant, others) = split_first(text);
+        offer_form(least, variant_form(language, variants, variant));
+        rest = others;
+    }
+}
+
+/// Offers the number of a form, unless the form is empty.
+fn offer_form(least: &mut LeastNumbers, form: &str)
+    requires { AllByRecursion IsSubtag (one_flat (subtag_of form.now)) }
+    ensures { IsOffered (map order_number (one_flat (subtag_of form.now))) least.old least.new }
+{
+    if !form.is_empty() {
+        least.offer(order_number(form.as_bytes()));
+    }
+}
+
+/// Appends what [`push_variants`] appends, in a time proportional to the square of the number of variants.
+fn push_few(out: &mut Output<'_>, language: &[u8], variants: Option<&str>)
     ensures same_buffer { out.new.buffer.ghost_name ≡ out.old.buffer.ghost_name }
     ensures pushed { Pushes (spec.variants_form language.now (segments_left variants.entry)) out.old out.new }
 {

@@ -2,20 +2,64 @@
 
 //! Subtags in lowercase and in alphabetical order, written to an output.
 
+use crate::erased::keyword::least_numbers::{order_number, LeastNumbers};
 use crate::erased::keyword::subtags::split_first;
 use crate::erased::output::Output;
 use crate::erased::scan::{into_smallcase, Subtags};
 
+/// If subtags take at most this many bytes, each is found by a walk over all of them.
+const FEW: usize = 40;
+
 /// Appends subtags in lowercase and in alphabetical order, each once.
-///
-/// Each subtag is found by a walk over all subtags, so the time is quadratic in the number of
-/// subtags.
 #[inline]
 pub(crate) fn push_in_alphabet(out: &mut Output<'_>, rest: Option<&str>) {
+    if are_few(rest) {
+        return push_few(out, rest);
+    }
+    push_many(out, rest);
+}
+
+/// Returns whether subtags take so few bytes that they are put in order one by one.
+#[inline]
+#[must_use]
+pub fn are_few(rest: Option<&str>) -> bool {
+    match rest {
+        Some(text) => text.len() <= FEW,
+        None => true,
+    }
+}
+
+/// Appends what [`push_in_alphabet`] appends, in a time proportional to the square of the number of
+/// subtags.
+#[inline]
+fn push_few(out: &mut Output<'_>, rest: Option<&str>) {
     let mut last = None;
     while let Some(next) = first_after(rest, last) {
         push_lowercase(out, next);
         last = Some(next);
+    }
+}
+
+/// Appends what [`push_in_alphabet`] appends. Each walk over the subtags finds the next 512 of
+/// them, or more.
+// This function is not inlined, so that callers with few subtags do not use its stack.
+#[inline(never)]
+fn push_many(out: &mut Output<'_>, rest: Option<&str>) {
+    let mut least = LeastNumbers::new();
+    let mut more = true;
+    while more {
+        offer_each(&mut least, rest);
+        more = least.push_to(out);
+    }
+}
+
+/// Offers the numbers of subtags.
+fn offer_each(least: &mut LeastNumbers, rest: Option<&str>) {
+    let mut rest = rest;
+    while let Some(text) = rest {
+        let (subtag, others) = split_first(text);
+        least.offer(order_number(subtag.as_bytes()));
+        rest = others;
     }
 }
 

@@ -67,18 +67,42 @@ pub fn take_region<'a>(rest: Option<&'a str>) -> (Option<&'a str>, Option<&'a st
     (None, rest)
 }
 
-/// Returns whether all subtags are variants, and no two of them are equal. Each variant is compared
-/// with the variants after it.
+/// Returns whether all subtags are variants, and no two of them are equal.
+#[inline]
 fn are_variants(rest: Option<&str>) -> bool {
+    match rest {
+        Some(text) => are_all_variants(rest) && are_different(text),
+        None => true,
+    }
+}
+
+/// Returns whether all subtags are variants.
+fn are_all_variants(rest: Option<&str>) -> bool {
     let mut rest = rest;
     while let Some(text) = rest {
-        let (variant, others) = split_first(text);
-        if !is_variant(variant.as_bytes()) || is_among(others, variant.as_bytes()) {
+        let (subtag, others) = split_first(text);
+        if !is_variant(subtag.as_bytes()) {
             return false;
         }
         rest = others;
     }
     true
+}
+
+/// Returns whether no two variants of a text are equal: whether they take as many bytes when each
+/// is written once.
+#[inline]
+fn are_different(text: &str) -> bool {
+    len_in_alphabet(text, &mut []) == text.len()
+}
+
+/// Returns the length of the text of some variants in alphabetical order, each once. It is written
+/// to a buffer if it fits.
+#[inline]
+fn len_in_alphabet(text: &str, buffer: &mut [u8]) -> usize {
+    let mut out = Output::new(buffer);
+    push_in_alphabet(&mut out, Some(text));
+    out.len()
 }
 
 /// Returns whether a variant is among the subtags of a text, ignoring case.

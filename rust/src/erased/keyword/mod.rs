@@ -15,6 +15,7 @@ mod keyword_edit;
 mod keyword_error;
 mod keyword_form;
 mod language_id;
+mod least_numbers;
 mod subtags;
 mod transform_form;
 
@@ -23,12 +24,13 @@ pub use keyword_error::KeywordError;
 
 // For langtag_unicode, langtag_locale and langtag_span.
 pub(crate) use alias::{alias_for, type_alias_for};
-pub(crate) use alphabet::{is_after, is_before_best, push_lowercase};
+pub(crate) use alphabet::{are_few, is_after, is_before_best, push_lowercase};
 pub(crate) use extension_form::{is_of, push_extensions, push_unicode, subtags_of};
 pub(crate) use keyword_check::{invalid_type, is_unicode_key};
 pub(crate) use keyword_edit::{push_edited, KeywordEdit};
 pub(crate) use keyword_form::push_keywords;
 pub(crate) use language_id::{is_among, is_unicode_language, take_region, take_script};
+pub(crate) use least_numbers::{order_number, LeastNumbers};
 pub(crate) use subtags::{
     before_key, is_earlier_subtag, nonempty, preceding, split_first, value_in,
 };

@@ -25,7 +25,8 @@ const SPARE: usize = 32;
 ///
 /// [`write_locale_form`] says what changes, and which tags have no form.
 ///
-/// The time is quadratic in the number of variants, and of attributes.
+/// The time is quadratic in the number of variants and of attributes beyond 512. It needs as much
+/// stack as `is_locale`.
 ///
 /// # Errors
 ///
@@ -94,8 +95,8 @@ fn counted_form_bytes(tag: NormalLangTag<'_>) -> Result<Vec<u8>, AllocError> {
 /// locale identifier, either, as in `x-a`, `i-default` and `und-t-m0`.
 ///
 /// If the buffer is too short, its bytes are not specified, and the length says how long a buffer
-/// must be. It does not allocate. The time is quadratic in the number of variants, and of
-/// attributes. It needs as much stack as `is_locale`.
+/// must be. It does not allocate. The time is quadratic in the number of variants and of attributes
+/// beyond 512. It needs as much stack as `is_locale`.
 ///
 /// ```
 /// # fn main() -> Result<(), Box<dyn std::error::Error>> {

@@ -3,7 +3,8 @@
 //! The variants in the form of a Unicode locale identifier (UTS #35, part 1, Annex C).
 
 use crate::erased::keyword::{
-    alias_for, is_after, is_among, is_before_best, push_lowercase, split_first, type_alias_for,
+    alias_for, are_few, is_after, is_among, is_before_best, order_number, push_lowercase,
+    split_first, type_alias_for, LeastNumbers,
 };
 use crate::erased::locale::locale_tables as tables;
 use crate::erased::output::Output;
@@ -11,11 +12,49 @@ use crate::erased::tag::case_insensitive_eq;
 
 /// Appends the variants of a language identifier in their forms, each once, in lowercase and in
 /// alphabetical order.
-///
-/// Each variant is found by a walk over all variants, so the time is quadratic in the number of
-/// variants.
 #[inline]
 pub(crate) fn push_variants(out: &mut Output<'_>, language: &[u8], variants: Option<&str>) {
+    if are_few(variants) {
+        return push_few(out, language, variants);
+    }
+    push_many(out, language, variants);
+}
+
+/// Appends what [`push_variants`] appends. Each walk over the variants finds the next 512 forms, or
+/// more.
+// This function is not inlined, so that callers with few variants do not use its stack.
+#[inline(never)]
+fn push_many(out: &mut Output<'_>, language: &[u8], variants: Option<&str>) {
+    let mut least = LeastNumbers::new();
+    let mut more = true;
+    while more {
+        offer_forms(&mut least, language, variants);
+        more = least.push_to(out);
+    }
+}
+
+/// Offers the numbers of the forms of variants.
+fn offer_forms(least: &mut LeastNumbers, language: &[u8], variants: Option<&str>) {
+    let mut rest = variants;
+    while let Some(text) = rest {
+        let (variant, others) = split_first(text);
+        offer_form(least, variant_form(language, variants, variant));
+        rest = others;
+    }
+}
+
+/// Offers the number of a form, unless the form is empty.
+#[inline]
+fn offer_form(least: &mut LeastNumbers, form: &str) {
+    if !form.is_empty() {
+        least.offer(order_number(form.as_bytes()));
+    }
+}
+
+/// Appends what [`push_variants`] appends, in a time proportional to the square of the number of
+/// variants.
+#[inline]
+fn push_few(out: &mut Output<'_>, language: &[u8], variants: Option<&str>) {
     let mut last = None;
     while let Some(next) = first_form_after(language, variants, last) {
         push_lowercase(out, next);

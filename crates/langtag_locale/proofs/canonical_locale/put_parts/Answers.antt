@@ -10,7 +10,17 @@ use Rattle.langtag_locale.specs.LocaleForm.{extensions_in_order, identifier_form
 use Rattle.langtag_unicode.specs.Identifier.{identifier_flat}
 use Rattle.langtag_locale.proofs.IdentifierForms.{locale_joined}
 use Rattle.langtag_locale.proofs.SpelledLocales.{spelled_locale}
+use Rattle.langtag_place.specs.Text.{variants_text}
+use Rattle.langtag_scan.proofs.SubtagLists.{each_from_test}
+use Rattle.langtag_scan.specs.Class.{is_variant}
+use Rattle.langtag_scan.specs.Subtags.{subtags}
+use Rattle.langtag_unicode.proofs.IdentifierParts.{AreVariants}
 use Rattle.langtag_locale.proofs.canonical_locale.put_parts.Goals as goal
+
+pub push_identifier-requires : goal.push_identifier-requires
+push_identifier-requires c =
+    subst AreVariants (sym (c.nonempty.ensures.segments ∙ ap subtags c.as_str.ensures.same_text))
+    (each_from_test is_variant (subtags (variants_text c.variants.result)) c.variants.result.in_class)
 
 pub returns : goal.returns
 returns c = λ r spells.

@@ -5,7 +5,8 @@ use Rattle.langtag_scan.specs.Case.{fold_text}
 use Rattle.langtag_scan.specs.Record.{one_flat}
 use Rattle.langtag_scan.specs.Subtags.{segments_left}
 use Rattle.langtag_keyword.proofs.AlphabetLaws.{found}
-use Rattle.langtag_locale.proofs.VariantForms.{better_found, forms, other_passed}
+use Rattle.langtag_locale.proofs.VariantForms.{better_found, other_passed}
+use Rattle.langtag_locale.specs.LocaleForm.{forms}
 use Rattle.langtag_locale.proofs.locale_variants.first_form_after.Goals as goal
 
 pub loop-rest-preserved-then-is_better : goal.loop-rest-preserved-then-is_better

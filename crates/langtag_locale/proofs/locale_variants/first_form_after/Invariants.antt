@@ -3,7 +3,7 @@ use Rattle.std.specs.Option.{option_map}
 use Rattle.langtag_scan.specs.Case.{fold_text}
 use Rattle.langtag_scan.specs.Subtags.{segments_left}
 use Rattle.langtag_keyword.proofs.AlphabetLaws.{found}
-use Rattle.langtag_locale.proofs.VariantForms.{forms}
+use Rattle.langtag_locale.specs.LocaleForm.{forms}
 use Rattle.langtag_locale.proofs.locale_variants.first_form_after.Given as goal
 
 -- what is best so far, and what is left, have the first one

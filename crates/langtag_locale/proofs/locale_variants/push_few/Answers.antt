@@ -3,10 +3,9 @@ use Rattle.langtag_output.proofs.Pushed.{pushes_ended, pushes_next, pushes_same}
 use Rattle.langtag_scan.specs.Case.{fold_text}
 use Rattle.langtag_scan.specs.Subtags.{segments_left}
 use Rattle.langtag_keyword.specs.Alphabet.{first_after}
-use Rattle.langtag_locale.specs.LocaleForm.{variants_form}
+use Rattle.langtag_locale.specs.LocaleForm.{forms, variants_form}
 use Rattle.langtag_keyword.proofs.AlphabetLaws.{after_last, after_last-ended, after_last-next, after_last-none, rise-in_alphabet}
-use Rattle.langtag_locale.proofs.VariantForms.{forms}
-use Rattle.langtag_locale.proofs.locale_variants.push_variants.Goals as goal
+use Rattle.langtag_locale.proofs.locale_variants.push_few.Goals as goal
 
 pub loop-next-init : goal.loop-next-init
 loop-next-init c = record {

@@ -6,7 +6,7 @@ use Rattle.langtag_output.specs.declared.output.Output.{Output}
 use Rattle.langtag_output.specs.Output.{Pushes}
 use Rattle.langtag_locale.specs.LocaleForm.{variants_form}
 use Rattle.langtag_keyword.proofs.AlphabetLaws.{after_last}
-use Rattle.langtag_locale.proofs.locale_variants.push_variants.Given as goal
+use Rattle.langtag_locale.proofs.locale_variants.push_few.Given as goal
 
 -- those after the last one are put after those before them
 abbrev pub invariant-loop-next : goal.invariant-loop-next

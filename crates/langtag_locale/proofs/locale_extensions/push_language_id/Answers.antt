@@ -1,0 +1,15 @@
+use Rattle.std.proofs.Common.{◌≡◌, sym, ap, subst, ◌∙◌}
+use Rattle.langtag_scan.specs.Class.{is_region, is_script}
+use Rattle.langtag_scan.specs.Subtags.{segments_left}
+use Rattle.langtag_keyword.specs.Form.{after_one, are_different_variants, is_language_id, is_unicode_language}
+use Rattle.langtag_keyword.proofs.Found.{both}
+use Rattle.langtag_unicode.proofs.IdentifierParts.{AreVariants, different_variants}
+use Rattle.langtag_locale.proofs.locale_extensions.push_language_id.Goals as goal
+
+pub push_identifier-requires : goal.push_identifier-requires
+push_identifier-requires c =
+    let s = c.split_first.result.0.now in
+    let vs = after_one is_region (after_one is_script (segments_left c.split_first.result.1)) in
+    let rest : segments_left c.take_region.result.1 ≡ vs = c.take_region.ensures.others ∙ ap (after_one is_region) c.take_script.ensures.others in
+    let parts = both (is_unicode_language s) (are_different_variants vs) (ap is_language_id (sym c.split_first.ensures) ∙ c.requires) in
+    subst AreVariants (sym rest) (different_variants vs parts.1)
