@@ -1,9 +1,8 @@
 -- Numbers that rise, and the least of numbers in any order.
-use Rattle.std.proofs.Common.{◌≡◌, ℕ, zero, suc, ◌+◌, ◌<◌, ◌≤◌, Bool, true, false, cond, ◌==◌, ◌&&◌, ◌||◌, List, [], ◌∷◌, ◌++◌, length, get_or, take, refl, sym, ap, subst, ◌∙◌, arith}
+use Rattle.std.proofs.Common.{◌≡◌, ℕ, zero, suc, ◌<◌, ◌≤◌, Bool, true, false, cond, ◌==◌, ◌&&◌, ◌||◌, List, [], ◌∷◌, ◌++◌, length, get_or, take, refl, sym, ap, subst, ◌∙◌, arith}
 use Rattle.std.proofs.Math.Dec.{leb, ltb}
-use Rattle.std.specs.List.{filter, list_any}
+use Rattle.std.specs.List.{filter}
 use Rattle.std.specs.List.Sorted.{IsNonDecreasing}
-use Rattle.std.proofs.lemmas.Bool.{false≢true}
 use Rattle.std.proofs.lemmas.Bool.Decides.{nat_tests}
 use Rattle.std.proofs.lemmas.List.Folds.{list_any_at, list_any-append}
 use Rattle.langtag_keyword.specs.Least.{HoldsLeast, IsOffered, Least, RisesFrom, has, is_within, rising_after}

@@ -1,5 +1,5 @@
 -- Variants of which no two are equal take as many bytes when each is written once.
-use Rattle.std.proofs.Common.{◌≡◌, ℕ, ◌+◌, ◌-◌, ◌<◌, ◌≤◌, Bool, true, false, not, cond, ◌==◌, ◌&&◌, ◌||◌, List, [], ◌∷◌, length, fold, min, IsTrue, refl, sym, ap, ◌∙◌, arith}
+use Rattle.std.proofs.Common.{◌≡◌, ℕ, ◌+◌, ◌-◌, ◌<◌, ◌≤◌, Bool, true, false, not, cond, ◌==◌, ◌&&◌, ◌||◌, List, [], ◌∷◌, length, fold, min, refl, sym, ap, ◌∙◌, arith}
 use Rattle.std.specs.List.{AllByRecursion, list_all, list_any}
 use Rattle.std.proofs.lemmas.Bool.{and_parts}
 use Rattle.std.proofs.lemmas.List.Splits.{join_with_byte-slice_split, length-slice_split}
@@ -9,7 +9,6 @@ use Rattle.langtag_output.proofs.WithSubtag.{with_subtag-none}
 use Rattle.langtag_output.specs.Output.{with_subtag}
 use Rattle.langtag_scan.proofs.CaseLaw.{fold_text-twice}
 use Rattle.langtag_scan.proofs.SubtagFacts.{IsSubtag, of_variant}
-use Rattle.langtag_scan.proofs.SubtagLists.{each_subtag}
 use Rattle.langtag_scan.specs.Case.{are_alike, fold_text}
 use Rattle.langtag_scan.specs.CaseLaws.{are_alike-decides}
 use Rattle.langtag_scan.specs.Class.{is_variant}
@@ -19,7 +18,7 @@ use Rattle.langtag_keyword.specs.Keys.{length_with_hyphens}
 use Rattle.langtag_keyword.proofs.AlphabetLaws.{Rise, before-tie, rise-in_alphabet}
 use Rattle.langtag_keyword.proofs.AlphabetTwice.{AreLower, lower-in_alphabet}
 use Rattle.langtag_keyword.proofs.LeastTexts.{HasNumber, each-number}
-use Rattle.langtag_keyword.proofs.RisingTexts.{among, among-alphabet, among-first, before-apart, not-among, under-each}
+use Rattle.langtag_keyword.proofs.RisingTexts.{among, among-alphabet, before-apart, not-among, under-each}
 use Rattle.langtag_keyword.proofs.SubtagTexts.{length-more}
 
 -- ---- the length of a text
@@ -150,12 +149,12 @@ different_by [] text n all is fits counted = absurd (omega (arith, ap length is,
 different_by (s ∷ ss) text n all is fits counted =
     let weighed = weighs (s ∷ ss) all in
     let written : length (fold with_subtag [] (in_alphabet (s ∷ ss))) + 1 ≡ length_with_hyphens (in_alphabet (s ∷ ss)) =
-        in_order-length (in_alphabet (s ∷ ss)) (put-some (fold_text s) (in_alphabet ss)) (each-number (s ∷ ss) (each_variant (s ∷ ss) all)) in
+    in_order-length (in_alphabet (s ∷ ss)) (put-some (fold_text s) (in_alphabet ss)) (each-number (s ∷ ss) (each_variant (s ∷ ss) all)) in
     let whole : length (join (s ∷ ss)) ≡ length text = ap (λ xs. length (join xs)) (sym is) ∙ ap length (join_with_byte-slice_split 45 text) in
     let more : length s + 1 + length_with_hyphens ss ≡ length text + 1 = omega (arith, length-more s ss, whole) in
     let counts : n ≡ length_with_hyphens (in_alphabet (s ∷ ss)) - 1 = omega (arith, written, more, weighed.less, counted, fits) in
     let same : (n == length text) ≡ (length_with_hyphens (in_alphabet (s ∷ ss)) == length s + 1 + length_with_hyphens ss) =
-        tests_same n (length text) (length_with_hyphens (in_alphabet (s ∷ ss))) (length s + 1 + length_with_hyphens ss) counts more (omega (arith, written)) in
+    tests_same n (length text) (length_with_hyphens (in_alphabet (s ∷ ss))) (length s + 1 + length_with_hyphens ss) counts more (omega (arith, written)) in
     same ∙ weighed.tells
   where
     tests_same : (n m a b : ℕ) → n ≡ a - 1 → b ≡ m + 1 → 1 ≤ a → (n == m) ≡ (a == b)

@@ -19,19 +19,16 @@ use Rattle.langtag_scan.specs.Record.{Extension, IsWellFormed, IsWellFormedExten
 use Rattle.langtag_scan.specs.Stage.{Classes}
 use Rattle.langtag_scan.specs.Tag.{IsNormal, IsTag}
 use Rattle.langtag_tables.proofs.Letters.{primary_length}
-use Rattle.langtag_keyword.specs.Alias.{Alias, TypeAlias}
 use Rattle.langtag_keyword.specs.Form.{is_language_or_none, is_transform}
 use Rattle.langtag_locale.specs.Locale.{is_locale_extension, is_locale_record}
-use Rattle.langtag_locale.specs.LocaleAliases as list
 use Rattle.langtag_registry.specs.Canonical.{singletons}
-use Rattle.langtag_locale.specs.LocaleForm.{extension_at, forms, identifier_form, locale_extension_form, locale_record, locale_text, locale_transform_form, new_variants, record_fields, transform_language_form, variant_form}
+use Rattle.langtag_locale.specs.LocaleForm.{extension_at, forms, identifier_form, locale_extension_form, locale_record, locale_text, locale_transform_form, new_variants, record_fields, transform_language_form}
 use Rattle.langtag_unicode.specs.Identifier.{identifier_flat}
 use Rattle.langtag_keyword.proofs.Each.{each-alphabet}
 use Rattle.langtag_unicode.proofs.FormRecords.{Good, good-keywords, good-transform, good-unicode_form, some-transform, some-unicode_form}
 use Rattle.langtag_locale.proofs.IdentifierForms.{form_subtags, record_subtags}
 use Rattle.langtag_unicode.proofs.IdentifierParts.{AreSubtags, language_primary, fields_good, AreVariants, different_variants}
 use Rattle.langtag_locale.proofs.LocaleExtensions.{locale_form_by, locale_form_tested, transform_allowed}
-use Rattle.langtag_locale.proofs.LocaleTables.{found_good}
 use Rattle.langtag_keyword.proofs.Found.{both, found_has}
 use Rattle.langtag_locale.proofs.VariantForms.{forms_good}
 

@@ -20,19 +20,19 @@ loop-byte-preserved c =
     let inside : k < length items = omega (arith, c.loop-byte-test.true, ap length c.to_be_bytes-byte-items.ensures) in
     elim c.if-byte-gt0.branch [
       | then-byte-gt0 w ↦ record {
-          same_buffer = ap (λ o. o.buffer.ghost_name) w.out-is ∙ w.push.ensures.same_buffer ∙ c.loop-byte.invariant.same_buffer;
-          so_far = λ first text has.
-              subst (λ o. HasText first o (with_subtag text [] ++ filter (λ b. not (b == 0)) (take (k + 1) items))) (sym w.out-is)
-              (subst (HasText first w.push.new.self) (digit_put (with_subtag text []) items k inside w.if-byte-gt0.true)
-              (w.push.ensures.appended first _ (c.loop-byte.invariant.so_far first text has)));
-        }
+        same_buffer = ap (λ o. o.buffer.ghost_name) w.out-is ∙ w.push.ensures.same_buffer ∙ c.loop-byte.invariant.same_buffer;
+        so_far = λ first text has.
+            subst (λ o. HasText first o (with_subtag text [] ++ filter (λ b. not (b == 0)) (take (k + 1) items))) (sym w.out-is)
+            (subst (HasText first w.push.new.self) (digit_put (with_subtag text []) items k inside w.if-byte-gt0.true)
+            (w.push.ensures.appended first _ (c.loop-byte.invariant.so_far first text has)));
+      }
       | else-byte-gt0 w ↦ record {
-          same_buffer = ap (λ o. o.buffer.ghost_name) w.out-is ∙ c.loop-byte.invariant.same_buffer;
-          so_far = λ first text has.
-              subst (λ o. HasText first o (with_subtag text [] ++ filter (λ b. not (b == 0)) (take (k + 1) items))) (sym w.out-is)
-              (subst (HasText first c.loop-byte.out) (zero_passed (with_subtag text []) items k inside w.if-byte-gt0.false)
-              (c.loop-byte.invariant.so_far first text has));
-        }
+        same_buffer = ap (λ o. o.buffer.ghost_name) w.out-is ∙ c.loop-byte.invariant.same_buffer;
+        so_far = λ first text has.
+            subst (λ o. HasText first o (with_subtag text [] ++ filter (λ b. not (b == 0)) (take (k + 1) items))) (sym w.out-is)
+            (subst (HasText first c.loop-byte.out) (zero_passed (with_subtag text []) items k inside w.if-byte-gt0.false)
+            (c.loop-byte.invariant.so_far first text has));
+      }
     ]
 
 pub returns-clause-pushed : goal.returns-clause-pushed

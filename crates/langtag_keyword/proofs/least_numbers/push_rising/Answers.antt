@@ -12,18 +12,18 @@ loop-number-preserved c =
     let k = c.loop-number.number-index in
     elim c.if-number-last.branch [
       | then-number-last w ↦ record {
-          same_buffer = ap (λ o. o.buffer.ghost_name) w.out-is ∙ w.push_number.ensures.same_buffer ∙ c.loop-number.invariant.same_buffer;
-          so_far = λ new these.
-              c.loop-number.invariant.so_far new
-              (risen ns k c.loop-number.last c.if-number-last.last c.loop-number.out w.push_number.new.out c.if-number-last.out new c.loop-number-test.true w.if-number-last.true w.last-is w.out-is
-              w.push_number.ensures.pushed these);
-        }
+        same_buffer = ap (λ o. o.buffer.ghost_name) w.out-is ∙ w.push_number.ensures.same_buffer ∙ c.loop-number.invariant.same_buffer;
+        so_far = λ new these.
+            c.loop-number.invariant.so_far new
+            (risen ns k c.loop-number.last c.if-number-last.last c.loop-number.out w.push_number.new.out c.if-number-last.out new c.loop-number-test.true w.if-number-last.true w.last-is w.out-is
+            w.push_number.ensures.pushed these);
+      }
       | else-number-last w ↦ record {
-          same_buffer = ap (λ o. o.buffer.ghost_name) w.out-is ∙ c.loop-number.invariant.same_buffer;
-          so_far = λ new these.
-              c.loop-number.invariant.so_far new
-              (passed ns k c.loop-number.last c.if-number-last.last c.loop-number.out c.if-number-last.out new c.loop-number-test.true w.if-number-last.false w.last-is w.out-is these);
-        }
+        same_buffer = ap (λ o. o.buffer.ghost_name) w.out-is ∙ c.loop-number.invariant.same_buffer;
+        so_far = λ new these.
+            c.loop-number.invariant.so_far new
+            (passed ns k c.loop-number.last c.if-number-last.last c.loop-number.out c.if-number-last.out new c.loop-number-test.true w.if-number-last.false w.last-is w.out-is these);
+      }
     ]
 
 pub returns-clause-pushed : goal.returns-clause-pushed

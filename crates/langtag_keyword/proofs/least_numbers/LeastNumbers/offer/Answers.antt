@@ -15,7 +15,7 @@ returns-then-self-eq-ROOM c =
     let full = c.if-self-eq-ROOM.true in
     let same_length = length-set old.numbers old.count c.args.number in
     let whole : all ≡ take old.count old.numbers ++ c.args.number ∷ [] =
-        sym (take_all 1024 all (omega (arith, room, same_length))) ∙ take-set_at old.numbers old.count 1024 c.args.number (omega (arith, full)) (omega (arith, room, full)) in
+    sym (take_all 1024 all (omega (arith, room, same_length))) ∙ take-set_at old.numbers old.count 1024 c.args.number (omega (arith, full)) (omega (arith, room, full)) in
     subst (λ least. IsOffered (c.args.number ∷ []) least (record { last = old.last; limit = get_or ns 511 0; kept = take 512 ns })) c.self.view_is
     (thinned old.last old.limit c.args.number (take old.count old.numbers) ns c.if-number-self.false c.if-number-self-2.false
     (sorted ns (IsNonDecreasingBy-from_sort (λ x. x) ns c.sort_unstable.ensures.sorted))

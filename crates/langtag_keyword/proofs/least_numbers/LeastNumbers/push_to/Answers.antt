@@ -20,9 +20,9 @@ returns-clause-pushed c =
     subst (λ least. (all : List ℕ) → RisesFrom 0 all → HoldsLeast least all → Pushes (map number_text (filter (is_within least.last least.limit) all)) c.args.out.now c.push_rising.new.out)
     c.self.view_is
     (λ all rise holds.
-        pushes_same _ (map number_text (filter (is_within old.last old.limit) all)) c.args.out.now c.push_rising.new.out
-        (ap (λ ms. map number_text (rising_after old.last ms)) (take_at ns _ old.count (omega (arith, long, taken, room, short)))
-        ∙ ap (map number_text)
-        (kept-within (the_view old) all ns rise holds (sorted ns (IsNonDecreasingBy-from_sort (λ x. x) ns c.sort_unstable.ensures.sorted))
-        (λ n. sym (list_any-IsPermutation (λ m. m == n) (take old.count old.numbers) ns c.sort_unstable.ensures.permutation))))
-        c.push_rising.ensures.pushed)
+    pushes_same _ (map number_text (filter (is_within old.last old.limit) all)) c.args.out.now c.push_rising.new.out
+    (ap (λ ms. map number_text (rising_after old.last ms)) (take_at ns _ old.count (omega (arith, long, taken, room, short)))
+    ∙ ap (map number_text)
+    (kept-within (the_view old) all ns rise holds (sorted ns (IsNonDecreasingBy-from_sort (λ x. x) ns c.sort_unstable.ensures.sorted))
+    (λ n. sym (list_any-IsPermutation (λ m. m == n) (take old.count old.numbers) ns c.sort_unstable.ensures.permutation))))
+    c.push_rising.ensures.pushed)
