@@ -11,19 +11,28 @@ GROWING = {
 DERIVED = {
     "AcceptLanguage": "Clone, PartialEq, Eq, Hash",
     "AcceptLanguageError": "Clone, PartialEq, Eq, Hash",
+    "AttributesIter": "Clone",
     "BestMatch": "PartialEq, Eq, Hash",
     "EditError": "Hash",
     "ElementPart": "Clone, Copy, PartialEq, Eq, Hash",
     "Ends": "Hash",
+    "ExtensionIter": "Clone",
+    "ExtensionTexts": "Clone",
+    "ExtensionsIter": "Clone",
     "InRecommendedCase": "PartialEq, Eq, Hash",
     "KeyValue": "PartialEq, Eq, Hash",
     "KeywordError": "Hash",
+    "KeywordsIter": "Clone",
+    "LanguageExtensionIter": "Clone",
     "PosixError": "Clone, PartialEq, Eq, Hash",
+    "PrivateUseIter": "Clone",
     "Refusal": "Hash",
     "RefusalKind": "Hash",
     "SetKeywordError": "Hash",
+    "Subtags": "Clone",
     "Transformation": "PartialEq, Eq, Hash",
     "TypedLangTag": "Hash",
+    "VariantsIter": "Clone",
     "WantedRange": "PartialEq, Eq, Hash",
     "WantedRanges": "Clone",
     "WeightedRange": "Hash",
@@ -66,16 +75,20 @@ def add_attributes(code, source):
         place += 1
     place = 0
     while place < len(code):
-        if code[place] == "pub" and code[place + 1] in ("struct", "enum"):
-            place = add_to_type(code, place)
+        if code[place] == "pub" and code[keyword := after_visibility(code, place)] in ("struct", "enum"):
+            place = add_to_type(code, place, code[keyword + 1])
         elif code[place] == "fn" and source.stem in CONST_IN and code[place + 1] in CONST and can_be_const(code, place):
             place = code.replace(place, place + 1, "const fn")
         place += 1
 
 
-def add_to_type(code, place):
-    """Adds attributes before a public type, and returns its new place."""
-    name = code[place + 2]
+def after_visibility(code, place):
+    """Returns the place after `pub` or `pub(crate)`."""
+    return code.after(place + 1) if code[place + 1] == "(" else place + 1
+
+
+def add_to_type(code, place, name):
+    """Adds attributes before a type, and returns its new place."""
     new = f"#[derive({DERIVED[name]})]\n" if name in DERIVED else ""
     new += "#[non_exhaustive]\n" if name in GROWING else ""
     return code.replace(place, place, new) if new else place

@@ -27,13 +27,7 @@ def erase_allocators(code):
 
 
 def erase_clones(code):
-    """Changes `Clone` of an iterator, which only copies and so cannot fail."""
+    """Removes `Clone` of an iterator, which copies each field, and derives it (attributes.py)."""
     place = 0
-    while (place := code.find("impl", place)) >= 0:
-        body = code.next_of(("{",), place)
-        if code.find("Clone for", place, body) >= 0:
-            code.rewrite_once("Result<Self, AllocError>", "Self", body)
-            code.rewrite_once("Ok($value)", "$value", body)
-            while (call := code.find(".clone()?", body, code.after(body))) >= 0:
-                code.replace(call + 4, call + 5, "")
-        place = body
+    while (place := code.find("impl Clone for", place)) >= 0:
+        code.drop(place, code.after(code.next_of(("{",), place)))

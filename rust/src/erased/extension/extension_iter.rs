@@ -21,7 +21,7 @@ use crate::erased::scan::Subtags;
 /// ```
 ///
 /// [RFC 5646 section 2.2.6]: https://www.rfc-editor.org/rfc/rfc5646#section-2.2.6
-#[derive(Debug)]
+#[derive(Debug, Clone)]
 pub struct ExtensionIter<'a> {
     rest: Subtags<'a>,
 }
@@ -63,14 +63,6 @@ impl Default for ExtensionIter<'_> {
     #[inline]
     fn default() -> Self {
         ExtensionIter::empty()
-    }
-}
-
-impl Clone for ExtensionIter<'_> {
-    #[inline]
-    fn clone(&self) -> Self {
-        let rest = self.rest.clone();
-        ExtensionIter { rest }
     }
 }
 

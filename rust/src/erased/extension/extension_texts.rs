@@ -6,7 +6,7 @@ use crate::erased::scan::segment_end;
 
 /// An iterator over the texts of extensions. The whole text is split before each subtag of one
 /// byte.
-#[derive(Debug)]
+#[derive(Debug, Clone)]
 pub(crate) struct ExtensionTexts<'a> {
     rest: Option<&'a str>,
 }
@@ -19,13 +19,6 @@ impl<'a> ExtensionTexts<'a> {
             return ExtensionTexts { rest: None };
         }
         ExtensionTexts { rest: Some(text) }
-    }
-}
-
-impl Clone for ExtensionTexts<'_> {
-    #[inline]
-    fn clone(&self) -> Self {
-        ExtensionTexts { rest: self.rest }
     }
 }
 

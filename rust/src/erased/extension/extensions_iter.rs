@@ -21,7 +21,7 @@ use crate::erased::extension::extension_texts::ExtensionTexts;
 /// ```
 ///
 /// [RFC 5646 section 2.2.6]: https://www.rfc-editor.org/rfc/rfc5646#section-2.2.6
-#[derive(Debug)]
+#[derive(Debug, Clone)]
 pub struct ExtensionsIter<'a> {
     rest: ExtensionTexts<'a>,
 }
@@ -33,14 +33,6 @@ impl<'a> ExtensionsIter<'a> {
         ExtensionsIter {
             rest: ExtensionTexts::new(text),
         }
-    }
-}
-
-impl Clone for ExtensionsIter<'_> {
-    #[inline]
-    fn clone(&self) -> Self {
-        let rest = self.rest.clone();
-        ExtensionsIter { rest }
     }
 }
 

@@ -20,7 +20,7 @@ use crate::erased::scan::Subtags;
 /// ```
 ///
 /// [RFC 5646 section 2.2.2]: https://www.rfc-editor.org/rfc/rfc5646#section-2.2.2
-#[derive(Debug)]
+#[derive(Debug, Clone)]
 pub struct LanguageExtensionIter<'a> {
     rest: Subtags<'a>,
 }
@@ -54,14 +54,6 @@ impl Default for LanguageExtensionIter<'_> {
     #[inline]
     fn default() -> Self {
         LanguageExtensionIter::empty()
-    }
-}
-
-impl Clone for LanguageExtensionIter<'_> {
-    #[inline]
-    fn clone(&self) -> Self {
-        let rest = self.rest.clone();
-        LanguageExtensionIter { rest }
     }
 }
 

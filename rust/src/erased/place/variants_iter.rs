@@ -22,7 +22,7 @@ use crate::erased::scan::Subtags;
 /// ```
 ///
 /// [RFC 5646 section 2.2.5]: https://www.rfc-editor.org/rfc/rfc5646#section-2.2.5
-#[derive(Debug)]
+#[derive(Debug, Clone)]
 pub struct VariantsIter<'a> {
     rest: Subtags<'a>,
 }
@@ -54,14 +54,6 @@ impl Default for VariantsIter<'_> {
     #[inline]
     fn default() -> Self {
         VariantsIter::empty()
-    }
-}
-
-impl Clone for VariantsIter<'_> {
-    #[inline]
-    fn clone(&self) -> Self {
-        let rest = self.rest.clone();
-        VariantsIter { rest }
     }
 }
 

@@ -20,7 +20,7 @@ use crate::erased::scan::Subtags;
 /// ```
 ///
 /// [RFC 5646 section 2.2.7]: https://www.rfc-editor.org/rfc/rfc5646#section-2.2.7
-#[derive(Debug)]
+#[derive(Debug, Clone)]
 pub struct PrivateUseIter<'a> {
     rest: Subtags<'a>,
 }
@@ -63,14 +63,6 @@ impl Default for PrivateUseIter<'_> {
     #[inline]
     fn default() -> Self {
         PrivateUseIter::empty()
-    }
-}
-
-impl Clone for PrivateUseIter<'_> {
-    #[inline]
-    fn clone(&self) -> Self {
-        let rest = self.rest.clone();
-        PrivateUseIter { rest }
     }
 }
 

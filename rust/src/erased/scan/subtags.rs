@@ -21,7 +21,7 @@ use crate::erased::scan::segment::{segment_end, segment_start};
 /// # Ok(())
 /// # }
 /// ```
-#[derive(Debug)]
+#[derive(Debug, Clone)]
 pub struct Subtags<'a> {
     rest: Option<&'a str>,
 }
@@ -57,13 +57,6 @@ impl<'a> Subtags<'a> {
     #[must_use]
     pub fn empty() -> Self {
         Subtags { rest: None }
-    }
-}
-
-impl Clone for Subtags<'_> {
-    #[inline]
-    fn clone(&self) -> Self {
-        Subtags { rest: self.rest }
     }
 }
 

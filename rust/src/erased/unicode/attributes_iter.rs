@@ -17,7 +17,7 @@ use crate::erased::tag::Subtags;
 /// # Ok(())
 /// # }
 /// ```
-#[derive(Debug)]
+#[derive(Debug, Clone)]
 pub struct AttributesIter<'a> {
     text: &'a str,
     passed: usize,
@@ -32,18 +32,6 @@ impl<'a> AttributesIter<'a> {
             text,
             passed: 0,
             rest: Subtags::new(text),
-        }
-    }
-}
-
-impl Clone for AttributesIter<'_> {
-    #[inline]
-    fn clone(&self) -> Self {
-        let rest = self.rest.clone();
-        AttributesIter {
-            text: self.text,
-            passed: self.passed,
-            rest,
         }
     }
 }

@@ -19,7 +19,7 @@ use crate::erased::unicode::unicode_extension::KeyValue;
 /// # Ok(())
 /// # }
 /// ```
-#[derive(Debug)]
+#[derive(Debug, Clone)]
 pub struct KeywordsIter<'a> {
     text: &'a str,
     keys: Keys,
@@ -43,18 +43,6 @@ impl<'a> KeywordsIter<'a> {
     #[inline]
     fn is_new_key(&self, subtag: &str) -> bool {
         self.keys.has(subtag.as_bytes()) && !is_earlier_subtag(self.text, self.passed, subtag)
-    }
-}
-
-impl Clone for KeywordsIter<'_> {
-    #[inline]
-    fn clone(&self) -> Self {
-        KeywordsIter {
-            text: self.text,
-            keys: self.keys,
-            passed: self.passed,
-            rest: self.rest,
-        }
     }
 }
 
