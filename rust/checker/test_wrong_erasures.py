@@ -14,7 +14,7 @@ sys.path.insert(0, str(HERE))
 
 WRONG = {
     "a literal is another": ("erased/scan/class.rs", "bytes.len() == 4", "bytes.len() == 5"),
-    "an operator is turned": ("erased/scan/viable.rs", "source.reach() - 1", "source.reach() + 1"),
+    "an operator is turned": ("erased/scan/metered.rs", "self.reach = index + 1", "self.reach = index - 1"),
     "a comparison is turned": ("erased/tag/normal_lang_tag.rs", "if before == end {", "if before != end {"),
     "a condition is lost": ("erased/place/script.rs", "if !is_script(text.as_bytes()) {\n            return Err(InvalidScript(text));\n        }\n", ""),
     "a clause swallows the body": ("erased/tag/kind.rs", "matches!(self, Kind::Normal)", ""),
