@@ -1,5 +1,5 @@
 -- Tags that are far from a range, as their first letters and the numbers of languages show, and that look-up does not find.
-use Rattle.std.proofs.Common.{◌≡◌, ℕ, Bool, true, false, ◌||◌, not, ◌==◌, List, [], ◌∷◌, length, inl, inr, refl, sym, ap, ◌∙◌, arith, ◌&&◌, ◌<◌, ◌≤◌, ◌+◌, ◌-◌, ◌*◌, cond, get_or, length-take, take, drop, Option, Some, None, option_map, codes, lit≤}
+use Rattle.std.proofs.Common.{◌≡◌, ℕ, Bool, true, false, ◌||◌, not, ◌==◌, List, [], ◌∷◌, length, inl, inr, refl, sym, ap, subst, ◌∙◌, arith, ◌&&◌, ◌<◌, ◌≤◌, ◌+◌, ◌-◌, ◌*◌, cond, get_or, length-take, take, drop, Option, Some, None, option_map, codes, lit≤}
 use Rattle.std.proofs.lemmas.Bool.Decides.{eqb_tells, nat_tests}
 use Rattle.std.proofs.lemmas.Bool.{and_parts, both_ways, eq-eqb, false_from_ne_true, not_from_true, or_cases, and_from, or_parts, not-true}
 use Rattle.std.proofs.lemmas.Grind.{common_steps}
@@ -26,9 +26,9 @@ use Rattle.langtag_likely.proofs.CommonTexts.{some_length}
 use Rattle.langtag_likely.proofs.CompletedForms.{completed_language}
 use Rattle.langtag.proofs.Alike.{alike_length}
 use Rattle.langtag_likely.proofs.TextParts.{all_fields, next_part, no_fields}
-use Rattle.langtag_choice.specs.Distance.{distance_of_forms, distance_of_texts}
+use Rattle.langtag_choice.specs.Distance.{distance_of_forms, distance_of_texts, language_distance}
 use Rattle.langtag_choice.specs.FirstLetters.{HasNoExtended, IsLanguageOf, IsShort, first_two}
-use Rattle.langtag_choice.specs.NearLanguages.{AreFar, HasNumber, form_number, is_among_numbers}
+use Rattle.langtag_choice.specs.NearLanguages.{AreFar, HasNumber, HaveOneLanguage, form_number, is_among_numbers}
 use Rattle.langtag_choice.specs.Nearness.{kept}
 use Rattle.langtag_choice.specs.declared.matching_tables.TheConstants.{SHORT_ALIAS_KEYS}
 use Rattle.langtag_choice.proofs.AlikeDistances.{matching_form-alike}
@@ -201,6 +201,17 @@ far_by_numbers own other range tag far desired supported = by_forms (matching_fo
     by_forms None t r_is t_is desired = absurd cc
     by_forms (Some d) None r_is t_is desired = rw (form_alone range tag d r_is t_is) (lit≤ tt)
     by_forms (Some d) (Some s) r_is t_is desired = let is = far d s (number_had own d desired) (supported s t_is) in omega (arith, is)
+
+-- languages with one number are equal
+pub one_language : (own other : ℕ) (r t : Option Fields) → form_number r ≡ Some own → ForSome t (HasNumber other) → own ≡ other → HaveOneLanguage r t
+one_language own other r t own_is other_is same d s d_is s_is =
+    let has = number_had own d (subst (λ o. form_number o ≡ Some own) d_is own_is) in
+    let its = other_is s s_is in
+    sym (letter_number-tells d.language s.language has.0 its.0) ∙ eq-eqb (letter_number s.language) (letter_number d.language) (its.1 ∙ sym same ∙ sym has.1)
+
+pub none_between : (d s : Fields) → are_alike d.language s.language ≡ true → 0 ≡ language_distance d s
+unfolding language_distance
+none_between d s alike = rw alike refl
 
 -- ---- what look-up keeps
 

@@ -29,6 +29,13 @@ pub settled :
 unfolding rank
 settled c place element index tag serves before = grind (arith, common_steps, or_cases, ltb-true, and_parts, eqb-true, nat_tests, ltb-false, eqb_tells)
 
+-- what was found for the same range, serves it no worse and is nearer
+pub settled_nearer :
+    (c : Candidate) (place : ℕ) (element : Element) (index : ℕ) (tag : List ℕ) → service_number c.rank.service ≤ service (reach element.range tag) →
+    c.rank.distance < reach element.range tag → ((c.rank.lack == (1000 - element.weight)) && (c.rank.place == place)) ≡ true → IsAtMost (rank_of c) (rank place element index tag)
+unfolding rank
+settled_nearer c place element index tag serves nearer same = grind (arith, common_steps, ltb-true, and_parts, eqb-true, nat_tests, ltb-false, eqb_tells)
+
 -- a tag that is far, and that look-up does not find, does not serve
 pub cannot_serve : (element : Element) (tag : List ℕ) → 50 ≤ distance_of_texts element.range tag → kept element.range tag ≡ 0 → serves element tag ≡ false
 unfolding serves reach

@@ -5,6 +5,7 @@ use Rattle.langtag.specs.Fields.{Fields}
 use Rattle.langtag_choice.specs.Distance.{language_distance}
 use Rattle.langtag_choice.specs.MatchingData.{language_rules}
 use Rattle.langtag_choice.specs.Pairs.{language_pair}
+use Rattle.langtag_scan.specs.Case.{are_alike}
 use Rattle.langtag_scan.specs.Class.{are_letters}
 use Rattle.langtag_tables.specs.Numbers.{letter_number}
 
@@ -27,6 +28,10 @@ HasNumber number fields = (are_letters fields.language ≡ true) × (letter_numb
 abbrev pub form_number : Option Fields → Option ℕ
 form_number None = None
 form_number (Some fields) = if are_letters fields.language then Some (letter_number fields.language) else None
+
+-- the languages of two forms, if there are two, are equal
+abbrev pub HaveOneLanguage : Option Fields → Option Fields → Type 0
+HaveOneLanguage a b = (d s : Fields) → a ≡ Some d → b ≡ Some s → are_alike d.language s.language ≡ true
 
 -- two languages, given by their numbers, differ, and there is no rule for them
 abbrev pub AreFar : ℕ → ℕ → Type 0

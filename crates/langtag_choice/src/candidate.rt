@@ -72,6 +72,13 @@ impl Rank {
     {
         self.lack < lack || (self.lack == lack && self.place < place)
     }
+
+    /// Returns whether the range is the one with this `lack` and `place`.
+    pub(crate) fn is_for(self, lack: u32, place: usize) -> bool
+        ensures { result ≡ ((self.lack == lack) && (self.place == place)) }
+    {
+        self.lack == lack && self.place == place
+    }
 }
 
 /// A tag that may serve a range, with the tag's index and matching form.

@@ -1,8 +1,8 @@
 //! Improving the candidate by one more tag.
-ghost use Rattle.std.specs.Prelude.{◌≡◌, ◌-◌, ◌≤◌, ℕ, List, IsTrue, MatchOption, Some, false};
+ghost use Rattle.std.specs.Prelude.{◌≡◌, ◌-◌, ◌<◌, ◌≤◌, ℕ, List, IsTrue, MatchOption, Some, false};
 ghost use Rattle.langtag_range.specs.Element.{Element};
 ghost use Rattle.langtag_choice.specs.Best as spec;
-ghost use Rattle.langtag_choice.specs.Found.{IsOf, IsNotAfter, Keeps, Takes, rank_of, wish_element};
+ghost use Rattle.langtag_choice.specs.Found.{IsOf, IsNotAfter, Keeps, Takes, rank_of, service_number, wish_element};
 ghost use Rattle.langtag_choice.specs.KnownTexts.{known_text};
 
 use crate::candidate::{Candidate, Rank, Service};
@@ -20,8 +20,18 @@ pub(crate) fn limit(found: &Option<Candidate<'_, '_>>, weight: u32, place: usize
         Some(found) if found.rank.is_wanted_more(lack(weight), place) => {
             found.rank.service.least_distance()
         }
+        Some(found) if found.rank.is_for(lack(weight), place) => nearer_limit(found),
         _ => 51,
     }
+}
+
+/// Returns the distance below which another tag may be better than the candidate, for the same range.
+fn nearer_limit(found: &Candidate<'_, '_>) -> u8
+    ensures service { (distance : ℕ) → result ≤ distance → service_number found.now.rank.service ≤ spec.service distance }
+    ensures nearer { (distance : ℕ) → result ≤ distance → distance ≤ 50 → found.now.rank.distance < distance }
+{
+    let least = found.rank.service.least_distance();
+    least.max(found.rank.distance.saturating_add(1))
 }
 
 /// Returns 1 minus a weight, in thousandths.

@@ -78,6 +78,9 @@ fn nearer_prepared<'t>(limit: u8, wish: &Wish<'_>, tag: &'t PreparedTag<'t>) -> 
         (IsNearer limit (distance_of_texts (basic_text wish.now.range.now) (lang_tag_text tag.now.tag)) (matching_form (lang_tag_text tag.now.tag))) }
 {
     match (wish.form, tag.form()) {
+        (Some(desired), Some(form)) if tag.has_language_of(wish) => nearer_places(
+            limit, 0, desired, form,
+        ),
         (Some(desired), Some(form)) => nearer_form(limit, desired, form),
         _ => equal_text(limit, wish.range, tag.tag().as_bytes()),
     }

@@ -44,6 +44,6 @@ impl<'t> OwnedSite<'t> {
     pub fn as_site(&self) -> Site<'_, 't>
         ensures { result.tags.now ≡ self.now.tags.items }
     {
-        Site::of(self.tags.as_slice())
+        Site::new(self.tags.as_slice())
     }
 }

@@ -3,7 +3,7 @@ ghost use Rattle.std.specs.Prelude.{◌≡◌, ◌<◌, Some};
 ghost use Rattle.std.specs.Option.{ForSome, option_map};
 ghost use Rattle.langtag.specs.Text.{lang_tag_text};
 ghost use Rattle.langtag_choice.specs.FirstLetters.{first_two};
-ghost use Rattle.langtag_choice.specs.NearLanguages.{HasNumber};
+ghost use Rattle.langtag_choice.specs.NearLanguages.{HasNumber, HaveOneLanguage};
 ghost use Rattle.langtag_likely.specs.Matching.{matching_form};
 ghost use Rattle.langtag_likely.specs.Texts.{field_texts};
 
@@ -20,7 +20,7 @@ use langtag_likely::{TagFields, language_number, matching_form};
 /// use langtag_choice::{PreparedTag, Site};
 ///
 /// let prepared = [PreparedTag::new(LangTag::new("en")?), PreparedTag::new(LangTag::new("zh-Hant")?)];
-/// Site::of(&prepared).best_for_header(b"zh-TW"); // Some(1)
+/// Site::new(&prepared).best_for_header(b"zh-TW"); // Some(1)
 /// ```
 #[derive(Clone, Copy)]
 pub struct PreparedTag<'t> {
@@ -75,6 +75,16 @@ impl<'t> PreparedTag<'t> {
         ensures { option_map field_texts result ≡ matching_form (lang_tag_text self.now.tag) }
     {
         self.form
+    }
+
+    /// Returns whether the language of the tag is the language with which a range begins.
+    pub(crate) fn has_language_of(&self, wish: &Wish<'_>) -> bool
+        ensures { IsTrue result → HaveOneLanguage (matching_form (basic_text wish.now.range.now)) (matching_form (lang_tag_text self.now.tag)) }
+    {
+        match (wish.language, self.head) {
+            (Some(own), Some(head)) => own.number == head.number,
+            _ => false,
+        }
     }
 
     /// Returns whether the first letters and the language of the tag show that it cannot serve a range.

@@ -24,7 +24,7 @@ use langtag_match::{AcceptLanguage, LanguageRange};
 /// use langtag_choice::{PreparedTag, Site};
 ///
 /// let tags = [PreparedTag::new(LangTag::new("en")?), PreparedTag::new(LangTag::new("zh-Hant")?)];
-/// let site = Site::of(&tags);
+/// let site = Site::new(&tags);
 /// site.best_for_header(b"zh-TW,zh;q=0.9"); // Some(1)
 /// site.best_for_header(b"ja");             // None
 /// ```
@@ -35,7 +35,7 @@ pub struct Site<'s, 't> {
 
 impl<'s, 't> Site<'s, 't> {
     /// Returns the site with these tags. It is proved that a clone is the same value.
-    pub fn of(tags: &'s [PreparedTag<'t>]) -> Site<'s, 't>
+    pub fn new(tags: &'s [PreparedTag<'t>]) -> Site<'s, 't>
         ensures tags { result.tags.now ≡ tags.now }
         ensures cloned { (site copy : Site) → ⟦<Site<'s, 't> as Clone>⟧.is_clone site copy → copy ≡ site }
         ensures clone_succeeds { (site : Site) → ⟦<Site<'s, 't> as Clone>⟧.is_infallible site }

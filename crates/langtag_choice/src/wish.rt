@@ -23,7 +23,7 @@ pub(crate) struct Wish<'a> {
     pub(crate) weight: u32,
     pub(crate) place: usize,
     pub(crate) form: Option<TagFields<'a>>,
-    language: Option<RangeLanguage>,
+    pub(crate) language: Option<RangeLanguage>,
     ghost some: { (weight == 0) ≡ false },
     ghost in_class: { IsTrue (is_language_range (hyphened range.now)) },
     ghost no_star: { is_star (basic_text range.now) ≡ false },

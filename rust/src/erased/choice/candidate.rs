@@ -61,6 +61,12 @@ impl Rank {
     pub(crate) fn is_wanted_more(self, lack: u32, place: usize) -> bool {
         self.lack < lack || (self.lack == lack && self.place < place)
     }
+
+    /// Returns whether the range is the one with this `lack` and `place`.
+    #[inline]
+    pub(crate) fn is_for(self, lack: u32, place: usize) -> bool {
+        self.lack == lack && self.place == place
+    }
 }
 
 /// A tag that may serve a range, with the tag's index and matching form.

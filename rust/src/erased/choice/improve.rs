@@ -15,8 +15,17 @@ pub(crate) fn limit(found: &Option<Candidate<'_, '_>>, weight: u32, place: usize
         Some(found) if found.rank.is_wanted_more(lack(weight), place) => {
             found.rank.service.least_distance()
         }
+        Some(found) if found.rank.is_for(lack(weight), place) => nearer_limit(found),
         _ => 51,
     }
+}
+
+/// Returns the distance below which another tag may be better than the candidate, for the same
+/// range.
+#[inline]
+fn nearer_limit(found: &Candidate<'_, '_>) -> u8 {
+    let least = found.rank.service.least_distance();
+    least.max(found.rank.distance.saturating_add(1))
 }
 
 /// Returns 1 minus a weight, in thousandths.

@@ -57,6 +57,9 @@ fn nearer_prepared<'t>(
     tag: &'t PreparedTag<'t>,
 ) -> Option<Nearness<'t>> {
     match (wish.form, tag.form()) {
+        (Some(desired), Some(form)) if tag.has_language_of(wish) => {
+            nearer_places(limit, 0, desired, form)
+        }
         (Some(desired), Some(form)) => nearer_form(limit, desired, form),
         _ => equal_text(limit, wish.range, tag.tag().as_bytes()),
     }

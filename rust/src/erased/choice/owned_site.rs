@@ -49,6 +49,6 @@ impl<'t> OwnedSite<'t> {
     #[inline]
     #[must_use]
     pub fn as_site(&self) -> Site<'_, 't> {
-        Site::of(self.tags.as_slice())
+        Site::new(self.tags.as_slice())
     }
 }

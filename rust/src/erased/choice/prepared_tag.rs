@@ -17,7 +17,7 @@ use crate::erased::tag::LangTag;
 /// use langtag::erased::choice::{PreparedTag, Site};
 ///
 /// let prepared = [PreparedTag::new(LangTag::new("en")?), PreparedTag::new(LangTag::new("zh-Hant")?)];
-/// assert_eq!(Site::of(&prepared).best_for_header(b"zh-TW"), Some(1));
+/// assert_eq!(Site::new(&prepared).best_for_header(b"zh-TW"), Some(1));
 /// # Ok(())
 /// # }
 /// ```
@@ -61,6 +61,15 @@ impl<'t> PreparedTag<'t> {
     #[inline]
     pub(crate) fn form(&self) -> Option<TagFields<'t>> {
         self.form
+    }
+
+    /// Returns whether the language of the tag is the language with which a range begins.
+    #[inline]
+    pub(crate) fn has_language_of(&self, wish: &Wish<'_>) -> bool {
+        match (wish.language, self.head) {
+            (Some(own), Some(head)) => own.number == head.number,
+            _ => false,
+        }
     }
 
     /// Returns whether the first letters and the language of the tag show that it cannot serve a

@@ -23,7 +23,7 @@ use crate::erased::tag::LangTag;
 /// use langtag::erased::choice::{PreparedTag, Site};
 ///
 /// let tags = [PreparedTag::new(LangTag::new("en")?), PreparedTag::new(LangTag::new("zh-Hant")?)];
-/// let site = Site::of(&tags);
+/// let site = Site::new(&tags);
 /// assert_eq!(site.best_for_header(b"zh-TW,zh;q=0.9"), Some(1));
 /// assert_eq!(site.best_for_header(b"ja"), None);
 /// # Ok(())
@@ -38,7 +38,7 @@ impl<'s, 't> Site<'s, 't> {
     /// Returns the site with these tags. It is proved that a clone is the same value.
     #[inline]
     #[must_use]
-    pub fn of(tags: &'s [PreparedTag<'t>]) -> Site<'s, 't> {
+    pub fn new(tags: &'s [PreparedTag<'t>]) -> Site<'s, 't> {
         Site { tags }
     }
 

@@ -17,7 +17,7 @@ pub(crate) struct Wish<'a> {
     pub(crate) weight: u32,
     pub(crate) place: usize,
     pub(crate) form: Option<TagFields<'a>>,
-    language: Option<RangeLanguage>,
+    pub(crate) language: Option<RangeLanguage>,
 }
 
 impl<'a> Wish<'a> {
