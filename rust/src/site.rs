@@ -127,7 +127,7 @@ impl<'t, E: TagEntry> Site<'t, E> {
 impl<E: TagEntry> TagList for Site<'_, E> {
     #[inline]
     fn count(&self) -> usize {
-        self.tags.len()
+        self.prepared.len()
     }
 
     #[inline]

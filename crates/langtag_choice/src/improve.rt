@@ -16,11 +16,12 @@ use crate::wish::Wish;
 pub(crate) fn limit(found: &Option<Candidate<'_, '_>>, weight: u32, place: usize) -> u8
     ensures { (element : Element) (index : ℕ) (tag : List ℕ) → element.weight ≡ weight → result ≤ spec.reach element.range tag → IsNotAfter found.now (spec.rank place element index tag) }
 {
+    let lacking = lack(weight);
     match found {
-        Some(found) if found.rank.is_wanted_more(lack(weight), place) => {
+        Some(found) if found.rank.is_wanted_more(lacking, place) => {
             found.rank.service.least_distance()
         }
-        Some(found) if found.rank.is_for(lack(weight), place) => nearer_limit(found),
+        Some(found) if found.rank.is_for(lacking, place) => nearer_limit(found),
         _ => 51,
     }
 }

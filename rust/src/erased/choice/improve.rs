@@ -11,11 +11,12 @@ use crate::erased::choice::wish::Wish;
 /// `weight` and `place`. It is 0 if no tag can be better, and 51 if even a tag that only look-up
 /// finds may be better.
 pub(crate) fn limit(found: &Option<Candidate<'_, '_>>, weight: u32, place: usize) -> u8 {
+    let lacking = lack(weight);
     match found {
-        Some(found) if found.rank.is_wanted_more(lack(weight), place) => {
+        Some(found) if found.rank.is_wanted_more(lacking, place) => {
             found.rank.service.least_distance()
         }
-        Some(found) if found.rank.is_for(lack(weight), place) => nearer_limit(found),
+        Some(found) if found.rank.is_for(lacking, place) => nearer_limit(found),
         _ => 51,
     }
 }
