@@ -63,7 +63,7 @@ impl<'t, E: TagEntry> Site<'t, E> {
         Ok(Site { tags, prepared })
     }
 
-    /// Returns the tags as they were given.
+    /// Returns the tags as they were given, for example for [`look_up`](crate::matching::look_up).
     #[must_use]
     pub fn tags(&self) -> &'t [E] {
         self.tags
