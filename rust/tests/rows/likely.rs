@@ -102,13 +102,14 @@ fn in_each_list(tags: &str, best: impl Fn(&dyn TagList) -> Option<usize>) -> Str
     let strings: Vec<String> = tags.iter().map(|tag| tag.to_string()).collect();
     let found = best(&tags);
     assert_eq!(
-        [found; 5],
+        [found; 6],
         [
             best(&&tags[..]),
             best(&owned),
             best(&&owned[..]),
             best(&texts),
-            best(&strings)
+            best(&strings),
+            best(&Site::new(&owned)),
         ]
     );
     shown(found, &tags)
@@ -125,6 +126,7 @@ pub fn best(header: &[u8], tags: &str) -> String {
 pub fn best_match(header: &[u8], tags: &str) -> String {
     let tags = tags_of(tags);
     let found = match_for_header(header, &tags);
+    assert_eq!(found, Site::new(&tags).match_for_header(header));
     assert_eq!(
         found.map(|found| found.index),
         best_for_header(header, &tags)
