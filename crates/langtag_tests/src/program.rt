@@ -370,6 +370,9 @@ fn each_outcome_is_said(rt: HostRuntime) {
         let mut errors = Sheet::new(all(words), Fault::None, &owed);
         let is_said = conclude(outcome, &mut errors) == ExitCode::from(status);
         expect_true(&rt, is_said && errors.has_all(), words.len());
+        let mut interrupted = Sheet::new(all(words), INTERRUPTED, &owed);
+        let is_said = conclude(outcome, &mut interrupted) == ExitCode::from(status);
+        expect_true(&rt, is_said && interrupted.has_all(), words.len());
         let mut full = Sheet::new(all(b""), Fault::None, &owed);
         let is_said = conclude(outcome, &mut full) == ExitCode::from(status);
         expect_true(&rt, is_said, words.len());

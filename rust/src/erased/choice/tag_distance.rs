@@ -28,11 +28,12 @@ pub const FORMLESS_DISTANCE: u8 = 255;
 /// `en`.
 ///
 /// First, deprecated subtags are replaced and likely subtags are added. The distance is then the
-/// sum of the distances of the languages (80 if no rule gives a smaller distance), the scripts (50)
-/// and the regions (at most 5). Up to 15 the languages are nearly the same, and below 50 most
-/// readers understand the other language. Case is ignored, and so is everything after the region,
-/// such as variants, extensions and the `oed` of `en-GB-oed`. If one of the tags has no known
-/// language, the distance is [`FORMLESS_DISTANCE`], or 0 if the tags are equal, ignoring case.
+/// sum of the distances of the languages (80 if no rule gives a smaller distance), the scripts (50
+/// if no rule does) and the regions (at most 5). Up to 15 the languages are nearly the same, and
+/// below 50 most readers understand the other language. Case is ignored, and so is everything after
+/// the region, such as variants, extensions and the `oed` of `en-GB-oed`. If one of the tags has no
+/// known language, the distance is [`FORMLESS_DISTANCE`], or 0 if the tags are equal, ignoring
+/// case.
 ///
 /// A language that CLDR replaces, such as `ger`, `deu` or `iw`, is read as its replacement, and so
 /// is a deprecated region.
