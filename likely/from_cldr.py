@@ -15,7 +15,7 @@ import pathlib
 import re
 import sys
 import xml.etree.ElementTree as XML
-from collections.abc import Iterator
+from collections.abc import Iterable, Iterator
 
 DATA = pathlib.Path(__file__).resolve().parent / "data"
 
@@ -55,7 +55,9 @@ class Cldr:
 
         self.read_aliases(root("supplementalMetadata.xml").find(".//alias"))
         self.likely = [(fields(row.get("from")), fields(row.get("to"))) for row in root("likelySubtags.xml").iter("likelySubtag")]
-        self.read_groups(root("supplementalData.xml").find("territoryContainment"))
+        data = root("supplementalData.xml")
+        self.read_groups(data.find("territoryContainment"))
+        self.read_parents(row for block in data.iter("parentLocales") if block.get("component") is None for row in block)
         self.read_rules(root("languageInfo.xml").find(".//languageMatches"))
         rows = [line.split(";") for line in (common / "properties/scriptMetadata.txt").read_text(encoding="utf-8").splitlines()]
         self.right_to_left = [row[0].strip() for row in rows if len(row) > 6 and not row[0].startswith("#") and row[6].strip() == "YES"]
@@ -79,6 +81,12 @@ class Cldr:
             return set().union(*map(countries, contains[region])) if region in contains else {region}
 
         self.groups = {group: countries(group) for group in contains}
+
+    def read_parents(self, rows: Iterable[XML.Element]) -> None:
+        """Reads the locales whose parent is not the locale without its last subtag; that of the root is a hyphen."""
+        def tag(locale: str) -> str:
+            return EMPTY if locale == "root" else "-".join(text for text in fields(locale) if text != EMPTY)
+        self.parents = [(tag(locale), tag(row.get("parent", ""))) for row in rows for locale in row.get("locales", "").split()]
 
     def read_rules(self, matches: XML.Element) -> None:
         if unknown := {row.tag for row in matches} - {"paradigmLocales", "matchVariable", "languageMatch"}:
@@ -113,6 +121,8 @@ class Cldr:
                sorted(line(old, new) for old, new in self.languages.items()))
         yield ("region-alias.txt", "a region subtag and its replacements", [metadata],
                sorted(line(old, new) for old, new in self.regions.items()))
+        yield ("parents.txt", "each tag whose parent is not the tag without its last subtag, and its parent, or a hyphen for none", [data],
+               sorted(line(*row) for row in self.parents))
         yield "right-to-left.txt", "The scripts that are written from right to left", ["scriptMetadata.txt"], sorted(self.right_to_left)
 
 

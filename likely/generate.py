@@ -1,6 +1,6 @@
 #!/usr/bin/env python3
-"""Writes the tables and the lists of the crates langtag_likely and langtag_choice from Unicode's CLDR. Its likely subtags and its
-data for language matching are in data/ (from_cldr.py writes them).
+"""Writes the tables and the lists of the crates langtag_likely, langtag_parent and langtag_choice from Unicode's CLDR. Its likely
+subtags, its parent locales and its data for language matching are in data/ (from_cldr.py writes them).
 
 usage: generate.py                        writes them from the data whose checksums are in data.sha256
        generate.py --accept [LANGUAGE..]  writes them from newer data, and their checksums; these languages may lose their rows
@@ -209,6 +209,47 @@ def matching_tables(matching):
     ])
 
 
+class Parents:
+    """The parent locales: each tag with its parent, which is empty if it has none. And the tags of a language and a script to which
+    a language is shortened if its script in a region is not its usual one."""
+
+    def __init__(self, rows, likely):
+        self.rows = [(tag, given(parent)) for tag, parent in rows]
+        self.scripted = sorted({f"{row[3]}-{row[4]}" for row in likely.others if row[0] and not row[1] and row[2]})
+        self.test()
+
+    def test(self):
+        seen = set()
+        for tag, parent in self.rows:
+            if tag.lower() in seen or seen.add(tag.lower()):
+                sys.exit(f"parents.txt: a tag once: {tag}")
+            if not SIMPLE.fullmatch(tag) or parent and not SIMPLE.fullmatch(parent):
+                sys.exit(f"parents.txt: a language with a script and a region at most: {tag} {parent}")
+
+
+SIMPLE = re.compile(r"[a-z]{2,3}(-[A-Z][a-z]{3})?(-([A-Z]{2}|[0-9]{3}))?")
+
+
+def parent_tables(parents):
+    return "\n".join([
+        f"//! The parent locales of Unicode's CLDR {version()}, in tables (the notice: likely/LICENSE-UNICODE). Written by likely/generate.py. Do not edit.\n",
+        table("PARENT_LOCALES", "The tags whose parent is not the tag without its last subtag, each with its parent, or with an empty text if it has none.", "(&str, &str)",
+              [f'("{tag}", "{parent}")' for tag, parent in parents.rows]),
+        table("SCRIPTED_LANGUAGES", "The languages that are written in another script in some region, each with this script.", "&str", [f'"{tag}"' for tag in parents.scripted]),
+    ])
+
+
+def parent_lists(parents):
+    return "\n".join([
+        f"-- The parent locales of Unicode's CLDR {version()} (the notice: likely/LICENSE-UNICODE). Written by likely/generate.py. Do not edit.\n"
+        "use Rattle.std.specs.Prelude.{[], ◌∷◌, List, codes}\nuse Rattle.std.specs.List.{flat_map}\n"
+        "use Rattle.langtag_tables.specs.Words.{words}\n"
+        "use Rattle.langtag_parent.specs.Rows.{Row, rows_of}\n",
+        word_list("parent_locales", "the tags whose parent is not the tag without its last subtag, each with its parent, or with a hyphen if it has none", "Row", "rows_of",
+                  [[tag, parent or EMPTY] for tag, parent in parents.rows]),
+    ])
+
+
 SETS = [("maghreb", "MAGHREB"), ("enUS", "EN_US"), ("americas", "AMERICAS"), ("cnsar", "CNSAR")]
 
 
@@ -301,13 +342,14 @@ def module_version():
     return f"# The version of CLDR in the library. Written by likely/generate.py. Do not edit.\nCLDR_VERSION = {version()}\n"
 
 
-def written(crates, likely, matching):
+def written(crates, likely, matching, parents):
     """Returns the files that are made from the data: the path and the text of each."""
-    subtags, choice = crates / "langtag_likely", crates / "langtag_choice"
+    subtags, choice, parent = crates / "langtag_likely", crates / "langtag_choice", crates / "langtag_parent"
     return {subtags / "src/tables.rt": tables(likely), subtags / "src/alias_tables.rt": alias_tables(matching),
             subtags / "specs/LikelySubtags.antt": likely_lists(likely), subtags / "specs/Aliases.antt": alias_lists(matching),
             subtags / "specs/RightToLeft.antt": script_list(), subtags / "specs/Scripts.antt": code_list(likely), choice / "src/matching_tables.rt": matching_tables(matching),
-            choice / "specs/MatchingData.antt": matching_lists(matching), MODULE: module_version()}
+            choice / "specs/MatchingData.antt": matching_lists(matching), parent / "src/tables.rt": parent_tables(parents),
+            parent / "specs/ParentLocales.antt": parent_lists(parents), MODULE: module_version()}
 
 
 def lost(crates, likely, matching, named):
@@ -337,12 +379,13 @@ def main(words, crates):
         sys.exit(__doc__)
     likely = Likely(read("likely.txt"), {row[i] for row in read("script-distance.txt") for i in (1, 3)})
     matching = Matching(read, likely)
+    parents = Parents(read("parents.txt"), likely)
     if not check:
         refuse_unaccepted(crates, likely, matching, accept, words[1:])
     told = []
     if check and checksums() != CHECKSUMS.read_text(encoding="utf-8"):
         told.append(f"the data are not those of {CHECKSUMS.name}")
-    for path, text in written(crates, likely, matching).items():
+    for path, text in written(crates, likely, matching, parents).items():
         if not check:
             path.write_text(text, encoding="utf-8")
         elif not path.is_file() or path.read_text(encoding="utf-8") != text:

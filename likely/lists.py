@@ -8,10 +8,10 @@ from pathlib import Path
 import oracle
 
 PAGES = ["langtag_likely/specs/LikelySubtags", "langtag_likely/specs/Aliases", "langtag_likely/specs/RightToLeft", "langtag_likely/specs/Scripts", "langtag_choice/specs/MatchingData",
-         "langtag_choice/specs/Nearness"]
+         "langtag_choice/specs/Nearness", "langtag_parent/specs/ParentLocales"]
 
 # The number of words in a row of a list. It is one for a list that is not named here.
-WIDTH = {"language_rows": 3, "other_rows": 6, "language_aliases": 6, "region_aliases": 6, "region_replacements": 6, "language_rules": 3, "script_rules": 5, "is_paradigm": 2}
+WIDTH = {"language_rows": 3, "other_rows": 6, "language_aliases": 6, "region_aliases": 6, "region_replacements": 6, "language_rules": 3, "script_rules": 5, "is_paradigm": 2, "parent_locales": 2}
 
 # The lists of regions, by the names of their sets in the data.
 SETS = {"maghreb": "$maghreb", "en_us": "$enUS", "americas": "$americas", "cnsar": "$cnsar"}
@@ -69,6 +69,7 @@ def wanted() -> dict[str, list[tuple]]:
         "script_codes": [(name,) for name in oracle.SCRIPT_CODES],
         "right_to_left_scripts": [(name,) for name in oracle.RIGHT_TO_LEFT],
         "is_paradigm": [(language, region) for language, _, region in paradigms if region and oracle.unlikely(f"{language}-{region}") > 0],
+        "parent_locales": [tuple(row) for row in oracle.rows("parents.txt")],
         **dict(regions_of_sets()),
     }
 

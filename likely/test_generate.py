@@ -15,7 +15,8 @@ import lists
 import matching
 
 WRITTEN = ["langtag_likely/src/tables.rt", "langtag_likely/src/alias_tables.rt", "langtag_likely/specs/LikelySubtags.antt", "langtag_likely/specs/Aliases.antt",
-           "langtag_likely/specs/RightToLeft.antt", "langtag_likely/specs/Scripts.antt", "langtag_choice/src/matching_tables.rt", "langtag_choice/specs/MatchingData.antt"]
+           "langtag_likely/specs/RightToLeft.antt", "langtag_likely/specs/Scripts.antt", "langtag_parent/src/tables.rt", "langtag_parent/specs/ParentLocales.antt",
+           "langtag_choice/src/matching_tables.rt", "langtag_choice/specs/MatchingData.antt"]
 BY_HAND = ["langtag_choice/specs/Nearness.antt"]
 
 
@@ -206,7 +207,8 @@ COMMON = {
         <likelySubtag from="he" to="he_Hebr_IL"/><likelySubtag from="iw" to="iw_Hebr_IL"/></likelySubtags></supplementalData>""",
     "supplemental/supplementalData.xml": """<supplementalData><territoryContainment><group type="001" contains="019 150"/>
         <group type="019" contains="US MX"/><group type="150" contains="FR"/><group type="019" contains="XX" status="deprecated"/>
-        </territoryContainment></supplementalData>""",
+        </territoryContainment><parentLocales component="segmentations"><parentLocale parent="root" locales="nb"/></parentLocales>
+<parentLocales><parentLocale parent="root" locales="zh_Hant sr_Latn"/><parentLocale parent="en_001" locales="en_GB"/></parentLocales></supplementalData>""",
     "supplemental/languageInfo.xml": """<supplementalData><languageMatching><languageMatches type="written_new">
         <paradigmLocales locales="en en_GB"/><matchVariable id="$americas" value="019"/>
         <languageMatch desired="no" supported="nb" distance="1"/><languageMatch desired="gsw" supported="de" distance="4" oneway="true"/>
@@ -220,6 +222,7 @@ FROM_COMMON = {
     "script-distance.txt": ["zh Hani zh Hans 20 1"], "region-distance.txt": ["es * $americas $americas 4", "* * * * 4"],
     "region-sets.txt": ["$americas 019 MX US"], "region-groups.txt": ["001 FR MX US", "019 MX US", "150 FR"], "paradigms.txt": ["en", "en-GB"],
     "language-alias.txt": ["iw he - -", "sh sr Latn -"], "region-alias.txt": ["172 RU", "SU RU AM"], "right-to-left.txt": ["Hebr"],
+    "parents.txt": ["en-GB en-001", "sr-Latn -", "zh-Hant -"],
 }
 
 

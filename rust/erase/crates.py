@@ -23,6 +23,7 @@ MODULES = [
     Module("langtag_match", "src/erased/matching", "crate::erased::matching"),
     Module("langtag_registry", "src/erased/registry", "crate::erased::registry"),
     Module("langtag_likely", "src/erased/likely", "crate::erased::likely"),
+    Module("langtag_parent", "src/erased/parent", "crate::erased::parent"),
     Module("langtag_choice", "src/erased/choice", "crate::erased::choice"),
     Module("langtag_keyword", "src/erased/keyword", "crate::erased::keyword"),
     Module("langtag_unicode", "src/erased/unicode", "crate::erased::unicode"),
@@ -38,7 +39,7 @@ PUBLIC = {"scan", "matching", "registry", "likely", "choice", "unicode"}
 
 # The crates whose public items users find in the module of another crate. For SHOWN_IN, the exports are added to that module. For
 # EXPORTED_BY, the other Rattle crate has them.
-SHOWN_IN = {"langtag_locale": "langtag_unicode"}
+SHOWN_IN = {"langtag_locale": "langtag_unicode", "langtag_parent": "langtag_likely"}
 EXPORTED_BY = {"langtag_keyword": "langtag_unicode", "langtag_case": "langtag_scan"}
 
 

@@ -1,12 +1,11 @@
-//! A catalogue of messages by tag, with fallback by lookup (RFC 4647 section 3.4). Tags are found
-//! in any case.
+//! A catalogue of messages by tag, with fallback to the parents of a tag in Unicode's CLDR. Tags are
+//! found in any case.
 //!
 //! ```sh
 //! cargo run --example catalogue
 //! ```
 use std::collections::{BTreeMap, HashMap};
 
-use langtag::matching::LanguageRange;
 use langtag::{CaselessText, LangTag, LangTagBuf};
 
 #[derive(Default)]
@@ -22,15 +21,14 @@ impl Catalogue {
             .insert(key, message.into());
     }
 
-    /// Returns the message in the language of a tag, or else in the nearest of its fallbacks:
-    /// `de-CH-1996`, `de-CH`, `de`.
-    fn get<'t>(&self, tag: impl Into<LanguageRange<'t>>, key: &str) -> Option<&str> {
-        let mut fallbacks = tag.into().fallbacks();
-        fallbacks.find_map(|range| {
-            self.messages
-                .get(range.caseless())?
-                .get(key)
-                .map(String::as_str)
+    /// Returns the message of a tag, or else of the nearest parent that has one: `pt-AO`, `pt-PT`,
+    /// `pt`. A parent is written in the same script, so `zh-TW` never leads to `zh`.
+    fn get<'t>(&self, tag: impl Into<LangTag<'t>>, key: &str) -> Option<&str> {
+        let canonical = tag.into().canonical();
+        let mut parents = canonical.as_lang_tag().parents();
+        parents.find_map(|tag| {
+            let messages = self.messages.get(tag.caseless())?;
+            messages.get(key).map(String::as_str)
         })
     }
 }
@@ -50,9 +48,16 @@ fn main() -> Result<(), Box<dyn std::error::Error>> {
         Some("Fahrrad")
     );
     assert_eq!(catalogue.get(LangTag::new("fr")?, "bike"), None);
+    catalogue.add(LangTag::new("zh")?, "bike", "自行车");
+    catalogue.add(LangTag::new("zh-Hant")?, "bike", "腳踏車");
+    assert_eq!(
+        catalogue.get(LangTag::new("zh-TW")?, "bike"),
+        Some("腳踏車")
+    );
+
     let mut tags: Vec<_> = catalogue.messages.keys().collect();
     tags.sort();
-    assert_eq!(tags, ["de-CH", "de"]);
+    assert_eq!(tags, ["de-CH", "de", "zh-Hant", "zh"]);
     println!("{tags:?}");
     Ok(())
 }

@@ -1,6 +1,6 @@
 //! Likely subtags (UTS #35, part 1, section 'Likely Subtags') from Unicode's CLDR: the most likely
 //! script and region of a language, which can be added to a tag or removed from it. Also the
-//! writing direction of a tag, and tags for POSIX locale names.
+//! writing direction of a tag, its parents, and tags for POSIX locale names.
 //!
 //! ```
 //! # #[cfg(feature = "alloc")] {
@@ -22,6 +22,7 @@ use crate::{LangTag, TooShort};
 #[cfg(feature = "alloc")]
 pub use crate::erased::likely::{from_posix, PosixError};
 pub use crate::erased::likely::{unknown_modifier, CLDR_VERSION};
+pub use crate::erased::parent::Parents;
 #[cfg(feature = "alloc")]
 pub use crate::owned_errors::PosixErrorBuf;
 
@@ -169,4 +170,30 @@ pub fn write_from_posix(
 #[must_use]
 pub fn is_right_to_left<'a>(tag: impl Into<LangTag<'a>>) -> bool {
     likely::is_right_to_left(tag.into())
+}
+
+/// Returns the parent of a tag in Unicode's CLDR, in which a catalogue of strings looks next: `pt-PT`
+/// for `pt-AO`, `es-419` for `es-MX`, `en-001` for `en-GB`. Returns `None` if the tag has no parent,
+/// such as `pt`.
+///
+/// A parent is written in the same script, so `zh-TW` has the parent `zh-Hant`, which has none.
+/// Extensions and private use are removed first, then each variant, and then the region. A script is
+/// removed only if it is the likely script of the language. The parent is a slice of the tag, or a
+/// static string if CLDR names another tag. Case is ignored.
+///
+/// CLDR does not list deprecated or extended languages, so replace them first with
+/// [`canonical`](crate::LangTag::canonical). Private-use tags, irregular tags and `und` have no parent.
+///
+/// ```
+/// use langtag::likely::parent;
+/// use langtag::LangTag;
+///
+/// assert_eq!(parent(LangTag::new("pt-AO")?).unwrap(), "pt-PT");
+/// assert_eq!(parent(LangTag::new("zh-TW")?).unwrap(), "zh-Hant");
+/// assert_eq!(parent(LangTag::new("zh-Hant")?), None);
+/// # Ok::<(), Box<dyn std::error::Error>>(())
+/// ```
+#[must_use]
+pub fn parent<'a>(tag: impl Into<LangTag<'a>>) -> Option<LangTag<'a>> {
+    crate::erased::parent::parent(tag.into())
 }

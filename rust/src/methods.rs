@@ -1,5 +1,7 @@
 //! What the modules compute of a tag, as methods of the tag.
 #[cfg(feature = "data")]
+use crate::likely::Parents;
+#[cfg(feature = "data")]
 use crate::registry::InvalidSubtag;
 #[cfg(feature = "data")]
 use crate::unicode::{AttributesIter, KeywordsIter, Transformation};
@@ -142,6 +144,35 @@ impl<'a> LangTag<'a> {
     #[must_use]
     pub fn is_right_to_left(self) -> bool {
         likely::is_right_to_left(self)
+    }
+
+    /// Returns the parent of the tag, in which a catalogue looks next, as [`likely::parent`] does.
+    ///
+    /// ```
+    /// use langtag::LangTag;
+    ///
+    /// assert_eq!(LangTag::new("pt-AO")?.parent().unwrap(), "pt-PT");
+    /// assert_eq!(LangTag::new("zh-TW")?.parent().unwrap(), "zh-Hant");
+    /// # Ok::<(), Box<dyn std::error::Error>>(())
+    /// ```
+    #[must_use]
+    pub fn parent(self) -> Option<LangTag<'a>> {
+        likely::parent(self)
+    }
+
+    /// Returns an iterator over the tag, its parent, the parent of its parent, and so on. A catalogue
+    /// loads its strings in this order.
+    ///
+    /// ```
+    /// use langtag::LangTag;
+    ///
+    /// let tag = LangTag::new("en-AT")?;
+    /// let files: Vec<String> = tag.parents().map(|tag| format!("{tag}.json")).collect();
+    /// assert_eq!(files, ["en-AT.json", "en-150.json", "en-001.json", "en.json"]);
+    /// # Ok::<(), Box<dyn std::error::Error>>(())
+    /// ```
+    pub fn parents(self) -> Parents<'a> {
+        Parents::new(self)
     }
 }
 

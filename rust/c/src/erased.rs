@@ -18,6 +18,8 @@ pub mod locale;
 pub mod matching;
 #[path = "../../src/erased/output/mod.rs"]
 pub mod output;
+#[path = "../../src/erased/parent/mod.rs"]
+pub mod parent;
 #[path = "../../src/erased/place/mod.rs"]
 pub mod place;
 #[path = "../../src/erased/private/mod.rs"]

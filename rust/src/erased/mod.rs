@@ -15,6 +15,8 @@ pub mod likely;
 pub mod locale;
 pub mod matching;
 pub mod output;
+#[cfg(feature = "data")]
+pub mod parent;
 pub mod place;
 pub mod private;
 pub mod range;

@@ -36,6 +36,7 @@ mod tables;
 mod tag_fields;
 mod text_fields;
 
+pub use crate::erased::parent::{parent, Parents};
 pub use direction::is_right_to_left;
 #[cfg(feature = "alloc")]
 pub use forms::{maximized, minimized};

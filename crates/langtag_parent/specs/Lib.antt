@@ -1,0 +1,5 @@
+pub mod Chain
+pub mod Parent
+pub mod ParentLocales
+pub mod Plain
+pub mod Rows

@@ -1,0 +1,26 @@
+// Made by rust/erase from crates/langtag_parent/src/lib.rt. Change that file, not this one.
+
+//! The parents of a tag, from Unicode's CLDR. A catalogue of texts that has none for a tag looks
+//! for its parent, and then for the parent of this one: `pt-AO`, `pt-PT`, `pt`. A parent is written
+//! in the same script as the tag, so `zh-TW` leads to `zh-Hant` and never to `zh`.
+//!
+//! ```
+//! # fn main() -> Result<(), Box<dyn std::error::Error>> {
+//! use langtag::LangTag;
+//! use langtag::likely::parent;
+//!
+//! assert_eq!(parent(LangTag::new("es-MX")?).map(|tag| tag.as_str()), Some("es-419"));
+//! assert_eq!(parent(LangTag::new("zh-Hant")?), None);
+//! # Ok(())
+//! # }
+//! ```
+
+mod likely_script;
+mod locales;
+mod parents;
+mod scripted;
+mod tables;
+mod tag_parent;
+
+pub use parents::Parents;
+pub use tag_parent::parent;
