@@ -8,26 +8,17 @@ SELECT 'de_*'::langtag_range;
 SELECT 'D_E'::langtag_part;
 \set VERBOSITY default
 SELECT 'de_CH'::langtag;
-SELECT ''::langtag;
-SELECT 'i-no'::langtag;
 SELECT 'en-'::langtag;
-SELECT ' de'::langtag;
-SELECT 'de '::langtag;
 SELECT 'dé'::langtag;
-SELECT 'en-abcdefghi'::langtag;
 SELECT 'de-419-DE'::langtag;
-SELECT ('en-' || repeat('abcd-', 100) || 'ü')::langtag;
 SELECT (repeat('ü', 100))::langtag;
 SELECT ('a' || repeat('あ', 100))::langtag;
 -- Ranges stay as they are given, and a malformed range is an error.
 SELECT 'DE-*'::langtag_range, '*'::langtag_range, 'a'::langtag_range, '*-ch'::langtag_range;
 SELECT 'de_*'::langtag_range;
-SELECT ''::langtag_range;
 SELECT ('de-' || repeat('あ', 100))::langtag_range;
 SELECT 'DE'::langtag_part, '1996-rozaj'::langtag_part, ''::langtag_part, 'x-mine'::langtag_part;
 SELECT 'D_E'::langtag_part;
-SELECT 'DE-'::langtag_part;
-SELECT 'de*'::langtag_part;
 -- Functions that take texts
 SELECT is_langtag('de-CH'), is_langtag('de_CH'), is_langtag(''), is_langtag(NULL), langtag_viable('de_CH'), langtag_viable('de-CH');
 -- The binary form is the text's bytes.
