@@ -18,6 +18,7 @@ CRATES = {
     "langtag_match": "matching",
     "langtag_registry": "registry",
     "langtag_likely": "likely",
+    "langtag_parent": "parent",
     "langtag_choice": "choice",
     "langtag_keyword": "keyword",
     "langtag_unicode": "unicode",
@@ -31,7 +32,7 @@ ELSEWHERE = {"langtag_span": "../c/src", "langtag_c": "../c/src"}
 # The folders with other files: the program, and the list of the modules.
 BY_HAND = ["bin", "bin/langtag", "erased"]
 # The modules that also export what another crate exports.
-SHOWING = {"langtag_unicode": "langtag_locale"}
+SHOWING = {"langtag_unicode": "langtag_locale", "langtag_likely": "langtag_parent"}
 # The error whose message ends with a suggestion, which is written by hand.
 SUGGESTING = "InvalidSubtag"
 # The errors whose message ends with the refused text, which src/message.rs writes: all whose parameter is a text. That of
