@@ -1,12 +1,12 @@
 #!/usr/bin/env python3
 """A plain implementation of UTS #35, part 1, sections 'Likely Subtags' and 'Language Matching', over data/*.txt, of the choice for
-a request, and of the names of POSIX locales.
+a request, of the names of POSIX locales, and of the parents of a tag.
 
 usage: oracle.py forms < TAGS                          prints for each tag its maximal and its minimal form, tab separated
        oracle.py distance < PAIRS                      prints for each desired and supported tag, space separated, their distance
        oracle.py rows < ROWS                           prints each row with its answer, in the form of those in rows/: of
                                                        maximized, minimized, right-to-left, distance, best, best-match,
-                                                       posix, suggestion
+                                                       posix, suggestion, parents
        oracle.py COLUMN --compare ANSWERS < LINES      counts the lines whose answer differs from that of a program
 
 questions.py has lines to ask.
@@ -357,6 +357,47 @@ def suggestion(text):
     return found[0] if not any(found[1:]) and registry().has(kind, found[0]) else "-"
 
 
+# ---- parents
+
+PARENTS = {row[0].lower(): row[1] for row in rows("parents.txt")}
+
+
+def likely_script(language, region):
+    """Returns the script of the likely subtags of a language in a region, or of the language; the empty text if there are none."""
+    row = LIKELY.get((language, "", region)) or LIKELY.get((language, "", ""))
+    return row[1] if row and language else ""
+
+
+def parent(text):
+    """Returns the parent of a tag, or None if it has none."""
+    match = TAG.fullmatch(text) or LONG.fullmatch(text)
+    if match is None or text.lower() in IRREGULAR:
+        return None
+    if match["rest"]:
+        return text[:-len(match["rest"])]
+    if match["variants"]:
+        return text.rpartition("-")[0]
+    if text.lower() in PARENTS:
+        return PARENTS[text.lower()] or None
+    language = "" if match["extended"] else match["language"].lower()
+    usual = likely_script(language, "")
+    if match["region"]:
+        script = likely_script(language, match["region"].lower())
+        if match["script"] or usual in ("", script):
+            return text.rpartition("-")[0]
+        named = f"{language}-{script}"
+        return PARENTS.get(f"{named}-{match['region']}".lower(), named) or None
+    return text.rpartition("-")[0] if match["script"] and usual.lower() in ("", match["script"].lower()) else None
+
+
+def parents(text):
+    """Returns a tag and its parents, the nearest first, or a hyphen if the text is no tag."""
+    chain = [text] if is_tag(text) else []
+    while chain and (shorter := parent(chain[-1])) is not None:
+        chain.append(shorter)
+    return " ".join(chain) or "-"
+
+
 # ---- rows
 
 
@@ -389,7 +430,7 @@ def written(find):
     return lambda text: form(text, find) if is_tag(text) else "-"
 
 
-CALLS = {"maximized": written(add_likely_subtags), "minimized": written(remove_likely), "right-to-left": is_right_to_left, "posix": posix, "unknown-modifier": unknown_modifier, "suggestion": suggestion}
+CALLS = {"maximized": written(add_likely_subtags), "minimized": written(remove_likely), "right-to-left": is_right_to_left, "posix": posix, "unknown-modifier": unknown_modifier, "suggestion": suggestion, "parents": parents}
 
 
 COLUMNS = {"forms": forms, "distance": distance, "rows": answer}

@@ -94,6 +94,20 @@ pub fn unknown(name: &[u8]) -> String {
     }
 }
 
+/// Returns a tag and its parents. Each one is the parent of the one before it, and the last has none.
+pub fn chain(text: Option<&str>) -> String {
+    let Some(Ok(tag)) = text.map(LangTag::new) else {
+        return "-".into();
+    };
+    let chain: Vec<LangTag> = tag.parents().collect();
+    for (index, tag) in chain.iter().enumerate() {
+        assert_eq!(tag.parent(), chain.get(index + 1).copied());
+        assert_eq!(parent(*tag), tag.parent());
+    }
+    let texts: Vec<&str> = chain.iter().map(|tag| tag.as_str()).collect();
+    texts.join(" ")
+}
+
 /// Returns the best tag, which must be the same one in each kind of list that a program may have.
 fn in_each_list(tags: &str, best: impl Fn(&dyn TagList) -> Option<usize>) -> String {
     let tags = tags_of(tags);

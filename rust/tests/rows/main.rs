@@ -71,6 +71,7 @@ fn answer(row: &Row) -> String {
         "right-to-left" => likely::direction(row.text(0)),
         "posix" => likely::posix(row.text(0)),
         "unknown-modifier" => likely::unknown(&row.arguments[0]),
+        "parents" => likely::chain(row.text(0)),
         "best" => likely::best(&row.arguments[0], row.str(1)),
         "best-match" => likely::best_match(&row.arguments[0], row.str(1)),
         "best-accepted" => likely::best_accepted(row.str(0), row.str(1)),
@@ -113,6 +114,7 @@ files! {
     distances: "distance.txt", 140, ["distance"];
     directions: "direction.txt", 325, ["right-to-left"];
     names: "posix.txt", 150, ["posix", "unknown-modifier"];
+    parents: "parents.txt", 335, ["parents"];
     choices: "choices.txt", 285, ["best", "best-match"];
     preferences: "lists.txt", 15, ["best-accepted", "best-ranges"];
     lengths: "lengths.txt", 180, ["base", "tag", "scan", "recommended", "validity", "suggestion", "canonical", "grandfathered", "viable", "refused",
