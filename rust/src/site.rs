@@ -7,9 +7,10 @@ use crate::memory::or_abort;
 use crate::{AllocError, LangTag};
 use alloc::vec::Vec;
 
-/// The tags of a site that are known before the requests. What a choice needs of each tag is
-/// computed once, so a choice takes about a third of the time. It returns the same tag as
-/// [`best_for_header`](crate::choice::best_for_header) and its neighbours.
+/// The tags of a site that are known before the requests.
+///
+/// What a choice needs of each tag is computed once, so each choice takes less time. It returns the
+/// same tag as [`best_for_header`](crate::choice::best_for_header) and its neighbours.
 ///
 /// A `Site` can be shared by threads. It does not change: if the tags do, make another.
 ///
