@@ -161,7 +161,8 @@ impl<'a> LangTag<'a> {
     }
 
     /// Returns an iterator over the tag, its parent, the parent of its parent, and so on. A catalogue
-    /// loads its strings in this order.
+    /// loads its strings in this order. The time of the whole walk is quadratic in the number of
+    /// variants.
     ///
     /// ```
     /// use langtag::LangTag;
