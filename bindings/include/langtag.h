@@ -12,7 +12,7 @@
  * with the length of the strings, except for langtag_repeats, langtag_extensions_form, langtag_is_locale,
  * langtag_locale_form, and the calls that take a list of tags. langtag_next_keyword and langtag_next_field read the
  * string from its start in each call, and compare each key with the subtags before it. So a walk over the 936 keys of a string of 1 MB
- * takes 3 to 4 s, while langtag_keyword takes 3 ms for one key.
+ * takes 3 to 4 s, and over thousands of repeated keys up to 40 s, while langtag_keyword takes 3 ms for one key.
  *
  * Only langtag_validity, langtag_canonical, langtag_is_canonical and langtag_locale_form use the IANA registry.
  *

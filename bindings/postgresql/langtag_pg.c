@@ -515,13 +515,15 @@ Datum pg_langtag_suggestion(PG_FUNCTION_ARGS) {
     PG_RETURN_POINTER(value_of(code, len));
 }
 
-/* The greatest length of a string for calls whose time grows faster than the string, and that cannot be interrupted. */
-#define LONGEST 8192
+/* The greatest lengths of strings for calls whose time grows faster than the string, and that cannot be interrupted. A form of the
+ * longest tag takes up to a third of a second. */
+#define LONGEST_HEADER 8192
+#define LONGEST_TAG 262144
 
-static void check_length(const char *what, struct varlena *text) {
-    if (LEN(text) > LONGEST)
+static void check_length(const char *what, struct varlena *text, size_t limit) {
+    if (LEN(text) > limit)
         ereport(ERROR, (errcode(ERRCODE_PROGRAM_LIMIT_EXCEEDED),
-                        errmsg("%s is too long (%zu bytes, limit %d)", what, LEN(text), LONGEST)));
+                        errmsg("%s is too long (%zu bytes, limit %zu)", what, LEN(text), limit)));
 }
 
 typedef size_t (*form_of)(const char *, size_t, char *, size_t);
@@ -554,20 +556,20 @@ FORM(pg_langtag_from_posix, langtag_from_posix)
 
 PG_FUNCTION_INFO_V1(pg_langtag_extensions_form);
 Datum pg_langtag_extensions_form(PG_FUNCTION_ARGS) {
-    check_length("tag", PG_GETARG_VARLENA_PP(0));
+    check_length("tag", PG_GETARG_VARLENA_PP(0), LONGEST_TAG);
     return form(fcinfo, langtag_extensions_form);
 }
 
 PG_FUNCTION_INFO_V1(pg_langtag_is_locale);
 Datum pg_langtag_is_locale(PG_FUNCTION_ARGS) {
     struct varlena *tag = PG_GETARG_VARLENA_PP(0);
-    check_length("tag", tag);
+    check_length("tag", tag, LONGEST_TAG);
     PG_RETURN_BOOL(langtag_is_locale(BYTES(tag), LEN(tag)));
 }
 
 PG_FUNCTION_INFO_V1(pg_langtag_locale_form);
 Datum pg_langtag_locale_form(PG_FUNCTION_ARGS) {
-    check_length("tag", PG_GETARG_VARLENA_PP(0));
+    check_length("tag", PG_GETARG_VARLENA_PP(0), LONGEST_TAG);
     return form(fcinfo, langtag_locale_form);
 }
 
@@ -811,7 +813,7 @@ Datum pg_langtag_tag_for_header(PG_FUNCTION_ARGS) { return chosen(fcinfo, langta
 
 PG_FUNCTION_INFO_V1(pg_langtag_best_for_header);
 Datum pg_langtag_best_for_header(PG_FUNCTION_ARGS) {
-    check_length("header", PG_GETARG_TEXT_PP(1));
+    check_length("header", PG_GETARG_TEXT_PP(1), LONGEST_HEADER);
     return chosen(fcinfo, langtag_best_for_header);
 }
 
@@ -826,7 +828,7 @@ Datum pg_langtag_match_for_header(PG_FUNCTION_ARGS) {
     langtag_best_match match;
     Datum values[4];
     bool nulls[4] = {false, false, false, false};
-    check_length("header", header);
+    check_length("header", header, LONGEST_HEADER);
     if (get_call_result_type(fcinfo, NULL, &row) != TYPEFUNC_COMPOSITE) elog(ERROR, "a row is wanted");
     best = chosen_index(langtag_best_for_header, header, tags, count);
     if (best < 0) PG_RETURN_NULL();

@@ -62,7 +62,7 @@ FAULTS = [
     (C, "langtag_base_len(BYTES(tag), LEN(tag))", "LEN(tag)", "parts"),
     (C, "PG_RETURN_BOOL(langtag_is_locale(BYTES(tag), LEN(tag)));", "PG_RETURN_BOOL(langtag_is_canonical(BYTES(tag), LEN(tag)));", "registry"),
     (C, "return form(fcinfo, langtag_locale_form);", "return form(fcinfo, langtag_extensions_form);", "registry"),
-    (C, "    check_length(\"tag\", tag);\n", "", "registry"),
+    (C, "    check_length(\"tag\", tag, LONGEST_TAG);\n", "", "registry"),
     (C, "if (!langtag_unknown_modifier(BYTES(name), LEN(name), &found)) PG_RETURN_NULL();", "if (!langtag_unknown_modifier(BYTES(name), LEN(name), &found)) found.start = found.len = 0;", "registry"),
     (C, "sizes[0] = (int)count, sizes[1] = 2;", "sizes[0] = 2, sizes[1] = (int)count;", "parts"),
     (C, "    bool lossy = extended;", "    bool lossy = false;", "filters"),
