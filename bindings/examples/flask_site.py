@@ -7,7 +7,7 @@ The language is the reader's choice (?lang=, kept in a cookie), or else the best
 from __future__ import annotations
 
 from flask import Flask, Response, make_response, request
-from langtag import Tag, match_for_header
+from langtag import Tag, autonym, describe, match_for_header
 
 PAGES = {"en": "Hello", "de": "Guten Tag", "sr-Latn": "Dobar dan", "zh-Hant": "你好", "ar": "مرحبا"}
 SAME = 16  # from this distance on, a tag is of another language
@@ -25,13 +25,21 @@ def picked() -> str | None:
     return None
 
 
+def direction(tag: str) -> str:
+    return "rtl" if Tag(tag).is_right_to_left else "ltr"
+
+
+def menu(page: str) -> str:
+    """Returns the menu of languages, each by its name in itself. The language of the page comes first."""
+    tags = [page, *(tag for tag in PAGES if tag != page)]
+    return " ".join(f'<a href="?lang={tag}" lang="{tag}" dir="{direction(tag)}">{autonym(tag) or describe(tag)}</a>' for tag in tags)
+
+
 @app.get("/")
 def page() -> Response:
     wish, match = picked(), match_for_header(request.headers.get("Accept-Language"), PAGES)
     tag = wish or (match.tag if match else "en")
-    direction = "rtl" if Tag(tag).is_right_to_left else "ltr"
-    links = " ".join(f'<a href="?lang={other}">{other}</a>' for other in PAGES if other != tag)
-    response = make_response(f'<html lang="{tag}" dir="{direction}"><p>{PAGES[tag]}<p>{links}</html>\n')
+    response = make_response(f'<html lang="{tag}" dir="{direction(tag)}"><p>{PAGES[tag]}<p>{menu(tag)}</html>\n')
     response.headers["Content-Language"] = tag
     response.vary.update(("Accept-Language", "Cookie"))
     if wish:

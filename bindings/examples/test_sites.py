@@ -44,6 +44,8 @@ class Sites(unittest.TestCase):
             got = client.get("/", query_string={} if wish is None else {"lang": wish}, headers={} if header is None else {"Accept-Language": header})
             self.assertEqual((got.headers["Content-Language"], got.headers.get("Set-Cookie")), (tag, f"lang={tag}; Path=/" if is_kept else None))
             self.assertIn(f'lang="{tag}" dir="{"rtl" if tag == "ar" else "ltr"}"><p>{flask_site.PAGES[tag]}', got.text)
+            self.assertIn(f'<p><a href="?lang={tag}" lang="{tag}"', got.text)  # it comes first in the menu
+            self.assertIn('lang="zh-Hant" dir="ltr">繁體中文</a>', got.text)
 
     def test_django(self):
         settings = types.SimpleNamespace(LANGUAGES=[("en", "English"), ("zh-hant", "繁體中文"), ("de", "Deutsch")], LANGUAGE_CODE="en")

@@ -6,7 +6,7 @@
  * The language is the reader's choice (?lang=, kept in a cookie), or else the best language for the browser's header.
  */
 import { createServer } from "node:http";
-import { LanguageTag, matchForHeader } from "langtag-verified";
+import { autonym, describe, LanguageTag, matchForHeader } from "langtag-verified";
 
 const PAGES = new Map([["en", "Hello"], ["de", "Guten Tag"], ["sr-Latn", "Dobar dan"], ["zh-Hant", "你好"], ["ar", "مرحبا"]]);
 const TAGS = [...PAGES.keys()];
@@ -20,18 +20,24 @@ function picked(request) {
     return [asked, kept].map((text) => matchForHeader(text, TAGS)).find((match) => match?.distance < SAME)?.tag;
 }
 
+const direction = (tag) => (LanguageTag.parse(tag).isRightToLeft ? "rtl" : "ltr");
+
+/** Returns the menu of languages, each by its name in itself. The language of the page comes first. */
+function menu(page) {
+    const tags = [page, ...TAGS.filter((tag) => tag !== page)];
+    return tags.map((tag) => `<a href="?lang=${tag}" lang="${tag}" dir="${direction(tag)}">${autonym(tag) ?? describe(tag)}</a>`).join(" ");
+}
+
 const server = createServer((request, response) => {
     const wish = picked(request);
     const tag = wish ?? matchForHeader(request.headers["accept-language"], TAGS)?.tag ?? "en";
-    const direction = LanguageTag.parse(tag).isRightToLeft ? "rtl" : "ltr";
-    const links = TAGS.filter((other) => other !== tag).map((other) => `<a href="?lang=${other}">${other}</a>`).join(" ");
     response.writeHead(200, {
         "Content-Type": "text/html; charset=utf-8",
         "Content-Language": tag,
         Vary: "Accept-Language, Cookie",
         ...(wish === undefined ? {} : { "Set-Cookie": `lang=${tag}; Path=/` }),
     });
-    response.end(`<html lang="${tag}" dir="${direction}"><p>${PAGES.get(tag)}<p>${links}</html>\n`);
+    response.end(`<html lang="${tag}" dir="${direction(tag)}"><p>${PAGES.get(tag)}<p>${menu(tag)}</html>\n`);
 });
 
 server.listen(Number(process.argv[2] ?? 8080), "127.0.0.1", () => console.log(`http://127.0.0.1:${server.address().port}`));

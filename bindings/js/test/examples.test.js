@@ -25,7 +25,11 @@ test("the site answers in the language that its reader picked", async () => {
             const response = await fetch(line.trim() + "/" + wish, { headers: { "Accept-Language": header, Cookie: cookie } });
             assert.equal(response.headers.get("Content-Language"), wanted);
             assert.equal(response.headers.get("Set-Cookie"), isKept ? `lang=${wanted}; Path=/` : null);
-            assert.match(await response.text(), new RegExp(`lang="${wanted}" dir="${wanted === "ar" ? "rtl" : "ltr"}"`));
+            const page = await response.text(), direction = wanted === "ar" ? "rtl" : "ltr";
+            assert.match(page, new RegExp(`^<html lang="${wanted}" dir="${direction}">`));
+            const own = { en: "English", de: "Deutsch", "sr-Latn": "srpski", "zh-Hant": "繁體中文", ar: "العربية" }[wanted];
+            assert.match(page, new RegExp(`<p><a href="\\?lang=${wanted}" lang="${wanted}" dir="${direction}">${own}</a> <a `)); // comes first
+            assert.equal(page.match(/<a /g).length, 5);
         }
     } finally {
         server.kill();
