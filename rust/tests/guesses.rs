@@ -105,6 +105,28 @@ fn comparisons() {
 }
 
 #[test]
+fn filters() {
+    let tags = ["de-CH", "DE", "fr"].map(tag);
+    let owned: Vec<LangTagBuf> = tags.iter().map(|tag| tag.to_owned()).collect();
+    let range = LanguageRange::new("de").unwrap();
+    assert_eq!(
+        tags.iter().filter(|tag| range.matches_basic(tag)).count(),
+        2
+    );
+    assert_eq!(
+        owned
+            .iter()
+            .filter(|tag| range.matches_extended(tag))
+            .count(),
+        2
+    );
+    assert!(range.matches_basic(&owned[0]) && range.matches_basic(tags[1]));
+    let accepted = AcceptLanguage::lenient("fr-CA, de;q=0.5");
+    assert_eq!(accepted.look_up(&owned, &owned[0]), "fr");
+    assert_eq!(accepted.look_up(&["en", "de"], &"en"), &"de");
+}
+
+#[test]
 fn methods() {
     let old = tag("iw-BU");
     let owned = old.to_owned();
