@@ -1,4 +1,4 @@
-//! Calls of langtag and langtag_match over one text; `bench/growth.sh` counts how their work grows with it.
+//! Calls of langtag and langtag_match over one string; `bench/growth.sh` counts how their work grows with it.
 ghost use Rattle.std.specs.Prelude.{◌≡◌, length, IsTrue};
 ghost use Rattle.std.specs.Str.{IsUtf8};
 ghost use Rattle.langtag_scan.specs.Subtags.{subtags};
@@ -18,7 +18,7 @@ use langtag_match::{LanguageRange, filter_basic, filter_extended, look_up};
 use std::alloc::{AllocError, Global};
 use std::hash::{DefaultHasher, Hash, Hasher};
 
-/// Returns the hash of a tag, or 0 if the text is not a tag.
+/// Returns the hash of a tag, or 0 if the string is not a tag.
 #[unsafe(no_mangle)]
 pub extern "C" fn langtag_bench_hash(bytes: &[u8]) -> u64
     ensures { (IsTag bytes.now → ⊥) → result ≡ 0 }
@@ -31,7 +31,7 @@ pub extern "C" fn langtag_bench_hash(bytes: &[u8]) -> u64
     hasher.finish()
 }
 
-/// Returns the number of subtags of a tag, or 0 if the text is not a tag.
+/// Returns the number of subtags of a tag, or 0 if the string is not a tag.
 #[unsafe(no_mangle)]
 pub extern "C" fn langtag_bench_subtags(bytes: &[u8]) -> usize
     ensures { IsTag bytes.now → result ≡ length (subtags bytes.now) }
@@ -43,7 +43,7 @@ pub extern "C" fn langtag_bench_subtags(bytes: &[u8]) -> usize
 }
 
 /// Counts the variants, the extensions and the private use subtags of a tag, and returns the greatest of these numbers.
-/// Returns 0 if the text is not a tag.
+/// Returns 0 if the string is not a tag.
 #[unsafe(no_mangle)]
 pub extern "C" fn langtag_bench_walk(bytes: &[u8]) -> usize
     ensures { (IsTag bytes.now → ⊥) → result ≡ 0 }
@@ -69,7 +69,7 @@ pub extern "C" fn langtag_bench_part(alloc: Global, bytes: &[u8]) -> bool
     is_lent_part(text) && is_owned_part(alloc, text).unwrap_or(false)
 }
 
-/// Returns whether a text is a part of a tag, by the borrowed types.
+/// Returns whether a string is a part of a tag, by the borrowed types.
 fn is_lent_part(text: &str) -> bool {
     PrimaryLanguage::new(text).is_ok()
         || ExtendedLangTag::new(text).is_ok()
@@ -86,7 +86,7 @@ fn is_lent_part(text: &str) -> bool {
         || PrivateUse::new(text).is_ok()
 }
 
-/// Returns whether a text is a part of a tag, by the owned types.
+/// Returns whether a string is a part of a tag, by the owned types.
 fn is_owned_part(alloc: Global, text: &str) -> Result<bool, AllocError> {
     Ok(
         PrimaryLanguageBuf::new(String::from_str(alloc, text)?).is_ok()
@@ -105,7 +105,7 @@ fn is_owned_part(alloc: Global, text: &str) -> Result<bool, AllocError> {
     )
 }
 
-/// Returns the number of fallbacks of a range, or 0 if the text is not a range.
+/// Returns the number of fallbacks of a range, or 0 if the string is not a range.
 #[unsafe(no_mangle)]
 pub extern "C" fn langtag_bench_fallbacks(bytes: &[u8]) -> usize
     ensures { IsTrue (is_language_range bytes.now) → result ≡ length (fallbacks bytes.now) }
@@ -116,7 +116,7 @@ pub extern "C" fn langtag_bench_fallbacks(bytes: &[u8]) -> usize
     }
 }
 
-/// Returns whether basic filtering finds one of the twenty tags for the comma-separated ranges in a text. Returns
+/// Returns whether basic filtering finds one of the twenty tags for the comma-separated ranges in a string. Returns
 /// `false` if allocation fails.
 #[unsafe(no_mangle)]
 pub extern "C" fn langtag_bench_filter_basic(alloc: Global, bytes: &[u8]) -> bool
@@ -133,7 +133,7 @@ pub extern "C" fn langtag_bench_filter_basic(alloc: Global, bytes: &[u8]) -> boo
     }
 }
 
-/// Returns whether extended filtering finds one of the twenty tags for the comma-separated ranges in a text. Returns
+/// Returns whether extended filtering finds one of the twenty tags for the comma-separated ranges in a string. Returns
 /// `false` if allocation fails.
 #[unsafe(no_mangle)]
 pub extern "C" fn langtag_bench_filter_extended(alloc: Global, bytes: &[u8]) -> bool
@@ -150,7 +150,7 @@ pub extern "C" fn langtag_bench_filter_extended(alloc: Global, bytes: &[u8]) -> 
     }
 }
 
-/// Looks up a tag among the twenty tags for the comma-separated ranges in a text. Returns whether it is a tag other
+/// Looks up a tag among the twenty tags for the comma-separated ranges in a string. Returns whether it is a tag other
 /// than the default. Returns `false` if allocation fails.
 #[unsafe(no_mangle)]
 pub extern "C" fn langtag_bench_look_up(alloc: Global, bytes: &[u8]) -> bool
@@ -167,7 +167,7 @@ pub extern "C" fn langtag_bench_look_up(alloc: Global, bytes: &[u8]) -> bool
     }
 }
 
-/// Returns the comma-separated ranges in a text.
+/// Returns the comma-separated ranges in a string.
 fn ranges_of(alloc: Global, text: &str) -> Result<Vec<LanguageRange<'_>>, AllocError> {
     let mut ranges = Vec::new(alloc);
     for item in text.split(',') {

@@ -58,7 +58,7 @@ fn chosen_index(alloc: Global, header: &str, tags: &str) -> Result<usize, AllocE
     Ok(index.unwrap_or(tags.len()))
 }
 
-/// Returns the comma-separated tags in a text.
+/// Returns the comma-separated tags in a string.
 fn tags_of(alloc: Global, text: &str) -> Result<Vec<LangTag<'_>>, AllocError> {
     let mut tags = Vec::new(alloc);
     for item in text.split(',') {

@@ -1,4 +1,4 @@
-//! A tag over a text, and all its parts.
+//! A tag over a string, and all its parts.
 ghost use Rattle.std.specs.Prelude.{◌≡◌, ◌↔◌, IsTrue};
 ghost use Rattle.std.specs.Str.{IsUtf8};
 ghost use Rattle.langtag_scan.specs.Record.{EachRecord};
@@ -34,7 +34,7 @@ pub extern "C" fn langtag_bench_lang_tag(bytes: &[u8], lengths: &mut PartLengths
     }
 }
 
-/// Returns whether the bytes are UTF-8. Its time is the cost for a caller that converts the bytes to a text before it
+/// Returns whether the bytes are UTF-8. Its time is the cost for a caller that converts the bytes to a string before it
 /// calls `LangTag::new`.
 #[unsafe(no_mangle)]
 pub extern "C" fn langtag_bench_is_utf8(bytes: &[u8]) -> bool

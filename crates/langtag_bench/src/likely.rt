@@ -7,7 +7,7 @@ use crate::written::{count, write_text};
 use langtag_likely::{PosixError, from_posix, maximized, minimized};
 use std::alloc::Global;
 
-/// Writes the maximal form of a tag into a buffer, if there is room, and returns its length. Returns 0 if the text is
+/// Writes the maximal form of a tag into a buffer, if there is room, and returns its length. Returns 0 if the string is
 /// not a tag, or if an allocation fails. A failed allocation is counted in `refused`.
 #[unsafe(no_mangle)]
 pub extern "C" fn langtag_bench_maximized(

@@ -136,7 +136,7 @@ fn is_private_use_copied(alloc: Global, part: PrivateUse<'_>, refused: &mut usiz
     are_copied
 }
 
-/// Returns whether a part and its copy are displayed as the text of the part. A failed allocation is counted, and the
+/// Returns whether a part and its copy are displayed as the string of the part. A failed allocation is counted, and the
 /// result is then `true`.
 fn is_copied<P: fmt::Display, C: fmt::Display + Drop>(
     alloc: Global,
@@ -156,7 +156,7 @@ fn is_copied<P: fmt::Display, C: fmt::Display + Drop>(
     }
 }
 
-/// Returns whether a copy in the recommended case is displayed as the text, ignoring case. A failed allocation is
+/// Returns whether a copy in the recommended case is displayed as the string, ignoring case. A failed allocation is
 /// counted, and the result is then `true`.
 fn is_recased<C: fmt::Display + Drop>(
     alloc: Global,
@@ -173,7 +173,7 @@ fn is_recased<C: fmt::Display + Drop>(
     }
 }
 
-/// Returns whether a value is displayed as a text. A failed allocation is counted, and the result is then `true`.
+/// Returns whether a value is displayed as a string. A failed allocation is counted, and the result is then `true`.
 fn is_shown<T: fmt::Display>(alloc: Global, value: &T, text: &str, refused: &mut usize) -> bool {
     match format!(in alloc; "{}", value) {
         Ok(shown) => shown.as_str() == text,

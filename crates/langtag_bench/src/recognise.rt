@@ -1,4 +1,4 @@
-//! The recogniser over bytes, and over a text.
+//! The recogniser over bytes, and over a string.
 ghost use Rattle.std.specs.Prelude.{◌≡◌, ◌↔◌, IsTrue, MatchOption};
 ghost use Rattle.langtag_scan.specs.Ends.{HasEnds};
 ghost use Rattle.langtag_scan.specs.Found.{finding, normal_ends};

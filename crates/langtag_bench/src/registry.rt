@@ -15,8 +15,8 @@ use langtag_registry::{
 };
 use std::alloc::Global;
 
-/// Writes the canonical form of a tag into a buffer, if there is room, and returns its length. Returns 0 if the text is
-/// not a tag, or if an allocation fails. A failed allocation is counted in `refused`.
+/// Writes the canonical form of a tag into a buffer, if there is room, and returns its length. Returns 0 if the string
+/// is not a tag, or if an allocation fails. A failed allocation is counted in `refused`.
 #[unsafe(no_mangle)]
 pub extern "C" fn langtag_bench_canonical(
     alloc: Global,

@@ -9,7 +9,7 @@ use langtag_unicode::{SetKeywordError, extensions_form, remove_keyword, set_keyw
 use std::alloc::Global;
 
 /// Writes the canonical form of a tag's extensions `u` and `t` into a buffer, if there is room, and returns its length.
-/// Returns 0 if the text is not a tag, or if an allocation fails. A failed allocation is counted in `refused`.
+/// Returns 0 if the string is not a tag, or if an allocation fails. A failed allocation is counted in `refused`.
 #[unsafe(no_mangle)]
 pub extern "C" fn langtag_bench_extensions_form(
     alloc: Global,

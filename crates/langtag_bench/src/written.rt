@@ -1,13 +1,13 @@
-//! Texts that calls of langtag return, written into the caller's buffer. `bench/growth.sh` compares them with the texts
-//! that it expects.
+//! Strings that calls of langtag return, written into the caller's buffer. `bench/growth.sh` compares them with the
+//! strings that it expects.
 ghost use Rattle.std.specs.Prelude.{◌≡◌, ◌≤◌, length};
 ghost use Rattle.langtag_scan.specs.Tag.{IsTag};
 
 use crate::matching::tag_of;
 use std::alloc::Global;
 
-/// Writes a tag in its recommended case into a buffer, if there is room, and returns its length. Returns 0 if the text
-/// is not a tag, or if an allocation fails. A failed allocation is counted in `refused`.
+/// Writes a tag in its recommended case into a buffer, if there is room, and returns its length. Returns 0 if the
+/// string is not a tag, or if an allocation fails. A failed allocation is counted in `refused`.
 #[unsafe(no_mangle)]
 pub extern "C" fn langtag_bench_recommended(
     alloc: Global,
@@ -45,7 +45,7 @@ pub extern "C" fn langtag_bench_displayed(
     }
 }
 
-/// Writes a text at the start of a buffer, if there is room, and returns its length.
+/// Writes a string at the start of a buffer, if there is room, and returns its length.
 pub(crate) fn write_text(text: &str, into: &mut [u8]) -> usize
     ensures len { result ≡ length text.now }
     ensures room { length into.new ≡ length into.old }
@@ -56,7 +56,7 @@ pub(crate) fn write_text(text: &str, into: &mut [u8]) -> usize
     text.len()
 }
 
-/// Counts one more failed allocation, and returns 0, the length of the empty text.
+/// Counts one more failed allocation, and returns 0, the length of the empty string.
 pub(crate) fn count(refused: &mut usize) -> usize
     ensures { result ≡ 0 }
 {

@@ -6,7 +6,7 @@ ghost use Rattle.langtag_c.specs.Answers.{sign, fnv};
 use langtag_scan::{case_insensitive_cmp, case_insensitive_eq, into_smallcase};
 use std::cmp::Ordering;
 
-/// Returns whether two texts are equal, ignoring the case of ASCII letters.
+/// Returns whether two strings are equal, ignoring the case of ASCII letters.
 #[unsafe(no_mangle)]
 pub extern "C" fn langtag_eq(a: &[u8], b: &[u8]) -> bool
     ensures { result ≡ are_alike a.now b.now }
@@ -14,8 +14,8 @@ pub extern "C" fn langtag_eq(a: &[u8], b: &[u8]) -> bool
     case_insensitive_eq(a, b)
 }
 
-/// Compares two texts by their lowercase bytes, and returns -1, 0 or 1. If one text begins with the other, the shorter
-/// text is greater.
+/// Compares two strings by their lowercase bytes, and returns -1, 0 or 1. If one string begins with the other, the
+/// shorter text is greater.
 #[unsafe(no_mangle)]
 pub extern "C" fn langtag_cmp(a: &[u8], b: &[u8]) -> i32
     ensures { result ≡ sign (case_cmp a.now b.now) }
@@ -39,7 +39,7 @@ pub extern "C" fn langtag_hash(state: u64, bytes: &[u8]) -> u64
     hash
 }
 
-/// Changes ASCII uppercase letters to lowercase, in place, for example to hash a text in another way.
+/// Changes ASCII uppercase letters to lowercase, in place, for example to hash a string in another way.
 #[tactic(auto, unfolding(langtag_scan::specs::Case::fold_byte))]
 #[unsafe(no_mangle)]
 pub extern "C" fn langtag_fold(bytes: &mut [u8])

@@ -1,4 +1,4 @@
-//! The tag that look-up finds for an Accept-Language header (RFC 9110 section 12.5.4, RFC 4647 section 3.4), without
+//! The tag that lookup finds for an Accept-Language header (RFC 9110 section 12.5.4, RFC 4647 section 3.4), without
 //! allocating.
 ghost use Rattle.std.specs.Prelude.{◌≡◌, ◌↔◌, ◌≤◌, IsTrue, length};
 ghost use Rattle.langtag_match.specs.AcceptLanguage.{are_good};
@@ -10,7 +10,7 @@ ghost use Rattle.langtag_span.specs.Spans.{empty_at};
 use langtag_span::{Span, first_bad, index_for_header, number_of};
 
 /// Looks up a tag for an Accept-Language header, and refuses a header with a malformed element. The tags are spans of a
-/// text. Returns 0 if no element is malformed: `index` is then the index of the tag, or the number of spans if look-up
+/// string. Returns 0 if no element is malformed: `index` is then the index of the tag, or the number of spans if lookup
 /// finds none. Returns 2 if the first malformed element has a malformed language range, and 3 if only its weight is
 /// malformed. `bad` is then the span between the commas around that element.
 #[unsafe(no_mangle)]
@@ -43,8 +43,8 @@ pub extern "C" fn langtag_tag_for_header(
 }
 
 /// Looks up a tag for an Accept-Language header, and skips malformed elements. Returns the index of the tag, or the
-/// number of spans if look-up finds none. The tags are spans of a text. A span that is not a tag, or reaches beyond the
-/// text, is skipped.
+/// number of spans if lookup finds none. The tags are spans of a string. A span that is not a tag, or reaches beyond
+/// the string, is skipped.
 #[unsafe(no_mangle)]
 pub extern "C" fn langtag_tag_for_header_lenient(
     header: &[u8],

@@ -24,7 +24,7 @@ pub extern "C" fn langtag_range_kind(bytes: &[u8]) -> u32
 }
 
 /// Returns whether a range matches a tag by basic filtering (RFC 4647 section 3.3.1): `de-DE` matches `de-DE-1996`, but
-/// not `de-Latn-DE`. Returns `false` if the first text is not a range, or the second is not a tag.
+/// not `de-Latn-DE`. Returns `false` if the first string is not a range, or the second is not a tag.
 #[unsafe(no_mangle)]
 pub extern "C" fn langtag_matches_basic(range: &[u8], tag: &[u8]) -> bool
     ensures { IsTrue result ↔ IsRangeMatch MatchesBasic range.now tag.now }
@@ -36,7 +36,7 @@ pub extern "C" fn langtag_matches_basic(range: &[u8], tag: &[u8]) -> bool
 }
 
 /// Returns whether a range matches a tag by extended filtering (RFC 4647 section 3.3.2): `de-DE` and `de-*-DE` match
-/// `de-Latn-DE`. Returns `false` if the first text is not a range, or the second is not a tag.
+/// `de-Latn-DE`. Returns `false` if the first string is not a range, or the second is not a tag.
 #[unsafe(no_mangle)]
 pub extern "C" fn langtag_matches_extended(range: &[u8], tag: &[u8]) -> bool
     ensures { IsTrue result ↔ IsRangeMatch MatchesExtended range.now tag.now }

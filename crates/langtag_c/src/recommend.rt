@@ -8,9 +8,9 @@ ghost use Rattle.langtag.specs.Kinds.{AreOfOneKind};
 
 use langtag_case::make_recommended_case;
 
-/// Changes the letters to their recommended case, in place: `MN-cYRL-mn-X-LATN` becomes `mn-Cyrl-MN-x-latn`. Texts
-/// that differ only in case become the same text. Bytes other than ASCII letters stay as they are, so the text may be
-/// any bytes. A tag keeps its kind, and its parts keep their offsets.
+/// Changes the letters to their recommended case, in place: `MN-cYRL-mn-X-LATN` becomes `mn-Cyrl-MN-x-latn`. Strings
+/// that differ only in case become the same string. Bytes other than ASCII letters stay as they are, so the string may
+/// be any bytes. A tag keeps its kind, and its parts keep their offsets.
 #[tactic(auto, using(langtag_case::proofs::RecommendedLaws::alike_of_recommended))]
 #[unsafe(no_mangle)]
 pub extern "C" fn langtag_recommend(bytes: &mut [u8])

@@ -24,7 +24,7 @@ pub struct Repeated {
 
 /// Returns 1 if a variant of a normal tag equals an earlier one, ignoring case, 2 if a singleton does, and 3 if both
 /// do. Writes where the first repeated variant and singleton are, such as the second `1996` in `de-1996-1996`. Such a
-/// tag is well formed but not valid. Returns 0 for any other text. All of `repeated` is written.
+/// tag is well formed but not valid. Returns 0 for any other string. All of `repeated` is written.
 #[tactic(auto, using(langtag_scan::proofs::SpelledTexts::normal_spelled))]
 #[unsafe(no_mangle)]
 pub extern "C" fn langtag_repeats(bytes: &[u8], repeated: &mut Repeated) -> u32

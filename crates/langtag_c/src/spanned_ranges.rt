@@ -1,11 +1,11 @@
-//! Language ranges as spans of a text.
+//! Language ranges as spans of a string.
 ghost use Rattle.langtag_span.specs.Spanned.{ranges_at};
 
 use langtag_choice::RangeList;
 use langtag_range::WantedRange;
 use langtag_span::{Span, range_in};
 
-/// A text, and spans of it that are language ranges, the most wanted first.
+/// A string, and spans of it that are language ranges, in order of preference.
 #[derive(Clone, Copy)]
 pub(crate) struct SpannedRanges<'a> {
     pub(crate) text: &'a [u8],

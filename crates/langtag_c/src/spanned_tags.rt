@@ -1,11 +1,11 @@
-//! Tags as spans of a text.
+//! Tags as spans of a string.
 ghost use Rattle.langtag_span.specs.TagsAt.{tags_at};
 
 use langtag::LangTag;
 use langtag_choice::TagList;
 use langtag_span::{Span, bytes_in, tag_in};
 
-/// A text, and spans of it that are tags.
+/// A string, and spans of it that are tags.
 #[derive(Clone, Copy)]
 pub(crate) struct SpannedTags<'a> {
     pub(crate) text: &'a [u8],

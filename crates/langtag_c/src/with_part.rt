@@ -7,12 +7,12 @@ ghost use Rattle.langtag_span.specs.NumberedParts.{SetsNamedPart, part_numbered}
 use langtag::write_part;
 use langtag_span::{normal_tag_of, part_of};
 
-/// Writes a normal tag with one part set to a text, and returns its length in bytes. The empty text removes the part.
-/// The parts are numbered in their order, from 0 for the language. If the buffer is too short, it stays unchanged,
-/// and the length says how long a buffer must be.
+/// Writes a normal tag with one part set to a string, and returns its length in bytes. The empty string removes the
+/// part. The parts are numbered in their order, from 0 for the language. If the buffer is too short, it stays
+/// unchanged, and the length says how long a buffer must be.
 ///
-/// Returns 0 and writes nothing if the tag is not a normal tag, or if the text is not a text of this part. A language
-/// cannot be removed.
+/// Returns 0 and writes nothing if the tag is not a normal tag, or if the string is not a string of this part. A
+/// language cannot be removed.
 #[unsafe(no_mangle)]
 pub extern "C" fn langtag_with_part(tag: &[u8], part: u32, text: &[u8], buffer: &mut [u8]) -> usize
     ensures set { CanSet part text.now tag.now →

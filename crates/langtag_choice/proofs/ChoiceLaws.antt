@@ -1,4 +1,4 @@
--- The choice is the only one, answers look-up, is the tag that is equal, and does not change with the case of letters.
+-- The choice is the only one, answers lookup, is the tag that is equal, and does not change with the case of letters.
 use Rattle.std.proofs.Common.{◌≡◌, ℕ, true, List, get_or, Option, Some, None, option_map, ap, refl, sym, subst, ◌∙◌, ◌-◌, ◌==◌, ◌≤◌, false, nat_lt, arith, Ordering, Less, Equal, Greater, inl, inr, ◌<◌, cond, not, [], ◌∷◌, ◌++◌, length, map, filter, All, eq-eqb, IsTrue, length-take, take, Bool, slice_get}
 use Rattle.std.proofs.Math.ListN.{get_or-map}
 use Rattle.std.proofs.Math.Seq.{take-append_seam, drop-append_seam, take-length, drop-length}

@@ -1,4 +1,5 @@
--- Tags that are far from a range, as their first letters and the numbers of languages show, and that look-up does not find.
+-- Tags that are far from a range, as their first letters and the numbers of languages show, and that lookup does not
+-- find.
 use Rattle.std.proofs.Common.{◌≡◌, ℕ, Bool, true, false, ◌||◌, not, ◌==◌, List, [], ◌∷◌, length, inl, inr, refl, sym, ap, subst, ◌∙◌, arith, ◌&&◌, ◌<◌, ◌≤◌, ◌+◌, ◌-◌, ◌*◌, cond, get_or, length-take, take, drop, Option, Some, None, option_map, codes, lit≤}
 use Rattle.std.proofs.lemmas.Bool.Decides.{eqb_tells, nat_tests}
 use Rattle.std.proofs.lemmas.Bool.{and_parts, both_ways, eq-eqb, false_from_ne_true, not_from_true, or_cases, and_from, or_parts, not-true}
@@ -213,7 +214,7 @@ pub none_between : (d s : Fields) → are_alike d.language s.language ≡ true �
 unfolding language_distance
 none_between d s alike = rw alike refl
 
--- ---- what look-up keeps
+-- ---- what lookup keeps
 
 pub nothing_kept :
     (letters begin : ℕ × ℕ) (range tag : List ℕ) → first_two range ≡ Some letters → first_two tag ≡ Some begin → (first_two tag ≡ Some letters → ⊥) → kept range tag ≡ 0

@@ -36,7 +36,7 @@ pub settled_nearer :
 unfolding rank
 settled_nearer c place element index tag serves nearer same = grind (arith, common_steps, ltb-true, and_parts, eqb-true, nat_tests, ltb-false, eqb_tells)
 
--- a tag that is far, and that look-up does not find, does not serve
+-- a tag that is far, and that lookup does not find, does not serve
 pub cannot_serve : (element : Element) (tag : List ℕ) → 50 ≤ distance_of_texts element.range tag → kept element.range tag ≡ 0 → serves element tag ≡ false
 unfolding serves reach
 cannot_serve element tag far none = grind (arith, nat_tests)

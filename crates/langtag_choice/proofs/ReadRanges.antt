@@ -88,7 +88,7 @@ pub range_starts : (range tag left rest : List ℕ) → (left, rest) ≡ after_c
 range_starts range tag left rest is = ap (λ p. length p.1 == 0) is ∙ sym (tag_left (basic_text range) tag)
 
 module _ (range tag left rest : List ℕ) (plain : BeginsPlain left) (is : (basic_text left, rest) ≡ after_common (basic_text range) tag) where
-  -- a tag is what look-up falls back to if the range begins with it
+  -- a tag is what lookup falls back to if the range begins with it
   pub tag_begins : is_fallback (basic_text range) tag ≡ ((length rest == 0) && (ends_subtag (hyphened left) && ((length left == 0) || not (ends_in_single tag))))
   tag_begins =
       let begin = take (length tag) (basic_text range) in

@@ -39,7 +39,7 @@ is_refused elements tag = nat_lt (longest is_wish elements tag) (longest is_excl
 unfoldable pub reach : List ℕ → List ℕ → ℕ
 reach range tag = if nat_lt (distance_of_texts range tag) 50 then distance_of_texts range tag else 50
 
--- whether the distance from a range to a tag is below 50, or look-up of the range finds the tag
+-- whether the distance from a range to a tag is below 50, or lookup of the range finds the tag
 abbrev pub may_serve : List ℕ → List ℕ → Bool
 may_serve range tag = nat_lt (reach range tag) 50 || nat_lt 0 (kept range tag)
 
@@ -49,7 +49,7 @@ serves element tag = is_wish element && (not (is_star element.range) && may_serv
 
 -- ---- which pair of a range and a tag is better
 
--- how well a tag serves a range: best at a distance below 16, then at a distance below 50, and then if only look-up
+-- how well a tag serves a range: best at a distance below 16, then at a distance below 50, and then if only lookup
 -- finds the tag. Limits that differ a little would give the same result, since no distance is from 15 to 19 or from 45
 -- to 49
 abbrev pub service : ℕ → ℕ
@@ -57,7 +57,7 @@ service distance = if nat_lt distance 16 then 0 else if nat_lt distance 50 then 
 
 -- the rank of a tag for a range, as a list of numbers. The first four are how well the tag serves the range, 1 minus
 -- the weight of the range in thousandths, the number of ranges before the range, and the distance. The last three are
--- how many bytes look-up removes from the range (all if it does not find the tag), how unlikely the region of the tag
+-- how many bytes lookup removes from the range (all if it does not find the tag), how unlikely the region of the tag
 -- is, and the index of the tag
 unfoldable pub rank : ℕ → Element → ℕ → List ℕ → List ℕ
 rank place element index tag =

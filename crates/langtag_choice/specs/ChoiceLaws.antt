@@ -11,14 +11,14 @@ use Rattle.langtag_choice.specs.Best.{IsChoice, is_refused, is_wish}
 abbrev pub IsOnlyChoice : List Element → List (Option (List ℕ)) → Option ℕ → Type 0
 IsOnlyChoice elements tags answer = (other : Option ℕ) → IsChoice elements tags other → other ≡ answer
 
--- ---- where look-up finds a tag
+-- ---- where lookup finds a tag
 
--- look-up of a range finds a tag: the tag equals the range or one of its fallbacks (RFC 4647 section 3.4), ignoring
+-- lookup of a range finds a tag: the tag equals the range or one of its fallbacks (RFC 4647 section 3.4), ignoring
 -- case
 abbrev pub FallsBackTo : List ℕ → List ℕ → Type 0
 FallsBackTo range tag = (text : List ℕ) × Contains (fallbacks range) text × Alike text tag
 
--- if look-up of a range with a weight above 0 finds a tag that is not refused, then some tag is chosen
+-- if lookup of a range with a weight above 0 finds a tag that is not refused, then some tag is chosen
 abbrev pub AnswersLookUp : List Element → List (Option (List ℕ)) → Option ℕ → Type 0
 AnswersLookUp elements tags answer =
     (place : ℕ) (element : Element) (index : ℕ) (tag : List ℕ) → slice_get elements place ≡ Some element → IsTrue (is_wish element) → is_star element.range ≡ false →

@@ -110,7 +110,7 @@ are_alike_forms desired supported None form = are_alike desired supported
 are_alike_forms desired supported (Some a) None = are_alike desired supported
 are_alike_forms desired supported (Some a) (Some b) = are_alike_fields a b
 
--- the distance is 0 exactly if the matching forms are equal
+-- the distance is 0 if and only if the matching forms are equal
 abbrev pub ZeroIfEqual : List ℕ → List ℕ → ℕ → Type 0
 ZeroIfEqual desired supported distance =
     (distance == 0) ≡ are_alike_forms desired supported (matching_form desired) (matching_form supported)

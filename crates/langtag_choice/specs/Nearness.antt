@@ -9,7 +9,7 @@ use Rattle.langtag_likely.specs.Maximal.{suffices}
 use Rattle.langtag_range.specs.Basic.{ends_subtag}
 use Rattle.langtag_range.specs.Fallback.{ends_in_single}
 
--- ---- the part of a range that look-up keeps (RFC 4647 section 3.4)
+-- ---- the part of a range that lookup keeps (RFC 4647 section 3.4)
 
 -- whether a tag equals a range, or equals the text before one of the range's hyphens and does not end in a subtag of a
 -- single character
@@ -17,7 +17,7 @@ abbrev pub is_fallback : List ℕ → List ℕ → Bool
 is_fallback range tag =
     are_alike (take (length tag) range) tag && (ends_subtag (drop (length tag) range) && ((length tag == length range) || not (ends_in_single tag)))
 
--- the number of bytes of a range that look-up keeps when it finds a tag, or 0 if it does not find the tag
+-- the number of bytes of a range that lookup keeps when it finds a tag, or 0 if it does not find the tag
 unfoldable pub kept : List ℕ → List ℕ → ℕ
 kept range tag = if is_fallback range tag then length tag else 0
 

@@ -11,7 +11,7 @@ use langtag_likely::{TagFields, basic_len};
 use std::cmp::Ordering;
 
 /// How well a tag serves a range, the best first: at a distance below 16, at a distance below 50, or because only
-/// look-up finds it.
+/// lookup finds it.
 #[derive(Clone, Copy, PartialEq, Eq, PartialOrd, Ord)]
 pub(crate) enum Service {
     Near,
@@ -24,7 +24,7 @@ impl Service {
     ghost use Rattle.langtag_choice.specs.Best.{service};
     ghost use Rattle.langtag_choice.specs.Found.{service_number};
 
-    /// Returns how well a tag serves a range at a distance, which is 50 if only look-up finds the tag.
+    /// Returns how well a tag serves a range at a distance, which is 50 if only lookup finds the tag.
     pub(crate) fn at(distance: u8) -> Service
         ensures { service_number result ≡ service distance }
     {
@@ -58,7 +58,7 @@ pub(crate) struct Rank {
     pub(crate) lack: u32,
     /// The number of ranges before the range.
     pub(crate) place: usize,
-    /// The distance of the tag, which is 50 if only look-up finds the tag.
+    /// The distance of the tag, which is 50 if only lookup finds the tag.
     pub(crate) distance: u8,
 }
 
@@ -112,7 +112,7 @@ impl Candidate<'_, '_> {
         }
     }
 
-    /// Returns whether this candidate is better than another of the same rank. It compares how much look-up removes
+    /// Returns whether this candidate is better than another of the same rank. It compares how much lookup removes
     /// from the range, then how likely the region is, and then the index.
     #[tactic(auto, unfolding(crate::specs::Nearness::unlikely))]
     fn breaks_tie(&self, other: &Candidate<'_, '_>) -> bool
@@ -129,7 +129,7 @@ impl Candidate<'_, '_> {
         self.index < other.index
     }
 
-    /// Returns how many bytes look-up removes from the range to find the tag, or the length of the range if look-up
+    /// Returns how many bytes lookup removes from the range to find the tag, or the length of the range if lookup
     /// does not find the tag.
     fn lost(&self) -> usize
         ensures { result ≡ length (basic_text self.now.range.now) - kept (basic_text self.now.range.now) self.now.tag.now }

@@ -11,7 +11,7 @@ use crate::matching_tables as tables;
 use langtag_range::is_separator;
 use langtag_scan::into_smallcase;
 
-/// Returns the first two bytes of a text, in lowercase.
+/// Returns the first two bytes of a string, in lowercase.
 pub(crate) fn first_two(text: &[u8]) -> Option<(u8, u8)>
     ensures { result ≡ spec.first_two text.now }
 {
@@ -21,8 +21,8 @@ pub(crate) fn first_two(text: &[u8]) -> Option<(u8, u8)>
     }
 }
 
-/// Returns `true` only if the language of a text has two letters and no extended language follows it, or the text does
-/// not begin with a language.
+/// Returns `true` only if the language of a string has two letters and no extended language follows it, or the string
+/// does not begin with a language.
 pub(crate) fn is_short(text: &[u8]) -> bool
     ensures { IsTrue result → spec.IsShort text.now }
 {
@@ -33,14 +33,14 @@ pub(crate) fn is_short(text: &[u8]) -> bool
     }
 }
 
-/// Returns whether the first subtag of a text is neither empty nor `*`, and is not an extended language.
+/// Returns whether the first subtag of a string is neither empty nor `*`, and is not an extended language.
 fn has_no_extended(text: &[u8]) -> bool
     ensures { IsTrue result → spec.HasNoExtended text.now }
 {
     begins_counted(text) && !may_be_extended(text)
 }
 
-/// Returns whether the first subtag of a text is neither empty nor `*`.
+/// Returns whether the first subtag of a string is neither empty nor `*`.
 fn begins_counted(text: &[u8]) -> bool
     ensures { result ≡ spec.begins_counted text.now }
 {
@@ -50,7 +50,7 @@ fn begins_counted(text: &[u8]) -> bool
     }
 }
 
-/// Returns whether a text may begin with an extended language. A region of three digits is not an extended language.
+/// Returns whether a string may begin with an extended language. A region of three digits is not an extended language.
 #[tactic(auto, using(crate::proofs::FarTags::few_extended, crate::proofs::FarTags::extended_letter, crate::proofs::FarTags::extended_mark))]
 fn may_be_extended(text: &[u8]) -> bool
     ensures { result ≡ false → is_extended (before_first is_separator text.now) ≡ false }

@@ -11,7 +11,7 @@ use crate::nearness::measured;
 use crate::wish::Wish;
 
 /// Returns the distance below which a tag may be better than the candidate, for a range with this `weight` and `place`.
-/// It is 0 if no tag can be better, and 51 if even a tag that only look-up finds may be better.
+/// It is 0 if no tag can be better, and 51 if even a tag that only lookup finds may be better.
 #[tactic(auto, using(crate::proofs::FoundLaws::reach_most))]
 pub(crate) fn limit(found: &Option<Candidate<'_, '_>>, weight: u32, place: usize) -> u8
     ensures { (element : Element) (index : ℕ) (tag : List ℕ) → element.weight ≡ weight → result ≤ spec.reach element.range tag → IsNotAfter found.now (spec.rank place element index tag) }
@@ -42,8 +42,8 @@ fn lack(weight: u32) -> u32
     1000_u32.saturating_sub(weight)
 }
 
-/// Replaces the candidate by the text at an index, if the text may serve a range and is better. It does not check
-/// that the text is a tag.
+/// Replaces the candidate by the string at an index, if the string may serve a range and is better. It does not check
+/// that the string is a tag.
 #[tactic(auto, using(crate::proofs::FoundLaws::cannot_serve))]
 pub(crate) fn improve<'a, 't>(
     found: &mut Option<Candidate<'a, 't>>,
@@ -89,7 +89,7 @@ fn is_first(next: &Candidate<'_, '_>, found: &Option<Candidate<'_, '_>>) -> bool
     }
 }
 
-/// Returns the text at an index as a candidate for a range, if the text may serve the range and is nearer than a
+/// Returns the string at an index as a candidate for a range, if the string may serve the range and is nearer than a
 /// limit.
 #[tactic(auto, unfolding(crate::specs::Best::rank, crate::specs::Best::serves))]
 fn as_candidate<'a, 't>(

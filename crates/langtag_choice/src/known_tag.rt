@@ -8,10 +8,10 @@ use crate::prepared_tag::PreparedTag;
 use crate::wish::Wish;
 use langtag_likely::{TagFields, matching_form};
 
-/// A tag as the choice reads it: a text, or a tag with what was computed of it before.
+/// A tag as the choice reads it: a string, or a tag with what was computed of it before.
 #[derive(Clone, Copy)]
 pub enum KnownTag<'t> {
-    /// The text of a tag.
+    /// The string of a tag.
     Text(&'t [u8]),
     /// A tag that was prepared.
     Prepared(&'t PreparedTag<'t>),
@@ -23,7 +23,7 @@ impl<'t> KnownTag<'t> {
     ghost use Rattle.langtag_choice.specs.Nearness.{kept};
     ghost use Rattle.langtag_range.specs.Listed.{basic_text};
 
-    /// Returns the text of the tag.
+    /// Returns the string of the tag.
     pub(crate) fn bytes(self) -> &'t [u8]
         ensures { result.now ≡ known_text self.entry }
     {

@@ -1,5 +1,5 @@
 //! The choice of the best tag for an Accept-Language header (RFC 9110 section 12.5.4) or for language ranges (RFC
-//! 4647). It uses the distance of tags (UTS #35, part 1, section 'Language Matching') and, if no tag is near, look-up.
+//! 4647). It uses the distance of tags (UTS #35, part 1, section 'Language Matching') and, if no tag is near, lookup.
 //!
 //! ```
 //! use langtag::LangTag;

@@ -30,7 +30,7 @@ pub(crate) struct Nearness<'t> {
 }
 
 /// Returns how near a tag is to a range that the tag may serve, if the distance is below a limit. The distance is 50
-/// if only look-up finds the tag.
+/// if only lookup finds the tag.
 #[tactic(auto, unfolding(crate::specs::Best::reach))]
 pub(crate) fn measured<'t>(limit: u8, wish: &Wish<'_>, tag: KnownTag<'t>) -> Option<Nearness<'t>>
     ensures { MatchOption result (IsTrue (may_serve (basic_text wish.now.range.now) (known_text tag.entry)) → limit ≤ reach (basic_text wish.now.range.now) (known_text tag.entry))
@@ -59,7 +59,7 @@ fn nearer_than<'t>(limit: u8, wish: &Wish<'_>, tag: KnownTag<'t>) -> Option<Near
     }
 }
 
-/// Returns how near a text is to a range, if it is nearer than a limit.
+/// Returns how near a string is to a range, if it is nearer than a limit.
 #[tactic(auto, unfolding(crate::specs::Distance::distance_of_texts), using(langtag_likely::proofs::CompletedForms::form_completed))]
 fn nearer_text<'t>(limit: u8, wish: &Wish<'_>, tag: &'t [u8]) -> Option<Nearness<'t>>
     ensures { MatchOption result (limit ≤ distance_of_texts (basic_text wish.now.range.now) tag.now)
@@ -164,7 +164,7 @@ fn equal_text<'t>(limit: u8, range: &[u8], tag: &'t [u8]) -> Option<Nearness<'t>
     })
 }
 
-/// Returns the number of bytes of a range that look-up keeps when it finds a tag, or 0 if it does not find the tag.
+/// Returns the number of bytes of a range that lookup keeps when it finds a tag, or 0 if it does not find the tag.
 #[tactic(auto, unfolding(crate::specs::Nearness::kept))]
 pub(crate) fn kept(range: &[u8], tag: &[u8]) -> usize
     ensures { result ≡ spec.kept (basic_text range.now) tag.now }
@@ -176,7 +176,7 @@ pub(crate) fn kept(range: &[u8], tag: &[u8]) -> usize
     }
 }
 
-/// Returns whether a tag equals a range, or equals the text before one of the range's hyphens and does not end in a
+/// Returns whether a tag equals a range, or equals the string before one of the range's hyphens and does not end in a
 /// subtag of a single character.
 #[tactic(auto, using(crate::proofs::ReadRanges::tag_begins))]
 fn is_fallback(range: &[u8], tag: &[u8]) -> bool
@@ -186,7 +186,7 @@ fn is_fallback(range: &[u8], tag: &[u8]) -> bool
     rest.is_empty() && may_go(left, tag)
 }
 
-/// Returns whether look-up can remove `left`, the rest of a range after a tag. This holds if `left` is empty, or if it
+/// Returns whether lookup can remove `left`, the rest of a range after a tag. This holds if `left` is empty, or if it
 /// begins with a hyphen and the tag does not end in a subtag of a single character.
 fn may_go(left: &[u8], tag: &[u8]) -> bool
     ensures { result ≡ (ends_subtag (hyphened left.now) && ((length left.now == 0) || not (ends_in_single tag.now))) }

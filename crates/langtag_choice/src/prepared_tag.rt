@@ -100,7 +100,7 @@ impl<'t> PreparedTag<'t> {
 }
 
 impl Head {
-    /// Returns the first letters of a text and the number of its language, or `None` if the language has more than
+    /// Returns the first letters of a string and the number of its language, or `None` if the language has more than
     /// three letters.
     #[tactic(auto, using(crate::proofs::FarTags::number_is, langtag_likely::proofs::FieldClasses::language_letters))]
     fn of(text: &[u8], form: Option<TagFields<'_>>) -> Option<Head>

@@ -62,7 +62,7 @@ fn rule_keys(from: u32) -> &'static [u32]
     &keys[start..end]
 }
 
-/// Returns the index of the first number that is at least `least`, in a list of rising numbers.
+/// Returns the index of the first number that is at least `least`, in a list of ascending numbers.
 fn place(numbers: &[u32], least: u32) -> usize
     requires { IsTrue (climbs_from 0 numbers.now) }
     ensures within { result ≤ length numbers.now }

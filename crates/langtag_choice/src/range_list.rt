@@ -58,7 +58,7 @@ impl<'a> RangeList<'a> for &'a [WeightedRange<'a>] {
     }
 }
 
-/// Ranges, the most wanted first.
+/// Ranges, in order of preference.
 #[tactic(auto, using(langtag_range::proofs::AsciiRanges::hyphened_range))]
 impl<'a> RangeList<'a> for &'a [LanguageRange<'a>] {
     ghost elements = { λ ranges. ordered_elements ranges.now };

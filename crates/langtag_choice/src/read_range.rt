@@ -15,7 +15,7 @@ pub(crate) fn is_star(range: &[u8]) -> bool
     are_alike(range, b"*")
 }
 
-/// Returns whether a range begins with the whole text of a tag, ignoring case.
+/// Returns whether a range begins with the whole string of a tag, ignoring case.
 pub(crate) fn starts(range: &[u8], tag: &[u8]) -> bool
     ensures { result ≡ are_alike (take (length tag.now) (basic_text range.now)) tag.now }
 {

@@ -55,7 +55,7 @@ pub fn distance(desired: LangTag<'_>, supported: LangTag<'_>) -> u8
     texts_distance(desired.as_bytes(), supported.as_bytes())
 }
 
-/// Returns the distance of two texts.
+/// Returns the distance of two strings.
 #[tactic(auto, unfolding(crate::specs::Distance::distance_of_texts))]
 fn texts_distance(desired: &[u8], supported: &[u8]) -> u8
     ensures distance { result ≡ spec.distance_of_texts desired.now supported.now }
@@ -91,7 +91,7 @@ fn formless_range_distance(range: &[u8], tag: &[u8]) -> u8
     }
 }
 
-/// Returns the distance of two texts if one of them has no matching form.
+/// Returns the distance of two strings if one of them has no matching form.
 fn formless_distance(desired: &[u8], supported: &[u8]) -> u8
     ensures distance { result ≡ spec.formless_distance desired.now supported.now }
     ensures equal { (result == 0) ≡ are_alike desired.now supported.now }
@@ -103,7 +103,7 @@ fn formless_distance(desired: &[u8], supported: &[u8]) -> u8
     }
 }
 
-/// Returns the distance of two matching forms: 0 exactly if they are equal, ignoring case.
+/// Returns the distance of two matching forms: 0 if and only if they are equal, ignoring case.
 fn fields_distance(desired: TagFields<'_>, supported: TagFields<'_>) -> u8
     ensures distance { result ≡ spec.fields_distance (field_texts desired.entry) (field_texts supported.entry) }
     ensures most { result ≤ 134 }

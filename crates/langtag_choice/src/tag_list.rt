@@ -44,7 +44,7 @@ pub trait TagList {
         requires { index < length (texts self.now) }
         ensures { option_map lang_tag_text result ≡ slice_index_or (texts self.now) index None };
 
-    /// Returns the text of the tag at an index. If the entry is not a tag, any text may be returned.
+    /// Returns the string of the tag at an index. If the entry is not a tag, any string may be returned.
     fn bytes_at(&self, index: usize) -> &[u8]
         requires { index < length (texts self.now) }
         ensures { ForSome (slice_index_or (texts self.now) index None) (λ text. result.now ≡ text) };

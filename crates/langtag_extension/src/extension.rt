@@ -14,7 +14,7 @@ use std::fmt;
 use std::fmt::Debug;
 use thiserror::Error;
 
-/// The error for a text that is not an extension. It contains the text.
+/// The error for a string that is not an extension. It contains the string.
 ///
 /// ```
 /// use langtag_extension::Extension;
@@ -30,7 +30,7 @@ pub struct InvalidExtension<T>(pub T);
 /// An extension (RFC 5646 section 2.2.6): a singleton and one or more subtags of two to eight letters and digits, such
 /// as `u-co-phonebk`.
 ///
-/// Two extensions are equal if their texts differ only in the case of ASCII letters, such as `u-co` and `U-CO`.
+/// Two extensions are equal if their strings differ only in the case of ASCII letters, such as `u-co` and `U-CO`.
 ///
 /// ```
 /// use langtag_extension::Extension;
@@ -50,11 +50,11 @@ impl<'a> Extension<'a> {
     ghost use Rattle.langtag_extension.specs.Compared.{ExtensionsCompareByCase};
     ghost use Rattle.langtag_extension.specs.Text.{singleton_byte, extension_text, extension_buf_text, extension_subtags_left};
 
-    /// Parses a text as an extension: `Extension::new("u-co-phonebk")` is `Ok`.
+    /// Parses a string as an extension: `Extension::new("u-co-phonebk")` is `Ok`.
     ///
     /// # Errors
     ///
-    /// Returns the text if it is not one extension: `Extension::new("a")`, which has no subtag, is
+    /// Returns the string if it is not one extension: `Extension::new("a")`, which has no subtag, is
     /// `Err(InvalidExtension("a"))`. Other examples are `a-bb-b-cc`, which is two extensions, and `x-bb`, which is a
     /// private use part.
     pub fn new(text: &'a str) -> Result<Extension<'a>, InvalidExtension<&'a str>>
@@ -68,7 +68,7 @@ impl<'a> Extension<'a> {
         Ok(Extension::from_checked(text))
     }
 
-    /// Wraps a text that is known to be an extension, without checking it.
+    /// Wraps a string that is known to be an extension, without checking it.
     /// `Extension::from_checked(extension.as_str())` is equal to `extension`.
     pub fn from_checked(text: &'a str) -> Extension<'a>
         requires { IsExtension text.now }
@@ -79,7 +79,7 @@ impl<'a> Extension<'a> {
         }
     }
 
-    /// Returns the text, in its original case: `Extension::new("U-CO")?.as_str()` is `"U-CO"`.
+    /// Returns the string, in its original case: `Extension::new("U-CO")?.as_str()` is `"U-CO"`.
     pub fn as_str(&self) -> &'a str
         ensures same_text { result.now ≡ extension_text self.now }
         ensures in_class { IsExtension result.now }
@@ -87,14 +87,14 @@ impl<'a> Extension<'a> {
         self.text.0
     }
 
-    /// Returns the text as bytes: `Extension::new("U-CO")?.as_bytes()` is `b"U-CO"`.
+    /// Returns the string as bytes: `Extension::new("U-CO")?.as_bytes()` is `b"U-CO"`.
     pub fn as_bytes(&self) -> &'a [u8]
         ensures { result.now ≡ extension_text self.now }
     {
         self.as_str().as_bytes()
     }
 
-    /// Returns whether another text equals this text, ignoring the case of ASCII letters:
+    /// Returns whether another string equals this string, ignoring the case of ASCII letters:
     /// `Extension::new("u-co")?.eq_str("U-CO")` is `true`. It is proved that comparisons and hashes also ignore case,
     /// and that a clone is the same value.
     #[tactic(auto, using(langtag_scan::proofs::CaseOrder::bytes_ends_first, crate::proofs::Rules::alike_extension))]
@@ -109,7 +109,7 @@ impl<'a> Extension<'a> {
         self.text == Caseless(other)
     }
 
-    /// Copies the text into an owned value: `Extension::new("U-CO")?.try_to_owned(alloc)?.as_str()` is `"U-CO"`.
+    /// Copies the string into an owned value: `Extension::new("U-CO")?.try_to_owned(alloc)?.as_str()` is `"U-CO"`.
     ///
     /// # Errors
     ///
@@ -232,7 +232,7 @@ impl ExtensionBuf {
         Extension::from_checked(self.as_str())
     }
 
-    /// Returns the text, in its original case: `Extension::new("U-CO")?.try_to_owned(alloc)?.as_str()` is `"U-CO"`.
+    /// Returns the string, in its original case: `Extension::new("U-CO")?.try_to_owned(alloc)?.as_str()` is `"U-CO"`.
     pub fn as_str(&self) -> &str
         ensures same_text { result.now ≡ extension_buf_text self.now }
         ensures in_class { IsExtension result.now }
@@ -261,7 +261,7 @@ impl fmt::Display for ExtensionBuf {
     }
 }
 
-/// Returns whether the text is a singleton and at least one subtag of an extension, joined by hyphens.
+/// Returns whether the string is a singleton and at least one subtag of an extension, joined by hyphens.
 pub(crate) fn is_extension(text: &str) -> bool
     ensures { result ≡ is_extension_text text.now }
 {

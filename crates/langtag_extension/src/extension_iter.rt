@@ -50,7 +50,7 @@ impl<'a> ExtensionIter<'a> {
     }
 }
 
-/// Returns the subtags of a text except the first, which is the singleton.
+/// Returns the subtags of a string except the first, which is the singleton.
 fn after_singleton<'a>(text: &'a str) -> Subtags<'a>
     ensures { result ≡ drop 1 (subtags text.now) }
 {

@@ -12,7 +12,7 @@ use std::fmt;
 use std::fmt::Debug;
 use thiserror::Error;
 
-/// The error for a text that is not a subtag of an extension. It contains the text.
+/// The error for a string that is not a subtag of an extension. It contains the string.
 ///
 /// ```
 /// use langtag_extension::ExtensionSubtag;
@@ -28,7 +28,7 @@ pub struct InvalidExtensionSubtag<T>(pub T);
 /// A subtag of an extension (RFC 5646 section 2.2.6): two to eight letters and digits, such as `phonebk` in
 /// `u-co-phonebk`.
 ///
-/// Two subtags are equal if their texts differ only in the case of ASCII letters, such as `co` and `CO`.
+/// Two subtags are equal if their strings differ only in the case of ASCII letters, such as `co` and `CO`.
 ///
 /// ```
 /// use langtag_extension::ExtensionSubtag;
@@ -47,11 +47,11 @@ impl<'a> ExtensionSubtag<'a> {
     ghost use Rattle.langtag_extension.specs.Compared.{ExtensionSubtagsCompareByCase};
     ghost use Rattle.langtag_extension.specs.Text.{extension_subtag_text, extension_subtag_buf_text};
 
-    /// Parses a text as a subtag: `ExtensionSubtag::new("co")` is `Ok`.
+    /// Parses a string as a subtag: `ExtensionSubtag::new("co")` is `Ok`.
     ///
     /// # Errors
     ///
-    /// Returns the text if it is not two to eight letters and digits: `ExtensionSubtag::new("c")` is
+    /// Returns the string if it is not two to eight letters and digits: `ExtensionSubtag::new("c")` is
     /// `Err(InvalidExtensionSubtag("c"))`.
     #[tactic(auto, using(crate::proofs::Numbers::extension_subtag_numbers))]
     pub fn new(text: &'a str) -> Result<ExtensionSubtag<'a>, InvalidExtensionSubtag<&'a str>>
@@ -67,7 +67,7 @@ impl<'a> ExtensionSubtag<'a> {
         Ok(ExtensionSubtag::from_checked(text))
     }
 
-    /// Wraps a text that is known to be a subtag of an extension, without checking it.
+    /// Wraps a string that is known to be a subtag of an extension, without checking it.
     /// `ExtensionSubtag::from_checked(subtag.as_str())` is equal to `subtag`.
     pub fn from_checked(text: &'a str) -> ExtensionSubtag<'a>
         requires { IsTrue (class.is_extension_subtag text.now) }
@@ -78,7 +78,7 @@ impl<'a> ExtensionSubtag<'a> {
         }
     }
 
-    /// Returns the text, in its original case: `ExtensionSubtag::new("CO")?.as_str()` is `"CO"`.
+    /// Returns the string, in its original case: `ExtensionSubtag::new("CO")?.as_str()` is `"CO"`.
     pub fn as_str(&self) -> &'a str
         ensures same_text { result.now ≡ extension_subtag_text self.now }
         ensures in_class { IsTrue (class.is_extension_subtag result.now) }
@@ -86,14 +86,14 @@ impl<'a> ExtensionSubtag<'a> {
         self.text.0
     }
 
-    /// Returns the text as bytes: `ExtensionSubtag::new("CO")?.as_bytes()` is `b"CO"`.
+    /// Returns the string as bytes: `ExtensionSubtag::new("CO")?.as_bytes()` is `b"CO"`.
     pub fn as_bytes(&self) -> &'a [u8]
         ensures { result.now ≡ extension_subtag_text self.now }
     {
         self.as_str().as_bytes()
     }
 
-    /// Returns whether another text equals this text, ignoring the case of ASCII letters:
+    /// Returns whether another string equals this string, ignoring the case of ASCII letters:
     /// `ExtensionSubtag::new("co")?.eq_str("CO")` is `true`. It is proved that comparisons and hashes also ignore case,
     /// and that a clone is the same value.
     #[tactic(auto, using(langtag_scan::proofs::CaseOrder::bytes_ends_first, langtag_scan::proofs::AlikeClasses::alike_extension_subtag))]
@@ -108,7 +108,7 @@ impl<'a> ExtensionSubtag<'a> {
         self.text == Caseless(other)
     }
 
-    /// Copies the text into an owned value: `ExtensionSubtag::new("CO")?.try_to_owned(alloc)?.as_str()` is `"CO"`.
+    /// Copies the string into an owned value: `ExtensionSubtag::new("CO")?.try_to_owned(alloc)?.as_str()` is `"CO"`.
     ///
     /// # Errors
     ///
@@ -190,7 +190,7 @@ impl ExtensionSubtagBuf {
         ExtensionSubtag::from_checked(self.as_str())
     }
 
-    /// Returns the text, in its original case: `ExtensionSubtag::new("CO")?.try_to_owned(alloc)?.as_str()` is `"CO"`.
+    /// Returns the string, in its original case: `ExtensionSubtag::new("CO")?.try_to_owned(alloc)?.as_str()` is `"CO"`.
     pub fn as_str(&self) -> &str
         ensures same_text { result.now ≡ extension_subtag_buf_text self.now }
         ensures in_class { IsTrue (class.is_extension_subtag result.now) }

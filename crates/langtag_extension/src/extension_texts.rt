@@ -1,4 +1,4 @@
-//! An iterator over the texts of the extensions in a text.
+//! An iterator over the strings of the extensions in a string.
 ghost use Rattle.std.specs.Prelude.{◌≡◌, ◌++◌, ◌∷◌, List, ℕ, IsTrue, MatchOption, drop, ⊤};
 ghost use Rattle.std.specs.Iterator.{YieldsFirstRef, item_count};
 ghost use Rattle.std.specs.List.{list_all};
@@ -9,7 +9,7 @@ use langtag_scan::segment_end;
 use std::alloc::AllocError;
 use std::marker::Model;
 
-/// An iterator over the texts of extensions. The whole text is split before each subtag of one byte.
+/// An iterator over the strings of extensions. The whole string is split before each subtag of one byte.
 #[derive(Debug, Drop)]
 pub(crate) struct ExtensionTexts<'a> {
     rest: Option<&'a str>,
@@ -22,7 +22,7 @@ impl<'a> Model for ExtensionTexts<'a> {
 }
 
 impl<'a> ExtensionTexts<'a> {
-    /// Returns an iterator over the extensions of a text. The empty text has none.
+    /// Returns an iterator over the extensions of a string. The empty string has none.
     pub(crate) fn new(text: &'a str) -> Self
         ensures { result ≡ extension_texts text.now }
     {
@@ -58,8 +58,8 @@ impl<'a> Iterator for ExtensionTexts<'a> {
     }
 }
 
-/// Returns the text of the first extension, and the text of the other extensions if there are any, without the hyphen
-/// in between.
+/// Returns the string of the first extension, and the string of the other extensions if there are any, without the
+/// hyphen in between.
 #[tactic(auto, using(langtag_scan::proofs::SubtagLists::splits))]
 fn split_extension<'a>(text: &'a str) -> (&'a str, Option<&'a str>)
     ensures joined { MatchOption result.1 (text.now ≡ result.0.now) (λ rest. text.now ≡ result.0.now ++ 45 ∷ rest.now) }
@@ -73,8 +73,8 @@ fn split_extension<'a>(text: &'a str) -> (&'a str, Option<&'a str>)
     (&text[..end], Some(&text[end + 1..]))
 }
 
-/// Returns where the first extension of a text ends: at the first hyphen that is followed by a subtag of one byte, or
-/// at the end of the text. The first subtag, which is the singleton, does not end the extension.
+/// Returns where the first extension of a string ends: at the first hyphen that is followed by a subtag of one byte, or
+/// at the end of the string. The first subtag, which is the singleton, does not end the extension.
 pub fn first_extension_end(text: &[u8]) -> usize
     ensures { IsFirstExtension text.now result }
 {

@@ -17,7 +17,7 @@ use std::fmt;
 use std::fmt::Debug;
 use thiserror::Error;
 
-/// The error for a text that is not a list of extensions. It contains the text.
+/// The error for a string that is not a list of extensions. It contains the string.
 ///
 /// ```
 /// use langtag_extension::Extensions;
@@ -31,10 +31,10 @@ use thiserror::Error;
 pub struct InvalidExtensions<T>(pub T);
 
 /// The extensions of a tag (RFC 5646 section 2.2.6), joined by hyphens, such as `a-ext1-ext2-u-co-phonebk`. The empty
-/// text means no extensions.
+/// string means no extensions.
 ///
 /// A singleton may occur twice: a tag with such a list is well formed but not valid (section 2.2.9). Two lists of
-/// extensions are equal if their texts differ only in the case of ASCII letters, such as `u-co` and `U-CO`.
+/// extensions are equal if their strings differ only in the case of ASCII letters, such as `u-co` and `U-CO`.
 ///
 /// ```
 /// use langtag_extension::Extensions;
@@ -58,11 +58,11 @@ impl<'a> Extensions<'a> {
     /// No extensions: `Extensions::EMPTY.as_str()` is `""`.
     pub const EMPTY: Extensions<'static> = Extensions { text: Caseless("") };
 
-    /// Parses a text as extensions: `Extensions::new("a-ext1-u-co")` and `Extensions::new("")` are `Ok`.
+    /// Parses a string as extensions: `Extensions::new("a-ext1-u-co")` and `Extensions::new("")` are `Ok`.
     ///
     /// # Errors
     ///
-    /// Returns the text if it is not a list of extensions joined by hyphens: `Extensions::new("u-")` is
+    /// Returns the string if it is not a list of extensions joined by hyphens: `Extensions::new("u-")` is
     /// `Err(InvalidExtensions("u-"))`.
     pub fn new(text: &'a str) -> Result<Extensions<'a>, InvalidExtensions<&'a str>>
         ensures accepts { IsTrue (is_ok result) ↔ IsExtensions text.now }
@@ -75,7 +75,7 @@ impl<'a> Extensions<'a> {
         Ok(Extensions::from_checked(text))
     }
 
-    /// Wraps a text that is known to be a list of extensions, without checking it.
+    /// Wraps a string that is known to be a list of extensions, without checking it.
     /// `Extensions::from_checked(extensions.as_str())` is equal to `extensions`.
     pub fn from_checked(text: &'a str) -> Extensions<'a>
         requires { IsExtensions text.now }
@@ -86,7 +86,7 @@ impl<'a> Extensions<'a> {
         }
     }
 
-    /// Returns the text, in its original case: `Extensions::new("U-CO")?.as_str()` is `"U-CO"`.
+    /// Returns the string, in its original case: `Extensions::new("U-CO")?.as_str()` is `"U-CO"`.
     pub fn as_str(&self) -> &'a str
         ensures same_text { result.now ≡ extensions_text self.now }
         ensures in_class { IsExtensions result.now }
@@ -94,14 +94,14 @@ impl<'a> Extensions<'a> {
         self.text.0
     }
 
-    /// Returns the text as bytes: `Extensions::new("U-CO")?.as_bytes()` is `b"U-CO"`.
+    /// Returns the string as bytes: `Extensions::new("U-CO")?.as_bytes()` is `b"U-CO"`.
     pub fn as_bytes(&self) -> &'a [u8]
         ensures { result.now ≡ extensions_text self.now }
     {
         self.as_str().as_bytes()
     }
 
-    /// Returns whether another text equals this text, ignoring the case of ASCII letters:
+    /// Returns whether another string equals this string, ignoring the case of ASCII letters:
     /// `Extensions::new("u-co")?.eq_str("U-CO")` is `true`. It is proved that comparisons and hashes also ignore case,
     /// and that a clone is the same value.
     #[tactic(auto, using(langtag_scan::proofs::CaseOrder::bytes_ends_first, crate::proofs::Rules::alike_extensions))]
@@ -116,7 +116,7 @@ impl<'a> Extensions<'a> {
         self.text == Caseless(other)
     }
 
-    /// Copies the text into an owned value: `Extensions::new("U-CO")?.try_to_owned(alloc)?.as_str()` is `"U-CO"`.
+    /// Copies the string into an owned value: `Extensions::new("U-CO")?.try_to_owned(alloc)?.as_str()` is `"U-CO"`.
     ///
     /// # Errors
     ///
@@ -266,7 +266,7 @@ impl ExtensionsBuf {
         Extensions::from_checked(self.as_str())
     }
 
-    /// Returns the text, in its original case: `Extensions::new("U-CO")?.try_to_owned(alloc)?.as_str()` is `"U-CO"`.
+    /// Returns the string, in its original case: `Extensions::new("U-CO")?.try_to_owned(alloc)?.as_str()` is `"U-CO"`.
     pub fn as_str(&self) -> &str
         ensures same_text { result.now ≡ extensions_buf_text self.now }
         ensures in_class { IsExtensions result.now }
@@ -295,7 +295,7 @@ impl fmt::Display for ExtensionsBuf {
     }
 }
 
-/// Returns whether the text is empty or a list of extensions joined by hyphens.
+/// Returns whether the string is empty or a list of extensions joined by hyphens.
 fn are_extensions(text: &str) -> bool
     ensures { result ≡ is_extensions_text text.now }
 {

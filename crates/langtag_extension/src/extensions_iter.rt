@@ -8,7 +8,7 @@ use crate::extension::Extension;
 use crate::extension_texts::ExtensionTexts;
 use std::alloc::AllocError;
 
-/// An iterator over extensions (RFC 5646 section 2.2.6), in the order of the text: `a-ext1` and `u-co` for
+/// An iterator over extensions (RFC 5646 section 2.2.6), in the order of the string: `a-ext1` and `u-co` for
 /// `a-ext1-u-co`.
 ///
 /// ```
@@ -29,7 +29,7 @@ pub struct ExtensionsIter<'a> {
 impl<'a> ExtensionsIter<'a> {
     ghost use Rattle.langtag_extension.specs.Text.{extensions_left};
 
-    /// Returns an iterator over the extensions of a text.
+    /// Returns an iterator over the extensions of a string.
     #[tactic(auto, using(crate::proofs::Counts::few_extensions))]
     pub(crate) fn new(text: &'a str) -> Self
         requires { IsTrue (is_extensions_text text.now) }

@@ -76,11 +76,11 @@ impl Singleton {
         Singleton { byte }
     }
 
-    /// Returns the singleton for a text of one byte: `Singleton::from_string("u")` is `Ok`.
+    /// Returns the singleton for a string of one byte: `Singleton::from_string("u")` is `Ok`.
     ///
     /// # Errors
     ///
-    /// Returns the text if it is not one byte, or if that byte is not a singleton: `Singleton::from_string("uu")` is
+    /// Returns the string if it is not one byte, or if that byte is not a singleton: `Singleton::from_string("uu")` is
     /// `Err(InvalidSingleton("uu"))`.
     pub fn from_string(str: &str) -> Result<Self, InvalidSingleton<&str>>
         ensures accepts { is_ok result ≡ is_singleton_text str.now }

@@ -37,7 +37,7 @@ fn has_subdivision(key: &[u8]) -> bool
     case_insensitive_eq(key, b"rg") || case_insensitive_eq(key, b"sd")
 }
 
-/// Returns a value, or the empty text for `true`.
+/// Returns a value, or the empty string for `true`.
 fn without_true(value: &str) -> &str
     ensures { result.now ≡ spec.without_true value.now }
 {
@@ -77,7 +77,7 @@ fn transform_value<'a>(key: &[u8], value: &'a str) -> &'a str
     }
 }
 
-/// Returns the replacement of a text, if there is one.
+/// Returns the replacement of a string, if there is one.
 pub fn alias_for(rows: &'static [(&'static str, &'static str)], text: &[u8]) -> Option<&'static str>
     ensures { option_map (λ t. t.now) result ≡ alias_for (map (λ row. record { old = row.0.now; new = row.1.now }) rows.now) text.now }
 {

@@ -116,7 +116,7 @@ pub fn is_before_best(subtag: &str, best: Option<&str>) -> bool
     }
 }
 
-/// Returns whether a text comes before another in alphabetical order, ignoring case: `foo` comes before `foobar`.
+/// Returns whether a string comes before another in alphabetical order, ignoring case: `foo` comes before `foobar`.
 pub(crate) fn is_before(a: &[u8], b: &[u8]) -> bool
     ensures { result ≡ spec.is_before (fold_text a.now) (fold_text b.now) }
 {
@@ -133,7 +133,7 @@ pub(crate) fn is_before(a: &[u8], b: &[u8]) -> bool
     a.len() < b.len()
 }
 
-/// Appends each subtag of a text in lowercase.
+/// Appends each subtag of a string in lowercase.
 pub(crate) fn push_each_lowercase(out: &mut Output<'_>, text: &str)
     ensures same_buffer { out.new.buffer.ghost_name ≡ out.old.buffer.ghost_name }
     ensures pushed { Pushes (map fold_text (subtags text.now)) out.old out.new }

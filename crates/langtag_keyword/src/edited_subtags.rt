@@ -11,7 +11,7 @@ use crate::subtags::{nonempty, split_first};
 use langtag_output::Output;
 use langtag_scan::{Subtags, case_insensitive_eq};
 
-/// Returns whether a text has a subtag that belongs to no keyword of a key.
+/// Returns whether a string has a subtag that belongs to no keyword of a key.
 pub(crate) fn has_others(text: &str, key: &str) -> bool
     ensures { result ≡ nat_lt 0 (length (spec.without_keyword key.now (subtags text.now))) }
 {

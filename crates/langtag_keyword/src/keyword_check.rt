@@ -5,7 +5,7 @@ ghost use Rattle.langtag_keyword.specs.Edit as spec;
 
 use langtag_scan::{Subtags, is_extension_subtag};
 
-/// Returns whether a text consists of a letter or a digit, and then a letter.
+/// Returns whether a string consists of a letter or a digit, and then a letter.
 #[tactic(auto, unfolding(langtag_scan::specs::Class::is_letter, langtag_scan::specs::Class::is_digit))]
 pub fn is_unicode_key(text: &[u8]) -> bool
     ensures { result ≡ spec.is_unicode_key text.now }

@@ -16,9 +16,9 @@ use crate::subtags::value_in;
 use langtag_output::Output;
 use langtag_scan::{Subtags, into_smallcase};
 
-/// Appends the keywords of a text, each once, in the order of their keys.
+/// Appends the keywords of a string, each once, in the order of their keys.
 ///
-/// The text is read once for each key in it, to find the next one, and once to find its value.
+/// The string is read once for each key in it, to find the next one, and once to find its value.
 pub fn push_keywords(out: &mut Output<'_>, text: &str, keys: Keys)
     ensures same_buffer { out.new.buffer.ghost_name ≡ out.old.buffer.ghost_name }
     ensures pushed { Pushes (spec.keywords_form (opens_keyword keys) (canonical_value_of keys) (subtags text.now)) out.old out.new }
@@ -56,7 +56,7 @@ fn in_lowercase(key: &str) -> [u8; 2]
     }
 }
 
-/// Appends a key with its canonical value, if the key occurs in the text.
+/// Appends a key with its canonical value, if the key occurs in the string.
 fn push_keyword(out: &mut Output<'_>, text: &str, keys: Keys, key: &[u8])
     ensures same_buffer { out.new.buffer.ghost_name ≡ out.old.buffer.ghost_name }
     ensures pushed { Pushes (spec.keyword_form (opens_keyword keys) (canonical_value_of keys) (subtags text.now) key.now) out.old out.new }

@@ -16,7 +16,7 @@ use crate::subtags::split_first;
 use langtag_output::Output;
 use langtag_scan::{case_insensitive_eq, is_primary, is_region, is_script, is_variant};
 
-/// Returns whether a text is a language with an optional script, an optional region, and any number of different
+/// Returns whether a string is a language with an optional script, an optional region, and any number of different
 /// variants.
 pub(crate) fn is_language_id(text: &str) -> bool
     ensures { result ≡ spec.is_language_id (segments text.now) }
@@ -112,7 +112,7 @@ fn are_all_variants(rest: Option<&str>) -> bool
     true
 }
 
-/// Returns whether no two variants of a text are equal: whether they take as many bytes when each is written once.
+/// Returns whether no two variants of a string are equal: whether they take as many bytes when each is written once.
 #[tactic(auto, using(crate::proofs::VariantLengths::are_subtags, crate::proofs::VariantLengths::different_length))]
 fn are_different(text: &str) -> bool
     requires { IsTrue (list_all class.is_variant (segments text.now)) }
@@ -121,7 +121,7 @@ fn are_different(text: &str) -> bool
     len_in_alphabet(text, &mut []) == text.len()
 }
 
-/// Returns the length of the text of some variants in alphabetical order, each once. It is written to a buffer if it
+/// Returns the length of the string of some variants in alphabetical order, each once. It is written to a buffer if it
 /// fits.
 fn len_in_alphabet(text: &str, buffer: &mut [u8]) -> usize
     requires { AllByRecursion IsSubtag (segments text.now) }
@@ -132,7 +132,7 @@ fn len_in_alphabet(text: &str, buffer: &mut [u8]) -> usize
     out.len()
 }
 
-/// Returns whether a variant is among the subtags of a text, ignoring case.
+/// Returns whether a variant is among the subtags of a string, ignoring case.
 pub fn is_among(rest: Option<&str>, variant: &[u8]) -> bool
     ensures { result ≡ list_any (are_alike variant.now) (segments_left rest.entry) }
 {

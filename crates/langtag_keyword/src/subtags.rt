@@ -1,4 +1,4 @@
-//! The subtags of an extension, as one text that is read from its start.
+//! The subtags of an extension, as one string that is read from its start.
 ghost use Rattle.std.specs.Prelude.{◌≡◌, ◌∷◌, take};
 ghost use Rattle.std.specs.List.{AllByRecursion, list_any};
 ghost use Rattle.std.specs.Option.{option_map};
@@ -12,7 +12,7 @@ ghost use Rattle.langtag_keyword.specs.Transform.{some_text};
 use crate::keys::Keys;
 use langtag_scan::{Subtags, case_insensitive_eq, segment_end};
 
-/// Returns a text, or `None` if it is empty and so has no subtags.
+/// Returns a string, or `None` if it is empty and so has no subtags.
 pub fn nonempty(text: &str) -> Option<&str>
     ensures same_text { option_map (λ t. t.now) result ≡ some_text text.now }
     ensures segments { segments_left result ≡ subtags text.now }
@@ -23,7 +23,7 @@ pub fn nonempty(text: &str) -> Option<&str>
     Some(text)
 }
 
-/// Returns the first subtag of a text and, if there are more subtags, the rest of the text after the hyphen.
+/// Returns the first subtag of a string and, if there are more subtags, the rest of the string after the hyphen.
 pub fn split_first(text: &str) -> (&str, Option<&str>)
     ensures { segments text.now ≡ result.0.now ∷ segments_left result.1 }
 {
@@ -34,7 +34,7 @@ pub fn split_first(text: &str) -> (&str, Option<&str>)
     (&text[..end], Some(&text[end + 1..]))
 }
 
-/// Returns the text before the first key.
+/// Returns the string before the first key.
 #[tactic(auto, using(crate::proofs::SubtagTexts::cut_before_key))]
 pub fn before_key<'a>(rest: Option<&'a str>, keys: Keys) -> &'a str
     ensures { result.now ≡ join (spec.before_key (opens_keyword keys) (segments_left rest.entry)) }
@@ -45,7 +45,7 @@ pub fn before_key<'a>(rest: Option<&'a str>, keys: Keys) -> &'a str
     }
 }
 
-/// Returns the subtags before the first key of a text, if there are any.
+/// Returns the subtags before the first key of a string, if there are any.
 pub fn preceding(text: &str, keys: Keys) -> Option<&str>
     requires { AllByRecursion IsSubtag (subtags text.now) }
     ensures { segments_left result ≡ spec.before_key (opens_keyword keys) (subtags text.now) }
@@ -53,7 +53,7 @@ pub fn preceding(text: &str, keys: Keys) -> Option<&str>
     nonempty(before_key(nonempty(text), keys))
 }
 
-/// Returns the text before the first key of a text.
+/// Returns the string before the first key of a string.
 #[tactic(auto, using(crate::proofs::SubtagTexts::cut_before_key))]
 fn cut_before_key(text: &str, keys: Keys) -> &str
     ensures { result.now ≡ join (spec.before_key (opens_keyword keys) (subtags text.now)) }
@@ -77,7 +77,7 @@ fn len_before_key(text: &str, keys: Keys) -> usize
     len
 }
 
-/// Returns whether a subtag equals one of the first `count` subtags of a text, ignoring case.
+/// Returns whether a subtag equals one of the first `count` subtags of a string, ignoring case.
 pub fn is_earlier_subtag(text: &str, count: usize, subtag: &str) -> bool
     ensures { result ≡ list_any (are_alike subtag.now) (take count (subtags text.now)) }
 {

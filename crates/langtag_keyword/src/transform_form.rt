@@ -23,7 +23,7 @@ pub fn is_transform(text: &str) -> bool
     is_language_or_none(text) && are_fields(text)
 }
 
-/// Returns whether the text before the fields is a language or empty.
+/// Returns whether the string before the fields is a language or empty.
 fn is_language_or_none(text: &str) -> bool
     requires { AllByRecursion IsSubtag (subtags text.now) }
     ensures { result ≡ spec.is_language_or_none (before_key is_field_key (subtags text.now)) }

@@ -35,7 +35,7 @@ row_by_bit language h =
     ∙ some_first (likely_for language_rows (of_language language)) (likely_for other_rows (of_language language))
     (ap is_some (sym (language_found language (letter_number language) _ a.0 refl (sym found))))
 
--- ---- a look-up without a language
+-- ---- a lookup without a language
 
 pub looked_up_other : (f : Fields) → f.language ≡ [] → looked_up other_rows f ≡ looked_up likely_subtags f
 looked_up_other f none = grind (arith, all_other)

@@ -74,7 +74,7 @@ aliases_listed = record {
   regions_good = refl;
 }
 
--- a table of deprecated regions: each has one region in place of it
+-- a table of deprecated regions: each has one region instead of it
 pub record AreRegions (rows : List Likely) (keys : List ℕ) (names : List (List ℕ)) : Type 0 where
   pub numbers : keys ≡ map (λ row. folded_number row.from.region) rows
   pub count : length rows ≡ length names

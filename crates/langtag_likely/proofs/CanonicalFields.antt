@@ -1,5 +1,5 @@
--- Likely subtags that are added again change nothing, also where deprecated subtags are replaced before the look-up. A language
--- that has a row is not deprecated.
+-- Likely subtags that are added again change nothing, also where deprecated subtags are replaced before the lookup. A
+-- language that has a row is not deprecated.
 use Rattle.std.proofs.Common.{◌≡◌, ℕ, ◌==◌, ◌%◌, ◌&&◌, ◌||◌, true, false, Bool, leb, ltb, not, List, [], ◌∷◌, length, Option, None, Some, is_some, option_map, refl, sym, ap, subst, ◌∙◌, arith, codes}
 use Rattle.std.proofs.lemmas.Bool.{and_parts, eqb-true}
 use Rattle.std.proofs.lemmas.List.{nil_from_length}

@@ -34,7 +34,7 @@ abbrev pub put_language : List ℕ → List (List ℕ) → List ℕ → List ℕ
 put_language primary [] language = if are_alike (codes "und") primary then or_other language primary else primary
 put_language primary (extlang ∷ others) language = primary
 
--- the record with the script and the region of the fields, and with their language in place of `und`
+-- the record with the script and the region of the fields, and with their language instead of `und`
 abbrev pub put_fields : Record → Fields → Record
 put_fields r f = record r { primary = put_language r.primary r.extended f.language; script = subtag_of f.script; region = subtag_of f.region }
 
@@ -44,8 +44,8 @@ put_fields r f = record r { primary = put_language r.primary r.extended f.langua
 abbrev pub canonical_fields : Fields → Fields
 canonical_fields f = region_replaced (language_replaced f)
 
--- Add Likely Subtags: deprecated subtags are replaced before the look-up, and the fields that are empty are filled. A field
--- that is not empty stays as it is, even if it is deprecated: `iw` becomes `iw-Hebr-IL`. `None` if no row fits
+-- Add Likely Subtags: deprecated subtags are replaced before the lookup, and the fields that are empty are filled. A
+-- field that is not empty stays as it is, even if it is deprecated: `iw` becomes `iw-Hebr-IL`. `None` if no row fits
 unfoldable pub add_likely_subtags : Fields → Option Fields
 add_likely_subtags f = option_map (filled f) (add_likely likely_subtags (canonical_fields f))
 

@@ -14,7 +14,7 @@ UndoesMinimal old new = (minimal form : List ℕ) → IsMinimalForm old minimal 
 abbrev pub UndoesMaximal : List ℕ → List ℕ → Type 0
 UndoesMaximal old new = (maximal : List ℕ) → IsMaximalForm old maximal → IsMinimalForm maximal new
 
--- another text and `old` have the same minimal form exactly if they have the same maximal form, both ignoring case
+-- another text and `old` have the same minimal form if and only if they have the same maximal form, both ignoring case
 abbrev pub TellsAsMaximal : List ℕ → List ℕ → Type 0
 TellsAsMaximal old new =
     (other minimal maximal maximal_other : List ℕ) → IsMinimalForm other minimal → IsMaximalForm old maximal → IsMaximalForm other maximal_other →

@@ -74,7 +74,7 @@ abbrev pub with_said_variant : Option (List ℕ) → Record → Record
 with_said_variant None r = r
 with_said_variant (Some variant) r = with_variants r (variant ∷ [])
 
--- the record with a keyword in place of the variant POSIX, and with the script and the variant that the name gives
+-- the record with a keyword instead of the variant POSIX, and with the script and the variant that the name gives
 abbrev pub with_said : List ℕ → Record → Record
 with_said name r = with_said_variant (modifier_variant (modifier_of name)) (with_said_script (said_script name) (posix_replaced r))
 

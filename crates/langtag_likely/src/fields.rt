@@ -1,4 +1,4 @@
-//! The text of each field of a tag, which is empty if the field is absent or unknown.
+//! The string of each field of a tag, which is empty if the field is absent or unknown.
 ghost use Rattle.std.specs.Prelude.{◌≡◌, IsTrue, [], codes, unwrap_or, option_map};
 ghost use Rattle.langtag_language.specs.Language.{EachLanguageSpelling};
 ghost use Rattle.langtag_language.specs.Text.{language_text};
@@ -11,14 +11,14 @@ use langtag_language::Language;
 use langtag_place::{Region, Script};
 use langtag_scan::case_insensitive_eq;
 
-/// Returns the first text, or the second text if the first is empty.
+/// Returns the first string, or the second string if the first is empty.
 pub(crate) fn or_other<'a>(text: &'a [u8], other: &'a [u8]) -> &'a [u8]
     ensures { result.now ≡ or_other text.now other.now }
 {
     if text.is_empty() { other } else { text }
 }
 
-/// Returns a text, or the empty text if it is the code for an unknown field.
+/// Returns a string, or the empty string if it is the code for an unknown field.
 pub(crate) fn known<'a>(unknown: &[u8], text: &'a [u8]) -> &'a [u8]
     ensures { result.now ≡ known unknown.now text.now }
 {
@@ -29,7 +29,7 @@ pub(crate) fn known<'a>(unknown: &[u8], text: &'a [u8]) -> &'a [u8]
     }
 }
 
-/// Returns the last extended subtag, or the primary subtag if there is none. Returns the empty text for `und`.
+/// Returns the last extended subtag, or the primary subtag if there is none. Returns the empty string for `und`.
 #[tactic(auto, using(crate::proofs::FieldClasses::from_extended))]
 pub(crate) fn language_field<'a>(language: Language<'a>) -> &'a [u8]
     ensures field { EachLanguageSpelling (language_text language.entry) (λ primary extended. result.now ≡ language_field primary extended) }
@@ -48,7 +48,7 @@ pub(crate) fn language_field<'a>(language: Language<'a>) -> &'a [u8]
     }
 }
 
-/// Returns the text of a script, or the empty text if there is none or it is `Zzzz`.
+/// Returns the string of a script, or the empty string if there is none or it is `Zzzz`.
 pub(crate) fn script_field<'a>(script: Option<Script<'a>>) -> &'a [u8]
     ensures field { result.now ≡ known (codes "Zzzz") (unwrap_or (option_map script_text script.entry) []) }
     ensures in_class { IsTrue (is_script_field result.now) }
@@ -59,7 +59,7 @@ pub(crate) fn script_field<'a>(script: Option<Script<'a>>) -> &'a [u8]
     }
 }
 
-/// Returns the text of a region, or the empty text if there is none or it is `ZZ`.
+/// Returns the string of a region, or the empty string if there is none or it is `ZZ`.
 pub(crate) fn region_field<'a>(region: Option<Region<'a>>) -> &'a [u8]
     ensures field { result.now ≡ known (codes "ZZ") (unwrap_or (option_map region_text region.entry) []) }
     ensures in_class { IsTrue (is_region_field result.now) }

@@ -1,4 +1,4 @@
-//! Finds the positions of texts in the tables, which contain numbers for the texts.
+//! Finds the positions of strings in the tables, which contain numbers for the strings.
 ghost use Rattle.std.specs.Prelude.{◌≡◌, ◌≤◌, ◌<◌, IfSome, IsTrue, length};
 ghost use Rattle.langtag_scan.specs.Case.{folded_number};
 ghost use Rattle.langtag_tables.specs.Numbers.{climbs_from};
@@ -6,7 +6,7 @@ ghost use Rattle.langtag_likely.specs.Numbers.{first_index, place};
 
 use langtag_scan::folded_number;
 
-/// Returns the index of a text's number in a list of rising numbers.
+/// Returns the index of a string's number in a list of ascending numbers.
 pub fn index_of(keys: &[u32], text: &[u8]) -> Option<usize>
     requires climbs { IsTrue (climbs_from 0 keys.now) }
     requires short { length text.now ≤ 4 }
@@ -17,8 +17,8 @@ pub fn index_of(keys: &[u32], text: &[u8]) -> Option<usize>
         .ok()
 }
 
-/// Returns the position of a text among the texts whose numbers are `keys`, counted from 1. It is 0 for the empty text,
-/// and the position after the last for a text that is not among them.
+/// Returns the position of a string among the strings whose numbers are `keys`, counted from 1. It is 0 for the empty
+/// string, and the position after the last for a string that is not among them.
 pub(crate) fn place(keys: &[u32], text: &[u8]) -> u32
     requires climbs { IsTrue (climbs_from 0 keys.now) }
     requires few { length keys.now ≤ 256 }

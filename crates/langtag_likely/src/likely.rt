@@ -9,7 +9,7 @@ use crate::aliases::{canonical_fields, is_current_region};
 use crate::rows::likely_for;
 use crate::tag_fields::TagFields;
 
-/// Returns the fields with the likely subtag in place of each empty field, or `None` if no row fits.
+/// Returns the fields with the likely subtag instead of each empty field, or `None` if no row fits.
 pub fn add_likely<'a>(fields: TagFields<'a>) -> Option<TagFields<'a>>
     ensures { option_map field_texts result ≡ add_likely likely_subtags (field_texts fields.entry) }
 {
@@ -34,7 +34,7 @@ fn looked_up(fields: TagFields<'_>) -> Option<TagFields<'static>>
     likely_for(fields.language_alone())
 }
 
-/// Returns the fields with the likely subtag in place of each empty field, or `None` if no row fits. Deprecated subtags
+/// Returns the fields with the likely subtag instead of each empty field, or `None` if no row fits. Deprecated subtags
 /// count as their replacements, and stay.
 #[tactic(auto, unfolding(crate::specs::Maximal::add_likely_subtags))]
 pub(crate) fn add_likely_subtags<'a>(fields: TagFields<'a>) -> Option<TagFields<'a>>

@@ -8,8 +8,8 @@ use crate::likely::add_likely;
 use crate::read_text::are_alike;
 use crate::tag_fields::TagFields;
 
-/// Returns the matching form of a text: its fields, with deprecated subtags replaced and likely subtags added.
-/// Returns `None` for `und`, and for a text that does not begin with a language.
+/// Returns the matching form of a string: its fields, with deprecated subtags replaced and likely subtags added.
+/// Returns `None` for `und`, and for a string that does not begin with a language.
 #[tactic(auto, using(crate::proofs::CompletedForms::form_completed))]
 pub fn matching_form(text: &[u8]) -> Option<TagFields<'_>>
     ensures { option_map field_texts result ≡ spec.matching_form text.now }
@@ -17,7 +17,7 @@ pub fn matching_form(text: &[u8]) -> Option<TagFields<'_>>
     Some(completed(replaced_form(text)?))
 }
 
-/// Returns the fields of a text, with its language replaced if CLDR replaces it.
+/// Returns the fields of a string, with its language replaced if CLDR replaces it.
 #[tactic(auto, unfolding(crate::specs::Matching::replaced_form))]
 pub fn replaced_form(text: &[u8]) -> Option<TagFields<'_>>
     ensures { option_map field_texts result ≡ spec.replaced_form text.now }

@@ -78,7 +78,7 @@ fn says_latin(modifier: &[u8]) -> bool
         || case_insensitive_eq(b"ijekavianlatin", modifier)
 }
 
-/// Returns whether a text is the code of a script.
+/// Returns whether a string is the code of a script.
 fn is_script_code(text: &[u8]) -> bool
     ensures { result ≡ spec.is_script_code text.now }
 {
@@ -98,7 +98,7 @@ fn scripts() -> &'static [[u8; 4]]
     &tables::SCRIPT_NAMES
 }
 
-/// Returns a text as a script, or `None` if it is not one.
+/// Returns a string as a script, or `None` if it is not one.
 #[tactic(auto, using(crate::proofs::PosixLaws::utf8_script))]
 pub(crate) fn script_of(text: &[u8]) -> Option<Script<'_>>
     ensures { option_map script_text result ≡ if is_script text.now then Some text.now else None }

@@ -45,7 +45,7 @@ const MOST_WITH_SCRIPT: usize = MOST_WITH_KEYWORD + 5;
 ///
 /// # Errors
 ///
-/// Returns `NoTag` with the name if its language and territory are not a tag, as in `C`, `en_` and the empty text.
+/// Returns `NoTag` with the name if its language and territory are not a tag, as in `C`, `en_` and the empty string.
 /// `NoTag` is also returned for `POSIX`, ignoring case, and for a language and territory of more than 255 bytes.
 /// Returns `Memory` if allocation fails.
 ///
@@ -108,7 +108,7 @@ pub fn write_from_posix(name: &[u8], buffer: &mut [u8]) -> Option<usize>
     Some(write_with_variant(tag, modifier_variant(modifier), buffer))
 }
 
-/// Returns the text before the codeset and the modifier, and the modifier.
+/// Returns the string before the codeset and the modifier, and the modifier.
 fn front_and_modifier(name: &[u8]) -> (&[u8], &[u8])
     ensures front { result.0.now ≡ front_of name.now }
     ensures modifier { result.1.now ≡ modifier_of name.now }
@@ -142,7 +142,7 @@ fn tag_of_place<'a>(place: &[u8], room: &'a mut [u8; MOST]) -> Option<LangTag<'a
     Some(tag)
 }
 
-/// Writes a hyphen in place of each `_`.
+/// Writes a hyphen instead of each `_`.
 fn hyphenate(bytes: &mut [u8])
     ensures { bytes.new ≡ hyphened bytes.old }
 {

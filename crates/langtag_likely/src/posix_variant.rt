@@ -35,7 +35,7 @@ pub(crate) fn tag_with_keyword<'a>(
     }
 }
 
-/// Returns the text before `-POSIX` and after it if this is the only variant, and there are no extensions.
+/// Returns the string before `-POSIX` and after it if this is the only variant, and there are no extensions.
 #[tactic(auto, unfolding(langtag_scan::specs::Tag::IsNormal), using(crate::proofs::PosixVariantLaws::variants_inside))]
 fn around_posix<'a>(tag: NormalLangTag<'a>) -> Option<(&'a [u8], &'a [u8])>
     ensures { EachRecord (normal_lang_tag_text tag.entry)

@@ -1,4 +1,4 @@
-//! Language ranges as a look-up reads them: `_` is read as `-`, and each `-*` is left out.
+//! Language ranges as a lookup reads them: `_` is read as `-`, and each `-*` is left out.
 ghost use Rattle.std.specs.Prelude.{◌≡◌, ◌≤◌, IsTrue, length};
 ghost use Rattle.langtag_scan.specs.Case.{are_alike};
 ghost use Rattle.langtag_range.specs.Listed.{basic_text};
@@ -8,7 +8,7 @@ ghost use Rattle.langtag_likely.specs.Ranges as spec;
 
 use langtag_scan::into_smallcase;
 
-/// Returns whether a range, with `_` read as `-` and without each `-*`, equals a text, ignoring case.
+/// Returns whether a range, with `_` read as `-` and without each `-*`, equals a string, ignoring case.
 pub fn are_alike(range: &[u8], text: &[u8]) -> bool
     ensures { result ≡ are_alike (basic_text range.now) text.now }
 {
@@ -16,7 +16,7 @@ pub fn are_alike(range: &[u8], text: &[u8]) -> bool
     left.is_empty() && rest.is_empty()
 }
 
-/// Returns what remains of a range and of a text after their common beginning.
+/// Returns what remains of a range and of a string after their common beginning.
 #[tactic(auto, using(crate::proofs::CommonTexts::common_next, crate::proofs::CommonTexts::common_apart, crate::proofs::CommonTexts::common_end))]
 pub fn after_common<'a, 't>(range: &'a [u8], text: &'t [u8]) -> (&'a [u8], &'t [u8])
     ensures left { (basic_text result.0.now, result.1.now) ≡ spec.after_common (basic_text range.now) text.now }

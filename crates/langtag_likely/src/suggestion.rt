@@ -86,7 +86,7 @@ pub fn region_replacement(fields: TagFields<'_>) -> Option<&'static [u8]>
     Some(name_at(&tables::REPLACEMENT_NAMES, index))
 }
 
-/// Returns a name of the tables as a text.
+/// Returns a name of the tables as a string.
 #[tactic(auto, using(crate::proofs::AliasTables::utf8_name))]
 fn text_of(name: &'static [u8]) -> &'static str
     requires { IsTrue (are_alphanumeric name.now) }

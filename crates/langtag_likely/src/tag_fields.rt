@@ -6,7 +6,7 @@ use crate::fields::{known, language_field, or_other, region_field, script_field}
 use langtag::NormalLangTag;
 use langtag_scan::case_insensitive_eq;
 
-/// A language, a script and a region. Each is the empty text if it is absent.
+/// A language, a script and a region. Each is the empty string if it is absent.
 #[derive(Clone, Copy)]
 pub struct TagFields<'a> {
     pub language: &'a [u8],

@@ -1,4 +1,4 @@
-//! The fields of a text that need not be a tag.
+//! The fields of a string that need not be a tag.
 ghost use Rattle.std.specs.Prelude.{◌≡◌, ◌∷◌, [], IsTrue};
 ghost use Rattle.std.specs.Option.{option_map, option_map_or};
 ghost use Rattle.langtag_range.specs.Wanted.{hyphened};
@@ -12,7 +12,7 @@ use crate::tag_fields::TagFields;
 use langtag_scan::{is_extended, is_primary, is_region, is_script, split_at_either};
 
 impl<'a> TagFields<'a> {
-    /// Returns the fields of a text in which `_` is read as `-`, or `None` if it does not begin with a language.
+    /// Returns the fields of a string in which `_` is read as `-`, or `None` if it does not begin with a language.
     #[tactic(auto, using(crate::proofs::FieldClasses::known_language, crate::proofs::FieldClasses::known_script, crate::proofs::FieldClasses::known_region, langtag::proofs::FieldClasses::from_primary, crate::proofs::TextParts::no_fields, crate::proofs::TextParts::all_fields))]
     pub(crate) fn of_text(text: &'a [u8]) -> Option<TagFields<'a>>
         ensures { option_map field_texts result ≡ spec.text_fields (hyphened text.now) }
@@ -32,7 +32,7 @@ impl<'a> TagFields<'a> {
     }
 }
 
-/// Returns the last of the extended subtags at the start, or else the language before them, and the rest of the text.
+/// Returns the last of the extended subtags at the start, or else the language before them, and the rest of the string.
 #[tactic(auto, using(crate::proofs::FieldClasses::from_extended))]
 fn last_extended<'a>(language: &'a [u8], text: &'a [u8]) -> (&'a [u8], &'a [u8])
     requires { IsTrue (is_language_field language.now) }
@@ -52,7 +52,7 @@ fn last_extended<'a>(language: &'a [u8], text: &'a [u8]) -> (&'a [u8], &'a [u8])
     (language, left)
 }
 
-/// Returns the script at the start, and the rest of the text.
+/// Returns the script at the start, and the rest of the string.
 #[tactic(auto, using(langtag::proofs::FieldClasses::from_script))]
 fn script_before<'a>(text: &'a [u8]) -> (&'a [u8], &'a [u8])
     ensures script { result.0.now ≡ script_of (counted_parts text.now) }
@@ -77,7 +77,7 @@ fn region_before(text: &[u8]) -> &[u8]
     }
 }
 
-/// Returns the first subtag that counts, and the text after it.
+/// Returns the first subtag that counts, and the string after it.
 #[tactic(auto, using(crate::proofs::TextParts::next_part, langtag_range::proofs::WantedTexts::shorter))]
 fn next_subtag(text: &[u8]) -> Option<(&[u8], &[u8])>
     ensures { counted_parts text.now ≡ option_map_or (λ found. found.0.now ∷ counted_parts found.1.now) result [] }

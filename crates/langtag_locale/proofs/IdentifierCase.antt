@@ -26,7 +26,7 @@ use Rattle.langtag_keyword.proofs.AliasCase.{alias_for-alike, type_alias_for-ali
 abbrev pub AreAlike : List (List ℕ) → List (List ℕ) → Type 0
 AreAlike ss ts = map fold_text ss ≡ map fold_text ts
 
--- ---- look-ups
+-- ---- lookups
 
 pub has_variant-alike : (variants : List (List ℕ)) (a b : List ℕ) → Alike a b → has_variant variants a ≡ has_variant variants b
 has_variant-alike variants a b alike = ap (λ t. list_any (λ v. bytes_eq t (fold_text v)) variants) alike

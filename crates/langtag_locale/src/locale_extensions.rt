@@ -105,7 +105,7 @@ fn push_language(out: &mut Output<'_>, text: &str)
     }
 }
 
-/// Appends the form of a language identifier, given as a text.
+/// Appends the form of a language identifier, given as a string.
 fn push_language_id(out: &mut Output<'_>, text: &str)
     requires { IsTrue (is_language_id (segments text.now)) }
     ensures same_buffer { out.new.buffer.ghost_name ≡ out.old.buffer.ghost_name }
@@ -122,7 +122,7 @@ fn push_language_id(out: &mut Output<'_>, text: &str)
     push_identifier(out, fields, variants);
 }
 
-/// Returns the text of a subtag, or the empty text if there is no subtag.
+/// Returns the string of a subtag, or the empty string if there is no subtag.
 fn text_of<'a>(subtag: Option<&'a str>) -> &'a [u8]
     ensures { result.now ≡ first_subtag (model.one_flat (option_map (λ t. t.now) subtag.entry)) }
 {

@@ -111,7 +111,7 @@ fn brought_region<'a>(fields: TagFields<'a>, variants: Option<&str>) -> &'a [u8]
     fields.region
 }
 
-/// Returns the region for which one of the variants stands, or the empty text.
+/// Returns the region for which one of the variants stands, or the empty string.
 fn variants_region(variants: Option<&str>) -> &'static [u8]
     ensures region { result.now ≡ spec.variants_region (segments_left variants.entry) list.variant_regions }
     ensures in_class { IsTrue (is_region_field result.now) }
@@ -160,7 +160,7 @@ fn new_region<'a>(fields: TagFields<'a>) -> &'a [u8]
     }
 }
 
-/// Returns the likely region of the language and the script, or the empty text.
+/// Returns the likely region of the language and the script, or the empty string.
 #[tactic(auto, unfolding(crate::specs::LocaleForm::likely_region))]
 fn likely_region<'a>(fields: TagFields<'a>) -> &'a [u8]
     ensures region { result.now ≡ spec.likely_region (field_texts fields.entry) }
@@ -172,7 +172,7 @@ fn likely_region<'a>(fields: TagFields<'a>) -> &'a [u8]
     }
 }
 
-/// Returns the language and the script, for the look-up of likely subtags. `und` counts as no language.
+/// Returns the language and the script, for the lookup of likely subtags. `und` counts as no language.
 fn language_and_script<'a>(fields: TagFields<'a>) -> TagFields<'a>
     ensures { field_texts result ≡ spec.language_and_script (field_texts fields.entry) }
 {

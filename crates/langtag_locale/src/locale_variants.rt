@@ -113,7 +113,7 @@ fn is_better(form: &str, last: Option<&str>, best: Option<&str>) -> bool
     !form.is_empty() && is_after(form, last) && is_before_best(form, best)
 }
 
-/// Returns a variant, the variant that replaces it, or the empty text if it is left out.
+/// Returns a variant, the variant that replaces it, or the empty string if it is left out.
 #[tactic(auto, unfolding(crate::specs::LocaleForm::variant_form))]
 fn variant_form<'a>(language: &[u8], variants: Option<&str>, variant: &'a str) -> &'a str
     ensures { result.now ≡ spec.variant_form language.now (segments_left variants.entry) variant.now }

@@ -8,7 +8,7 @@ ghost use Rattle.langtag_parent.specs.Rows.{row_for};
 use crate::tables;
 use langtag::{LangTag, case_insensitive_eq};
 
-/// Returns the parent that CLDR states for a text, which is `Some(None)` if CLDR states that there is none. Returns
+/// Returns the parent that CLDR states for a string, which is `Some(None)` if CLDR states that there is none. Returns
 /// `None` if CLDR states nothing.
 #[tactic(auto, using(crate::proofs::ListedTags::stated_tag))]
 pub(crate) fn stated_parent(text: &[u8]) -> Option<Option<LangTag<'static>>>
@@ -22,7 +22,7 @@ pub(crate) fn stated_parent(text: &[u8]) -> Option<Option<LangTag<'static>>>
     }
 }
 
-/// Returns the parent in the row of a text, ignoring case.
+/// Returns the parent in the row of a string, ignoring case.
 #[tactic(auto, unfolding(crate::specs::Rows::row_for))]
 fn row_for(rows: &'static [(&'static str, &'static str)], text: &[u8]) -> Option<&'static str>
     ensures { option_map (λ parent. parent.now) result ≡ row_for (map (λ row. record { tag = row.0.now; parent = row.1.now }) rows.now) text.now }

@@ -42,7 +42,7 @@ pub(crate) fn parent_in_other_script(
     }
 }
 
-/// Writes pieces one after another into `room`, and returns them as one text.
+/// Writes pieces one after another into `room`, and returns them as one string.
 fn written<'r>(pieces: &[&[u8]], room: &'r mut [u8; MOST]) -> &'r [u8]
     requires { length (flat_map (λ piece. piece.now) pieces.now) ≤ 17 }
     ensures { result.now ≡ flat_map (λ piece. piece.now) pieces.now }
@@ -51,7 +51,7 @@ fn written<'r>(pieces: &[&[u8]], room: &'r mut [u8; MOST]) -> &'r [u8]
     &room[..len]
 }
 
-/// Returns the first of some tags that is a text, ignoring case.
+/// Returns the first of some tags that is a string, ignoring case.
 fn listed(tags: &'static [&'static str], text: &[u8]) -> Option<&'static str>
     ensures { option_map (λ tag. tag.now) result ≡ find (λ tag. are_alike tag text.now) (map (λ tag. tag.now) tags.now) }
 {

@@ -13,7 +13,7 @@ use crate::scripted::parent_in_other_script;
 use langtag::{LangTag, NormalLangTag};
 use langtag_place::{Region, Script};
 
-/// Returns the parent of a tag in CLDR, which is the next tag to ask if a catalogue has no text for this tag: `pt-PT`
+/// Returns the parent of a tag in CLDR, which is the next tag to ask if a catalogue has no string for this tag: `pt-PT`
 /// for `pt-AO`, `es-419` for `es-MX`, `en-001` for `en-GB`. Returns `None` if there is no parent, as for `pt`.
 ///
 /// A parent is written in the same script: `zh-TW` has the parent `zh-Hant`, which has none. Extensions and private use

@@ -73,7 +73,7 @@ place_at n zero (false ∷ list) = place_before (n + 0) (n + 1) list (omega arit
 place_at n (suc i) (true ∷ list) = grind (arith, common_steps, ne_eqb n (n + suc i), place_at (n + 1) i list)
 place_at n (suc i) (false ∷ list) = grind (arith, common_steps, place_at (n + 1) i list)
 
--- ---- the look-up
+-- ---- the lookup
 
 pub language_from_bit : (text : List ℕ) → are_letters text ≡ true → 27 ≤ letter_number text → language_bit (letter_number text - 27) ≡ is_registered_language text
 unfolding language_bit is_registered_language

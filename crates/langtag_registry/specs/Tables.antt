@@ -7,7 +7,7 @@ use Rattle.langtag_registry.specs.Entry.{Entry}
 use Rattle.langtag_registry.specs.declared.tables.TheConstants.{LANGUAGE_BITS}
 use Rattle.langtag_tables.specs.Numbers.{climbs_from}
 
--- the keys are the numbers of the texts, which have only letters and digits, and are in rising order
+-- the keys are the numbers of the texts, which have only letters and digits, and are in ascending order
 pub record AreKeysOf (keys : List ℕ) (list : List (List ℕ)) : Type 0 where
   pub numbers : keys ≡ map folded_number list
   pub climb : IsTrue (climbs_from 0 keys)
@@ -22,7 +22,7 @@ pub record IsTableOf (keys : List ℕ) (values : List (List ℕ)) (list : List E
 unfoldable pub end_number : List ℕ → ℕ
 end_number text = folded_number (drop (length text - 8) text)
 
--- the keys are the numbers of the ends of the texts, and are in rising order
+-- the keys are the numbers of the ends of the texts, and are in ascending order
 pub record AreEndsOf (keys : List ℕ) (texts : List (List ℕ)) : Type 0 where
   pub numbers : keys ≡ map end_number texts
   pub climb : IsTrue (climbs_from 0 keys)

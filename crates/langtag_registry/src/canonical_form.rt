@@ -171,8 +171,8 @@ fn write_parts(tag: NormalLangTag<'_>, buffer: &mut [u8]) -> usize
     len
 }
 
-/// Returns the Preferred-Value of a whole tag, or the text itself if it has none: `gsg` for `sgn-DE`, which is `sgn-DD`
-/// with its parts in their canonical forms.
+/// Returns the Preferred-Value of a whole tag, or the string itself if it has none: `gsg` for `sgn-DE`, which is
+/// `sgn-DD` with its parts in their canonical forms.
 fn preferred_to(parts: &[u8]) -> &[u8]
     ensures { result.now ≡ unwrap_or (field.preferred_tag parts.now) parts.now }
 {

@@ -102,7 +102,7 @@ pub fn is_deprecated_tag(tag: LangTag<'_>) -> bool
     is_listed(&DEPRECATED_TAGS, tag.as_bytes())
 }
 
-/// Returns whether bytes equal one of these texts, ignoring case.
+/// Returns whether bytes equal one of these strings, ignoring case.
 fn is_listed(texts: &[&str], bytes: &[u8]) -> bool
     ensures { result ≡ list_any (λ text. are_alike bytes.now text.now) texts.now }
 {

@@ -72,7 +72,7 @@ pub fn misplaced_extlang<'a>(tag: NormalLangTag<'a>) -> Option<ExtendedLangTag<'
     Some(extlang)
 }
 
-/// Returns whether a variant may follow the text before it: one of its prefixes matches this text, or it has no
+/// Returns whether a variant may follow the string before it: one of its prefixes matches this string, or it has no
 /// prefix.
 fn fits_after(before: &str, variant: Variant<'_>) -> bool
     ensures { result ≡ spec.fits_after before.now (variant_text variant.entry) }
@@ -90,7 +90,7 @@ fn fits_after(before: &str, variant: Variant<'_>) -> bool
     has_none
 }
 
-/// Returns whether a prefix matches the text before a variant by extended filtering.
+/// Returns whether a prefix matches the string before a variant by extended filtering.
 fn matches_prefix(prefix: &str, before: &str) -> bool
     ensures { result ≡ test_extended prefix.now before.now }
 {

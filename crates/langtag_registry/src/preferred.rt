@@ -74,7 +74,7 @@ pub fn preferred_tag(tag: LangTag<'_>) -> Option<LangTag<'static>>
     preferred_for(tag.as_bytes())
 }
 
-/// Returns the tag that replaces a whole tag with this text.
+/// Returns the tag that replaces a whole tag with this string.
 #[tactic(auto, using(crate::proofs::FieldTables::tag_ends, crate::proofs::FieldTables::tag_entries, crate::proofs::WholeTags::preferred_is_tag), unfolding(crate::specs::Fields::preferred_tag))]
 pub(crate) fn preferred_for(text: &[u8]) -> Option<LangTag<'static>>
     ensures { option_map lang_tag_text result ≡ field.preferred_tag text.now }
@@ -83,8 +83,8 @@ pub(crate) fn preferred_for(text: &[u8]) -> Option<LangTag<'static>>
     Some(LangTag::from_checked(text))
 }
 
-/// Finds the pair whose first text equals the bytes, ignoring case, and returns its second text. `keys` has the number
-/// of the last eight bytes of each first text.
+/// Finds the pair whose first string equals the bytes, ignoring case, and returns its second string. `keys` has the
+/// number of the last eight bytes of each first string.
 fn value_beside(
     keys: &[u64],
     table: &'static [(&'static str, &'static str)],

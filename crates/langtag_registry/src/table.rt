@@ -1,4 +1,4 @@
-//! Tables of subtags, which are searched for a text, ignoring case.
+//! Tables of subtags, which are searched for a string, ignoring case.
 ghost use Rattle.std.specs.Prelude.{◌≡◌, ℕ, List, length, map};
 ghost use Rattle.std.specs.Option.{option_map};
 ghost use Rattle.langtag_scan.proofs.SubtagFacts.{IsSubtag};
@@ -8,7 +8,7 @@ ghost use Rattle.langtag_registry.specs.Tables.{AreKeysOf, IsTableOf};
 
 use langtag_scan::folded_number;
 
-/// Returns whether a text is in a table, whose keys are the numbers of its texts.
+/// Returns whether a string is in a table, whose keys are the numbers of its strings.
 pub(crate) fn is_among(keys: &[u64], text: &[u8]) -> bool
     requires { IsSubtag text.now }
     ensures { (list : List (List ℕ)) → AreKeysOf keys.now list → result ≡ registered.contains_alike list text.now }
@@ -16,7 +16,7 @@ pub(crate) fn is_among(keys: &[u64], text: &[u8]) -> bool
     keys.binary_search(&folded_number(text)).is_ok()
 }
 
-/// Returns the value for a text, which is at the same index as the text's key.
+/// Returns the value for a string, which is at the same index as the string's key.
 pub(crate) fn value_of(
     keys: &[u64],
     values: &'static [&'static str],

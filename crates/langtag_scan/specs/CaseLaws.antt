@@ -1,7 +1,7 @@
 -- The laws that `==`, the order and the hash of texts obey if case is ignored (RFC 5646 section 2.1.1). Equality is an
--- equivalence, and the order is total. Two texts are equal in the order exactly if they are alike, and alike texts feed
--- a hasher the same bytes. Each law is stated once for texts, and then for a type K, where `f` maps a value of K to its
--- text.
+-- equivalence, and the order is total. Two texts are equal in the order if and only if they are alike, and alike texts
+-- feed a hasher the same bytes. Each law is stated once for texts, and then for a type K, where `f` maps a value of K
+-- to its text.
 use Rattle.std.proofs.Common.{ap, sym, ◌∙◌, ◌≡◌, ℕ, IsTrue, List, [], ◌∷◌, ◌++◌, map, refl, ◌==◌, ◌&&◌, Decides, bytes_eq}
 use Rattle.std.proofs.Math.Bool.{and-false}
 use Rattle.std.specs.Ordering.{nat_cmp, on, eq_by_cmp, as_partial_cmp}
@@ -28,7 +28,7 @@ bytes_eq-push end (x ∷ []) [] = and-false (x == end)
 bytes_eq-push end (x ∷ z ∷ xs) [] = and-false (x == end)
 bytes_eq-push end (x ∷ xs) (y ∷ ys) = ap (λ rest. (x == y) && rest) (bytes_eq-push end xs ys)
 
--- two texts are equal in the order exactly if they are alike
+-- two texts are equal in the order if and only if they are alike
 pub case_cmp-ties : (a b : List ℕ) → are_alike a b ≡ eq_by_cmp case_cmp a b
 case_cmp-ties a b = sym (bytes_eq-push 256 (fold_text a) (fold_text b)) ∙ lists_ties nat_cmp unsigned_ties (order_key a) (order_key b)
 

@@ -26,8 +26,8 @@ pub record IsViableLength (t : List ℕ) (n : ℕ) : Type 0 where
 abbrev pub filling : List ℕ → List ℕ
 filling s = replicate (5 - length s) 97
 
--- the text with its last subtag padded. A text is viable exactly if the padded text is a tag, or the text itself is a
--- prefix of an irregular tag
+-- the text with its last subtag padded. A text is viable if and only if the padded text is a tag, or the text itself is
+-- a prefix of an irregular tag
 abbrev pub fill : List ℕ → List ℕ
 fill p = p ++ filling (after_last is_hyphen p)
 

@@ -1,5 +1,5 @@
-//! The case of ASCII letters, which tags ignore (RFC 5646 section 2.1.1). Texts are compared and hashed by their folded
-//! bytes, in which each ASCII letter is lowercase. Nothing else is folded, so `[` and `{` differ.
+//! The case of ASCII letters, which tags ignore (RFC 5646 section 2.1.1). Strings are compared and hashed by their
+//! folded bytes, in which each ASCII letter is lowercase. Nothing else is folded, so `[` and `{` differ.
 ghost use Rattle.std.specs.Prelude.{◌≡◌, ◌↔◌, ◌≤◌, ℕ, List, ◌==◌, IsTrue, fold, length};
 ghost use Rattle.langtag_scan.specs.Case.{fold_byte, Alike, are_alike, case_cmp, EndsFirst, case_writes, folded_number};
 ghost use Rattle.langtag_scan.specs.Class.{are_alphanumeric};
@@ -22,7 +22,7 @@ pub fn into_smallcase(c: u8) -> u8
     c.to_ascii_lowercase()
 }
 
-/// Returns whether two texts are equal, ignoring the case of ASCII letters (RFC 5646 section 2.1.1).
+/// Returns whether two strings are equal, ignoring the case of ASCII letters (RFC 5646 section 2.1.1).
 ///
 /// ```
 /// use langtag_scan::case_insensitive_eq;
@@ -37,8 +37,8 @@ pub fn case_insensitive_eq(a: &[u8], b: &[u8]) -> bool
     a.eq_ignore_ascii_case(b)
 }
 
-/// Compares two texts by their lowercase bytes (RFC 5646 section 2.1.1). If one text is a prefix of the other, the
-/// shorter text is greater.
+/// Compares two strings by their lowercase bytes (RFC 5646 section 2.1.1). If one string is a prefix of the other, the
+/// shorter string is greater.
 ///
 /// ```
 /// use langtag_scan::case_insensitive_cmp;
@@ -60,7 +60,7 @@ pub fn case_insensitive_cmp(a: &[u8], b: &[u8]) -> Ordering
     b.len().cmp(&a.len())
 }
 
-/// Feeds a hasher the lowercase bytes of a text (RFC 5646 section 2.1.1), each in a separate write. It feeds nothing
+/// Feeds a hasher the lowercase bytes of a string (RFC 5646 section 2.1.1), each in a separate write. It feeds nothing
 /// else: neither the length nor an end marker.
 ///
 /// For `b"FR"` it writes `b'f'` and then `b'r'`.
@@ -83,11 +83,11 @@ pub fn case_insensitive_hash<H: Hasher>(bytes: &[u8], hasher: &mut H)
     }
 }
 
-/// Returns the number whose digits in base 256 are the lowercase bytes (RFC 5646 section 2.1.1) of a text of at most
+/// Returns the number whose digits in base 256 are the lowercase bytes (RFC 5646 section 2.1.1) of a string of at most
 /// eight bytes. `folded_number(b"FR")` is 26,226, which is 256 times `b'f'` plus `b'r'`.
 ///
-/// It is proved that two texts of letters and digits, such as subtags, have the same number exactly if the texts are
-/// equal, ignoring case.
+/// It is proved that two strings of letters and digits, such as subtags, have the same number if and only if the
+/// strings are equal, ignoring case.
 pub fn folded_number(bytes: &[u8]) -> u64
     requires { length bytes.now ≤ 8 }
     ensures number { result ≡ folded_number bytes.now }

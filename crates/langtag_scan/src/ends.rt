@@ -1,8 +1,8 @@
 //! Where the parts of a normal tag end.
 ghost use Rattle.std.specs.Prelude.{◌≡◌};
 
-/// The end of each part of a normal tag (RFC 5646 section 2.1). Each is an offset in bytes from the start of the text,
-/// just after the part. An absent part ends where the previous part ends.
+/// The end of each part of a normal tag (RFC 5646 section 2.1). Each is an offset in bytes from the start of the
+/// string, just after the part. An absent part ends where the previous part ends.
 ///
 /// The language begins at 0. Every other part begins just after the hyphen that follows the previous part. In
 /// `en-Latn-x-a` the ends are 2, 7, 7, 7, 7 and 11, in the order of the fields.
@@ -25,7 +25,7 @@ pub struct Ends {
     pub variants: usize,
     /// The end of the last extension: 10 in `de-u-co-eo-x-a`, and 2 in `de-x-a`.
     pub extensions: usize,
-    /// The length of the text, which is also the end of the private use part: 6 in `de-x-a`.
+    /// The length of the string, which is also the end of the private use part: 6 in `de-x-a`.
     pub whole: usize,
 }
 
@@ -58,7 +58,7 @@ impl Marks {
         self.places[part] = index;
     }
 
-    /// Returns the ends in a text of this length. An absent part ends where the previous part ends.
+    /// Returns the ends in a string of this length. An absent part ends where the previous part ends.
     #[inline(always)]
     pub(crate) fn ends(&self, len: usize) -> Ends
         ensures { result ≡ ends_at self.now.places len }

@@ -8,7 +8,7 @@ use crate::finding::Finding;
 /// What [`recognise`](crate::recognise) finds in a tag (RFC 5646 section 2.1): its kind, with the ends of the parts of
 /// a normal tag, or the index of an irregular tag.
 ///
-/// For `x-a`, `is_private_use()` is `true`. A `Found` does not contain the text.
+/// For `x-a`, `is_private_use()` is `true`. A `Found` does not contain the string.
 ///
 /// ```
 /// use langtag_scan::{Metered, recognise};
@@ -22,7 +22,7 @@ pub struct Found {
 }
 
 impl Found {
-    /// Returns whether the text is a normal tag: `true` for `zh-min`, a regular grandfathered tag, and `false` for
+    /// Returns whether the string is a normal tag: `true` for `zh-min`, a regular grandfathered tag, and `false` for
     /// `i-lux` and `x-a`.
     ///
     /// ```
@@ -39,7 +39,7 @@ impl Found {
         matches!(self.finding, Finding::Normal(_))
     }
 
-    /// Returns whether the text is a private-use tag (section 2.2.7): `true` for `x-a`, `false` for `fr-x-a`.
+    /// Returns whether the string is a private-use tag (section 2.2.7): `true` for `x-a`, `false` for `fr-x-a`.
     ///
     /// ```
     /// use langtag_scan::{recognise, Metered};

@@ -15,7 +15,7 @@
 //! viable_len(b"zh_Hant");                                // 2: no tag begins with `zh_`
 //! ```
 //!
-//! `Caseless` and `folded_number` serve the crates of this workspace that build the text types.
+//! `Caseless` and `folded_number` serve the crates of this workspace that build the string types.
 #![tactic(auto)]
 
 mod case;

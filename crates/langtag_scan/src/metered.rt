@@ -3,7 +3,7 @@ ghost use Rattle.std.specs.Prelude.{◌≡◌, ◌≤◌, ◌++◌, length};
 
 use crate::source::ByteSource;
 
-/// Bytes with a count of the reads, which shows how much of a text [`recognise`](crate::recognise) reads. They can be
+/// Bytes with a count of the reads, which shows how much of a string [`recognise`](crate::recognise) reads. They can be
 /// read only through [`ByteSource`].
 ///
 /// ```
@@ -25,7 +25,7 @@ pub struct Metered<'a> {
 }
 
 impl<'a> Metered<'a> {
-    /// Returns a source over the bytes of a text, with no reads yet.
+    /// Returns a source over the bytes of a string, with no reads yet.
     ///
     /// ```
     /// use langtag_scan::{ByteSource, Metered};

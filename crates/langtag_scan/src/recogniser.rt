@@ -33,9 +33,9 @@ pub fn recognise<S: ByteSource>(source: &mut S) -> Option<Found>
     ensures reads { (n : ℕ) × IsStop (S.bytes source.old) n ×
         (S.reads source.new ≡ S.reads source.old + n) × (S.reach source.new ≡ max (S.reach source.old) n) }
 
-    // Laws of the definitions. A tag has only one kind, an irregular tag only one index, and a text only one length at
-    // which the recogniser stops. A text is viable exactly if the padded text is a tag or the text is a prefix of an
-    // irregular tag.
+    // Laws of the definitions. A tag has only one kind, an irregular tag only one index, and a string only one length
+    // at which the recogniser stops. A string is viable if and only if the padded text is a tag or the string is a
+    // prefix of an irregular tag.
     ensures normal_not_private { (t : List ℕ) → IsNormal t → IsPrivate t → ⊥ }
     ensures normal_not_irregular { (t : List ℕ) → IsNormal t → IsIrregular t → ⊥ }
     ensures private_not_irregular { (t : List ℕ) → IsPrivate t → IsIrregular t → ⊥ }
@@ -46,7 +46,7 @@ pub fn recognise<S: ByteSource>(source: &mut S) -> Option<Found>
     read(source).ok()
 }
 
-/// Reads a source up to the first byte that makes a tag impossible. Returns what the whole text is or, if it is not a
+/// Reads a source up to the first byte that makes a tag impossible. Returns what the whole string is or, if it is not a
 /// tag, the length of the longest prefix with which some tag begins.
 #[inline(always)]
 #[tactic(auto, using(crate::proofs::RecogniserLaws::whole_stop, crate::proofs::RecogniserLaws::viable_nothing))]
@@ -108,7 +108,7 @@ pub fn recognise_normal<S: ByteSource>(source: &mut S) -> Option<Found>
     ensures reads { (n : ℕ) × IsStop (S.bytes source.old) n ×
         (S.reads source.new ≡ S.reads source.old + n) × (S.reach source.new ≡ max (S.reach source.old) n) }
 
-    // A law of the definitions: a text has at most one record.
+    // A law of the definitions: a string has at most one record.
     ensures one_record { (r q : Record) → IsWellFormed r → IsWellFormed q → spell r ≡ spell q → r ≡ q }
 {
     recognise(source).filter(|found| found.is_normal())

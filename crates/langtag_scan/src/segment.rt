@@ -1,9 +1,9 @@
-//! Where a segment of a text begins and ends (RFC 5646 section 2.1). Hyphens separate the segments. Indices are in
+//! Where a segment of a string begins and ends (RFC 5646 section 2.1). Hyphens separate the segments. Indices are in
 //! bytes.
 ghost use Rattle.std.specs.Prelude.{◌≡◌, ◌-◌, ◌≤◌, ◌<◌, length, slice_index};
 ghost use Rattle.langtag_scan.specs.Subtags.{NoHyphenWithin};
 
-/// Returns where the segment that contains `index` ends: at the next hyphen, or at the end of the text.
+/// Returns where the segment that contains `index` ends: at the next hyphen, or at the end of the string.
 ///
 /// `segment_end(b"fr-FR", 0)` is 2, and `segment_end(b"fr-FR", 3)` is 5.
 pub fn segment_end(bytes: &[u8], index: usize) -> usize

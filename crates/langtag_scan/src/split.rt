@@ -1,9 +1,9 @@
-//! Splitting a text at the first byte of a given value.
+//! Splitting a string at the first byte of a given value.
 ghost use Rattle.std.specs.Prelude.{◌≡◌, ◌==◌, ◌||◌, ◌+◌, ◌<◌, ◌≤◌, IfSome, drop, length, take, unwrap_or};
 ghost use Rattle.std.specs.List.{after_first, before_first, position, position_or_len};
 
-/// Returns the text before the first `mark` and the text after it. If there is no `mark`, returns the whole text and an
-/// empty text.
+/// Returns the string before the first `mark` and the string after it. If there is no `mark`, returns the whole string
+/// and an empty string.
 ///
 /// `split_at_byte(b"fr;q=1", b';')` is `(b"fr", b"q=1")`.
 #[tactic(auto, using(crate::proofs::Places::first_or_length))]
@@ -14,7 +14,7 @@ pub fn split_at_byte(text: &[u8], mark: u8) -> (&[u8], &[u8])
     split_at(text, first_place(text, mark))
 }
 
-/// Returns the text before and after the first byte that is `mark` or `other`: `split_at_either(b"zh_TW", b'-',
+/// Returns the string before and after the first byte that is `mark` or `other`: `split_at_either(b"zh_TW", b'-',
 /// b'_')` is `(b"zh", b"TW")`.
 #[tactic(auto, using(crate::proofs::Places::first_or_length))]
 pub fn split_at_either(text: &[u8], mark: u8, other: u8) -> (&[u8], &[u8])
@@ -47,8 +47,8 @@ fn first_of_either(text: &[u8], mark: u8, other: u8) -> Option<usize>
     text.iter().position(|byte| *byte == mark || *byte == other)
 }
 
-/// Returns the text before an index, and the text after the byte at that index. If the index is `None`, returns the
-/// whole text and an empty text.
+/// Returns the string before an index, and the string after the byte at that index. If the index is `None`, returns the
+/// whole string and an empty string.
 fn split_at(text: &[u8], index: Option<usize>) -> (&[u8], &[u8])
     requires { IfSome index (λ i. i < length text.now) }
     ensures before { result.0.now ≡ take (unwrap_or index (length text.now)) text.now }

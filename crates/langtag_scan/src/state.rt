@@ -38,7 +38,7 @@ pub(crate) struct State {
     ghost within: { number < 164 },
 }
 
-/// What a text is, by the state in which the recogniser is at the end of the text.
+/// What a string is, by the state in which the recogniser is at the end of the string.
 #[derive(Clone, Copy)]
 pub(crate) enum Ending {
     NoTag,
@@ -91,7 +91,7 @@ impl State {
         TABLES.parts[self.number] as usize
     }
 
-    /// Returns what the text is if it ends after the bytes that were read.
+    /// Returns what the string is if it ends after the bytes that were read.
     #[inline(always)]
     pub(crate) fn ending(self) -> Ending
         ensures place { IsPlace result }

@@ -1,4 +1,4 @@
-//! An iterator over the subtags of a text (RFC 5646 section 2.1), which works from both ends and copies nothing.
+//! An iterator over the subtags of a string (RFC 5646 section 2.1), which works from both ends and copies nothing.
 ghost use Rattle.std.specs.Prelude.{◌≡◌, ◌++◌, ◌∷◌, List, ℕ, [], Some, All, MatchOption, ⊤};
 ghost use Rattle.std.specs.Iterator.{YieldsFirstRef, YieldsLastRef, item_count};
 ghost use Rattle.langtag_scan.specs.Subtags.{join, subtags, segments_left, IsHyphenFree};
@@ -7,9 +7,10 @@ use crate::segment::{segment_end, segment_start};
 use std::alloc::AllocError;
 use std::marker::Model;
 
-/// An iterator over the subtags of a text, from either end. Each subtag is a slice of the text, and contains no hyphen.
+/// An iterator over the subtags of a string, from either end. Each subtag is a slice of the string, and contains no
+/// hyphen.
 ///
-/// A hyphen at either end of the text gives an empty subtag, and so do two hyphens in a row: `a--b-` has `a`, an
+/// A hyphen at either end of the string gives an empty subtag, and so do two hyphens in a row: `a--b-` has `a`, an
 /// empty subtag, `b` and an empty subtag.
 ///
 /// ```
@@ -31,7 +32,7 @@ impl<'a> Model for Subtags<'a> {
 }
 
 impl<'a> Subtags<'a> {
-    /// Returns an iterator over all subtags of a text. The empty text has none.
+    /// Returns an iterator over all subtags of a string. The empty string has none.
     ///
     /// ```
     /// use langtag_scan::Subtags;
@@ -97,8 +98,8 @@ impl<'a> DoubleEndedIterator for Subtags<'a> {
     }
 }
 
-/// Returns the text before the first hyphen and the text after it. If there is no hyphen, returns the whole text and
-/// `None`.
+/// Returns the string before the first hyphen and the string after it. If there is no hyphen, returns the whole string
+/// and `None`.
 #[tactic(auto, using(crate::proofs::SubtagLists::splits))]
 fn split_first<'a>(text: &'a str) -> (&'a str, Option<&'a str>)
     ensures hyphen_free { IsHyphenFree result.0.now }
@@ -112,8 +113,8 @@ fn split_first<'a>(text: &'a str) -> (&'a str, Option<&'a str>)
     (&text[..end], Some(&text[end + 1..]))
 }
 
-/// Returns the text before the last hyphen and the text after it. If there is no hyphen, returns `None` and the whole
-/// text.
+/// Returns the string before the last hyphen and the string after it. If there is no hyphen, returns `None` and the
+/// whole text.
 #[tactic(auto, using(crate::proofs::SubtagLists::splits))]
 fn split_last<'a>(text: &'a str) -> (Option<&'a str>, &'a str)
     ensures hyphen_free { IsHyphenFree result.1.now }

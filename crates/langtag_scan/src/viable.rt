@@ -1,4 +1,4 @@
-//! The length of the longest prefix of a text with which some tag begins.
+//! The length of the longest prefix of a string with which some tag begins.
 ghost use Rattle.std.specs.Prelude.{◌≤◌, ◌++◌, ◌∷◌, [], ◌^◌};
 ghost use Rattle.langtag_scan.specs.Viable.{IsViableLength};
 

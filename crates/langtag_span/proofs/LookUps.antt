@@ -1,4 +1,5 @@
--- What a walk over the elements of a header finds is what look-up finds first among the acceptable ones, the heaviest first.
+-- What a walk over the elements of a header finds is what lookup finds first among the acceptable ones, the heaviest
+-- first.
 use Rattle.std.proofs.Common.{◌≡◌, ℕ, ◌+◌, ◌<◌, ◌≤◌, Bool, true, false, not, eqb, nat_lt, cond, if◌then◌else◌, List, [], ◌∷◌, ◌++◌, map, is_some, length, length-append, take, get_or, Option, None, Some, unwrap_or, ap, refl, sym, subst, ◌∙◌, arith}
 use Rattle.std.specs.List.{position, position_or_len, prefix_len, slice_range, sum_by}
 use Rattle.std.specs.Option.{IfSome, option_map, option_map_or}
@@ -28,7 +29,7 @@ use Rattle.langtag_span.specs.declared.span.Span.{Span}
 use Rattle.langtag_span.proofs.TagsAt.{are_tags_at, is_tag_at, one_tag_at}
 use Rattle.langtag_match.proofs.Readings.{AtMost, IsFalling, AtMost-weaker}
 
--- ---- the elements by falling weight
+-- ---- the elements by descending weight
 
 -- an element before the first of some that is not heavier
 abbrev put : Element → List Element → List Element

@@ -1,4 +1,4 @@
--- Look-up for a header as a walk over its elements. Only contracts of private functions cite this page.
+-- Lookup for a header as a walk over its elements. Only contracts of private functions cite this page.
 use Rattle.std.specs.Prelude.{ℕ, List, [], ◌∷◌, Option, None, Some, if◌then◌else◌, nat_lt}
 use Rattle.std.specs.Option.{option_map_or}
 use Rattle.langtag_range.specs.Element.{Element}

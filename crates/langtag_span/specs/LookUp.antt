@@ -1,4 +1,4 @@
--- The tag that look-up finds for an Accept-Language header (RFC 9110 section 12.5.4, RFC 4647 section 3.4), and why a
+-- The tag that lookup finds for an Accept-Language header (RFC 9110 section 12.5.4, RFC 4647 section 3.4), and why a
 -- header is refused.
 use Rattle.std.specs.Prelude.{◌≡◌, ℕ, false, List, [], ◌∷◌, Option, None, length, unwrap_or}
 use Rattle.std.specs.List.{position}
@@ -21,13 +21,13 @@ abbrev pub first_index_alike : List (Option (List ℕ)) → List (List ℕ) → 
 first_index_alike tags [] = None
 first_index_alike tags (text ∷ texts) = option_or (index_alike tags text) (first_index_alike tags texts)
 
--- the index of the tag that look-up finds for the elements; an earlier element is preferred to a later one
+-- the index of the tag that lookup finds for the elements; an earlier element is preferred to a later one
 abbrev pub first_found : List (Option (List ℕ)) → List Element → Option ℕ
 first_found tags [] = None
 first_found tags (element ∷ elements) = option_or (first_index_alike tags (fallbacks element.range)) (first_found tags elements)
 
--- the answer is the index of the tag that look-up finds for the acceptable elements of a header, the greatest weight
--- first, or the number of spans if look-up finds no tag
+-- the answer is the index of the tag that lookup finds for the acceptable elements of a header, the greatest weight
+-- first, or the number of spans if lookup finds no tag
 pub record IsLookedUp (header text : List ℕ) (spans : List Span) (answer : ℕ) : Type 0 where
   pub tags : List (Option (List ℕ))
   pub are : AreTagsAt text spans tags

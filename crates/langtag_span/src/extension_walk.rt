@@ -96,7 +96,7 @@ fn len_before_key(bytes: &[u8], subtags: Span, keys: Keys) -> usize
     len
 }
 
-/// Returns the value of the first key that equals a text, ignoring case.
+/// Returns the value of the first key that equals a string, ignoring case.
 pub fn value_of(bytes: &[u8], subtags: Span, keys: Keys, key: &[u8]) -> Option<Span>
     requires { HasSubtags bytes.now subtags }
     ensures value { option_map (span_text bytes.now) result ≡ option_map join (spec.value_of (opens_keyword keys) key.now (subtags_in bytes.now subtags)) }

@@ -1,4 +1,5 @@
-//! What callers without slices and types use in their place: spans of a text, and parts by number. langtag_c exports it to C.
+//! What callers without slices and types use in their place: spans of a string, and parts by number. langtag_c exports
+//! it to C.
 #![tactic(auto)]
 
 mod extension_walk;

@@ -1,4 +1,4 @@
-//! The tag that look-up finds for an Accept-Language header (RFC 9110 section 12.5.4, RFC 4647 section 3.4), without
+//! The tag that lookup finds for an Accept-Language header (RFC 9110 section 12.5.4, RFC 4647 section 3.4), without
 //! allocating.
 ghost use Rattle.std.specs.Prelude.{◌≡◌, ◌≤◌, true, false, IsTrue, None, MatchOption, length};
 ghost use Rattle.std.specs.List.{position};
@@ -19,8 +19,8 @@ use langtag_match::{ElementPart, LanguageRange, element_at};
 use langtag_range::is_empty_element;
 use langtag_scan::case_insensitive_eq;
 
-/// Returns the index of the tag that look-up finds for an Accept-Language header, or the number of spans if it finds none.
-/// Malformed elements, and spans that are not tags, are skipped.
+/// Returns the index of the tag that lookup finds for an Accept-Language header, or the number of spans if it finds
+/// none. Malformed elements, and spans that are not tags, are skipped.
 #[tactic(auto, using(crate::proofs::LookUps::is_looked_up, crate::proofs::LookUps::looked_up_within))]
 pub fn index_for_header(header: &[u8], bytes: &[u8], spans: &[Span]) -> usize
     ensures found { IsLookedUp header.now bytes.now spans.now result }
@@ -56,7 +56,7 @@ fn heaviest_found(header: &[u8], bytes: &[u8], spans: &[Span]) -> Option<usize>
     found
 }
 
-/// Returns the index of the tag that look-up finds for a range.
+/// Returns the index of the tag that lookup finds for a range.
 fn tag_for(range: LanguageRange<'_>, bytes: &[u8], spans: &[Span]) -> Option<usize>
     ensures { result ≡ first_index_alike (tags_at bytes.now spans.now) (fallbacks (language_range_text range.entry)) }
 {
@@ -68,14 +68,14 @@ fn tag_for(range: LanguageRange<'_>, bytes: &[u8], spans: &[Span]) -> Option<usi
     None
 }
 
-/// Returns the index of the first tag that equals a text, ignoring case.
+/// Returns the index of the first tag that equals a string, ignoring case.
 fn index_alike(text: &[u8], bytes: &[u8], spans: &[Span]) -> Option<usize>
     ensures { result ≡ index_alike (tags_at bytes.now spans.now) text.now }
 {
     first_alike(bytes, spans, text)
 }
 
-/// Returns the index of the first span that is a tag and equals a text, ignoring case.
+/// Returns the index of the first span that is a tag and equals a string, ignoring case.
 fn first_alike(bytes: &[u8], spans: &[Span], text: &[u8]) -> Option<usize>
     ensures { result ≡ position (λ span. option_map_or (λ tag. are_alike tag text.now) (tag_at bytes.now span) false) spans.now }
 {
@@ -84,7 +84,7 @@ fn first_alike(bytes: &[u8], spans: &[Span], text: &[u8]) -> Option<usize>
         .position(|span| is_tag_alike(bytes, *span, text))
 }
 
-/// Returns whether a span is a tag and equals a text, ignoring case.
+/// Returns whether a span is a tag and equals a string, ignoring case.
 fn is_tag_alike(bytes: &[u8], span: Span, text: &[u8]) -> bool
     ensures { result ≡ option_map_or (λ tag. are_alike tag text.now) (tag_at bytes.now span) false }
 {

@@ -5,8 +5,8 @@ ghost use Rattle.langtag_span.specs.NumberedParts.{IsPartText, name_of, part_num
 
 use langtag::{Extensions, Language, Part, PrivateUse, Region, Script, Variants};
 
-/// Returns the part with a number and a text. The empty text means that the part is removed. Returns `None` if no
-/// part has this number, or if the text is not a text of this part.
+/// Returns the part with a number and a string. The empty string means that the part is removed. Returns `None` if no
+/// part has this number, or if the string is not a string of this part.
 #[tactic(auto, using(crate::proofs::PartLaws::utf8_parts))]
 pub fn part_of<'a>(number: u32, bytes: &'a [u8]) -> Option<Part<'a>>
     ensures none { result ≡ None → IsPartText number bytes.now → ⊥ }

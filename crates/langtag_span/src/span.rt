@@ -1,8 +1,8 @@
-//! Where a part of a text is.
+//! Where a part of a string is.
 ghost use Rattle.std.specs.Prelude.{◌≡◌, ◌≤◌, ◌+◌, ◌-◌, ◌<◌, ◌^◌, MatchOption};
 ghost use Rattle.langtag_span.specs.Spans.{HasBytes, end_of, span_between, span_text};
 
-/// A span of a text: the offset of its first byte, and its number of bytes. An absent part has no bytes.
+/// A span of a string: the offset of its first byte, and its number of bytes. An absent part has no bytes.
 #[repr(C)]
 #[derive(Clone, Copy)]
 pub struct Span {
@@ -25,7 +25,7 @@ impl Span {
         }
     }
 
-    /// Returns the bytes, if there are any and they are within the text.
+    /// Returns the bytes, if there are any and they are within the string.
     pub fn of<'a>(&self, text: &'a [u8]) -> Option<&'a [u8]>
         ensures { MatchOption result (HasBytes text.now self.now → ⊥)
             (λ bytes. HasBytes text.now self.now × (bytes.now ≡ span_text text.now self.now)) }

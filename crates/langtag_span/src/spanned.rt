@@ -1,4 +1,4 @@
-//! Spans of a text as tags and as language ranges.
+//! Spans of a string as tags and as language ranges.
 ghost use Rattle.std.specs.Prelude.{◌≡◌, IfSome, IsTrue};
 ghost use Rattle.std.specs.Option.{option_map};
 ghost use Rattle.langtag.specs.Text.{lang_tag_text};
@@ -13,21 +13,21 @@ use crate::tag::tag_of;
 use langtag::LangTag;
 use langtag_range::{WantedRange, listed_range};
 
-/// Returns a span of a text as a tag, or `None` if it is not one.
+/// Returns a span of a string as a tag, or `None` if it is not one.
 pub fn tag_in<'a>(text: &'a [u8], span: Span) -> Option<LangTag<'a>>
     ensures { IsTagAt text.now span (option_map lang_tag_text result) }
 {
     tag_of(span.of(text)?)
 }
 
-/// Returns the bytes of a span of a text, or no bytes if the span reaches beyond the text.
+/// Returns the bytes of a span of a string, or no bytes if the span reaches beyond the string.
 pub fn bytes_in<'a>(text: &'a [u8], span: Span) -> &'a [u8]
     ensures { HasBytes text.now span → result.now ≡ span_text text.now span }
 {
     span.of(text).unwrap_or(b"")
 }
 
-/// Returns a span of a text as a language range, or `None` if it is not one.
+/// Returns a span of a string as a language range, or `None` if it is not one.
 #[tactic(auto, using(crate::proofs::RangesAt::range_there, crate::proofs::RangesAt::no_range))]
 pub fn range_in<'a>(text: &'a [u8], span: Span) -> Option<WantedRange<'a>>
     ensures range { option_map listed_element result ≡ range_at text.now span }

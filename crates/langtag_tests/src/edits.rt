@@ -6,8 +6,8 @@ use langtag::{
 };
 use std::alloc::{AllocError, Global};
 
-/// Returns the part with this text. A text that cannot be a script, a region or private use removes that part. For other
-/// parts, such a text gives `None`.
+/// Returns the part with this string. A string that cannot be a script, a region or private use removes that part. For
+/// other parts, such a string gives `None`.
 fn part_of<'a>(name: &str, text: &'a str) -> Option<Part<'a>> {
     Some(match name {
         "language" => Part::Language(Language::new(text).ok()?),

@@ -6,12 +6,12 @@ use langtag_examples::{
 };
 use std::alloc::{AllocError, Global};
 
-/// Returns a text as an owned tag, or `i-default` if it is not a tag.
+/// Returns a string as an owned tag, or `i-default` if it is not a tag.
 fn owned(alloc: Global, text: &str) -> Result<LangTagBuf, AllocError> {
     tag(text).try_to_owned(alloc)
 }
 
-/// Returns a text as a tag, or `i-default` if it is not a tag.
+/// Returns a string as a tag, or `i-default` if it is not a tag.
 fn tag(text: &str) -> LangTag<'_> {
     match LangTag::new(text) {
         Ok(tag) => tag,
@@ -26,7 +26,7 @@ fn broken(alloc: Global, text: &str) -> Result<String, AllocError> {
     }
 }
 
-/// Texts, and what is displayed: the tag, or where the text stops being a tag.
+/// Strings, and what is displayed: the tag, or where the string stops being a tag.
 const BREAKS: &[(&str, &str)] = &[
     ("zh-Hant", "zh-Hant"),
     (
@@ -55,8 +55,8 @@ const BREAKS: &[(&str, &str)] = &[
     ),
 ];
 
-/// Moves a text in a catalogue from one tag to another. Only `iw` has a text at first. Returns whether a text was
-/// moved, and then the texts of both tags.
+/// Moves a string in a catalogue from one tag to another. Only `iw` has a string at first. Returns whether a string was
+/// moved, and then the strings of both tags.
 fn moved(alloc: Global, question: &str) -> Result<String, AllocError> {
     let (from, to) = cut(question);
     let mut catalogue = Catalogue::new(alloc);
@@ -96,9 +96,9 @@ fn counted(alloc: Global, start: &str) -> Result<String, AllocError> {
 
 const COUNTS: &[(&str, &str)] = &[("x", "all"), ("x-aa", "all")];
 
-/// Sets the script of a tag to Latin, puts a text for that tag into a catalogue, and sets the old script back. Returns
-/// the start of the tag in Latin, and whether setting the old script gives the old tag. Then it returns the text that
-/// the catalogue finds, and whether the tag is unchanged. The piece after `+` is repeated 100 times.
+/// Sets the script of a tag to Latin, puts a string for that tag into a catalogue, and sets the old script back.
+/// Returns the start of the tag in Latin, and whether setting the old script gives the old tag. Then it returns the
+/// string that the catalogue finds, and whether the tag is unchanged. The piece after `+` is repeated 100 times.
 fn in_latin(alloc: Global, question: &str) -> Result<String, AllocError> {
     let text = repeated(alloc, question, 100)?;
     let (Ok(tag), Ok(latin)) = (NormalLangTag::new(text.as_str()), Script::new("Latn")) else {
@@ -115,14 +115,14 @@ fn in_latin(alloc: Global, question: &str) -> Result<String, AllocError> {
     format!(in alloc; "{form} {is_back} {found} {is_as_it_was}")
 }
 
-/// Returns a catalogue with a text for one tag.
+/// Returns a catalogue with a string for one tag.
 fn catalogue_of(alloc: Global, tag: &str) -> Result<Catalogue, AllocError> {
     let mut catalogue = Catalogue::new(alloc);
     catalogue.put(owned(alloc, tag)?, String::from_str(alloc, "Zdravo")?)?;
     Ok(catalogue)
 }
 
-/// Returns the first ten bytes of a text, or the whole text if it is shorter.
+/// Returns the first ten bytes of a string, or the whole string if it is shorter.
 fn start_of(text: &str) -> &str {
     text.get(..10).unwrap_or(text)
 }
@@ -137,7 +137,7 @@ const IN_LATIN: &[(&str, &str)] = &[
     ("sre-x+-a", "sre-Latn-x true Zdravo true"),
 ];
 
-/// Returns the tag for a request, from `en` and `de-CH`. The request has no header if the text is `none`.
+/// Returns the tag for a request, from `en` and `de-CH`. The request has no header if the string is `none`.
 fn request(alloc: Global, header: &str) -> Result<String, AllocError> {
     let (english, german) = (tag("en"), tag("de-CH"));
     let header = if header == "none" { None } else { Some(header) };

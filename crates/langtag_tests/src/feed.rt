@@ -3,7 +3,7 @@ use std::cell::Cell;
 use std::io;
 use std::io::{ErrorKind, Read};
 
-/// A text, then a second text that is repeated, and then a last text.
+/// A string, then a second string that is repeated, and then a last text.
 #[derive(Clone, Copy)]
 pub(crate) struct Text<'a> {
     rest: &'a [u8],
@@ -40,7 +40,7 @@ impl<'a> Text<'a> {
     }
 }
 
-/// A reader that returns a text, at most `step` bytes for each read, and may fail at one read. It also records
+/// A reader that returns a string, at most `step` bytes for each read, and may fail at one read. It also records
 /// whether the answer to a complete line was missing when a read began, which must not happen.
 #[derive(Clone, Copy)]
 pub(crate) struct Feed<'a> {

@@ -10,7 +10,7 @@ use std::cell::Cell;
 use std::io::ErrorKind;
 use std::process::{Abort, ExitCode};
 
-/// The input and the expected output of a run. The input has a text, the greatest number of bytes for a read, and the
+/// The input and the expected output of a run. The input has a string, the greatest number of bytes for a read, and the
 /// number of the read that fails. The output has the answers and the fault of the writer.
 #[derive(Clone, Copy)]
 struct Given<'a> {
@@ -101,11 +101,11 @@ const FR_AND_PRIVATE: &[u8] =
 const THREE: &[u8] =
     b"normal language=fr script= region= variants= extensions= private= repeats=no\nprivate x-a\nnormal language=en script= region= variants= extensions= private= repeats=no\n";
 
-/// A run: the text, the greatest number of bytes for a read, the fault of the writer, the answers, and the numbers of
+/// A run: the string, the greatest number of bytes for a read, the fault of the writer, the answers, and the numbers of
 /// writes and flushes.
 type Run = (&'static [u8], usize, Fault, &'static [u8], u64, u64);
 
-/// Texts with each kind of line, and the answers.
+/// Strings with each kind of line, and the answers.
 const ANSWERED: &[(&[u8], &[u8])] = &[
     (b"", b""),
     (b"\n", b"refused\n"),
@@ -148,7 +148,7 @@ fn lines_are_answered_whatever_a_read_returns(rt: HostRuntime) {
     }
 }
 
-/// A text, the greatest number of bytes for a read, the number of the read that fails, and the answers.
+/// A string, the greatest number of bytes for a read, the number of the read that fails, and the answers.
 const FAILING_READS: &[(&[u8], usize, u64, &[u8])] = &[
     (b"fr\nx-", 8, 2, FR),
     (b"fr\n", 3, 1, b""),
@@ -233,7 +233,7 @@ fn private_answer(alloc: Global, len: usize) -> Result<Vec<u8>, AllocError> {
 }
 
 /// The length of a tag for private use, and the number of writes. The answers fill a page to its last byte, or go
-/// over its end: by the LF, by the text, or by a text that is longer than a page.
+/// over its end: by the LF, by the string, or by a string that is longer than a page.
 const PAGES: [(usize, u64); 4] = [(16_375, 1), (16_376, 2), (16_377, 2), (20_000, 3)];
 
 #[test]
@@ -314,8 +314,8 @@ fn lines_within_a_read_without_memory(rt: HostRuntime) {
 
 const A: &[u8] = b"-a-a-a-a-a-a-a-a-a-a-a-a-a-a-a-a-a-a-a-a";
 
-/// An input: its start, a text, and how often that text follows. Then the report: its start, a text, how often that
-/// text follows, and its end.
+/// An input: its start, a string, and how often that string follows. Then the report: its start, a string, how often
+/// that text follows, and its end.
 type Long<'a> = (&'a [u8], &'a [u8], u64, &'a [u8], &'a [u8], u64, &'a [u8]);
 
 const LONG_LINES: &[Long<'static>] = &[

@@ -1,5 +1,5 @@
-//! Functions over bytes: what they feed to a hasher (RFC 5646 section 2.1.1), where subtags begin and end (section 2.1),
-//! and how many bytes of a text are read.
+//! Functions over bytes: what they feed to a hasher (RFC 5646 section 2.1.1), where subtags begin and end (section
+//! 2.1), and how many bytes of a string are read.
 ghost use Rattle.std.specs.Prelude.{◌≡◌, ◌+◌, ◌*◌, ◌%◌, ◌^◌, length, fold};
 
 use crate::support::expect_true;

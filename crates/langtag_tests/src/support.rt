@@ -36,7 +36,7 @@ pub(crate) fn cut(question: &str) -> (&str, &str) {
     question.split_once('|').unwrap_or((question, ""))
 }
 
-/// Returns the text before the first `+`, and then the piece after it, this many times.
+/// Returns the string before the first `+`, and then the piece after it, this many times.
 pub(crate) fn repeated(alloc: Global, text: &str, times: u32) -> Result<String, AllocError> {
     let (start, piece) = text.split_once('+').unwrap_or((text, ""));
     let mut whole = String::from_str(alloc, start)?;

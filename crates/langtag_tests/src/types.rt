@@ -1,4 +1,4 @@
-//! The text types: whether each type accepts the shortest text, the longest text, other long texts and texts of
+//! The string types: whether each type accepts the shortest text, the longest text, other long strings and strings of
 //! digits. The tests also show that each type displays and copies them.
 use crate::support::{are_answered, cut, repeated};
 use langtag::{
@@ -10,7 +10,7 @@ use langtag_match::LanguageRange;
 use std::alloc::{AllocError, Global};
 use std::fmt::Display;
 
-/// The body of a function for each type, which returns whether the type accepts a text. The owned form is a copy.
+/// The body of a function for each type, which returns whether the type accepts a string. The owned form is a copy.
 macro_rules! told {
     ($type:ident, $text:ident, $alloc:ident) => {
         match $type::new($text) {
@@ -99,7 +99,7 @@ fn range(text: &str, alloc: Global) -> Result<String, AllocError> {
     told!(LanguageRange, text, alloc)
 }
 
-/// Returns whether a type accepts a text. The piece after `+` is repeated 300 times.
+/// Returns whether a type accepts a string. The piece after `+` is repeated 300 times.
 fn told(alloc: Global, question: &str) -> Result<String, AllocError> {
     let (name, text) = cut(question);
     let whole = repeated(alloc, text, 300)?;
@@ -125,7 +125,8 @@ fn told(alloc: Global, question: &str) -> Result<String, AllocError> {
     }
 }
 
-/// Texts of each type: the shortest, the longest or a long text, a text of digits if there is one, and an invalid text.
+/// Strings of each type: the shortest, the longest or a long string, a string of digits if there is one, and an invalid
+/// text.
 const TEXTS: &[(&str, &str)] = &[
     ("PrimaryLanguage|fr", "accepted"),
     ("PrimaryLanguage|abcdefgh", "accepted"),

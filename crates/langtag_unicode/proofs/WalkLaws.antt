@@ -1,4 +1,4 @@
--- What a look-up and a walk have in common.
+-- What a lookup and a walk have in common.
 use Rattle.std.proofs.Common.{rules}
 use Rattle.std.proofs.lemmas.Grind.{common_steps}
 use Rattle.std.proofs.Common.{◌≡◌, ℕ, Bool, true, false, cond, ◌&&◌, ◌==◌, not, List, [], ◌∷◌, ◌++◌, length, Option, Some, refl, ap, sym, ◌∙◌, arith}
@@ -34,7 +34,7 @@ pub value_of-alike : (test : List ℕ → Bool) (k l : List ℕ) (ss : List (Lis
 value_of-alike test k l [] same = refl
 value_of-alike test k l (s ∷ ss) same = rw (are_alike-right s k l same, value_of-alike test k l ss same) refl
 
--- ---- a look-up and the walk
+-- ---- a lookup and the walk
 
 -- one more subtag that the key is not alike
 still-none : (key s : List ℕ) (before : List (List ℕ)) → list_any (are_alike key) before ≡ false → are_alike s key ≡ false → list_any (are_alike key) (before ++ s ∷ []) ≡ false

@@ -28,7 +28,7 @@ pub struct AttributesIter<'a> {
 impl<'a> AttributesIter<'a> {
     ghost use Rattle.langtag_unicode.specs.Text.{attributes_left};
 
-    /// Returns an iterator over the distinct subtags of a text.
+    /// Returns an iterator over the distinct subtags of a string.
     #[tactic(auto, using(langtag_keyword::proofs::SubtagTexts::few_subtags))]
     pub(crate) fn new(text: &'a str) -> Self
         ensures { attributes_left result ≡ spec.each_once_after [] (subtags text.now) }

@@ -1,4 +1,4 @@
-//! The subtags of an extension of a tag, as one text.
+//! The subtags of an extension of a tag, as one string.
 ghost use Rattle.std.specs.Prelude.{[]};
 ghost use Rattle.langtag.specs.Part.{PartOf};
 ghost use Rattle.langtag.specs.Text.{lang_tag_text};
@@ -8,7 +8,7 @@ ghost use Rattle.langtag_scan.specs.Subtags.{subtags};
 
 use langtag::{LangTag, Singleton};
 
-/// Returns the subtags of the first extension with a singleton, joined by hyphens, or the empty text if there is no
+/// Returns the subtags of the first extension with a singleton, joined by hyphens, or the empty string if there is no
 /// such extension.
 pub(crate) fn extension_text<'a>(tag: LangTag<'a>, singleton: Singleton) -> &'a str
     ensures { PartOf (lang_tag_text tag.entry) (spec.subtags_of (singleton_byte singleton)) [] (subtags result.now) }

@@ -32,7 +32,7 @@ pub struct KeywordsIter<'a> {
 impl<'a> KeywordsIter<'a> {
     ghost use Rattle.langtag_unicode.specs.Text.{keywords_left};
 
-    /// Returns an iterator over the keywords among the subtags of a text.
+    /// Returns an iterator over the keywords among the subtags of a string.
     #[tactic(auto, using(langtag_keyword::proofs::SubtagTexts::few_subtags))]
     pub(crate) fn new(text: &'a str, keys: Keys) -> Self
         ensures { keywords_left result ≡ spec.keywords_of (opens_keyword keys) (subtags text.now) }

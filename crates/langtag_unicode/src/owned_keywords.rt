@@ -18,8 +18,8 @@ use std::alloc::{AllocError, Global};
 /// Sets the value of a key of the extension `u` (RFC 6067 section 2.1): with `buddhist` for `ca`, `de-x-a` becomes
 /// `de-u-ca-buddhist-x-a`. With an empty value, the key has no value, which means `true`.
 ///
-/// The new text is the one that [`write_with_keyword`](crate::write_with_keyword) writes. It is allocated once, exactly
-/// its length.
+/// The new string is the one that [`write_with_keyword`](crate::write_with_keyword) writes. It is allocated once,
+/// exactly its length.
 ///
 /// # Errors
 ///
@@ -61,7 +61,7 @@ pub fn set_keyword(
 /// Removes a key of the extension `u` (RFC 6067 section 2.1): without `ca`, `th-u-ca-gregory-nu-thai` becomes
 /// `th-u-nu-thai`. Each keyword of the key is removed from the first `u`, and so is this `u` if nothing else is in it.
 ///
-/// It allocates the new text, as [`set_keyword`] does, even if the tag does not have the key.
+/// It allocates the new string, as [`set_keyword`] does, even if the tag does not have the key.
 ///
 /// # Errors
 ///
@@ -91,7 +91,7 @@ pub fn remove_keyword(tag: &mut LangTagBuf, alloc: Global, key: &str) -> Result<
     apply(tag, alloc, KeywordEdit { key, value: None })
 }
 
-/// Applies an edit to a tag. The new text is complete before the old text is dropped.
+/// Applies an edit to a tag. The new string is complete before the old string is dropped.
 fn apply(tag: &mut LangTagBuf, alloc: Global, edit: KeywordEdit<'_>) -> Result<(), SetKeywordError>
     requires { is_allowed edit }
     ensures edited { OnOk result (IsForm (edited_record_by edit.entry) (lang_tag_buf_text tag.old) (lang_tag_buf_text tag.new)) }
@@ -118,7 +118,8 @@ fn edited(
     Ok(tag_of(edited_bytes(alloc, tag, edit)?))
 }
 
-/// Returns the bytes of a normal tag with a keyword set or removed. It allocates once, exactly the length of the text.
+/// Returns the bytes of a normal tag with a keyword set or removed. It allocates once, exactly the length of the
+/// string.
 fn edited_bytes(
     alloc: Global,
     tag: NormalLangTag<'_>,

@@ -1,4 +1,4 @@
-//! The extension `t` of a tag, which says how a text was transformed.
+//! The extension `t` of a tag, which says how a string was transformed.
 ghost use Rattle.std.specs.Prelude.{◌≡◌, ℕ, List, None, IsTrue};
 ghost use Rattle.std.specs.Option.{option_map};
 ghost use Rattle.langtag.specs.Part.{PartOf};
@@ -15,7 +15,7 @@ use crate::keywords_iter::KeywordsIter;
 use langtag::{LangTag, Singleton};
 use langtag_keyword::{Keys, before_key, nonempty, value_in};
 
-/// The extension `t` of a tag (RFC 6497 section 2.2): the language of the text before it was transformed, and how it
+/// The extension `t` of a tag (RFC 6497 section 2.2): the language of the string before it was transformed, and how it
 /// was transformed.
 ///
 /// ```
@@ -74,7 +74,7 @@ impl<'a> Transformation<'a> {
 
     /// Returns the value of a field, as a slice of the tag: in `und-t-ja-m0-hepburn` the field `m0` has the value
     /// `hepburn`. Case is ignored, and the first of repeated keys counts. Returns `None` if the field is absent, and
-    /// the empty text if it has no value.
+    /// the empty string if it has no value.
     ///
     /// ```
     /// use langtag::LangTag;

@@ -36,7 +36,7 @@ pub struct KeyValue<'a> {
 /// `ar-u-ca-islamic-civil-nu-latn` the key `ca` has the value `islamic-civil`. Case is ignored.
 ///
 /// The value is empty if the key has none, like `kn` in `de-u-kn`, which means `true`. Returns `None` if the key is
-/// absent, if the text is not a key, or if the tag has no extension `u`. The first of repeated keys counts.
+/// absent, if the string is not a key, or if the tag has no extension `u`. The first of repeated keys counts.
 ///
 /// ```
 /// use langtag::LangTag;

@@ -5,14 +5,14 @@
 use crate::erased::scan::{case_insensitive_cmp, case_insensitive_eq, into_smallcase};
 use core::cmp::Ordering;
 
-/// Returns whether two texts are equal, ignoring the case of ASCII letters.
+/// Returns whether two strings are equal, ignoring the case of ASCII letters.
 #[inline]
 pub fn langtag_eq(a: &[u8], b: &[u8]) -> bool {
     case_insensitive_eq(a, b)
 }
 
-/// Compares two texts by their lowercase bytes, and returns -1, 0 or 1. If one text begins with the
-/// other, the shorter text is greater.
+/// Compares two strings by their lowercase bytes, and returns -1, 0 or 1. If one string begins with
+/// the other, the shorter text is greater.
 #[inline]
 pub fn langtag_cmp(a: &[u8], b: &[u8]) -> i32 {
     match case_insensitive_cmp(a, b) {
@@ -32,7 +32,7 @@ pub fn langtag_hash(state: u64, bytes: &[u8]) -> u64 {
     hash
 }
 
-/// Changes ASCII uppercase letters to lowercase, in place, for example to hash a text in another
+/// Changes ASCII uppercase letters to lowercase, in place, for example to hash a string in another
 /// way.
 #[inline]
 pub fn langtag_fold(bytes: &mut [u8]) {

@@ -1,6 +1,6 @@
 // Made by rust/erase from crates/langtag_c/src/fallback.rt. Change that file, not this one.
 
-//! The fallbacks of a language range in a look-up (RFC 4647 section 3.4), without allocating.
+//! The fallbacks of a language range in a lookup (RFC 4647 section 3.4), without allocating.
 
 use crate::erased::range::shortened_len;
 use crate::spans::Span;

@@ -20,8 +20,8 @@ pub fn langtag_range_kind(bytes: &[u8]) -> u32 {
 }
 
 /// Returns whether a range matches a tag by basic filtering ([RFC 4647 section 3.3.1]): `de-DE`
-/// matches `de-DE-1996`, but not `de-Latn-DE`. Returns `false` if the first text is not a range, or
-/// the second is not a tag.
+/// matches `de-DE-1996`, but not `de-Latn-DE`. Returns `false` if the first string is not a range,
+/// or the second is not a tag.
 ///
 /// [RFC 4647 section 3.3.1]: https://www.rfc-editor.org/rfc/rfc4647#section-3.3.1
 pub fn langtag_matches_basic(range: &[u8], tag: &[u8]) -> bool {
@@ -32,7 +32,7 @@ pub fn langtag_matches_basic(range: &[u8], tag: &[u8]) -> bool {
 }
 
 /// Returns whether a range matches a tag by extended filtering ([RFC 4647 section 3.3.2]): `de-DE`
-/// and `de-*-DE` match `de-Latn-DE`. Returns `false` if the first text is not a range, or the
+/// and `de-*-DE` match `de-Latn-DE`. Returns `false` if the first string is not a range, or the
 /// second is not a tag.
 ///
 /// [RFC 4647 section 3.3.2]: https://www.rfc-editor.org/rfc/rfc4647#section-3.3.2

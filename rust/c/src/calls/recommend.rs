@@ -5,9 +5,9 @@
 use crate::erased::case::make_recommended_case;
 
 /// Changes the letters to their recommended case, in place: `MN-cYRL-mn-X-LATN` becomes
-/// `mn-Cyrl-MN-x-latn`. Texts that differ only in case become the same text. Bytes other than ASCII
-/// letters stay as they are, so the text may be any bytes. A tag keeps its kind, and its parts keep
-/// their offsets.
+/// `mn-Cyrl-MN-x-latn`. Strings that differ only in case become the same string. Bytes other than
+/// ASCII letters stay as they are, so the string may be any bytes. A tag keeps its kind, and its
+/// parts keep their offsets.
 #[inline]
 pub fn langtag_recommend(bytes: &mut [u8]) {
     make_recommended_case(bytes);

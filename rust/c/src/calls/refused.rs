@@ -1,6 +1,6 @@
 // Made by rust/erase from crates/langtag_c/src/refused.rt. Change that file, not this one.
 
-//! Where a text that is not a tag is wrong (RFC 5646 section 2.1).
+//! Where a string that is not a tag is wrong (RFC 5646 section 2.1).
 
 use crate::erased::tag::{Refusal, RefusalKind};
 use crate::spans::Span;

@@ -1,12 +1,12 @@
 // Made by rust/erase from crates/langtag_c/src/spanned_ranges.rt. Change that file, not this one.
 
-//! Language ranges as spans of a text.
+//! Language ranges as spans of a string.
 
 use crate::erased::choice::RangeList;
 use crate::erased::range::WantedRange;
 use crate::spans::{range_in, Span};
 
-/// A text, and spans of it that are language ranges, the most wanted first.
+/// A string, and spans of it that are language ranges, in order of preference.
 #[derive(Clone, Copy)]
 pub(crate) struct SpannedRanges<'a> {
     pub(crate) text: &'a [u8],

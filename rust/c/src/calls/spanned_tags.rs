@@ -1,12 +1,12 @@
 // Made by rust/erase from crates/langtag_c/src/spanned_tags.rt. Change that file, not this one.
 
-//! Tags as spans of a text.
+//! Tags as spans of a string.
 
 use crate::erased::choice::TagList;
 use crate::erased::tag::LangTag;
 use crate::spans::{bytes_in, tag_in, Span};
 
-/// A text, and spans of it that are tags.
+/// A string, and spans of it that are tags.
 #[derive(Clone, Copy)]
 pub(crate) struct SpannedTags<'a> {
     pub(crate) text: &'a [u8],

@@ -1,11 +1,11 @@
 // Made by rust/erase from crates/langtag_c/src/viable.rt. Change that file, not this one.
 
-//! How many bytes of a text can begin a tag.
+//! How many bytes of a string can begin a tag.
 
 use crate::erased::scan::viable_len;
 
 /// Returns the length in bytes of the longest prefix with which some tag begins ([RFC 5646 section
-/// 2.1]): 2 for `zh_Hant`. It is the whole length if more bytes could make the text a tag, as for
+/// 2.1]): 2 for `zh_Hant`. It is the whole length if more bytes could make the string a tag, as for
 /// `zh-`.
 ///
 /// [RFC 5646 section 2.1]: https://www.rfc-editor.org/rfc/rfc5646#section-2.1
@@ -15,8 +15,8 @@ pub fn langtag_viable(bytes: &[u8]) -> usize {
 }
 
 /// Returns the length in bytes of the shortest prefix with which no tag begins, or the whole length
-/// if there is none: 3 for `zh_Hant` and `zh-`. A program that reads the text byte by byte can stop
-/// after this prefix.
+/// if there is none: 3 for `zh_Hant` and `zh-`. A program that reads the string byte by byte can
+/// stop after this prefix.
 #[inline]
 pub fn langtag_stop(bytes: &[u8]) -> usize {
     bytes.len().min(viable_len(bytes) + 1)

@@ -65,7 +65,7 @@ fn len_before_key(bytes: &[u8], subtags: Span, keys: Keys) -> usize {
     len
 }
 
-/// Returns the value of the first key that equals a text, ignoring case.
+/// Returns the value of the first key that equals a string, ignoring case.
 pub fn value_of(bytes: &[u8], subtags: Span, keys: Keys, key: &[u8]) -> Option<Span> {
     let mut rest = subtags;
     while let Some((_, subtag)) = take_subtag(bytes, &mut rest) {

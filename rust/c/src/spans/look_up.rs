@@ -1,6 +1,6 @@
 // Made by rust/erase from crates/langtag_span/src/look_up.rt. Change that file, not this one.
 
-//! The tag that look-up finds for an Accept-Language header (RFC 9110 section 12.5.4, RFC 4647
+//! The tag that lookup finds for an Accept-Language header (RFC 9110 section 12.5.4, RFC 4647
 //! section 3.4), without allocating.
 
 use crate::erased::matching::{element_at, ElementPart, LanguageRange};
@@ -10,7 +10,7 @@ use crate::spans::items::{is_comma, next_item};
 use crate::spans::span::Span;
 use crate::spans::spanned::{bytes_in, tag_in};
 
-/// Returns the index of the tag that look-up finds for an Accept-Language header, or the number of
+/// Returns the index of the tag that lookup finds for an Accept-Language header, or the number of
 /// spans if it finds none. Malformed elements, and spans that are not tags, are skipped.
 #[inline]
 pub fn index_for_header(header: &[u8], bytes: &[u8], spans: &[Span]) -> usize {
@@ -41,7 +41,7 @@ fn heaviest_found(header: &[u8], bytes: &[u8], spans: &[Span]) -> Option<usize> 
     found
 }
 
-/// Returns the index of the tag that look-up finds for a range.
+/// Returns the index of the tag that lookup finds for a range.
 fn tag_for(range: LanguageRange<'_>, bytes: &[u8], spans: &[Span]) -> Option<usize> {
     for fallback in range.fallbacks() {
         if let Some(index) = index_alike(fallback.as_str().as_bytes(), bytes, spans) {
@@ -51,13 +51,13 @@ fn tag_for(range: LanguageRange<'_>, bytes: &[u8], spans: &[Span]) -> Option<usi
     None
 }
 
-/// Returns the index of the first tag that equals a text, ignoring case.
+/// Returns the index of the first tag that equals a string, ignoring case.
 #[inline]
 fn index_alike(text: &[u8], bytes: &[u8], spans: &[Span]) -> Option<usize> {
     first_alike(bytes, spans, text)
 }
 
-/// Returns the index of the first span that is a tag and equals a text, ignoring case.
+/// Returns the index of the first span that is a tag and equals a string, ignoring case.
 #[inline]
 fn first_alike(bytes: &[u8], spans: &[Span], text: &[u8]) -> Option<usize> {
     spans
@@ -65,7 +65,7 @@ fn first_alike(bytes: &[u8], spans: &[Span], text: &[u8]) -> Option<usize> {
         .position(|span| is_tag_alike(bytes, *span, text))
 }
 
-/// Returns whether a span is a tag and equals a text, ignoring case.
+/// Returns whether a span is a tag and equals a string, ignoring case.
 #[inline]
 fn is_tag_alike(bytes: &[u8], span: Span, text: &[u8]) -> bool {
     case_insensitive_eq(bytes_in(bytes, span), text) && tag_in(bytes, span).is_some()

@@ -1,7 +1,7 @@
 // Made by rust/erase from crates/langtag_span/src/lib.rt. Change that file, not this one.
 
-//! What callers without slices and types use in their place: spans of a text, and parts by number.
-//! langtag_c exports it to C.
+//! What callers without slices and types use in their place: spans of a string, and parts by
+//! number. langtag_c exports it to C.
 
 mod extension_walk;
 mod items;

@@ -4,8 +4,8 @@
 
 use crate::erased::tag::{Extensions, Language, Part, PrivateUse, Region, Script, Variants};
 
-/// Returns the part with a number and a text. The empty text means that the part is removed.
-/// Returns `None` if no part has this number, or if the text is not a text of this part.
+/// Returns the part with a number and a string. The empty string means that the part is removed.
+/// Returns `None` if no part has this number, or if the string is not a string of this part.
 pub fn part_of<'a>(number: u32, bytes: &'a [u8]) -> Option<Part<'a>> {
     let text = core::str::from_utf8(bytes).ok()?;
     match number {

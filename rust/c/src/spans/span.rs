@@ -1,8 +1,8 @@
 // Made by rust/erase from crates/langtag_span/src/span.rt. Change that file, not this one.
 
-//! Where a part of a text is.
+//! Where a part of a string is.
 
-/// A span of a text: the offset of its first byte, and its number of bytes. An absent part has no
+/// A span of a string: the offset of its first byte, and its number of bytes. An absent part has no
 /// bytes.
 #[repr(C)]
 #[derive(Clone, Copy)]
@@ -23,7 +23,7 @@ impl Span {
         }
     }
 
-    /// Returns the bytes, if there are any and they are within the text.
+    /// Returns the bytes, if there are any and they are within the string.
     #[inline]
     pub fn of<'a>(&self, text: &'a [u8]) -> Option<&'a [u8]> {
         if self.len == 0 {

@@ -1,25 +1,25 @@
 // Made by rust/erase from crates/langtag_span/src/spanned.rt. Change that file, not this one.
 
-//! Spans of a text as tags and as language ranges.
+//! Spans of a string as tags and as language ranges.
 
 use crate::erased::range::{listed_range, WantedRange};
 use crate::erased::tag::LangTag;
 use crate::spans::span::Span;
 use crate::spans::tag::tag_of;
 
-/// Returns a span of a text as a tag, or `None` if it is not one.
+/// Returns a span of a string as a tag, or `None` if it is not one.
 #[inline]
 pub fn tag_in<'a>(text: &'a [u8], span: Span) -> Option<LangTag<'a>> {
     tag_of(span.of(text)?)
 }
 
-/// Returns the bytes of a span of a text, or no bytes if the span reaches beyond the text.
+/// Returns the bytes of a span of a string, or no bytes if the span reaches beyond the string.
 #[inline]
 pub fn bytes_in<'a>(text: &'a [u8], span: Span) -> &'a [u8] {
     span.of(text).unwrap_or(b"")
 }
 
-/// Returns a span of a text as a language range, or `None` if it is not one.
+/// Returns a span of a string as a language range, or `None` if it is not one.
 #[inline]
 pub fn range_in<'a>(text: &'a [u8], span: Span) -> Option<WantedRange<'a>> {
     listed_range(span.of(text)?)

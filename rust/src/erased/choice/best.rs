@@ -62,7 +62,7 @@ pub fn best_for_accept_language(
     best_among(accepted.ranges(), &Tags(tags))
 }
 
-/// Returns the index of the best tag for a list of language ranges, the most wanted first, as
+/// Returns the index of the best tag for a list of language ranges, in order of preference, as
 /// [`best_for_header`] does. For the ranges `nn` and `de`, and the tags `en` and `nb`, it is 1. An
 /// extended range is read without its `*`: `zh-*-Hant` is read as `zh-Hant`.
 ///
@@ -86,7 +86,7 @@ pub fn best_for_ranges(ranges: &[LanguageRange<'_>], tags: &[LangTag<'_>]) -> Op
 
 /// Returns the best tag for an Accept-Language header, as [`best_for_header`] chooses it, with the
 /// range that it serves and its distance from that range. If the distance is 50 or more, only
-/// look-up (RFC 4647, section 3.4) finds the tag.
+/// lookup (RFC 4647, section 3.4) finds the tag.
 ///
 /// ```
 /// # fn main() -> Result<(), Box<dyn std::error::Error>> {

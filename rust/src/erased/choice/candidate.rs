@@ -8,7 +8,7 @@ use crate::erased::likely::{basic_len, TagFields};
 use core::cmp::Ordering;
 
 /// How well a tag serves a range, the best first: at a distance below 16, at a distance below 50,
-/// or because only look-up finds it.
+/// or because only lookup finds it.
 #[derive(Clone, Copy, PartialEq, Eq, PartialOrd, Ord)]
 pub(crate) enum Service {
     Near,
@@ -17,7 +17,7 @@ pub(crate) enum Service {
 }
 
 impl Service {
-    /// Returns how well a tag serves a range at a distance, which is 50 if only look-up finds the
+    /// Returns how well a tag serves a range at a distance, which is 50 if only lookup finds the
     /// tag.
     #[inline]
     pub(crate) fn at(distance: u8) -> Service {
@@ -50,7 +50,7 @@ pub(crate) struct Rank {
     pub(crate) lack: u32,
     /// The number of ranges before the range.
     pub(crate) place: usize,
-    /// The distance of the tag, which is 50 if only look-up finds the tag.
+    /// The distance of the tag, which is 50 if only lookup finds the tag.
     pub(crate) distance: u8,
 }
 
@@ -90,7 +90,7 @@ impl Candidate<'_, '_> {
     }
 
     /// Returns whether this candidate is better than another of the same rank. It compares how much
-    /// look-up removes from the range, then how likely the region is, and then the index.
+    /// lookup removes from the range, then how likely the region is, and then the index.
     fn breaks_tie(&self, other: &Candidate<'_, '_>) -> bool {
         let (lost, others_lost) = (self.lost(), other.lost());
         if lost != others_lost {
@@ -103,8 +103,8 @@ impl Candidate<'_, '_> {
         self.index < other.index
     }
 
-    /// Returns how many bytes look-up removes from the range to find the tag, or the length of the
-    /// range if look-up does not find the tag.
+    /// Returns how many bytes lookup removes from the range to find the tag, or the length of the
+    /// range if lookup does not find the tag.
     #[inline]
     fn lost(&self) -> usize {
         basic_len(self.range).saturating_sub(kept(self.range, self.tag))

@@ -6,7 +6,7 @@ use crate::erased::choice::matching_tables as tables;
 use crate::erased::range::is_separator;
 use crate::erased::scan::into_smallcase;
 
-/// Returns the first two bytes of a text, in lowercase.
+/// Returns the first two bytes of a string, in lowercase.
 #[inline]
 pub(crate) fn first_two(text: &[u8]) -> Option<(u8, u8)> {
     match text {
@@ -15,8 +15,8 @@ pub(crate) fn first_two(text: &[u8]) -> Option<(u8, u8)> {
     }
 }
 
-/// Returns `true` only if the language of a text has two letters and no extended language follows
-/// it, or the text does not begin with a language.
+/// Returns `true` only if the language of a string has two letters and no extended language follows
+/// it, or the string does not begin with a language.
 pub(crate) fn is_short(text: &[u8]) -> bool {
     match text {
         [_, _] => true,
@@ -25,14 +25,14 @@ pub(crate) fn is_short(text: &[u8]) -> bool {
     }
 }
 
-/// Returns whether the first subtag of a text is neither empty nor `*`, and is not an extended
+/// Returns whether the first subtag of a string is neither empty nor `*`, and is not an extended
 /// language.
 #[inline]
 fn has_no_extended(text: &[u8]) -> bool {
     begins_counted(text) && !may_be_extended(text)
 }
 
-/// Returns whether the first subtag of a text is neither empty nor `*`.
+/// Returns whether the first subtag of a string is neither empty nor `*`.
 #[inline]
 fn begins_counted(text: &[u8]) -> bool {
     match text {
@@ -41,7 +41,7 @@ fn begins_counted(text: &[u8]) -> bool {
     }
 }
 
-/// Returns whether a text may begin with an extended language. A region of three digits is not an
+/// Returns whether a string may begin with an extended language. A region of three digits is not an
 /// extended language.
 fn may_be_extended(text: &[u8]) -> bool {
     match text {

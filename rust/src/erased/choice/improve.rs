@@ -8,7 +8,7 @@ use crate::erased::choice::nearness::measured;
 use crate::erased::choice::wish::Wish;
 
 /// Returns the distance below which a tag may be better than the candidate, for a range with this
-/// `weight` and `place`. It is 0 if no tag can be better, and 51 if even a tag that only look-up
+/// `weight` and `place`. It is 0 if no tag can be better, and 51 if even a tag that only lookup
 /// finds may be better.
 pub(crate) fn limit(found: &Option<Candidate<'_, '_>>, weight: u32, place: usize) -> u8 {
     let lacking = lack(weight);
@@ -35,8 +35,8 @@ fn lack(weight: u32) -> u32 {
     1000_u32.saturating_sub(weight)
 }
 
-/// Replaces the candidate by the text at an index, if the text may serve a range and is better. It
-/// does not check that the text is a tag.
+/// Replaces the candidate by the string at an index, if the string may serve a range and is better.
+/// It does not check that the string is a tag.
 #[inline]
 pub(crate) fn improve<'a, 't>(
     found: &mut Option<Candidate<'a, 't>>,
@@ -76,8 +76,8 @@ fn is_first(next: &Candidate<'_, '_>, found: &Option<Candidate<'_, '_>>) -> bool
     }
 }
 
-/// Returns the text at an index as a candidate for a range, if the text may serve the range and is
-/// nearer than a limit.
+/// Returns the string at an index as a candidate for a range, if the string may serve the range and
+/// is nearer than a limit.
 fn as_candidate<'a, 't>(
     limit: u8,
     wish: &Wish<'a>,

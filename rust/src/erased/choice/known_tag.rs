@@ -6,17 +6,17 @@ use crate::erased::choice::prepared_tag::PreparedTag;
 use crate::erased::choice::wish::Wish;
 use crate::erased::likely::{matching_form, TagFields};
 
-/// A tag as the choice reads it: a text, or a tag with what was computed of it before.
+/// A tag as the choice reads it: a string, or a tag with what was computed of it before.
 #[derive(Clone, Copy)]
 pub enum KnownTag<'t> {
-    /// The text of a tag.
+    /// The string of a tag.
     Text(&'t [u8]),
     /// A tag that was prepared.
     Prepared(&'t PreparedTag<'t>),
 }
 
 impl<'t> KnownTag<'t> {
-    /// Returns the text of the tag.
+    /// Returns the string of the tag.
     #[inline]
     pub(crate) fn bytes(self) -> &'t [u8] {
         match self {

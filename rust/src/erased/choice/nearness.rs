@@ -20,7 +20,7 @@ pub(crate) struct Nearness<'t> {
 }
 
 /// Returns how near a tag is to a range that the tag may serve, if the distance is below a limit.
-/// The distance is 50 if only look-up finds the tag.
+/// The distance is 50 if only lookup finds the tag.
 pub(crate) fn measured<'t>(limit: u8, wish: &Wish<'_>, tag: KnownTag<'t>) -> Option<Nearness<'t>> {
     if let Some(near) = nearer_than(limit.min(50), wish, tag) {
         return Some(near);
@@ -42,7 +42,7 @@ fn nearer_than<'t>(limit: u8, wish: &Wish<'_>, tag: KnownTag<'t>) -> Option<Near
     }
 }
 
-/// Returns how near a text is to a range, if it is nearer than a limit.
+/// Returns how near a string is to a range, if it is nearer than a limit.
 fn nearer_text<'t>(limit: u8, wish: &Wish<'_>, tag: &'t [u8]) -> Option<Nearness<'t>> {
     match (wish.form, replaced_form(tag)) {
         (Some(desired), Some(supported)) => nearer_fields(limit, desired, supported),
@@ -131,7 +131,7 @@ fn equal_text<'t>(limit: u8, range: &[u8], tag: &'t [u8]) -> Option<Nearness<'t>
     })
 }
 
-/// Returns the number of bytes of a range that look-up keeps when it finds a tag, or 0 if it does
+/// Returns the number of bytes of a range that lookup keeps when it finds a tag, or 0 if it does
 /// not find the tag.
 #[inline]
 pub(crate) fn kept(range: &[u8], tag: &[u8]) -> usize {
@@ -142,7 +142,7 @@ pub(crate) fn kept(range: &[u8], tag: &[u8]) -> usize {
     }
 }
 
-/// Returns whether a tag equals a range, or equals the text before one of the range's hyphens and
+/// Returns whether a tag equals a range, or equals the string before one of the range's hyphens and
 /// does not end in a subtag of a single character.
 #[inline]
 fn is_fallback(range: &[u8], tag: &[u8]) -> bool {
@@ -150,7 +150,7 @@ fn is_fallback(range: &[u8], tag: &[u8]) -> bool {
     rest.is_empty() && may_go(left, tag)
 }
 
-/// Returns whether look-up can remove `left`, the rest of a range after a tag. This holds if `left`
+/// Returns whether lookup can remove `left`, the rest of a range after a tag. This holds if `left`
 /// is empty, or if it begins with a hyphen and the tag does not end in a subtag of a single
 /// character.
 #[inline]

@@ -84,7 +84,7 @@ impl<'t> PreparedTag<'t> {
 }
 
 impl Head {
-    /// Returns the first letters of a text and the number of its language, or `None` if the
+    /// Returns the first letters of a string and the number of its language, or `None` if the
     /// language has more than three letters.
     fn of(text: &[u8], form: Option<TagFields<'_>>) -> Option<Head> {
         let letters = first_two(text)?;

@@ -49,7 +49,7 @@ fn rule_keys(from: u32) -> &'static [u32] {
     &keys[start..end]
 }
 
-/// Returns the index of the first number that is at least `least`, in a list of rising numbers.
+/// Returns the index of the first number that is at least `least`, in a list of ascending numbers.
 #[inline]
 fn place(numbers: &[u32], least: u32) -> usize {
     match numbers.binary_search(&least) {

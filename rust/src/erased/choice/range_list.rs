@@ -46,7 +46,7 @@ impl<'a> RangeList<'a> for &'a [WeightedRange<'a>] {
     }
 }
 
-/// Ranges, the most wanted first.
+/// Ranges, in order of preference.
 impl<'a> RangeList<'a> for &'a [LanguageRange<'a>] {
     fn split_range(self) -> Option<(WantedRange<'a>, &'a [LanguageRange<'a>])> {
         let (first, rest) = self.split_first()?;

@@ -10,7 +10,7 @@ pub(crate) fn is_star(range: &[u8]) -> bool {
     are_alike(range, b"*")
 }
 
-/// Returns whether a range begins with the whole text of a tag, ignoring case.
+/// Returns whether a range begins with the whole string of a tag, ignoring case.
 #[inline]
 pub(crate) fn starts(range: &[u8], tag: &[u8]) -> bool {
     let (_, rest) = after_common(range, tag);

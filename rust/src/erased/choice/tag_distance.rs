@@ -54,7 +54,7 @@ pub fn distance(desired: LangTag<'_>, supported: LangTag<'_>) -> u8 {
     texts_distance(desired.as_bytes(), supported.as_bytes())
 }
 
-/// Returns the distance of two texts.
+/// Returns the distance of two strings.
 fn texts_distance(desired: &[u8], supported: &[u8]) -> u8 {
     match (matching_form(desired), matching_form(supported)) {
         (Some(desired), Some(supported)) => fields_distance(desired, supported),
@@ -81,7 +81,7 @@ fn formless_range_distance(range: &[u8], tag: &[u8]) -> u8 {
     }
 }
 
-/// Returns the distance of two texts if one of them has no matching form.
+/// Returns the distance of two strings if one of them has no matching form.
 #[inline]
 fn formless_distance(desired: &[u8], supported: &[u8]) -> u8 {
     if case_insensitive_eq(desired, supported) {
@@ -91,7 +91,7 @@ fn formless_distance(desired: &[u8], supported: &[u8]) -> u8 {
     }
 }
 
-/// Returns the distance of two matching forms: 0 exactly if they are equal, ignoring case.
+/// Returns the distance of two matching forms: 0 if and only if they are equal, ignoring case.
 #[inline]
 fn fields_distance(desired: TagFields<'_>, supported: TagFields<'_>) -> u8 {
     language_distance(desired, supported) + places_distance(desired, supported)

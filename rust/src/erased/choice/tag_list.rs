@@ -36,7 +36,7 @@ pub trait TagList {
     /// Returns the tag at an index, or `None` if the entry is not a tag.
     fn tag_at(&self, index: usize) -> Option<LangTag<'_>>;
 
-    /// Returns the text of the tag at an index. If the entry is not a tag, any text may be
+    /// Returns the string of the tag at an index. If the entry is not a tag, any string may be
     /// returned.
     fn bytes_at(&self, index: usize) -> &[u8];
 

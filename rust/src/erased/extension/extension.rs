@@ -11,7 +11,7 @@ use crate::shim::{try_string, AllocError};
 use alloc::string::String;
 use core::fmt;
 
-/// The error for a text that is not an extension. It contains the text.
+/// The error for a string that is not an extension. It contains the string.
 ///
 /// ```
 /// use langtag::Extension;
@@ -35,8 +35,8 @@ impl<T: fmt::Debug + AsRef<[u8]>> core::error::Error for InvalidExtension<T> {}
 /// An extension ([RFC 5646 section 2.2.6]): a singleton and one or more subtags of two to eight
 /// letters and digits, such as `u-co-phonebk`.
 ///
-/// Two extensions are equal if their texts differ only in the case of ASCII letters, such as `u-co`
-/// and `U-CO`.
+/// Two extensions are equal if their strings differ only in the case of ASCII letters, such as
+/// `u-co` and `U-CO`.
 ///
 /// ```
 /// # fn main() -> Result<(), Box<dyn std::error::Error>> {
@@ -56,13 +56,13 @@ pub struct Extension<'a> {
 }
 
 impl<'a> Extension<'a> {
-    /// Parses a text as an extension.
+    /// Parses a string as an extension.
     ///
     /// # Errors
     ///
-    /// Returns the text if it is not one extension: `Extension::new("a")`, which has no subtag, is
-    /// `Err(InvalidExtension("a"))`. Other examples are `a-bb-b-cc`, which is two extensions, and
-    /// `x-bb`, which is a private use part.
+    /// Returns the string if it is not one extension: `Extension::new("a")`, which has no subtag,
+    /// is `Err(InvalidExtension("a"))`. Other examples are `a-bb-b-cc`, which is two extensions,
+    /// and `x-bb`, which is a private use part.
     ///
     /// ```
     /// use langtag::Extension;
@@ -77,7 +77,7 @@ impl<'a> Extension<'a> {
         Ok(Extension::from_checked(text))
     }
 
-    /// Wraps a text that is known to be an extension, without checking it.
+    /// Wraps a string that is known to be an extension, without checking it.
     /// `Extension::from_checked(extension.as_str())` is equal to `extension`.
     #[inline]
     pub(crate) fn from_checked(text: &'a str) -> Extension<'a> {
@@ -86,7 +86,7 @@ impl<'a> Extension<'a> {
         }
     }
 
-    /// Returns the text, in its original case.
+    /// Returns the string, in its original case.
     ///
     /// ```
     /// # fn main() -> Result<(), Box<dyn std::error::Error>> {
@@ -102,7 +102,7 @@ impl<'a> Extension<'a> {
         self.text.0
     }
 
-    /// Returns the text as bytes.
+    /// Returns the string as bytes.
     ///
     /// ```
     /// # fn main() -> Result<(), Box<dyn std::error::Error>> {
@@ -118,7 +118,7 @@ impl<'a> Extension<'a> {
         self.as_str().as_bytes()
     }
 
-    /// Returns whether another text equals this text, ignoring the case of ASCII letters. It is
+    /// Returns whether another string equals this string, ignoring the case of ASCII letters. It is
     /// proved that comparisons and hashes also ignore case, and that a clone is the same value.
     ///
     /// ```
@@ -135,7 +135,7 @@ impl<'a> Extension<'a> {
         self.text == Caseless(other)
     }
 
-    /// Copies the text into an owned value.
+    /// Copies the string into an owned value.
     ///
     /// # Errors
     ///
@@ -270,7 +270,7 @@ impl ExtensionBuf {
         Extension::from_checked(self.as_str())
     }
 
-    /// Returns the text, in its original case.
+    /// Returns the string, in its original case.
     ///
     /// ```
     /// # fn main() -> Result<(), Box<dyn std::error::Error>> {
@@ -311,7 +311,7 @@ impl fmt::Display for ExtensionBuf {
     }
 }
 
-/// Returns whether the text is a singleton and at least one subtag of an extension, joined by
+/// Returns whether the string is a singleton and at least one subtag of an extension, joined by
 /// hyphens.
 pub(crate) fn is_extension(text: &str) -> bool {
     let mut subtags = Subtags::new(text);

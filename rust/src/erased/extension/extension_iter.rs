@@ -51,7 +51,7 @@ impl<'a> ExtensionIter<'a> {
     }
 }
 
-/// Returns the subtags of a text except the first, which is the singleton.
+/// Returns the subtags of a string except the first, which is the singleton.
 #[inline]
 fn after_singleton<'a>(text: &'a str) -> Subtags<'a> {
     let mut rest = Subtags::new(text);

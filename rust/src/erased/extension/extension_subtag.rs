@@ -9,7 +9,7 @@ use crate::shim::{try_string, AllocError};
 use alloc::string::String;
 use core::fmt;
 
-/// The error for a text that is not a subtag of an extension. It contains the text.
+/// The error for a string that is not a subtag of an extension. It contains the string.
 ///
 /// ```
 /// use langtag::ExtensionSubtag;
@@ -33,8 +33,8 @@ impl<T: fmt::Debug + AsRef<[u8]>> core::error::Error for InvalidExtensionSubtag<
 /// A subtag of an extension ([RFC 5646 section 2.2.6]): two to eight letters and digits, such as
 /// `phonebk` in `u-co-phonebk`.
 ///
-/// Two subtags are equal if their texts differ only in the case of ASCII letters, such as `co` and
-/// `CO`.
+/// Two subtags are equal if their strings differ only in the case of ASCII letters, such as `co`
+/// and `CO`.
 ///
 /// ```
 /// # fn main() -> Result<(), Box<dyn std::error::Error>> {
@@ -54,11 +54,11 @@ pub struct ExtensionSubtag<'a> {
 }
 
 impl<'a> ExtensionSubtag<'a> {
-    /// Parses a text as a subtag.
+    /// Parses a string as a subtag.
     ///
     /// # Errors
     ///
-    /// Returns the text if it is not two to eight letters and digits.
+    /// Returns the string if it is not two to eight letters and digits.
     ///
     /// ```
     /// use langtag::{ExtensionSubtag, InvalidExtensionSubtag};
@@ -74,7 +74,7 @@ impl<'a> ExtensionSubtag<'a> {
         Ok(ExtensionSubtag::from_checked(text))
     }
 
-    /// Wraps a text that is known to be a subtag of an extension, without checking it.
+    /// Wraps a string that is known to be a subtag of an extension, without checking it.
     /// `ExtensionSubtag::from_checked(subtag.as_str())` is equal to `subtag`.
     #[inline]
     pub(crate) fn from_checked(text: &'a str) -> ExtensionSubtag<'a> {
@@ -83,7 +83,7 @@ impl<'a> ExtensionSubtag<'a> {
         }
     }
 
-    /// Returns the text, in its original case.
+    /// Returns the string, in its original case.
     ///
     /// ```
     /// # fn main() -> Result<(), Box<dyn std::error::Error>> {
@@ -99,7 +99,7 @@ impl<'a> ExtensionSubtag<'a> {
         self.text.0
     }
 
-    /// Returns the text as bytes.
+    /// Returns the string as bytes.
     ///
     /// ```
     /// # fn main() -> Result<(), Box<dyn std::error::Error>> {
@@ -115,7 +115,7 @@ impl<'a> ExtensionSubtag<'a> {
         self.as_str().as_bytes()
     }
 
-    /// Returns whether another text equals this text, ignoring the case of ASCII letters. It is
+    /// Returns whether another string equals this string, ignoring the case of ASCII letters. It is
     /// proved that comparisons and hashes also ignore case, and that a clone is the same value.
     ///
     /// ```
@@ -132,7 +132,7 @@ impl<'a> ExtensionSubtag<'a> {
         self.text == Caseless(other)
     }
 
-    /// Copies the text into an owned value.
+    /// Copies the string into an owned value.
     ///
     /// # Errors
     ///
@@ -225,7 +225,7 @@ impl ExtensionSubtagBuf {
         ExtensionSubtag::from_checked(self.as_str())
     }
 
-    /// Returns the text, in its original case.
+    /// Returns the string, in its original case.
     ///
     /// ```
     /// # fn main() -> Result<(), Box<dyn std::error::Error>> {

@@ -1,10 +1,10 @@
 // Made by rust/erase from crates/langtag_extension/src/extension_texts.rt. Change that file, not this one.
 
-//! An iterator over the texts of the extensions in a text.
+//! An iterator over the strings of the extensions in a string.
 
 use crate::erased::scan::segment_end;
 
-/// An iterator over the texts of extensions. The whole text is split before each subtag of one
+/// An iterator over the strings of extensions. The whole string is split before each subtag of one
 /// byte.
 #[derive(Debug, Clone)]
 pub(crate) struct ExtensionTexts<'a> {
@@ -12,7 +12,7 @@ pub(crate) struct ExtensionTexts<'a> {
 }
 
 impl<'a> ExtensionTexts<'a> {
-    /// Returns an iterator over the extensions of a text. The empty text has none.
+    /// Returns an iterator over the extensions of a string. The empty string has none.
     #[inline]
     pub(crate) fn new(text: &'a str) -> Self {
         if text.is_empty() {
@@ -34,8 +34,8 @@ impl<'a> Iterator for ExtensionTexts<'a> {
     }
 }
 
-/// Returns the text of the first extension, and the text of the other extensions if there are any,
-/// without the hyphen in between.
+/// Returns the string of the first extension, and the string of the other extensions if there are
+/// any, without the hyphen in between.
 fn split_extension<'a>(text: &'a str) -> (&'a str, Option<&'a str>) {
     let end = first_extension_end(text.as_bytes());
     if end == text.len() {
@@ -44,8 +44,8 @@ fn split_extension<'a>(text: &'a str) -> (&'a str, Option<&'a str>) {
     (&text[..end], Some(&text[end + 1..]))
 }
 
-/// Returns where the first extension of a text ends: at the first hyphen that is followed by a
-/// subtag of one byte, or at the end of the text. The first subtag, which is the singleton, does
+/// Returns where the first extension of a string ends: at the first hyphen that is followed by a
+/// subtag of one byte, or at the end of the string. The first subtag, which is the singleton, does
 /// not end the extension.
 #[must_use]
 pub fn first_extension_end(text: &[u8]) -> usize {

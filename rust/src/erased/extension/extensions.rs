@@ -14,7 +14,7 @@ use crate::shim::{try_string, AllocError};
 use alloc::string::String;
 use core::fmt;
 
-/// The error for a text that is not a list of extensions. It contains the text.
+/// The error for a string that is not a list of extensions. It contains the string.
 ///
 /// ```
 /// use langtag::Extensions;
@@ -36,10 +36,10 @@ impl<T: AsRef<[u8]>> fmt::Display for InvalidExtensions<T> {
 impl<T: fmt::Debug + AsRef<[u8]>> core::error::Error for InvalidExtensions<T> {}
 
 /// The extensions of a tag ([RFC 5646 section 2.2.6]), joined by hyphens, such as
-/// `a-ext1-ext2-u-co-phonebk`. The empty text means no extensions.
+/// `a-ext1-ext2-u-co-phonebk`. The empty string means no extensions.
 ///
 /// A singleton may occur twice: a tag with such a list is well formed but not valid (section
-/// 2.2.9). Two lists of extensions are equal if their texts differ only in the case of ASCII
+/// 2.2.9). Two lists of extensions are equal if their strings differ only in the case of ASCII
 /// letters, such as `u-co` and `U-CO`.
 ///
 /// ```
@@ -69,12 +69,12 @@ impl<'a> Extensions<'a> {
     /// ```
     pub const EMPTY: Extensions<'static> = Extensions { text: Caseless("") };
 
-    /// Parses a text as extensions: `Extensions::new("a-ext1-u-co")` and `Extensions::new("")` are
-    /// `Ok`.
+    /// Parses a string as extensions: `Extensions::new("a-ext1-u-co")` and `Extensions::new("")`
+    /// are `Ok`.
     ///
     /// # Errors
     ///
-    /// Returns the text if it is not a list of extensions joined by hyphens.
+    /// Returns the string if it is not a list of extensions joined by hyphens.
     ///
     /// ```
     /// use langtag::{Extensions, InvalidExtensions};
@@ -89,7 +89,7 @@ impl<'a> Extensions<'a> {
         Ok(Extensions::from_checked(text))
     }
 
-    /// Wraps a text that is known to be a list of extensions, without checking it.
+    /// Wraps a string that is known to be a list of extensions, without checking it.
     /// `Extensions::from_checked(extensions.as_str())` is equal to `extensions`.
     #[inline]
     pub(crate) fn from_checked(text: &'a str) -> Extensions<'a> {
@@ -98,7 +98,7 @@ impl<'a> Extensions<'a> {
         }
     }
 
-    /// Returns the text, in its original case.
+    /// Returns the string, in its original case.
     ///
     /// ```
     /// # fn main() -> Result<(), Box<dyn std::error::Error>> {
@@ -114,7 +114,7 @@ impl<'a> Extensions<'a> {
         self.text.0
     }
 
-    /// Returns the text as bytes.
+    /// Returns the string as bytes.
     ///
     /// ```
     /// # fn main() -> Result<(), Box<dyn std::error::Error>> {
@@ -130,7 +130,7 @@ impl<'a> Extensions<'a> {
         self.as_str().as_bytes()
     }
 
-    /// Returns whether another text equals this text, ignoring the case of ASCII letters. It is
+    /// Returns whether another string equals this string, ignoring the case of ASCII letters. It is
     /// proved that comparisons and hashes also ignore case, and that a clone is the same value.
     ///
     /// ```
@@ -147,7 +147,7 @@ impl<'a> Extensions<'a> {
         self.text == Caseless(other)
     }
 
-    /// Copies the text into an owned value.
+    /// Copies the string into an owned value.
     ///
     /// # Errors
     ///
@@ -306,7 +306,7 @@ impl ExtensionsBuf {
         Extensions::from_checked(self.as_str())
     }
 
-    /// Returns the text, in its original case.
+    /// Returns the string, in its original case.
     ///
     /// ```
     /// # fn main() -> Result<(), Box<dyn std::error::Error>> {
@@ -347,7 +347,7 @@ impl fmt::Display for ExtensionsBuf {
     }
 }
 
-/// Returns whether the text is empty or a list of extensions joined by hyphens.
+/// Returns whether the string is empty or a list of extensions joined by hyphens.
 #[inline]
 fn are_extensions(text: &str) -> bool {
     ExtensionTexts::new(text).all(|text| is_extension(text))

@@ -5,7 +5,7 @@
 use crate::erased::extension::extension::Extension;
 use crate::erased::extension::extension_texts::ExtensionTexts;
 
-/// An iterator over extensions ([RFC 5646 section 2.2.6]), in the order of the text: `a-ext1` and
+/// An iterator over extensions ([RFC 5646 section 2.2.6]), in the order of the string: `a-ext1` and
 /// `u-co` for `a-ext1-u-co`.
 ///
 /// ```
@@ -27,7 +27,7 @@ pub struct ExtensionsIter<'a> {
 }
 
 impl<'a> ExtensionsIter<'a> {
-    /// Returns an iterator over the extensions of a text.
+    /// Returns an iterator over the extensions of a string.
     #[inline]
     pub(crate) fn new(text: &'a str) -> Self {
         ExtensionsIter {

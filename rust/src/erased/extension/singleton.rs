@@ -74,11 +74,11 @@ impl Singleton {
         Singleton { byte }
     }
 
-    /// Returns the singleton for a text of one byte.
+    /// Returns the singleton for a string of one byte.
     ///
     /// # Errors
     ///
-    /// Returns the text if it is not one byte, or if that byte is not a singleton.
+    /// Returns the string if it is not one byte, or if that byte is not a singleton.
     ///
     /// ```
     /// use langtag::{InvalidSingleton, Singleton};

@@ -30,7 +30,7 @@ fn has_subdivision(key: &[u8]) -> bool {
     case_insensitive_eq(key, b"rg") || case_insensitive_eq(key, b"sd")
 }
 
-/// Returns a value, or the empty text for `true`.
+/// Returns a value, or the empty string for `true`.
 #[inline]
 fn without_true(value: &str) -> &str {
     if case_insensitive_eq(value.as_bytes(), b"true") {
@@ -63,7 +63,7 @@ fn transform_value<'a>(key: &[u8], value: &'a str) -> &'a str {
     }
 }
 
-/// Returns the replacement of a text, if there is one.
+/// Returns the replacement of a string, if there is one.
 #[must_use]
 pub fn alias_for(
     rows: &'static [(&'static str, &'static str)],

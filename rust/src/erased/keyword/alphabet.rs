@@ -97,7 +97,7 @@ pub fn is_before_best(subtag: &str, best: Option<&str>) -> bool {
     }
 }
 
-/// Returns whether a text comes before another in alphabetical order, ignoring case: `foo` comes
+/// Returns whether a string comes before another in alphabetical order, ignoring case: `foo` comes
 /// before `foobar`.
 pub(crate) fn is_before(a: &[u8], b: &[u8]) -> bool {
     let mut a = a;
@@ -113,7 +113,7 @@ pub(crate) fn is_before(a: &[u8], b: &[u8]) -> bool {
     a.len() < b.len()
 }
 
-/// Appends each subtag of a text in lowercase.
+/// Appends each subtag of a string in lowercase.
 #[inline]
 pub(crate) fn push_each_lowercase(out: &mut Output<'_>, text: &str) {
     for subtag in Subtags::new(text) {

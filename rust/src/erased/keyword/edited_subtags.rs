@@ -8,7 +8,7 @@ use crate::erased::keyword::subtags::{nonempty, split_first};
 use crate::erased::output::Output;
 use crate::erased::scan::{case_insensitive_eq, Subtags};
 
-/// Returns whether a text has a subtag that belongs to no keyword of a key.
+/// Returns whether a string has a subtag that belongs to no keyword of a key.
 #[inline]
 pub(crate) fn has_others(text: &str, key: &str) -> bool {
     let mut is_inside = false;

@@ -4,7 +4,7 @@
 
 use crate::erased::scan::{is_extension_subtag, Subtags};
 
-/// Returns whether a text consists of a letter or a digit, and then a letter.
+/// Returns whether a string consists of a letter or a digit, and then a letter.
 #[inline]
 #[must_use]
 pub fn is_unicode_key(text: &[u8]) -> bool {

@@ -10,9 +10,9 @@ use crate::erased::keyword::subtags::value_in;
 use crate::erased::output::Output;
 use crate::erased::scan::{into_smallcase, Subtags};
 
-/// Appends the keywords of a text, each once, in the order of their keys.
+/// Appends the keywords of a string, each once, in the order of their keys.
 ///
-/// The text is read once for each key in it, to find the next one, and once to find its value.
+/// The string is read once for each key in it, to find the next one, and once to find its value.
 pub fn push_keywords(out: &mut Output<'_>, text: &str, keys: Keys) {
     let mut last = None;
     while let Some(key) = first_key_after(text, keys, last) {
@@ -40,7 +40,7 @@ fn in_lowercase(key: &str) -> [u8; 2] {
     }
 }
 
-/// Appends a key with its canonical value, if the key occurs in the text.
+/// Appends a key with its canonical value, if the key occurs in the string.
 #[inline]
 fn push_keyword(out: &mut Output<'_>, text: &str, keys: Keys, key: &[u8]) {
     if let Some(value) = value_in(text, keys, key) {

@@ -7,8 +7,8 @@ use crate::erased::keyword::subtags::split_first;
 use crate::erased::output::Output;
 use crate::erased::scan::{case_insensitive_eq, is_primary, is_region, is_script, is_variant};
 
-/// Returns whether a text is a language with an optional script, an optional region, and any number
-/// of different variants.
+/// Returns whether a string is a language with an optional script, an optional region, and any
+/// number of different variants.
 pub(crate) fn is_language_id(text: &str) -> bool {
     let (language, rest) = split_first(text);
     let (_, rest) = take_script(rest);
@@ -89,15 +89,15 @@ fn are_all_variants(rest: Option<&str>) -> bool {
     true
 }
 
-/// Returns whether no two variants of a text are equal: whether they take as many bytes when each
+/// Returns whether no two variants of a string are equal: whether they take as many bytes when each
 /// is written once.
 #[inline]
 fn are_different(text: &str) -> bool {
     len_in_alphabet(text, &mut []) == text.len()
 }
 
-/// Returns the length of the text of some variants in alphabetical order, each once. It is written
-/// to a buffer if it fits.
+/// Returns the length of the string of some variants in alphabetical order, each once. It is
+/// written to a buffer if it fits.
 #[inline]
 fn len_in_alphabet(text: &str, buffer: &mut [u8]) -> usize {
     let mut out = Output::new(buffer);
@@ -105,7 +105,7 @@ fn len_in_alphabet(text: &str, buffer: &mut [u8]) -> usize {
     out.len()
 }
 
-/// Returns whether a variant is among the subtags of a text, ignoring case.
+/// Returns whether a variant is among the subtags of a string, ignoring case.
 #[must_use]
 pub fn is_among(rest: Option<&str>, variant: &[u8]) -> bool {
     let mut rest = rest;

@@ -1,11 +1,11 @@
 // Made by rust/erase from crates/langtag_keyword/src/subtags.rt. Change that file, not this one.
 
-//! The subtags of an extension, as one text that is read from its start.
+//! The subtags of an extension, as one string that is read from its start.
 
 use crate::erased::keyword::keys::Keys;
 use crate::erased::scan::{case_insensitive_eq, segment_end, Subtags};
 
-/// Returns a text, or `None` if it is empty and so has no subtags.
+/// Returns a string, or `None` if it is empty and so has no subtags.
 #[inline]
 #[must_use]
 pub fn nonempty(text: &str) -> Option<&str> {
@@ -15,8 +15,8 @@ pub fn nonempty(text: &str) -> Option<&str> {
     Some(text)
 }
 
-/// Returns the first subtag of a text and, if there are more subtags, the rest of the text after
-/// the hyphen.
+/// Returns the first subtag of a string and, if there are more subtags, the rest of the string
+/// after the hyphen.
 #[must_use]
 pub fn split_first(text: &str) -> (&str, Option<&str>) {
     let end = segment_end(text.as_bytes(), 0);
@@ -26,7 +26,7 @@ pub fn split_first(text: &str) -> (&str, Option<&str>) {
     (&text[..end], Some(&text[end + 1..]))
 }
 
-/// Returns the text before the first key.
+/// Returns the string before the first key.
 #[inline]
 #[must_use]
 pub fn before_key<'a>(rest: Option<&'a str>, keys: Keys) -> &'a str {
@@ -36,14 +36,14 @@ pub fn before_key<'a>(rest: Option<&'a str>, keys: Keys) -> &'a str {
     }
 }
 
-/// Returns the subtags before the first key of a text, if there are any.
+/// Returns the subtags before the first key of a string, if there are any.
 #[inline]
 #[must_use]
 pub fn preceding(text: &str, keys: Keys) -> Option<&str> {
     nonempty(before_key(nonempty(text), keys))
 }
 
-/// Returns the text before the first key of a text.
+/// Returns the string before the first key of a string.
 #[inline]
 fn cut_before_key(text: &str, keys: Keys) -> &str {
     let len = len_before_key(text, keys);
@@ -63,7 +63,7 @@ fn len_before_key(text: &str, keys: Keys) -> usize {
     len
 }
 
-/// Returns whether a subtag equals one of the first `count` subtags of a text, ignoring case.
+/// Returns whether a subtag equals one of the first `count` subtags of a string, ignoring case.
 #[inline]
 #[must_use]
 pub fn is_earlier_subtag(text: &str, count: usize, subtag: &str) -> bool {

@@ -17,7 +17,7 @@ pub fn is_transform(text: &str) -> bool {
     is_language_or_none(text) && are_fields(text)
 }
 
-/// Returns whether the text before the fields is a language or empty.
+/// Returns whether the string before the fields is a language or empty.
 #[inline]
 fn is_language_or_none(text: &str) -> bool {
     match preceding(text, Keys::Transform) {

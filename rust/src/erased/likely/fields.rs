@@ -1,12 +1,12 @@
 // Made by rust/erase from crates/langtag_likely/src/fields.rt. Change that file, not this one.
 
-//! The text of each field of a tag, which is empty if the field is absent or unknown.
+//! The string of each field of a tag, which is empty if the field is absent or unknown.
 
 use crate::erased::language::Language;
 use crate::erased::place::{Region, Script};
 use crate::erased::scan::case_insensitive_eq;
 
-/// Returns the first text, or the second text if the first is empty.
+/// Returns the first string, or the second string if the first is empty.
 #[inline]
 pub(crate) fn or_other<'a>(text: &'a [u8], other: &'a [u8]) -> &'a [u8] {
     if text.is_empty() {
@@ -16,7 +16,7 @@ pub(crate) fn or_other<'a>(text: &'a [u8], other: &'a [u8]) -> &'a [u8] {
     }
 }
 
-/// Returns a text, or the empty text if it is the code for an unknown field.
+/// Returns a string, or the empty string if it is the code for an unknown field.
 #[inline]
 pub(crate) fn known<'a>(unknown: &[u8], text: &'a [u8]) -> &'a [u8] {
     if case_insensitive_eq(unknown, text) {
@@ -26,8 +26,8 @@ pub(crate) fn known<'a>(unknown: &[u8], text: &'a [u8]) -> &'a [u8] {
     }
 }
 
-/// Returns the last extended subtag, or the primary subtag if there is none. Returns the empty text
-/// for `und`.
+/// Returns the last extended subtag, or the primary subtag if there is none. Returns the empty
+/// string for `und`.
 pub(crate) fn language_field<'a>(language: Language<'a>) -> &'a [u8] {
     let mut extlangs = language.extension_subtags();
     let Some(first) = extlangs.next() else {
@@ -42,7 +42,7 @@ pub(crate) fn language_field<'a>(language: Language<'a>) -> &'a [u8] {
     }
 }
 
-/// Returns the text of a script, or the empty text if there is none or it is `Zzzz`.
+/// Returns the string of a script, or the empty string if there is none or it is `Zzzz`.
 #[inline]
 pub(crate) fn script_field<'a>(script: Option<Script<'a>>) -> &'a [u8] {
     match script {
@@ -51,7 +51,7 @@ pub(crate) fn script_field<'a>(script: Option<Script<'a>>) -> &'a [u8] {
     }
 }
 
-/// Returns the text of a region, or the empty text if there is none or it is `ZZ`.
+/// Returns the string of a region, or the empty string if there is none or it is `ZZ`.
 #[inline]
 pub(crate) fn region_field<'a>(region: Option<Region<'a>>) -> &'a [u8] {
     match region {

@@ -1,10 +1,10 @@
 // Made by rust/erase from crates/langtag_likely/src/keys.rt. Change that file, not this one.
 
-//! Finds the positions of texts in the tables, which contain numbers for the texts.
+//! Finds the positions of strings in the tables, which contain numbers for the strings.
 
 use crate::erased::scan::folded_number;
 
-/// Returns the index of a text's number in a list of rising numbers.
+/// Returns the index of a string's number in a list of ascending numbers.
 #[inline]
 #[must_use]
 pub fn index_of(keys: &[u32], text: &[u8]) -> Option<usize> {
@@ -12,8 +12,8 @@ pub fn index_of(keys: &[u32], text: &[u8]) -> Option<usize> {
         .ok()
 }
 
-/// Returns the position of a text among the texts whose numbers are `keys`, counted from 1. It is 0
-/// for the empty text, and the position after the last for a text that is not among them.
+/// Returns the position of a string among the strings whose numbers are `keys`, counted from 1. It
+/// is 0 for the empty string, and the position after the last for a string that is not among them.
 pub(crate) fn place(keys: &[u32], text: &[u8]) -> u32 {
     if text.is_empty() {
         return 0;

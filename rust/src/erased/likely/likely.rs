@@ -6,8 +6,7 @@ use crate::erased::likely::aliases::{canonical_fields, is_current_region};
 use crate::erased::likely::rows::likely_for;
 use crate::erased::likely::tag_fields::TagFields;
 
-/// Returns the fields with the likely subtag in place of each empty field, or `None` if no row
-/// fits.
+/// Returns the fields with the likely subtag instead of each empty field, or `None` if no row fits.
 #[inline]
 #[must_use]
 pub fn add_likely<'a>(fields: TagFields<'a>) -> Option<TagFields<'a>> {
@@ -29,8 +28,8 @@ fn looked_up(fields: TagFields<'_>) -> Option<TagFields<'static>> {
     likely_for(fields.language_alone())
 }
 
-/// Returns the fields with the likely subtag in place of each empty field, or `None` if no row
-/// fits. Deprecated subtags count as their replacements, and stay.
+/// Returns the fields with the likely subtag instead of each empty field, or `None` if no row fits.
+/// Deprecated subtags count as their replacements, and stay.
 pub(crate) fn add_likely_subtags<'a>(fields: TagFields<'a>) -> Option<TagFields<'a>> {
     // A language that has a row is not deprecated.
     if is_current_region(fields) {

@@ -7,15 +7,15 @@ use crate::erased::likely::likely::add_likely;
 use crate::erased::likely::read_text::are_alike;
 use crate::erased::likely::tag_fields::TagFields;
 
-/// Returns the matching form of a text: its fields, with deprecated subtags replaced and likely
-/// subtags added. Returns `None` for `und`, and for a text that does not begin with a language.
+/// Returns the matching form of a string: its fields, with deprecated subtags replaced and likely
+/// subtags added. Returns `None` for `und`, and for a string that does not begin with a language.
 #[inline]
 #[must_use]
 pub fn matching_form(text: &[u8]) -> Option<TagFields<'_>> {
     Some(completed(replaced_form(text)?))
 }
 
-/// Returns the fields of a text, with its language replaced if CLDR replaces it.
+/// Returns the fields of a string, with its language replaced if CLDR replaces it.
 #[inline]
 #[must_use]
 pub fn replaced_form(text: &[u8]) -> Option<TagFields<'_>> {

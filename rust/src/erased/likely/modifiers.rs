@@ -65,7 +65,7 @@ fn says_latin(modifier: &[u8]) -> bool {
         || case_insensitive_eq(b"ijekavianlatin", modifier)
 }
 
-/// Returns whether a text is the code of a script.
+/// Returns whether a string is the code of a script.
 #[inline]
 fn is_script_code(text: &[u8]) -> bool {
     is_script(text) && is_listed(text)
@@ -80,7 +80,7 @@ fn scripts() -> &'static [[u8; 4]] {
     &tables::SCRIPT_NAMES
 }
 
-/// Returns a text as a script, or `None` if it is not one.
+/// Returns a string as a script, or `None` if it is not one.
 #[inline]
 pub(crate) fn script_of(text: &[u8]) -> Option<Script<'_>> {
     let text = core::str::from_utf8(text).ok()?;

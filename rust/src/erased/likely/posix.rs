@@ -47,7 +47,7 @@ const MOST_WITH_SCRIPT: usize = MOST_WITH_KEYWORD + 5;
 /// # Errors
 ///
 /// Returns `NoTag` with the name if its language and territory are not a tag, as in `C`, `en_` and
-/// the empty text. `NoTag` is also returned for `POSIX`, ignoring case, and for a language and
+/// the empty string. `NoTag` is also returned for `POSIX`, ignoring case, and for a language and
 /// territory of more than 255 bytes. Returns `Memory` if allocation fails.
 ///
 /// ```
@@ -102,7 +102,7 @@ pub fn write_from_posix(name: &[u8], buffer: &mut [u8]) -> Option<usize> {
     Some(write_with_variant(tag, modifier_variant(modifier), buffer))
 }
 
-/// Returns the text before the codeset and the modifier, and the modifier.
+/// Returns the string before the codeset and the modifier, and the modifier.
 #[inline]
 fn front_and_modifier(name: &[u8]) -> (&[u8], &[u8]) {
     let (front, _codeset) = split_at_either(name, b'.', b'@');
@@ -130,7 +130,7 @@ fn tag_of_place<'a>(place: &[u8], room: &'a mut [u8; MOST]) -> Option<LangTag<'a
     Some(tag)
 }
 
-/// Writes a hyphen in place of each `_`.
+/// Writes a hyphen instead of each `_`.
 #[inline]
 fn hyphenate(bytes: &mut [u8]) {
     for byte in bytes.iter_mut() {

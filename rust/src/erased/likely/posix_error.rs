@@ -17,7 +17,7 @@ use core::fmt;
 #[derive(Debug, Clone, PartialEq, Eq, Hash)]
 #[non_exhaustive]
 pub enum PosixError<'a> {
-    /// The name, which gives no tag: `C`, `POSIX`, the empty text, or a text that is not a tag,
+    /// The name, which gives no tag: `C`, `POSIX`, the empty string, or a string that is not a tag,
     /// such as `en_`.
     NoTag(&'a str),
     /// Allocation failed.

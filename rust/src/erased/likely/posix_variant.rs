@@ -29,7 +29,7 @@ pub(crate) fn tag_with_keyword<'a>(
     }
 }
 
-/// Returns the text before `-POSIX` and after it if this is the only variant, and there are no
+/// Returns the string before `-POSIX` and after it if this is the only variant, and there are no
 /// extensions.
 fn around_posix<'a>(tag: NormalLangTag<'a>) -> Option<(&'a [u8], &'a [u8])> {
     let text = tag.as_str().as_bytes();

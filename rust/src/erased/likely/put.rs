@@ -52,7 +52,7 @@ fn after_region<'a>(tag: NormalLangTag<'a>) -> &'a [u8] {
     &text.as_bytes()[tag.ends().region..]
 }
 
-/// Returns the language of a tag, or `other` in place of `und`.
+/// Returns the language of a tag, or `other` instead of `und`.
 #[inline]
 fn put_language<'a>(language: Language<'a>, other: &'a [u8]) -> &'a [u8] {
     if language.eq_str("und") {

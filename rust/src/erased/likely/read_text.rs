@@ -1,10 +1,10 @@
 // Made by rust/erase from crates/langtag_likely/src/read_text.rt. Change that file, not this one.
 
-//! Language ranges as a look-up reads them: `_` is read as `-`, and each `-*` is left out.
+//! Language ranges as a lookup reads them: `_` is read as `-`, and each `-*` is left out.
 
 use crate::erased::scan::into_smallcase;
 
-/// Returns whether a range, with `_` read as `-` and without each `-*`, equals a text, ignoring
+/// Returns whether a range, with `_` read as `-` and without each `-*`, equals a string, ignoring
 /// case.
 #[inline]
 #[must_use]
@@ -13,7 +13,7 @@ pub fn are_alike(range: &[u8], text: &[u8]) -> bool {
     left.is_empty() && rest.is_empty()
 }
 
-/// Returns what remains of a range and of a text after their common beginning.
+/// Returns what remains of a range and of a string after their common beginning.
 #[must_use]
 pub fn after_common<'a, 't>(range: &'a [u8], text: &'t [u8]) -> (&'a [u8], &'t [u8]) {
     let mut left = without_stars(range);

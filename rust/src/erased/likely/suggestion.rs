@@ -72,7 +72,7 @@ pub fn region_replacement(fields: TagFields<'_>) -> Option<&'static [u8]> {
     Some(name_at(&tables::REPLACEMENT_NAMES, index))
 }
 
-/// Returns a name of the tables as a text.
+/// Returns a name of the tables as a string.
 #[inline]
 fn text_of(name: &'static [u8]) -> &'static str {
     let Ok(text) = core::str::from_utf8(name) else {

@@ -6,7 +6,7 @@ use crate::erased::likely::fields::{known, language_field, or_other, region_fiel
 use crate::erased::scan::case_insensitive_eq;
 use crate::erased::tag::NormalLangTag;
 
-/// A language, a script and a region. Each is the empty text if it is absent.
+/// A language, a script and a region. Each is the empty string if it is absent.
 #[derive(Clone, Copy)]
 pub struct TagFields<'a> {
     pub language: &'a [u8],

@@ -1,13 +1,13 @@
 // Made by rust/erase from crates/langtag_likely/src/text_fields.rt. Change that file, not this one.
 
-//! The fields of a text that need not be a tag.
+//! The fields of a string that need not be a tag.
 
 use crate::erased::likely::fields::known;
 use crate::erased::likely::tag_fields::TagFields;
 use crate::erased::scan::{is_extended, is_primary, is_region, is_script, split_at_either};
 
 impl<'a> TagFields<'a> {
-    /// Returns the fields of a text in which `_` is read as `-`, or `None` if it does not begin
+    /// Returns the fields of a string in which `_` is read as `-`, or `None` if it does not begin
     /// with a language.
     pub(crate) fn of_text(text: &'a [u8]) -> Option<TagFields<'a>> {
         let (first, rest) = split_at_either(text, b'-', b'_');
@@ -26,7 +26,7 @@ impl<'a> TagFields<'a> {
 }
 
 /// Returns the last of the extended subtags at the start, or else the language before them, and the
-/// rest of the text.
+/// rest of the string.
 fn last_extended<'a>(language: &'a [u8], text: &'a [u8]) -> (&'a [u8], &'a [u8]) {
     let mut language = language;
     let mut left = text;
@@ -40,7 +40,7 @@ fn last_extended<'a>(language: &'a [u8], text: &'a [u8]) -> (&'a [u8], &'a [u8])
     (language, left)
 }
 
-/// Returns the script at the start, and the rest of the text.
+/// Returns the script at the start, and the rest of the string.
 #[inline]
 fn script_before<'a>(text: &'a [u8]) -> (&'a [u8], &'a [u8]) {
     match next_subtag(text) {
@@ -58,7 +58,7 @@ fn region_before(text: &[u8]) -> &[u8] {
     }
 }
 
-/// Returns the first subtag that counts, and the text after it.
+/// Returns the first subtag that counts, and the string after it.
 fn next_subtag(text: &[u8]) -> Option<(&[u8], &[u8])> {
     let mut left = text;
     while !left.is_empty() {

@@ -64,7 +64,7 @@ fn push_language(out: &mut Output<'_>, text: &str) {
     }
 }
 
-/// Appends the form of a language identifier, given as a text.
+/// Appends the form of a language identifier, given as a string.
 fn push_language_id(out: &mut Output<'_>, text: &str) {
     let (language, rest) = split_first(text);
     let (script, rest) = take_script(rest);
@@ -77,7 +77,7 @@ fn push_language_id(out: &mut Output<'_>, text: &str) {
     push_identifier(out, fields, variants);
 }
 
-/// Returns the text of a subtag, or the empty text if there is no subtag.
+/// Returns the string of a subtag, or the empty string if there is no subtag.
 #[inline]
 fn text_of<'a>(subtag: Option<&'a str>) -> &'a [u8] {
     match subtag {

@@ -89,7 +89,7 @@ fn brought_region<'a>(fields: TagFields<'a>, variants: Option<&str>) -> &'a [u8]
     fields.region
 }
 
-/// Returns the region for which one of the variants stands, or the empty text.
+/// Returns the region for which one of the variants stands, or the empty string.
 fn variants_region(variants: Option<&str>) -> &'static [u8] {
     let mut rows = variant_regions();
     while let [(variant, region), others @ ..] = rows {
@@ -127,7 +127,7 @@ fn new_region<'a>(fields: TagFields<'a>) -> &'a [u8] {
     }
 }
 
-/// Returns the likely region of the language and the script, or the empty text.
+/// Returns the likely region of the language and the script, or the empty string.
 #[inline]
 fn likely_region<'a>(fields: TagFields<'a>) -> &'a [u8] {
     match add_likely(language_and_script(fields)) {
@@ -136,7 +136,7 @@ fn likely_region<'a>(fields: TagFields<'a>) -> &'a [u8] {
     }
 }
 
-/// Returns the language and the script, for the look-up of likely subtags. `und` counts as no
+/// Returns the language and the script, for the lookup of likely subtags. `und` counts as no
 /// language.
 #[inline]
 fn language_and_script<'a>(fields: TagFields<'a>) -> TagFields<'a> {

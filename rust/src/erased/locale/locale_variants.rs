@@ -87,7 +87,7 @@ fn is_better(form: &str, last: Option<&str>, best: Option<&str>) -> bool {
     !form.is_empty() && is_after(form, last) && is_before_best(form, best)
 }
 
-/// Returns a variant, the variant that replaces it, or the empty text if it is left out.
+/// Returns a variant, the variant that replaces it, or the empty string if it is left out.
 fn variant_form<'a>(language: &[u8], variants: Option<&str>, variant: &'a str) -> &'a str {
     if type_alias_for(variant_languages(), language, variant.as_bytes()).is_some()
         || is_dropped(variant)

@@ -5,8 +5,8 @@
 use crate::erased::parent::tables;
 use crate::erased::tag::{case_insensitive_eq, LangTag};
 
-/// Returns the parent that CLDR states for a text, which is `Some(None)` if CLDR states that there
-/// is none. Returns `None` if CLDR states nothing.
+/// Returns the parent that CLDR states for a string, which is `Some(None)` if CLDR states that
+/// there is none. Returns `None` if CLDR states nothing.
 pub(crate) fn stated_parent(text: &[u8]) -> Option<Option<LangTag<'static>>> {
     let parent = row_for(parent_locales(), text)?;
     if parent.is_empty() {
@@ -16,7 +16,7 @@ pub(crate) fn stated_parent(text: &[u8]) -> Option<Option<LangTag<'static>>> {
     }
 }
 
-/// Returns the parent in the row of a text, ignoring case.
+/// Returns the parent in the row of a string, ignoring case.
 fn row_for(rows: &'static [(&'static str, &'static str)], text: &[u8]) -> Option<&'static str> {
     let mut rows = rows;
     while let [(tag, parent), others @ ..] = rows {

@@ -33,13 +33,13 @@ pub(crate) fn parent_in_other_script(
     }
 }
 
-/// Writes pieces one after another into `room`, and returns them as one text.
+/// Writes pieces one after another into `room`, and returns them as one string.
 fn written<'r>(pieces: &[&[u8]], room: &'r mut [u8; MOST]) -> &'r [u8] {
     let len = write_pieces(pieces, room);
     &room[..len]
 }
 
-/// Returns the first of some tags that is a text, ignoring case.
+/// Returns the first of some tags that is a string, ignoring case.
 fn listed(tags: &'static [&'static str], text: &[u8]) -> Option<&'static str> {
     let mut tags = tags;
     while let [tag, others @ ..] = tags {

@@ -8,8 +8,8 @@ use crate::erased::parent::scripted::parent_in_other_script;
 use crate::erased::place::{Region, Script};
 use crate::erased::tag::{LangTag, NormalLangTag};
 
-/// Returns the parent of a tag in CLDR, which is the next tag to ask if a catalogue has no text for
-/// this tag: `pt-PT` for `pt-AO`, `es-419` for `es-MX`, `en-001` for `en-GB`. Returns `None` if
+/// Returns the parent of a tag in CLDR, which is the next tag to ask if a catalogue has no string
+/// for this tag: `pt-PT` for `pt-AO`, `es-419` for `es-MX`, `en-001` for `en-GB`. Returns `None` if
 /// there is no parent, as for `pt`.
 ///
 /// A parent is written in the same script: `zh-TW` has the parent `zh-Hant`, which has none.

@@ -158,7 +158,7 @@ fn write_parts(tag: NormalLangTag<'_>, buffer: &mut [u8]) -> usize {
     len
 }
 
-/// Returns the Preferred-Value of a whole tag, or the text itself if it has none: `gsg` for
+/// Returns the Preferred-Value of a whole tag, or the string itself if it has none: `gsg` for
 /// `sgn-DE`, which is `sgn-DD` with its parts in their canonical forms.
 #[inline]
 fn preferred_to(parts: &[u8]) -> &[u8] {

@@ -119,7 +119,7 @@ pub fn is_deprecated_tag(tag: LangTag<'_>) -> bool {
     is_listed(&DEPRECATED_TAGS, tag.as_bytes())
 }
 
-/// Returns whether bytes equal one of these texts, ignoring case.
+/// Returns whether bytes equal one of these strings, ignoring case.
 #[inline]
 fn is_listed(texts: &[&str], bytes: &[u8]) -> bool {
     texts

@@ -80,8 +80,8 @@ pub fn misplaced_extlang<'a>(tag: NormalLangTag<'a>) -> Option<ExtendedLangTag<'
     Some(extlang)
 }
 
-/// Returns whether a variant may follow the text before it: one of its prefixes matches this text,
-/// or it has no prefix.
+/// Returns whether a variant may follow the string before it: one of its prefixes matches this
+/// string, or it has no prefix.
 fn fits_after(before: &str, variant: Variant<'_>) -> bool {
     let number = folded_number(variant.as_bytes());
     let mut has_none = true;
@@ -96,7 +96,7 @@ fn fits_after(before: &str, variant: Variant<'_>) -> bool {
     has_none
 }
 
-/// Returns whether a prefix matches the text before a variant by extended filtering.
+/// Returns whether a prefix matches the string before a variant by extended filtering.
 #[inline]
 fn matches_prefix(prefix: &str, before: &str) -> bool {
     matches_extended(prefix, before)

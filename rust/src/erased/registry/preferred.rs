@@ -88,15 +88,15 @@ pub fn preferred_tag(tag: LangTag<'_>) -> Option<LangTag<'static>> {
     preferred_for(tag.as_bytes())
 }
 
-/// Returns the tag that replaces a whole tag with this text.
+/// Returns the tag that replaces a whole tag with this string.
 #[inline]
 pub(crate) fn preferred_for(text: &[u8]) -> Option<LangTag<'static>> {
     let text = value_beside(&PREFERRED_TAG_KEYS, &PREFERRED_TAGS, text)?;
     Some(LangTag::from_checked(text))
 }
 
-/// Finds the pair whose first text equals the bytes, ignoring case, and returns its second text.
-/// `keys` has the number of the last eight bytes of each first text.
+/// Finds the pair whose first string equals the bytes, ignoring case, and returns its second
+/// string. `keys` has the number of the last eight bytes of each first string.
 fn value_beside(
     keys: &[u64],
     table: &'static [(&'static str, &'static str)],

@@ -1,16 +1,16 @@
 // Made by rust/erase from crates/langtag_registry/src/table.rt. Change that file, not this one.
 
-//! Tables of subtags, which are searched for a text, ignoring case.
+//! Tables of subtags, which are searched for a string, ignoring case.
 
 use crate::erased::scan::folded_number;
 
-/// Returns whether a text is in a table, whose keys are the numbers of its texts.
+/// Returns whether a string is in a table, whose keys are the numbers of its strings.
 #[inline]
 pub(crate) fn is_among(keys: &[u64], text: &[u8]) -> bool {
     keys.binary_search(&folded_number(text)).is_ok()
 }
 
-/// Returns the value for a text, which is at the same index as the text's key.
+/// Returns the value for a string, which is at the same index as the string's key.
 #[inline]
 pub(crate) fn value_of(
     keys: &[u64],

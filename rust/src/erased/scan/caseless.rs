@@ -1,16 +1,16 @@
 // Made by rust/erase from crates/langtag_scan/src/caseless.rt. Change that file, not this one.
 
-//! Texts that compare without regard to the case of ASCII letters (RFC 5646 section 2.1.1).
+//! Strings that compare without regard to the case of ASCII letters (RFC 5646 section 2.1.1).
 
 use crate::erased::scan::case::{case_insensitive_cmp, case_insensitive_eq, case_insensitive_hash};
 use crate::shim::AsStr;
 use core::cmp::Ordering;
 use core::hash::{Hash, Hasher};
 
-/// A text, borrowed (`&str`) or owned (`String`), whose comparisons and hash ignore the case of
+/// A string, borrowed (`&str`) or owned (`String`), whose comparisons and hash ignore the case of
 /// ASCII letters ([RFC 5646 section 2.1.1]): `Caseless("zh-Latn") == Caseless("ZH-LATN")`.
 ///
-/// The text keeps its case. The text types of the other crates contain a `Caseless`, from which
+/// The string keeps its case. The string types of the other crates contain a `Caseless`, from which
 /// they derive `PartialEq`, `Eq`, `PartialOrd`, `Ord` and `Hash`.
 ///
 /// [RFC 5646 section 2.1.1]: https://www.rfc-editor.org/rfc/rfc5646#section-2.1.1
@@ -18,8 +18,8 @@ use core::hash::{Hash, Hasher};
 pub struct Caseless<T>(pub T);
 
 impl<T: AsStr> Caseless<T> {
-    /// Returns the bytes of the text. It is proved that a clone of a borrowed text is the text
-    /// itself.
+    /// Returns the bytes of the string. It is proved that a clone of a borrowed string is the
+    /// string itself.
     #[inline]
     fn as_bytes(&self) -> &[u8] {
         self.0.as_str().as_bytes()

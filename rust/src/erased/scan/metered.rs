@@ -4,7 +4,7 @@
 
 use crate::erased::scan::source::ByteSource;
 
-/// Bytes with a count of the reads, which shows how much of a text
+/// Bytes with a count of the reads, which shows how much of a string
 /// [`recognise`](crate::scan::recognise) reads. They can be read only through [`ByteSource`].
 ///
 /// ```
@@ -23,7 +23,7 @@ pub struct Metered<'a> {
 }
 
 impl<'a> Metered<'a> {
-    /// Returns a source over the bytes of a text, with no reads yet.
+    /// Returns a source over the bytes of a string, with no reads yet.
     ///
     /// ```
     /// use langtag::scan::{ByteSource, Metered};

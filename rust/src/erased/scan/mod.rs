@@ -23,7 +23,7 @@
 //! # }
 //! ```
 //!
-//! `Caseless` and `folded_number` serve the crates of this workspace that build the text types.
+//! `Caseless` and `folded_number` serve the crates of this workspace that build the string types.
 
 mod case;
 mod caseless;

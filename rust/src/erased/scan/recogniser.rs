@@ -31,8 +31,8 @@ pub fn recognise<S: ByteSource>(source: &mut S) -> Option<Found> {
     read(source).ok()
 }
 
-/// Reads a source up to the first byte that makes a tag impossible. Returns what the whole text is
-/// or, if it is not a tag, the length of the longest prefix with which some tag begins.
+/// Reads a source up to the first byte that makes a tag impossible. Returns what the whole string
+/// is or, if it is not a tag, the length of the longest prefix with which some tag begins.
 #[inline(always)]
 pub(crate) fn read<S: ByteSource>(source: &mut S) -> Result<Found, usize> {
     let len = source.len();

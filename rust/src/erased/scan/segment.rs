@@ -1,10 +1,10 @@
 // Made by rust/erase from crates/langtag_scan/src/segment.rt. Change that file, not this one.
 
-//! Where a segment of a text begins and ends (RFC 5646 section 2.1). Hyphens separate the segments.
-//! Indices are in bytes.
+//! Where a segment of a string begins and ends (RFC 5646 section 2.1). Hyphens separate the
+//! segments. Indices are in bytes.
 
 /// Returns where the segment that contains `index` ends: at the next hyphen, or at the end of the
-/// text.
+/// string.
 ///
 /// `segment_end(b"fr-FR", 0)` is 2, and `segment_end(b"fr-FR", 3)` is 5.
 #[inline]

@@ -1,9 +1,9 @@
 // Made by rust/erase from crates/langtag_scan/src/split.rt. Change that file, not this one.
 
-//! Splitting a text at the first byte of a given value.
+//! Splitting a string at the first byte of a given value.
 
-/// Returns the text before the first `mark` and the text after it. If there is no `mark`, returns
-/// the whole text and an empty text.
+/// Returns the string before the first `mark` and the string after it. If there is no `mark`,
+/// returns the whole string and an empty string.
 ///
 /// `split_at_byte(b"fr;q=1", b';')` is `(b"fr", b"q=1")`.
 #[inline]
@@ -12,7 +12,7 @@ pub fn split_at_byte(text: &[u8], mark: u8) -> (&[u8], &[u8]) {
     split_at(text, first_place(text, mark))
 }
 
-/// Returns the text before and after the first byte that is `mark` or `other`:
+/// Returns the string before and after the first byte that is `mark` or `other`:
 /// `split_at_either(b"zh_TW", b'-', b'_')` is `(b"zh", b"TW")`.
 #[inline]
 #[must_use]
@@ -41,8 +41,8 @@ fn first_of_either(text: &[u8], mark: u8, other: u8) -> Option<usize> {
     text.iter().position(|byte| *byte == mark || *byte == other)
 }
 
-/// Returns the text before an index, and the text after the byte at that index. If the index is
-/// `None`, returns the whole text and an empty text.
+/// Returns the string before an index, and the string after the byte at that index. If the index is
+/// `None`, returns the whole string and an empty string.
 #[inline]
 fn split_at(text: &[u8], index: Option<usize>) -> (&[u8], &[u8]) {
     match index {

@@ -39,7 +39,7 @@ pub(crate) struct State {
     number: usize,
 }
 
-/// What a text is, by the state in which the recogniser is at the end of the text.
+/// What a string is, by the state in which the recogniser is at the end of the string.
 #[derive(Clone, Copy)]
 pub(crate) enum Ending {
     NoTag,
@@ -82,7 +82,7 @@ impl State {
         crate::erased::scan::states::PARTS[self.number] as usize
     }
 
-    /// Returns what the text is if it ends after the bytes that were read.
+    /// Returns what the string is if it ends after the bytes that were read.
     #[inline(always)]
     pub(crate) fn ending(self) -> Ending {
         match TABLES.kinds[self.number] {

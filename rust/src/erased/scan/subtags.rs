@@ -1,14 +1,14 @@
 // Made by rust/erase from crates/langtag_scan/src/subtags.rt. Change that file, not this one.
 
-//! An iterator over the subtags of a text (RFC 5646 section 2.1), which works from both ends and
+//! An iterator over the subtags of a string (RFC 5646 section 2.1), which works from both ends and
 //! copies nothing.
 
 use crate::erased::scan::segment::{segment_end, segment_start};
 
-/// An iterator over the subtags of a text, from either end. Each subtag is a slice of the text, and
-/// contains no hyphen.
+/// An iterator over the subtags of a string, from either end. Each subtag is a slice of the string,
+/// and contains no hyphen.
 ///
-/// A hyphen at either end of the text gives an empty subtag, and so do two hyphens in a row:
+/// A hyphen at either end of the string gives an empty subtag, and so do two hyphens in a row:
 /// `a--b-` has `a`, an empty subtag, `b` and an empty subtag.
 ///
 /// ```
@@ -27,7 +27,7 @@ pub struct Subtags<'a> {
 }
 
 impl<'a> Subtags<'a> {
-    /// Returns an iterator over all subtags of a text. The empty text has none.
+    /// Returns an iterator over all subtags of a string. The empty string has none.
     ///
     /// ```
     /// use langtag::scan::Subtags;
@@ -80,8 +80,8 @@ impl<'a> DoubleEndedIterator for Subtags<'a> {
     }
 }
 
-/// Returns the text before the first hyphen and the text after it. If there is no hyphen, returns
-/// the whole text and `None`.
+/// Returns the string before the first hyphen and the string after it. If there is no hyphen,
+/// returns the whole string and `None`.
 fn split_first<'a>(text: &'a str) -> (&'a str, Option<&'a str>) {
     let end = segment_end(text.as_bytes(), 0);
     if end == text.len() {
@@ -90,8 +90,8 @@ fn split_first<'a>(text: &'a str) -> (&'a str, Option<&'a str>) {
     (&text[..end], Some(&text[end + 1..]))
 }
 
-/// Returns the text before the last hyphen and the text after it. If there is no hyphen, returns
-/// `None` and the whole text.
+/// Returns the string before the last hyphen and the string after it. If there is no hyphen,
+/// returns `None` and the whole text.
 fn split_last<'a>(text: &'a str) -> (Option<&'a str>, &'a str) {
     let start = segment_start(text.as_bytes(), text.len());
     if start == 0 {

@@ -1,6 +1,6 @@
 // Made by rust/erase from crates/langtag_scan/src/viable.rt. Change that file, not this one.
 
-//! The length of the longest prefix of a text with which some tag begins.
+//! The length of the longest prefix of a string with which some tag begins.
 
 use crate::erased::scan::metered::Metered;
 use crate::erased::scan::recogniser::read;

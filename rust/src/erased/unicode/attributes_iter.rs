@@ -25,7 +25,7 @@ pub struct AttributesIter<'a> {
 }
 
 impl<'a> AttributesIter<'a> {
-    /// Returns an iterator over the distinct subtags of a text.
+    /// Returns an iterator over the distinct subtags of a string.
     #[inline]
     pub(crate) fn new(text: &'a str) -> Self {
         AttributesIter {

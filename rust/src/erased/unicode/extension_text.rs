@@ -1,11 +1,11 @@
 // Made by rust/erase from crates/langtag_unicode/src/extension_text.rt. Change that file, not this one.
 
-//! The subtags of an extension of a tag, as one text.
+//! The subtags of an extension of a tag, as one string.
 
 use crate::erased::tag::{LangTag, Singleton};
 
 /// Returns the subtags of the first extension with a singleton, joined by hyphens, or the empty
-/// text if there is no such extension.
+/// string if there is no such extension.
 #[inline]
 pub(crate) fn extension_text<'a>(tag: LangTag<'a>, singleton: Singleton) -> &'a str {
     match tag.extensions().get_singleton(singleton) {

@@ -28,7 +28,7 @@ pub struct KeywordsIter<'a> {
 }
 
 impl<'a> KeywordsIter<'a> {
-    /// Returns an iterator over the keywords among the subtags of a text.
+    /// Returns an iterator over the keywords among the subtags of a string.
     #[inline]
     pub(crate) fn new(text: &'a str, keys: Keys) -> Self {
         KeywordsIter {

@@ -18,8 +18,8 @@ use alloc::vec::Vec;
 /// `de-x-a` becomes `de-u-ca-buddhist-x-a`. With an empty value, the key has no value, which means
 /// `true`.
 ///
-/// The new text is the one that [`write_with_keyword`](crate::unicode::write_with_keyword) writes.
-/// It is allocated once, exactly its length.
+/// The new string is the one that [`write_with_keyword`](crate::unicode::write_with_keyword)
+/// writes. It is allocated once, exactly its length.
 ///
 /// # Errors
 ///
@@ -53,7 +53,7 @@ pub fn set_keyword(tag: &mut LangTagBuf, key: &str, value: &str) -> Result<(), S
 /// `th-u-ca-gregory-nu-thai` becomes `th-u-nu-thai`. Each keyword of the key is removed from the
 /// first `u`, and so is this `u` if nothing else is in it.
 ///
-/// It allocates the new text, as [`set_keyword`] does, even if the tag does not have the key.
+/// It allocates the new string, as [`set_keyword`] does, even if the tag does not have the key.
 ///
 /// # Errors
 ///
@@ -81,7 +81,7 @@ pub fn remove_keyword(tag: &mut LangTagBuf, key: &str) -> Result<(), SetKeywordE
     apply(tag, KeywordEdit { key, value: None })
 }
 
-/// Applies an edit to a tag. The new text is complete before the old text is dropped.
+/// Applies an edit to a tag. The new string is complete before the old string is dropped.
 #[cfg(feature = "alloc")]
 fn apply(tag: &mut LangTagBuf, edit: KeywordEdit<'_>) -> Result<(), SetKeywordError> {
     let Some(normal) = tag.as_lang_tag().as_normal() else {
@@ -99,7 +99,7 @@ fn edited(tag: NormalLangTag<'_>, edit: KeywordEdit<'_>) -> Result<LangTagBuf, A
 }
 
 /// Returns the bytes of a normal tag with a keyword set or removed. It allocates once, exactly the
-/// length of the text.
+/// length of the string.
 #[cfg(feature = "alloc")]
 #[inline]
 fn edited_bytes(tag: NormalLangTag<'_>, edit: KeywordEdit<'_>) -> Result<Vec<u8>, AllocError> {

@@ -1,13 +1,13 @@
 // Made by rust/erase from crates/langtag_unicode/src/transformation.rt. Change that file, not this one.
 
-//! The extension `t` of a tag, which says how a text was transformed.
+//! The extension `t` of a tag, which says how a string was transformed.
 
 use crate::erased::keyword::{before_key, nonempty, value_in, Keys};
 use crate::erased::tag::{LangTag, Singleton};
 use crate::erased::unicode::extension_text::extension_text;
 use crate::erased::unicode::keywords_iter::KeywordsIter;
 
-/// The extension `t` of a tag ([RFC 6497 section 2.2]): the language of the text before it was
+/// The extension `t` of a tag ([RFC 6497 section 2.2]): the language of the string before it was
 /// transformed, and how it was transformed.
 ///
 /// ```
@@ -76,7 +76,7 @@ impl<'a> Transformation<'a> {
 
     /// Returns the value of a field, as a slice of the tag: in `und-t-ja-m0-hepburn` the field `m0`
     /// has the value `hepburn`. Case is ignored, and the first of repeated keys counts. Returns
-    /// `None` if the field is absent, and the empty text if it has no value.
+    /// `None` if the field is absent, and the empty string if it has no value.
     ///
     /// ```
     /// # fn main() -> Result<(), Box<dyn std::error::Error>> {
