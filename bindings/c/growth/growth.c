@@ -76,10 +76,7 @@ FUNCTION(with_keyword, result = langtag_with_keyword(text, len, "zz", 2, "bbb", 
                                 langtag_with_keyword("de", 2, "zz", 2, text + 3, len - 3, buffer, sizeof buffer))
 FUNCTION(without_keyword, result = langtag_without_keyword(text, len, "zz", 2, buffer, sizeof buffer))
 FUNCTION(extensions_form, result = langtag_extensions_form(text, len, buffer, sizeof buffer))
-
-/* The call sorts the variants in quadratic time. Under callgrind it would take minutes for thousands of them. */
-FUNCTION(locale_form, langtag_parse(text, len, &parts);
-         if (parts.variants.len < 10000) result = langtag_locale_form(text, len, buffer, sizeof buffer))
+FUNCTION(locale_form, result = langtag_locale_form(text, len, buffer, sizeof buffer))
 
 #define ENTRY(name) {#name, name},
 static const struct function functions[] = {LANGTAG_FUNCTIONS(ENTRY){"best_of_tags", best_of_tags}};

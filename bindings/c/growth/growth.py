@@ -37,6 +37,8 @@ SQUARES = {
     ("is_locale", "many_variants"): 4.4,
     ("is_locale", "transformed"): 4.4,
     ("locale_form", "few_variants"): 4.4,
+    ("locale_form", "variants"): 4.4,
+    ("locale_form", "many_variants"): 4.4,
     ("locale_form", "attributes"): 4.4,
     ("locale_form", "transformed"): 4.4,
 }
