@@ -32,26 +32,26 @@
 //! has a type of its own, such as [`Script`]. These are `Copy` values over a `&str`. Each has an
 //! owned form, such as `LangTagBuf`.
 //!
-//! module | contains
-//! ---|---
+//! The modules contain:
+//!
 #![cfg_attr(
     feature = "data",
-    doc = "[`choice`] | the best tag for an `Accept-Language` header, and the distance of two tags (UTS #35)"
+    doc = "- [`choice`]: the best tag for an `Accept-Language` header, and the distance of two tags (UTS #35)"
 )]
-//! [`matching`] | language ranges, filters and lookup (RFC 4647); `Accept-Language` (RFC 9110)
+//! - [`matching`]: language ranges, filters and lookup (RFC 4647); `Accept-Language` (RFC 9110)
 #![cfg_attr(
     feature = "data",
-    doc = "[`registry`] | valid tags and canonical forms, by IANA's registry (RFC 5646)"
-)]
-#![cfg_attr(
-    feature = "data",
-    doc = "[`likely`] | likely subtags, direction, POSIX locale names (UTS #35)"
+    doc = "- [`registry`]: valid tags and canonical forms, by IANA's registry (RFC 5646)"
 )]
 #![cfg_attr(
     feature = "data",
-    doc = "[`unicode`] | the extensions `u` and `t`, such as a calendar; Unicode locale identifiers (UTS #35)"
+    doc = "- [`likely`]: likely subtags, direction, POSIX locale names (UTS #35)"
 )]
-//! [`scan`] | the recogniser over bytes from any source
+#![cfg_attr(
+    feature = "data",
+    doc = "- [`unicode`]: the extensions `u` and `t`, such as a calendar; Unicode locale identifiers (UTS #35)"
+)]
+//! - [`scan`]: the recogniser over bytes from any source
 //!
 //! # Keys and order
 //!
@@ -72,12 +72,10 @@
 //!
 //! # Features
 //!
-//! feature | adds
-//! ---|---
-//! `alloc` (default) | owned forms, setters, and calls that return new tags
-//! `data` (default) | `choice`, `likely`, `registry` and `unicode`, with their data
-//! `oxilangtag` | the module `oxilangtag`, with the names of that crate
-//! `serde` (releases only) | tags, parts and ranges as strings
+//! - `alloc` (default): owned forms, setters, and calls that return new tags
+//! - `data` (default): `choice`, `likely`, `registry` and `unicode`, with their data
+//! - `oxilangtag`: the module `oxilangtag`, with the names of that crate
+//! - `serde` (releases only): tags, parts and ranges as strings
 //!
 //! The crate never needs std. If allocation fails, calls whose names begin with `try_`, and the
 //! setters, return an error and leave the tag unchanged. Others, such as `to_owned` and
