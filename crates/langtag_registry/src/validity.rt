@@ -1,11 +1,13 @@
 //! Valid tags (RFC 5646 section 2.2.9).
-ghost use Rattle.std.specs.Prelude.{◌≡◌, ◌↔◌, [], IsNone, Some, IfSome, IfErr, is_ok, true, slice_get};
+ghost use Rattle.std.specs.Prelude.{◌≡◌, ◌↔◌, [], IsNone, Some, IfSome, IfErr, is_ok, map, true, slice_get};
 ghost use Rattle.std.specs.Option.{option_map};
 ghost use Rattle.langtag_scan.specs.Record.{Record, EachRecord};
 ghost use Rattle.langtag_scan.specs.Subtags.{subtags};
+ghost use Rattle.langtag_extension.specs.Text.{singleton_byte};
 ghost use Rattle.langtag_language.specs.Language.{EachLanguageSpelling};
 ghost use Rattle.langtag_language.specs.Text.{language_text};
 ghost use Rattle.langtag_place.specs.Text.{script_text, region_text, variants_text};
+ghost use Rattle.langtag.specs.Repeat.{are_alike_bytes, repeat, repeat_index};
 ghost use Rattle.langtag.specs.Text.{lang_tag_text, normal_lang_tag_text};
 ghost use Rattle.langtag_registry.specs.Compared.{FaultsCompareByKind};
 ghost use Rattle.langtag_registry.specs.Fault.{told, faults, fault_index, language_faults, script_faults, region_faults, variant_faults};
@@ -18,6 +20,7 @@ use crate::subtags::{
     is_registered_extlang, is_registered_region, is_registered_script, is_registered_variant,
 };
 use langtag::{LangTag, NormalLangTag, is_among_first};
+use langtag_extension::Singleton;
 use langtag_language::Language;
 use langtag_place::{Region, Script, Variants};
 
@@ -71,12 +74,8 @@ pub fn fault_at<'a>(tag: LangTag<'a>) -> Option<(InvalidSubtag<'a>, usize)>
     ensures first { IfSome result (λ fault. EachRecord (lang_tag_text tag.entry) (λ r. slice_get (faults r) 0 ≡ Some (told fault.0))) }
     ensures index { IfSome result (λ fault. EachRecord (lang_tag_text tag.entry) (λ r. fault_index r (told fault.0) ≡ Some fault.1)) }
 {
-    let Some(normal) = tag.as_normal() else {
-        return None;
-    };
-    let Some(fault) = find_fault_of_normal(normal) else {
-        return None;
-    };
+    let normal = tag.as_normal()?;
+    let fault = find_fault_of_normal(normal)?;
     if tag.is_grandfathered() {
         return None;
     }
@@ -101,8 +100,7 @@ fn find_fault_of_normal<'a>(tag: NormalLangTag<'a>) -> Option<(InvalidSubtag<'a>
     if let Some(fault) = find_variant_fault(tag.variants()) {
         return Some(fault);
     }
-    let index = tag.repeated_singleton_index()?;
-    let singleton = tag.repeated_singleton()?;
+    let (singleton, index) = find_repeated_singleton(tag)?;
     Some((InvalidSubtag::RepeatedSingleton(singleton), index))
 }
 
@@ -166,4 +164,16 @@ fn find_variant_fault<'a>(variants: Variants<'a>) -> Option<(InvalidSubtag<'a>, 
         }
     }
     None
+}
+
+/// Returns the first repeated singleton, and the index of its extension.
+fn find_repeated_singleton<'a>(tag: NormalLangTag<'a>) -> Option<(Singleton, usize)>
+    ensures first { EachRecord (normal_lang_tag_text tag.entry) (λ r.
+        option_map (λ found. singleton_byte found.0) result ≡ repeat are_alike_bytes (map (λ e. e.singleton) r.extensions)) }
+    ensures index { IfSome result (λ found. EachRecord (normal_lang_tag_text tag.entry) (λ r.
+        repeat_index are_alike_bytes (map (λ e. e.singleton) r.extensions) ≡ Some found.1)) }
+{
+    let index = tag.repeated_singleton_index()?;
+    let extension = tag.extensions().iter().nth(index)?;
+    Some((extension.singleton(), index))
 }

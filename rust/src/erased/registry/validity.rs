@@ -2,6 +2,7 @@
 
 //! Valid tags (RFC 5646 section 2.2.9).
 
+use crate::erased::extension::Singleton;
 use crate::erased::language::Language;
 use crate::erased::place::{Region, Script, Variants};
 use crate::erased::registry::invalid_subtag::InvalidSubtag;
@@ -57,14 +58,11 @@ pub fn validate<'a>(tag: LangTag<'a>) -> Result<(), InvalidSubtag<'a>> {
 /// # Ok(())
 /// # }
 /// ```
+#[inline]
 #[must_use]
 pub fn fault_at<'a>(tag: LangTag<'a>) -> Option<(InvalidSubtag<'a>, usize)> {
-    let Some(normal) = tag.as_normal() else {
-        return None;
-    };
-    let Some(fault) = find_fault_of_normal(normal) else {
-        return None;
-    };
+    let normal = tag.as_normal()?;
+    let fault = find_fault_of_normal(normal)?;
     if tag.is_grandfathered() {
         return None;
     }
@@ -85,8 +83,7 @@ fn find_fault_of_normal<'a>(tag: NormalLangTag<'a>) -> Option<(InvalidSubtag<'a>
     if let Some(fault) = find_variant_fault(tag.variants()) {
         return Some(fault);
     }
-    let index = tag.repeated_singleton_index()?;
-    let singleton = tag.repeated_singleton()?;
+    let (singleton, index) = find_repeated_singleton(tag)?;
     Some((InvalidSubtag::RepeatedSingleton(singleton), index))
 }
 
@@ -138,4 +135,11 @@ fn find_variant_fault<'a>(variants: Variants<'a>) -> Option<(InvalidSubtag<'a>, 
         }
     }
     None
+}
+
+/// Returns the first repeated singleton, and the index of its extension.
+fn find_repeated_singleton<'a>(tag: NormalLangTag<'a>) -> Option<(Singleton, usize)> {
+    let index = tag.repeated_singleton_index()?;
+    let extension = tag.extensions().iter().nth(index)?;
+    Some((extension.singleton(), index))
 }
