@@ -3,6 +3,7 @@ mod DateLaws
 mod KeywordTexts
 mod KindLaws
 mod LikelyForms
+mod ParseLaws
 mod PartSpanLaws
 mod RangeLaws
 mod StopLaws

@@ -1,5 +1,5 @@
 //! Whether bytes are a tag, of which kind, and where its parts are.
-#![tactic(auto, using(crate::proofs::KindLaws::kind_none, crate::proofs::KindLaws::kind_normal, crate::proofs::KindLaws::kind_private, crate::proofs::KindLaws::kind_irregular, crate::proofs::KindLaws::irregular_left, crate::proofs::PartSpanLaws::spans_parts, langtag_scan::proofs::FoundLaws::tag_found, langtag_scan::proofs::FoundLaws::normal_found, langtag_scan::proofs::FoundLaws::private_found, langtag_scan::proofs::TagLaws::tag_normal, langtag_scan::proofs::TagLaws::tag_private, langtag_scan::proofs::SpelledTexts::normal_spelled, langtag_scan::proofs::SpelledTexts::normal_from_ends, langtag_scan::proofs::SpelledTexts::ends_ordered, langtag_scan::proofs::OneKind::normal_no_private, langtag_scan::proofs::SpelledTexts::ends_each, langtag_scan::proofs::SpelledTexts::ends_whole))]
+#![tactic(auto, using(crate::proofs::ParseLaws::parse_laws))]
 
 ghost use Rattle.std.specs.Prelude.{◌≡◌, ◌≤◌, ℕ, List, length, IfSome, MatchOption};
 ghost use Rattle.langtag_scan.specs.Ends.{HasEnds, ends_of};
