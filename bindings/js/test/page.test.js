@@ -66,7 +66,7 @@ test("validity and forms", { skip }, async () => {
     assert.equal(await browser.value("document.getElementById('tag-text').innerText"), "de-1996-1996");
     assert.equal(await browser.value("document.querySelector('#tag-text .invalid').previousSibling.textContent"), "1996-");
     await type("tag", "zh-yue");
-    assert.equal((await forms()).Name, "Yue Chinese");
+    assert.equal((await forms()).Name, "Cantonese");
     await type("tag", "qt-FR");
     assert.match(await summary("tag"), /^A tag, not valid: language qt is not registered/);
 });
