@@ -1,11 +1,12 @@
 # Installs each package that `bindings/release` makes in an empty folder, by a process that cannot see the repository, and runs its
 # first program. Two runs of `bindings/release` have to make the same bytes.
 
+COMMIT=$(git -C "$root" rev-parse HEAD 2>/dev/null || echo "not known") # for `bindings/release` in a copy without git, and for `proves`
+
 releases() {
     (cd "$root" && cp --parents CHANGELOG.md $(sed -n '/^LICENCES = /s/[^"]*"\([^"]*\)"[^"]*/\1 /gp' "$here/release") "$work") || return 1
     cp -r "$root/docs" "$work" || return 1
     tar -C "$root" -c --exclude=out --exclude=must-fail crates crates.txt | tar -x -C "$work" || return 1
-    export COMMIT=$(git -C "$root" rev-parse HEAD 2>/dev/null || echo "not known")
     local targets=()
     if [ -n "${aarch64_archive:-}" ]; then targets+=(--target "aarch64-unknown-linux-gnu=$aarch64_archive"); fi
     if [ -n "${wasm_archive:-}" ]; then targets+=(--target "wasm64-unknown-unknown=$wasm_archive"); fi
