@@ -19,7 +19,7 @@ namespace {
 const char *const tags[] = {"en", "en-GB", "fr", "fr-CA", "de", "de-CH", "es", "es-419", "pt-BR", "pt-PT",
                             "it", "nl", "sv", "pl", "ru", "ja", "ko", "zh-Hans", "zh-Hant", "ar"};
 
-/* The range that is served: the first, with a tag nearer than 16; the last, with such a tag; the last, by look-up; the last, after
+/* The range that is served: the first, with a tag nearer than 16; the last, with such a tag; the last, by lookup; the last, after
  * one of weight 0; none. */
 const struct {
     const char *name, *header;

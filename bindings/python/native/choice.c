@@ -78,7 +78,7 @@ static PyObject *item_at(PyObject *listed, size_t index) {
     return (PyList_Check(listed) ? PyList_GetItem : PyTuple_GetItem)(listed, (Py_ssize_t)index);
 }
 
-/* What a reader wants: a header, with the call that chooses for it, or a list of ranges, the most wanted first. If `match` is not
+/* What a reader wants: a header, with the call that chooses for it, or a list of ranges, in order of preference. If `match` is not
  * NULL, the range and the distance of the chosen tag are written to it. */
 typedef struct {
     Text header;
