@@ -1,6 +1,7 @@
 #!/usr/bin/env python3
-"""Draws the measured times: picture.py TIMES >times.svg. A line of TIMES has a list of tags, a parser, and the nanoseconds for a
-tag, or words in place of a number. The text of a line that begins with # is shown below the picture.
+"""Draws the times of one run: picture.py TIMES >times.svg. A line of TIMES has a list of tags, a parser, and the nanoseconds for a tag,
+or words in place of a number. The picture has ratios, since times of another machine or another run would differ. The text of a line that
+begins with # is shown below the picture.
 
 `bindings/bench/run` measures the times, and calls this program.
 """
@@ -16,6 +17,9 @@ PARSERS = {
     "langtag_parse": ("langtag", "C"), "langtag_verified": ("langtag", "Rust"), "oxilangtag": ("oxilangtag", "Rust"),
     "icu": ("ICU", "C++"), "langtag.Tag": ("langtag", "Python"), "babel": ("babel", "Python"),
 }
+# The parser by whose time the others are divided.
+ONE = "langtag_parse"
+TITLE = "Time to parse a tag and read its parts, divided by that of langtag in C"
 LEFT, TOP, COLUMN, ROW, BAR, VALUE = 150, 92, 230, 28, 16, 64
 STYLE = """
     .paper { fill: #fcfcfb } .ink { fill: #1c1c1a } .quiet { fill: #62615b } .ours { fill: #2a6fc9 } .theirs { fill: #b3b1a8 }
@@ -38,28 +42,34 @@ def bar(x: float, y: float, width: float, kind: str) -> str:
             f'v{BAR - 2 * round_end:.1f}a{round_end:.1f} {round_end:.1f} 0 0 1 -{round_end:.1f} {round_end:.1f}h-{width - round_end:.1f}z"/>')
 
 
-def column(x: float, name: str, found: dict[str, str], scale: float) -> list[str]:
+def column(x: float, name: str, found: dict[str, float | str], scale: float) -> list[str]:
     """Returns the drawing of one list: its title, and for each parser a bar or words."""
     parts = [text(x, TOP - 26, name, "ink"), text(x, TOP - 10, LISTS[name], "quiet small")]
     for row, parser in enumerate(PARSERS):
-        y, said = TOP + row * ROW, found.get(parser, "not measured")
-        try:
-            nanoseconds = float(said)
-        except ValueError:
-            parts.append(text(x + 6, y + 13, said, "quiet small"))
+        y, ratio = TOP + row * ROW, found.get(parser, "not measured")
+        if isinstance(ratio, str):
+            parts.append(text(x + 6, y + 13, ratio, "quiet small"))
             continue
-        width = max(nanoseconds * scale, 1.0)
+        width = max(ratio * scale, 1.0)
         parts.append(bar(x, y, width, "ours" if PARSERS[parser][0] == "langtag" else "theirs"))
-        parts.append(text(x + width + 6, y + 13, f"{nanoseconds:,.0f}", "ink"))
+        parts.append(text(x + width + 6, y + 13, shown(ratio), "ink"))
     bottom = TOP + len(PARSERS) * ROW - 6
     return [*parts, f'<path class="axis" d="M{x} {TOP - 4}V{bottom}"/>']
 
 
-def picture(times: dict[str, dict[str, str]], note: str) -> str:
+def shown(ratio: float | str | None) -> str:
+    return f"{ratio:.1f}" if isinstance(ratio, float) and ratio < 10 else f"{ratio:.0f}" if isinstance(ratio, float) else str(ratio)
+
+
+def ratios(found: dict[str, str]) -> dict[str, float | str]:
+    """Returns the times of a list, divided by that of one parser. Words stay."""
+    return {parser: float(it) / float(found[ONE]) if it.replace(".", "", 1).isdigit() else it for parser, it in found.items()}
+
+
+def picture(times: dict[str, dict[str, float | str]], note: str) -> str:
     """Returns the picture. All lists have the same scale."""
-    numbers = [float(it) for found in times.values() for it in found.values() if it.replace(".", "", 1).isdigit()]
-    scale = (COLUMN - VALUE) / max(numbers)
-    parts = [text(16, 30, "Nanoseconds to parse a tag and read its parts", "ink head")]
+    scale = (COLUMN - VALUE) / max(it for found in times.values() for it in found.values() if isinstance(it, float))
+    parts = [text(16, 30, TITLE, "ink head")]
     for row, (label, language) in enumerate(PARSERS.values()):
         y = TOP + row * ROW + 13
         parts += [text(16, y, label, "ink"), text(LEFT - 14, y, language, "quiet small", "end")]
@@ -73,11 +83,11 @@ def picture(times: dict[str, dict[str, str]], note: str) -> str:
             f'  <rect class="paper" width="{width}" height="{height}" rx="8"/>\n  {body}\n</svg>\n')
 
 
-def summary(times: dict[str, dict[str, str]]) -> str:
+def summary(times: dict[str, dict[str, float | str]]) -> str:
     """Returns the description of the picture in words."""
-    said = (f"{name}: " + ", ".join(f"{label} ({language}) {found.get(parser)}" for parser, (label, language) in PARSERS.items())
+    said = (f"{name}: " + ", ".join(f"{label} ({language}) {shown(found.get(parser))}" for parser, (label, language) in PARSERS.items())
             for name, found in times.items())
-    return escape(f"Nanoseconds to parse a tag and read its parts. {'; '.join(said)}")
+    return escape(f"{TITLE}. {'; '.join(said)}")
 
 
 def main(path: str) -> None:
@@ -90,7 +100,7 @@ def main(path: str) -> None:
         name, parser, value = line.split("\t")
         if parser in PARSERS:
             times.setdefault(name, {})[parser] = value
-    print(picture(times, note), end="")
+    print(picture({name: ratios(found) for name, found in times.items()}, note), end="")
 
 
 if __name__ == "__main__":

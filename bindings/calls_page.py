@@ -13,7 +13,7 @@ SHORT = 8  # the rows of README's table
 
 
 class Language(NamedTuple):
-    """A language: its name, its page, the file that declares its calls, and the file in which every name has to be."""
+    """A language: its name, its page, the file that declares its calls, and the files in which every name has to be."""
 
     name: str
     page: str
@@ -24,7 +24,7 @@ class Language(NamedTuple):
 LANGUAGES = [
     Language("Rust", "rust/README.md", "rust/api.txt", "rust/api.txt"),
     Language("C", "docs/C.md", "bindings/include/langtag.h", "bindings/include/langtag.h"),
-    Language("C++", "docs/C.md", "bindings/include/langtag.hpp", "bindings/include/langtag.h"),
+    Language("C++", "docs/C.md", "bindings/include/langtag.hpp", "bindings/include/langtag.h bindings/include/langtag_names.hpp"),
     Language("Python", "docs/PYTHON.md", "bindings/python/langtag/__init__.py", "bindings/python/langtag/_native.pyi"),
     Language("JavaScript", "docs/JAVASCRIPT.md", "bindings/js/index.d.ts", "bindings/js/index.d.ts"),
     Language("PostgreSQL", "docs/POSTGRESQL.md", "bindings/postgresql/langtag.sql.in", "bindings/postgresql/langtag.sql.in"),
@@ -32,7 +32,7 @@ LANGUAGES = [
 ]
 IN_README = ["Python", "JavaScript", "Rust", "C"]
 OF_THE_LANGUAGE = {"==", "<", "=", "Hash", "std::hash", "to_ascii_lowercase", "lower", "COLLATE NOCASE"}  # what the language itself has
-FILES = {SOURCE, PAGE, README, *(name for language in LANGUAGES for name in language[1:])}
+FILES = {SOURCE, PAGE, README, *(name for language in LANGUAGES for names in language[1:] for name in names.split())}
 
 HEAD = """\
 # Calls
@@ -74,7 +74,7 @@ class Linker:
     def __init__(self, root: pathlib.Path, language: Language):
         self.language, self.root = language, root
         self.sections = sections((root / language.page).read_text(encoding="utf-8"))
-        self.known = "".join((root / name).read_text(encoding="utf-8") for name in {language.declared, language.names})
+        self.known = "".join((root / name).read_text(encoding="utf-8") for name in {language.declared, *language.names.split()})
 
     def place(self, name: str) -> str:
         """Returns the path of a name, and the section if it is in the page of the language."""

@@ -1,15 +1,10 @@
-#!/usr/bin/env python3
-"""Checks that numbers that stand in several files agree: the version, the number of the ABI, and the indices of the grandfathered
+"""Finds where numbers that stand in several files differ: the version, the number of the ABI, and the indices of the grandfathered
 tags. No file may have a copy of the registry's date, which the library returns. The meaning of the numbers is not compared, since the
-tests of each language check its constants with the library.
-
-    check_numbers.py [ROOT] the root of the repository; by default, the repository that contains this file
-"""
+tests of each language check its constants with the library."""
 from __future__ import annotations
 
 import pathlib
 import re
-import sys
 
 # Where the version and the ABI number are: a file, and the text around the number.
 VERSIONS = [
@@ -61,13 +56,3 @@ def wrong_numbers(root: pathlib.Path) -> list[str]:
             if not number or others != {number[1]}:
                 found.append(f"{name}: {file} has {sorted(others)}, and the header {number[1] if number else 'none'}")
     return found
-
-
-def main(root: pathlib.Path) -> int:
-    found = wrong_numbers(root) + copied_dates(root)
-    print("\n".join(found) or "the numbers agree")
-    return 1 if found else 0
-
-
-if __name__ == "__main__":
-    sys.exit(main(pathlib.Path(sys.argv[1]) if len(sys.argv) > 1 else pathlib.Path(__file__).resolve().parent.parent))

@@ -10,8 +10,8 @@
     bindings/js/test/signatures.js            the functions, for a test that calls each of them
     docs/CALLS.md, README.md                  the calls of each language, by task, from bindings/calls.txt
 
-It also compares the declarations of langtag.h, which is written by hand. A function must have LANGTAG_PURE if its result is its only
-effect.
+It also compares the declarations of langtag.h, which is written by hand, and the numbers that stand in several files (check_numbers.py).
+A function must have LANGTAG_PURE if its result is its only effect.
 
     bindings/generate.py            writes the files
     bindings/generate.py --check    compares the files with what it would write, and fails if one differs
@@ -23,6 +23,7 @@ import re
 import sys
 
 import calls_page
+import check_numbers
 import interface
 from interface import Function, Interface, Parameter
 from javascript import javascript
@@ -62,7 +63,7 @@ unsafe fn lent<'a, T>(start: *const T, len: usize) -> &'a [T] {{
 }}
 
 /// Returns the slice at a pointer, for writing.
-unsafe fn taken<'a>(start: *mut u8, len: usize) -> &'a mut [u8] {{
+unsafe fn taken<'a, T>(start: *mut T, len: usize) -> &'a mut [T] {{
     if len == 0 {{
         return &mut [];
     }}
@@ -142,6 +143,8 @@ from typing import Any
 
 
 def type_of_python(it: Interface, kind: str) -> str:
+    if kind in interface.OPAQUE:
+        return f"c_uint64 * {interface.OPAQUE[kind][1]}"
     return kind if kind in it.structs else "None" if kind == "" else "c_" + interface.INTEGERS[kind].replace("_t", "").replace("size", "size_t")
 
 
@@ -171,7 +174,7 @@ def python(it: Interface) -> str:
 
 
 def word_of_js(it: Parameter) -> str:
-    words = {"&[u8]": "text", "&[Span]": "spans", "&mut [u8]": "buffer" if it.name == "buffer" else "bytes"}
+    words = {"&[u8]": "text", "&[Span]": "spans", "&[PreparedTag]": "prepared", "&mut [usize]": "numbers", "&mut [u8]": "buffer" if it.name == "buffer" else "bytes"}
     return words.get(it.kind, "out" if it.kind.startswith("&") and not it.is_read else it.name if it.is_writable() else it.kind)
 
 
@@ -190,8 +193,8 @@ def wrong_header(it: Interface, header: str) -> list[str]:
     wanted = [it.prototype(function) for function in it.functions]
     found = [f"{HEADER} lacks: {line}" for line in wanted if line not in said]
     found += [f"{HEADER} has what no function of the crate is: {line}" for line in said if line not in wanted]
-    structs = {name: re.findall(r"(\w+) (\w+);", body) for body, name in re.findall(r"typedef struct \w+ \{(.*?)\} (\w+);", source, flags=re.S)}
-    ours = {struct.in_c(): [(it.type_in_c(kind), name) for name, kind in struct.fields] for struct in it.structs.values()}
+    structs = {name: re.findall(r"(\w+) (\w+(?:\[\d+\])?);", body) for body, name in re.findall(r"typedef struct \w+ \{(.*?)\} (\w+);", source, flags=re.S)}
+    ours = {struct.in_c(): [it.field_in_c(name, kind) for name, kind in struct.fields] for struct in it.structs.values()}
     return found + [f"{HEADER}: {name} is {structs.get(name)}, and {ours.get(name)} in the crate"
                     for name in sorted(structs.keys() | ours.keys()) if structs.get(name) != ours.get(name)]
 
@@ -212,7 +215,7 @@ def main(root: pathlib.Path, is_check: bool) -> int:
     faults = wrong_header(it, (root / HEADER).read_text(encoding="utf-8"))
     if not it.functions or not it.structs:
         faults.append("crates/langtag_c has no functions, or no structs")
-    faults += calls_page.faults(it, root)
+    faults += calls_page.faults(it, root) + check_numbers.wrong_numbers(root) + check_numbers.copied_dates(root)
     for name, text in ({name: written(it) for name, written in FILES.items()} | calls_page.pages(root)).items():
         path = root / name
         if not is_check:

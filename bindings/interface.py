@@ -11,6 +11,7 @@ import re
 from typing import NamedTuple
 
 INTEGERS = {"usize": "size_t", "u64": "uint64_t", "u32": "uint32_t", "i32": "int32_t", "bool": "bool", "": "void"}
+OPAQUE = {"PreparedForm": ("uint64_t", 2)}  # the fields of a type of another crate, as C has them: numbers, and how many
 DECLARATION = r'pub extern "C" fn (\w+)\(([^)]*)\)(?:\s*->\s*(\w+))?(.*?)\n\{'
 
 
@@ -73,6 +74,12 @@ class Interface(NamedTuple):
             if it.is_slice():
                 found.append(("size_t", it.length()))
         return found
+
+    def field_in_c(self, name: str, kind: str) -> tuple[str, str]:
+        """Returns the type and the name of a struct's field in C."""
+        if kind in OPAQUE:
+            return OPAQUE[kind][0], f"opaque[{OPAQUE[kind][1]}]"
+        return self.type_in_c(kind), name
 
     def prototype(self, function: Function) -> str:
         taken = ", ".join(f"{kind}{'' if kind.endswith('*') else ' '}{name}" for kind, name in self.parameters_in_c(function))

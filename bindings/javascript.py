@@ -1,7 +1,7 @@
 """Writes bindings/js/calls.js: each function of langtag.h as a function of strings and numbers."""
 from __future__ import annotations
 
-from interface import Function, Interface, Parameter
+from interface import OPAQUE, Function, Interface, Parameter
 
 HEAD = """\
 /*
@@ -15,11 +15,12 @@ HEAD = """\
  * - If C writes numbers, the list of the result and these numbers is returned. If the result is only true or false, the list of the numbers
  *   or undefined is returned.
  * - If C removes one item after another, the list of all items is returned.
+ * - If C writes numbers to an array, the list of the numbers that it wrote is returned. `room` is the length of the array.
  */
-import {{ aligned, close, count, lengthOf, module, open, prepare, read, size, SPAN, write, writeList, written }} from "./memory.js";
+import {{ aligned, close, count, lengthOf, module, open, prepare, read, readSizes, size, SPAN, WORD, write, writeList, written }} from "./memory.js";
 """
 
-KINDS = {"&[u8]", "&[Span]", "&mut [u8]", "u32", "u64"}
+KINDS = {"&[u8]", "&[Span]", "&mut [u8]", "&mut [usize]", "u32", "u64"}
 RESULTS = {"bool": "{} !== 0", "u32": "{} >>> 0", "usize": "count({})", "u64": "BigInt.asUintN(64, {})"}
 LONGER = 32  # how many bytes longer than its arguments a written string may be before it needs a second call
 
@@ -35,6 +36,12 @@ def name_in_js(function: Function) -> str:
 
 def is_out(it: Parameter) -> bool:
     return it.is_writable() and not it.is_slice()
+
+
+def is_plain(it: Interface, parameter: Parameter) -> bool:
+    """Returns whether a value has only numbers that its type names."""
+    struct = it.structs.get(parameter.target())
+    return struct is None or not any(kind in OPAQUE for _, kind in struct.fields)
 
 
 def fields(it: Interface, kind: str, name: str) -> list[str]:
@@ -55,6 +62,7 @@ class Lowering:
         self.read: list[str] = []  # the numbers that are read before they are written
         self.written: list[str] = []  # the other numbers that are written
         self.has_buffer = function.parameters[-1:] != [] and function.parameters[-1].name == "buffer"
+        self.array = ""  # the array of numbers that is written
         followers = [*function.parameters[1:], None]
         for parameter, follower in zip(function.parameters, followers):
             self.add(it, parameter, follower)
@@ -70,6 +78,10 @@ class Lowering:
             (self.read if parameter.is_read else self.written).extend(fields(it, parameter.target(), name))
         elif name == "buffer":
             self.passed += [self.place(), "size(room)"]
+        elif parameter.kind == "&mut [usize]":
+            self.array = name
+            self.parameters.append("room")
+            self.passed += [f"size({name}At)", "size(room)"]
         elif parameter.kind == "&[Span]":
             self.passed += [f"size({name}At)", f"size({name}.length)"]
         elif follower is not None and follower.kind == "&[Span]":
@@ -89,16 +101,18 @@ class Lowering:
         self.steps.append(step)
 
     def lines(self) -> list[str]:
-        """Returns the lines before the call. The spans of lists come after all strings."""
+        """Returns the lines before the call. The spans of lists come after all strings, and an array comes after the spans."""
         found = [f"const {it}Length = lengthOf({it});" for it in self.lists]
         lengths = [*(f"{it}.length" for it in self.texts), *(f"{it}Length" for it in self.lists)]
-        needed = [*lengths, *(f"SPAN * {it}.length" for it in self.lists), *(["room"] if self.has_buffer else [])]
+        needed = [*lengths, *(f"SPAN * {it}.length" for it in self.lists), *(["room"] if self.has_buffer else []), *(["WORD * room"] if self.array else [])]
         opened = f"open({' + '.join(needed) or '0'})"
         found.append(f"const at0 = {opened};" if self.steps or self.has_buffer else f"{opened};")
         place = " + ".join(["at0", *lengths])
         for it in self.lists:
             found.append(f"const {it}At = aligned({place});")
             place = f"{it}At + SPAN * {it}.length"
+        if self.array:
+            found.append(f"const {self.array}At = {place};")
         for number, step in enumerate(self.steps, 1):
             is_used = number < len(self.steps) or self.has_buffer
             found.append(f"const at{number} = {step};" if is_used else f"{step};")
@@ -125,6 +139,8 @@ def ends(function: Function, made: Lowering, call: str) -> tuple[str, list[str]]
     if made.has_buffer:
         again = f"{name_in_js(function)}({', '.join([*made.parameters, 'length'])})"
         return "the written string", [f"const length = {result};", f"if (length <= room) return close(read(at{len(made.steps)}, length));", "close();", f"return {again};"]
+    if made.array:
+        return "the numbers that C writes", [f"return close(readSizes({made.array}At, {result}));"]
     if not function.result:
         return "the changed string", [f"{call};", f"return close(read(at0, {made.parameters[0]}.length));"]
     return "", [f"return close({result});"]
@@ -142,5 +158,5 @@ def function_in_js(it: Interface, function: Function) -> str:
 
 def javascript(it: Interface, written: str) -> str:
     """Returns calls.js. A function with a parameter of another kind is not in it."""
-    taken = [function for function in it.functions if all(of.kind in KINDS or is_out(of) for of in function.parameters)]
+    taken = [function for function in it.functions if all(of.kind in KINDS or (is_out(of) and is_plain(it, of)) for of in function.parameters)]
     return HEAD.format(written=written) + "".join(function_in_js(it, function) for function in taken)

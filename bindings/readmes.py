@@ -10,7 +10,7 @@ HERE = pathlib.Path(__file__).resolve().parent
 DOCS = HERE.parent / "docs"
 
 # The page of each package.
-PAGES = {"c": "C.md", "python": "PYTHON.md", "js": "JAVASCRIPT.md", "postgresql": "POSTGRESQL.md"}
+PAGES = {"c": "C.md", "python": "PYTHON.md", "js": "JAVASCRIPT.md", "postgresql": "POSTGRESQL.md", "sqlite": "SQLITE.md"}
 LICENCES = """
 ## Licence
 
@@ -30,9 +30,12 @@ def named(link: re.Match[str]) -> str:
     return link[0] if path.startswith("http") else f"{link[1]} (`{(DOCS / path).resolve().relative_to(DOCS.parent)}` in the repository)"
 
 
+def without_links(page: str) -> str:
+    return re.sub(r"\[([^\]]*)\]\(([^)#]+(?:#[\w-]*)?)\)", named, page)
+
+
 def readme(package: str) -> str:
-    page = (DOCS / PAGES[package]).read_text(encoding="utf-8")
-    return re.sub(r"\[([^\]]*)\]\(([^)#]+(?:#[\w-]*)?)\)", named, page) + LICENCES
+    return without_links((DOCS / PAGES[package]).read_text(encoding="utf-8")) + LICENCES
 
 
 if __name__ == "__main__":

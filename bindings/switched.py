@@ -15,7 +15,12 @@ VALUE = re.compile(r"[=,(]\s*$")
 
 # The switch in C and C++, and in the root of a Rust crate. In Rust, the variable is read before `main`, because reading it allocates,
 # and some tests count allocations.
-C = '#include <stdlib.h>\nstatic inline int planted(int fault) { return getenv("PLANTED") && atoi(getenv("PLANTED")) == fault; }\n'
+C = """#ifndef PLANTED_FAULTS
+#define PLANTED_FAULTS
+#include <stdlib.h>
+static inline int planted(int fault) { return getenv("PLANTED") && atoi(getenv("PLANTED")) == fault; }
+#endif
+"""
 RUST = """
 extern crate std;
 static PLANTED: core::sync::atomic::AtomicU32 = core::sync::atomic::AtomicU32::new(0);

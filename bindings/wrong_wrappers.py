@@ -26,6 +26,7 @@ from switched import C, FORBIDDEN, RUST, Change, switched
 
 ROOT = pathlib.Path(__file__).resolve().parent.parent
 H, HPP, SQL = "bindings/include/langtag.h", "bindings/include/langtag.hpp", "bindings/sqlite/sqlite_langtag.c"
+NAMES = "bindings/include/langtag_names.h"
 PY, CT, TEXTS = (f"bindings/python/langtag/{name}.py" for name in ("__init__", "_ctypes", "_texts"))
 NATIVE, JS, CALLS, MEMORY = "bindings/python/native/", *(f"bindings/js/{name}.js" for name in ("index", "calls", "memory"))
 
@@ -83,7 +84,7 @@ FAULTS = {
         swapped(HPP, "LANGTAG_INVALID_SCRIPT", "LANGTAG_INVALID_REGION"),
         swapped(HPP, '"script "', '"region "'),
         Fault(HPP, "found <= LANGTAG_VALID)", "found <= LANGTAG_INVALID_LANGUAGE)"),
-        Fault(HPP, "if (found == LANGTAG_NONE)", "if (found != LANGTAG_NORMAL)"),
+        Fault(HPP, "if (found == LANGTAG_NONE)", "if (found != LANGTAG_NORMAL)", "table.txt"),
         Fault(HPP, "langtag_parse(langtag_bytes(text.data()), text.size(), &",
               "langtag_parse(text.data(), __builtin_strlen(text.data()), &"),
         Fault(HPP, "text_.size() + given.size() + 1, ", "text_.size() + given.size(), "),
@@ -117,11 +118,19 @@ FAULTS = {
         Fault(HPP, "return langtag_is_locale(text_.data(), text_.size());", "return kind_ == langtag::kind::normal;"),
         Fault(HPP, "written(langtag_locale_form)", "written(langtag_extensions_form)"),
         Fault(HPP, "if (made.empty()) return std::nullopt;\n        return made;\n    }\n\n    /* Returns the first subtag", "return made;\n    }\n\n    /* Returns the first subtag"),
+        Fault(HPP, "found.data(), given_.size()));", "found.data(), given_.size() / 2));", "suitable.txt"),
         Fault(HPP, "return name.substr(modifier.start, modifier.len)", "return name.substr(modifier.len)"),
+        Fault(HPP, "std::string next(text_); ", "std::string next(written(langtag_parent)); ", "parents.txt"),
+        Fault(NAMES, "? \"]\" :", "? \")\" :", "names.txt"),
+        Fault(NAMES, "is_usual ? language_len : 0}", "language_len}", "names.txt"),
+        Fault(NAMES, "if (form[extension.start] != last) ", "", "names.txt"),
+        Fault(NAMES, "langtag_name_order(form, variant, next) < 0)", "langtag_name_order(form, variant, next) > 0)", "names.txt"),
         Fault(HPP, "ranges()) wanted.push_back(it.range)", "ranges()) if (wanted.empty()) wanted.push_back(it.range)", "lists.txt"),
     ],
     "Rust": [
         rust("text", "case_insensitive_eq(self.as_str().as_bytes(), other.as_bytes())", "self.as_str().as_bytes() == other.as_bytes()"),
+        rust("names", "variants.sort_unstable();", "", "rows"),
+        rust("names", "is_usual.then_some(language)", "Some(language)", "rows"),
         rust("text", "$name::new(text).map_err(|_| $error(bytes))", "$name::new(text.trim()).map_err(|_| $error(bytes))", "habits"),
         rust("text", "core::str::from_utf8(bytes).map_err(|_| $error(bytes))?", 'core::str::from_utf8(bytes).unwrap_or("und")', "habits"),
         rust("text", "Ok(lent) => Ok(lent.to_owned()),", "Ok(lent) => Ok($owned::new(lent.to_ascii_lowercase()).unwrap()),"),
@@ -149,6 +158,8 @@ FAULTS = {
         rust("matching", "found(Ranges(ranges), tags).unwrap_or(default)", "found(Ranges(ranges), tags).unwrap_or(tags.first().unwrap_or(default))", "rows"),
         rust("matching", "is_range(entry.tag_bytes(), range) && entry.tag().is_some()", "entry.tag_bytes() == range", "rows"),
         rust("choice", "choice::best_among(accepted.ranges(), &tags)", "choice::best_among(&accepted.ranges()[..accepted.ranges().len().min(1)], &tags)", "rows"),
+        rust("choice", "&found[..count]", "&found[..count.min(1)]", "suitable"),
+        rust("site", "found.into_iter().map(", "found.into_iter().rev().map(", "suitable"),
         rust("too_short", "buffer.get(..len).ok_or(TooShort { needed: len })?", "buffer.get(..len).ok_or(TooShort { needed: buffer.len() })?", "rows"),
         rust("methods", "range.into().matches_extended(self)", "range.into().matches_basic(self)", "methods"),
         rust("methods", "self.validate().is_ok()", "self.validate().is_err()", "methods"),
@@ -160,7 +171,7 @@ FAULTS = {
         rust("oxilangtag", "Some(normal) if !read.is_grandfathered() =>", "Some(normal) =>", "oxilangtag"),
         rust("oxilangtag", "Some(&*self.tag).filter(|tag| begins_private_use(tag))", "None", "oxilangtag"),
         rust("oxilangtag", "tag.make_recommended_case();", "", "oxilangtag"),
-        rust("bin/langtag/answers", "true => range.matches_basic(tag)", "true => range.matches_extended(tag)", "program"),
+        rust("bin/langtag/answers", "range.matches_basic(tag)", "range.matches_extended(tag)", "program"),
         rust("bin/langtag/answers", "answer.good = best.is_some();", "answer.good = true;", "program"),
         rust("bin/langtag/answers", '("repeated-variant", subtag', '("variant", subtag', "program"),
         rust("bin/langtag/pointer", "refusal.offset..refusal.offset + 1", "refusal.start..refusal.end", "program"),
@@ -170,7 +181,12 @@ FAULTS = {
     "Python": [
         Fault(PY, '"second-extlang", "script", "region"', '"second-extlang", "region", "script"', "table.txt"),
         Fault(PY, '_PARTS = ("language", "script", "region"', '_PARTS = ("language", "region", "script"', "edits.txt"),
-        Fault(PY, "[: _backend.base_len(self._data)]", "[: _backend.viable(self._data)]", "table.txt"),
+        Fault(PY, "found.setdefault(singleton.lower(), tuple(subtags))", "found.setdefault(singleton, tuple(subtags))", "table.txt"),
+        Fault(PY, "found.setdefault(singleton.lower(), tuple(subtags))", "found[singleton.lower()] = tuple(subtags)", "table.txt"),
+        Fault(PY, "return _split(self.language)[1:]", "return _split(self.language)[2:]", "table.txt"),
+        Fault(PY, "return self._parent()", "return None", "parents.txt"),
+        Fault(PY, "found, parent = [self], self.parent", "found, parent = [], self.parent", "parents.txt", "AssertionError"),
+        Fault(PY, "[: _backend.base_len(self._data)]", "[: _backend.viable_len(self._data)]", "table.txt"),
         swapped(CT, "self._cut(self._parts.script)", "self._cut(self._parts.region)", "table.txt"),
         swapped(CT, "self._matched(_c.langtag_matches_basic", "self._matched(_c.langtag_matches_extended", "table.txt"),
         Fault(CT, "    return buffer.raw\n", "    return buffer.raw[:514]\n", "table.txt"),
@@ -194,7 +210,7 @@ FAULTS = {
         Fault(CT, "self._base(made) if made else None\n\n    language", "self._base(made or self._data)\n\n    language", "locale.txt", "AssertionError"),
         Fault(CT, "bytes_of(name)[found.start :] if", "bytes_of(name)[found.len :] if", "posix.txt"),
         Fault(CT, "(_c.langtag_attributes, _c.langtag_transform)[which]", "(_c.langtag_transform, _c.langtag_attributes)[which]", "unicode.txt"),
-        swapped(CT, "(_form, _c.langtag_maximize)", "(_form, _c.langtag_minimize)", "likely.txt"),
+        swapped(CT, "(_form, _c.langtag_maximized)", "(_form, _c.langtag_minimized)", "likely.txt"),
         Fault(PY, "if answer == 1 and weight > 0", "if answer == 1", "negotiation.txt"),
         Fault(PY, "key=lambda weighted: -weighted.weight", "key=lambda weighted: weighted.weight", "negotiation.txt"),
         Fault(CT, "_c.langtag_tag_for_header_lenient", "_c.langtag_best_for_header", "negotiation.txt"),
@@ -204,6 +220,7 @@ FAULTS = {
         tested(PY, "raise InvalidLocale(name)", "raise ValueError(name)", "test_langtag.Refusals.test_one_family"),
         tested(PY, 'default, Tag)\n    return found', 'default, Tag)\n    return found and Tag(found)', "test_langtag.Negotiation.test_texts"),
         tested(PY, 'else bytes_of(it, "range") for it', 'else bytes_of(it, "range").replace(b"-*", b"") for it', "test_langtag.Negotiation.test_extended_ranges"),
+        Fault(CT, "in found[:count]]", "in found[:count][::-1]]", "suitable.txt"),
         Fault(CT, "_joined(ranges), *more", "_joined(ranges[:1]), *more", "choices.txt"),
         Fault(PY, "best_for_ranges([it.range for it in self._ranges], tags, default)", "best_for_ranges([it.range for it in self._ranges[:1]], tags, default)", "lists.txt"),
         tested(PY, "return self._ranges == other._ranges", "return self._ranges[:1] == other._ranges[:1]", "test_langtag.Negotiation.test_equality"),
@@ -217,10 +234,7 @@ FAULTS = {
         swapped(NATIVE + "parts.c", "(void *)1}", "(void *)2}", "table.txt"),
         swapped(NATIVE + "range.c", "langtag_matches_basic)", "langtag_matches_extended)", "table.txt"),
         Fault(NATIVE + "parts.c", "== LANGTAG_VALID;", "!= LANGTAG_VALIDITY_NONE;", "table.txt"),
-        Fault(NATIVE + "parts.c", "langtag_fold(&singleton, 1);", "", "table.txt"),
-        Fault(NATIVE + "parts.c", "subtags_from(self, found, 1)", "subtags_from(self, found, 0)", "table.txt"),
         Fault(NATIVE + "parts.c", "which ? found.singleton : found.variant", "which ? found.variant : found.singleton", "table.txt"),
-        Fault(NATIVE + "parts.c", "if (!there) there =", "there =", "table.txt"),
         Fault(NATIVE + "value.c", "lt_changed(self, langtag_fold);\n    if (!folded) return -1;",
               "lt_changed(self, langtag_recommend);\n    if (!folded) return -1;", "table.txt"),
         Fault(NATIVE + "value.c", "case Py_LE: return order <= 0", "case Py_LE: return order < 0", "table.txt"),
@@ -228,7 +242,7 @@ FAULTS = {
         tested(NATIVE + "forms.c", "if (wanted <= sizeof room) return", "if (wanted <= 514) return",
               "test_langtag.Values.test_lengths"),
         Fault(NATIVE + "forms.c", "made->parts = like->parts;", "", "table.txt"),
-        swapped(NATIVE + "forms.c", ", langtag_maximize)", ", langtag_minimize)", "likely.txt"),
+        swapped(NATIVE + "forms.c", ", langtag_maximized)", ", langtag_minimized)", "likely.txt"),
         Fault(NATIVE + "calls.c", "langtag_##name(text.data, (size_t)text.len);", "langtag_##name(text.data, (size_t)text.len & 0x7fff);", "table.txt"),
         Fault(NATIVE + "choice.c", "langtag_tag_for_header_lenient", "langtag_best_for_header", "negotiation.txt"),
         Fault(NATIVE + "choice.c", "(unsigned)match->distance,", "(unsigned)match->distance % 100,", "choices.txt"),
@@ -241,13 +255,16 @@ FAULTS = {
         Fault(NATIVE + "likely.c", "name.data + found.start, (Py_ssize_t)found.len", "name.data, (Py_ssize_t)found.len", "posix.txt"),
         Fault(NATIVE + "calls.c", "(Py_ssize_t)range.len,", "(Py_ssize_t)range.len - 1,", "negotiation.txt"),
         Fault(NATIVE + "choice.c", "    offered->len += len;\n", "", "negotiation.txt", ""),
+        Fault(NATIVE + "choice.c", "item_at(listed, indices[i]);", "item_at(listed, indices[count - 1 - i]);", "suitable.txt"),
         Fault(NATIVE + "choice.c", "ranges->spans, ranges->count,", "ranges->spans, ranges->count > 0,", "choices.txt"),
         Fault(NATIVE + "choice.c", "count <= sizeof offered->few / sizeof *offered->few", "count <= sizeof offered->few", "test_langtag.Negotiation", ""),
         tested(NATIVE + "choice.c", "memcpy(more, offered->text, offered->len);", "", "test_langtag.Negotiation.test_best"),
         Fault(NATIVE + "choice.c", "|| !tag->text.owner) {", ") {", "test_langtag.Values", ""),
         Fault(NATIVE + "choice.c", "length(wanted) >= LONG_TEXT || ", "", "test_langtag.Threads", ""),
-        tested(NATIVE + "choice.c", "        LET_GO((Py_ssize_t)length(wanted));\n", "        LET_GO(0);\n", "test_langtag.Threads.test_that_others_run_during_a_choice"),
-        Fault(NATIVE + "choice.c", "        TAKE_BACK();\n", "", "test_langtag.Threads", ""),
+        tested(NATIVE + "choice.c", "LET_GO((Py_ssize_t)length(wanted));\n    *index", "LET_GO(0);\n    *index", "test_langtag.Threads.test_that_others_run_during_a_choice"),
+        tested(NATIVE + "choice.c", "LET_GO((Py_ssize_t)length(wanted));\n            count", "LET_GO(0);\n            count", "test_langtag.Threads.test_that_others_run_during_a_choice"),
+        Fault(NATIVE + "choice.c", "TAKE_BACK();\n    close", "close", "test_langtag.Threads", ""),
+        Fault(NATIVE + "choice.c", "TAKE_BACK();\n            found", "found", "test_langtag.Threads", ""),
         tested(NATIVE + "parts.c", "    LET_GO(self->text.len);\n    bool answer = properties", "    LET_GO(0);\n    bool answer = properties",
                "test_langtag.Threads.test_that_each_call_on_a_long_text_lets_others_run"),
         tested(NATIVE + "forms.c", "    LET_GO(self->text.len);\n    size_t wanted = write(", "    LET_GO(0);\n    size_t wanted = write(",
@@ -278,9 +295,10 @@ FAULTS = {
         Fault(JS, 'throw new EditError("value", value)', 'throw new EditError("key", value)', "keywords.txt"),
         Fault(CALLS, "calls.langtag_extensions_form", "calls.langtag_canonical", "extensions.txt"),
         Fault(CALLS, "calls.langtag_locale_form", "calls.langtag_canonical", "cldr.txt"),
-        Fault(CALLS, "calls.langtag_base_len", "calls.langtag_viable", "table.txt"),
+        Fault(CALLS, "calls.langtag_base_len", "calls.langtag_viable_len", "table.txt"),
         Fault(CALLS, "calls.langtag_is_locale", "calls.langtag_kind", "locale.txt"),
         Fault(JS, 'form === "" ? undefined : new', "new", "locale.txt"),
+        Fault(JS, "let tag = this; tag !==", "let tag = this.parent; tag !==", "parents.txt"),
         Fault(JS, "return found && text.slice(found[0], found[0] + found[1]);", "return found && text.slice(found[1]);", "posix.txt"),
         js(JS, "Array.isArray(pair) && [pair[0]", "[pair[0]", "keywords that are set and removed"),
         Fault(JS, "(weight > 0)", "(answer === 1)", "negotiation.txt"),
@@ -293,20 +311,30 @@ FAULTS = {
         js(MEMORY, "    if (bytes.length > most) start();\n", "", "the memory of a long text is given back"),
         Fault(JS, "characters.slice(0, 80)", "characters.slice(0, 81)", "refused.txt"),
         js(JS, "Object.freeze(this);", "", "a tag does not change"),
-        js(JS, '"ranges")].map((range) => textOf', '"ranges")].slice(0, 1).map((range) => textOf', "likely subtags, distances and the best tag"),
+        js(JS, '"ranges")].map((range) => textOf', '"ranges")].slice(0, 1).map((range) => textOf', "lists of tags and of ranges"),
         Fault(JS, "chosen(calls.bestForRanges, ", 'chosen((all, offered) => calls.bestForHeader(all.join(" "), offered), ', "choices.txt", "the tag of ranges"),
+        Fault(JS, ".map((index) => list[index])", ".sort().map((index) => list[index])", "suitable.txt"),
         Fault(JS, "text.slice(start, start + length) }", "text.slice(start) }", "choices.txt"),
         Fault(JS, "[index, start, length, distance] = calls", "[index, length, start, distance] = calls", "choices.txt"),
+        Fault(JS, "[index, start, length, distance] = site", "[index, length, start, distance] = site", "choices.txt", "the match of a site"),
+        Fault(JS, "siteBestForRanges(this.#prepared, rangeTexts(ranges))", "siteBestForRanges(this.#prepared, rangeTexts(ranges).slice(0, 1))", "lists.txt", "the tag of a site"),
+        Fault(MEMORY, "size(tags + PREPARED * index));", "size(tags));", "choices.txt", "the tag of a site"),
+        Fault(MEMORY, "tags: bytes.slice(", "tags: bytes.subarray(", "choices.txt", "of a site"),
+        js(JS, 'Object.freeze([...several(tags, "tags")])', 'Object.freeze(several(tags, "tags"))', "a site does not change"),
         Fault(JS, "return bestForRanges(this.#wanted(),", "return bestForRanges(this.#wanted().slice(0, 1),", "lists.txt"),
     ],
     "SQLite": [
         swapped(SQL, "&parts->script", "&parts->region", "table.txt"),
+        Fault(SQL, "tags->spans[tags->found[k]]", "tags->spans[k]", "suitable.txt"),
+        tested(SQL, " || (tag.len > 0 && memcmp(tag.at, tags->bytes + tags->spans[k].start, tag.len) != 0)", "", "test_tags_that_change"),
+        tested(SQL, "        langtag_prepare(tags->bytes, ", "        if (k > 0) langtag_prepare(tags->bytes, ", "test_tags_that_are_kept"),
+        tested(SQL, "sqlite3_set_auxdata(context, 1, tags, sqlite3_free)", "sqlite3_set_auxdata(context, 1, tags, NULL)", "test_memory"),
         Fault(SQL, "(int)best - 1, text_of", "(int)best, text_of", "choices.txt"),
         Fault(SQL, '{"private_use", &parts->private_use}', '{"private_use", &parts->extensions}', "table.txt"),
         tested(SQL, "strlen(named[k].name) == name.len && ", "", "test_statements"),
         Fault(SQL, "langtag_parse(tag.at, tag.len, &", "langtag_parse(tag.at, strlen(tag.at), &", "table.txt"),
         Fault(SQL, "at ? (size_t)sqlite3_value_bytes(value) : 0", "at ? strlen(at) : 0", "table.txt"),
-        Fault(SQL, "langtag_base_len(tag.at, tag.len)", "langtag_viable(tag.at, tag.len)", "table.txt"),
+        Fault(SQL, "langtag_base_len(tag.at, tag.len)", "langtag_viable_len(tag.at, tag.len)", "table.txt"),
         Fault(SQL, "span.len, SQLITE_TRANSIENT", "span.len < 255 ? span.len : 255, SQLITE_TRANSIENT", "table.txt"),
         Fault(SQL, "form, form_len, sqlite3_free", "form, form_len < 512 ? form_len : 512, sqlite3_free", "table.txt"),
         tested(SQL, "form, form_len, sqlite3_free", "form, form_len, SQLITE_TRANSIENT", "test_memory"),
@@ -329,6 +357,8 @@ FAULTS = {
         Fault(SQL, ".form = langtag_extensions_form", ".form = langtag_canonical", "extensions.txt"),
         Fault(SQL, ".is = langtag_is_locale", ".is = langtag_is_canonical", "locale.txt"),
         Fault(SQL, ".form = langtag_locale_form", ".form = langtag_extensions_form", "locale.txt"),
+        Fault(SQL, ".call = autonym", ".call = describe", "names.txt"),
+        tested(SQL, "    sqlite3_free(form);\n}\n\nstatic void autonym", "}\n\nstatic void autonym", "test_memory"),
         Fault(SQL, "of.at + span.start, span.len", "of.at, span.len", "posix.txt"),
         swapped(SQL, ".matches = langtag_matches_basic", ".matches = langtag_matches_extended", "table.txt"),
         Fault(SQL, ".matches = langtag_matches_extended", ".matches = langtag_matches_basic", "table.txt"),
@@ -340,10 +370,11 @@ FAULTS = {
 }
 
 # How the tests of each language are built, in a copy of what they need.
-CARGO = "cd rust && CARGO_TARGET_DIR=../target RUSTFLAGS='-Awarnings -Cdebuginfo=0' cargo test -q --offline --features oxilangtag"
+CARGO = "cd rust && CARGO_TARGET_DIR=../target RUSTFLAGS='-Awarnings -Cdebuginfo=0' cargo test -q --offline --features names,oxilangtag"
 BUILD = {
     "C": "cc -w -std=c11 -Ibindings/include bindings/c/test/*.c $LIBRARIES/liblangtag_verified.a -o test",
-    "C++": "c++ -w -std=c++17 -Ibindings/include bindings/c/test/rows.cc $LIBRARIES/liblangtag_verified.a -o test",
+    "C++": "cc -w -c bindings/c/test/rows.c bindings/c/test/fences.c && c++ -w -std=c++17 -Ibindings/include bindings/c/test/rows.cc"
+           " rows.o fences.o $LIBRARIES/liblangtag_verified.a -o test",
     "Rust": f"{CARGO} --no-run $TESTS",
     "Python's C": "bindings/python/native/compile $LIBRARIES/liblangtag_verified.a bindings/python/langtag/_native.abi3.so $PYTHON",
     "SQLite": "cc -w -fPIC -shared -Ibindings/include bindings/sqlite/sqlite_langtag.c $LIBRARIES/liblangtag_verified.a"
@@ -357,7 +388,8 @@ def command(language: str, by: str) -> str:
     """Returns the command that runs a file of rows, or a test, or all rows if none is named."""
     is_rows = by == "" or by.endswith(".txt")
     if language in ("C", "C++"):
-        return f"./test rows/calls.txt rows/{by} 1" if by else "./test $(make -s -C bindings/c ROWS=$PWD/rows asked)"
+        asked = "asked" if language == "C" else "asked-cc"
+        return f"./test rows/calls.txt rows/{by} 1" if by else f"./test $(make -s -C bindings/c ROWS=$PWD/rows {asked})"
     if language == "Rust":
         return f"{CARGO} --test {by}"
     if language == "JavaScript":

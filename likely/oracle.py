@@ -5,7 +5,7 @@ a request, of the names of POSIX locales, and of the parents of a tag.
 usage: oracle.py forms < TAGS                          prints for each tag its maximal and its minimal form, tab separated
        oracle.py distance < PAIRS                      prints for each desired and supported tag, space separated, their distance
        oracle.py rows < ROWS                           prints each row with its answer, in the form of those in rows/: of
-                                                       maximized, minimized, right-to-left, distance, best, best-match,
+                                                       maximized, minimized, right-to-left, distance, best, best-match, suitable,
                                                        posix, suggestion, parents
        oracle.py COLUMN --compare ANSWERS < LINES      counts the lines whose answer differs from that of a program
 
@@ -419,11 +419,24 @@ def answer(row):
         told = "-" if index is None else tags[index]
     elif call == "best-match":
         return row + " | " + told_match(texts[0], texts[1].split())
+    elif call == "parents":
+        return row + " | " + parents(texts[0])
+    elif call == "suitable":
+        told = " ".join(suitable(texts[0], texts[1].split())) or "-"
+        return row + " | " + told
     elif call == "distance":
         told = distance(" ".join(texts))
     else:
         told = CALLS[call](texts[0])
     return row + " | " + (told if told == "-" else escaped(told))
+
+
+def suitable(header, tags):
+    """Returns the tags that are chosen if each chosen tag is removed before the next choice."""
+    left, found = list(tags), []
+    while (index := best(header, left)) is not None:
+        found.append(left.pop(index))
+    return found
 
 
 def written(find):

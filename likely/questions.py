@@ -105,7 +105,8 @@ def random_choice(rng):
     if rng.random() < 0.1:
         tags.append(rng.choice(["x-a", "i-klingon", "en-GB-oed", "und", "de_CH", "a", "en-", "en"]))
     header = rng.choice([",", ",", ", ", " ,,"]).join(elements)
-    return f"best | {escaped_header(header)} | {' '.join(tags) or escaped('')}"
+    call = "best" if rng.random() < 0.7 else "suitable"
+    return f"{call} | {escaped_header(header)} | {' '.join(tags) or escaped('')}"
 
 
 def escaped_header(text):
@@ -149,7 +150,7 @@ def each():
     tags = ["-".join(filter(None, (fields[0] or "und", *fields[1:]))) for fields in triples]
     beside_und = sorted({row[1] for row in LIKELY.values()} | RIGHT_TO_LEFT) + sorted(REGION_ALIASES)
     for tag in tags + sorted(ALIASES) + ["und-" + subtag for subtag in beside_und]:
-        print(f"maximized | {tag}\nminimized | {tag}\nright-to-left | {tag}")
+        print(f"maximized | {tag}\nminimized | {tag}\nright-to-left | {tag}\nparents | {tag}")
     for name, to in ALIASES.items():
         print(f"distance | {name} | {'-'.join(filter(None, to))}\ndistance | en-{to[0]} | en-{name}\nbest | {name} | {to[0]} en {name}")
         print(f"suggestion | {name}\nsuggestion | {name.upper()}-{name}")

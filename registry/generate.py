@@ -97,7 +97,7 @@ def keys(texts):
 
 
 def key_table(name, what, texts):
-    return table(name, f"The keys of the {what}, in rising order: each key is the number whose base-256 digits are the lowercase bytes.", "u64", keys(texts))
+    return table(name, f"The keys of the {what}, in ascending order: each key is the number whose base-256 digits are the lowercase bytes.", "u64", keys(texts))
 
 
 def whole_tags(registry):
@@ -124,7 +124,7 @@ def tables(registry):
         texts, beside = zip(*values(registry, kind, field))
         out.append(key_table(f"{name}_KEYS", f"{kind}s with a {field}", texts))
         out.append(table(f"{name}_VALUES", f"The {field} of each {kind} of `{name}_KEYS`.", "&str", quoted(beside)))
-    out.append(table("PREFERRED_TAG_KEYS", "The keys of the whole tags with a Preferred-Value, in rising order: each key is the number whose base-256 digits are the last eight bytes of a tag, in lowercase.",
+    out.append(table("PREFERRED_TAG_KEYS", "The keys of the whole tags with a Preferred-Value, in ascending order: each key is the number whose base-256 digits are the last eight bytes of a tag, in lowercase.",
                      "u64", [f"0x{end_number(text):X}" for text, _ in whole_tags(registry)]))
     out.append(table("PREFERRED_TAGS", "Each tag of `PREFERRED_TAG_KEYS`, and its Preferred-Value.", "(&str, &str)",
                      [f'("{text}", "{value}")' for text, value in whole_tags(registry)]))

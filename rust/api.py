@@ -22,7 +22,7 @@ MEANT = ("Send", "Sync", "Unpin", "UnwindSafe", "RefUnwindSafe")
 
 def read_json():
     target = pathlib.Path(os.environ.get("CARGO_TARGET_DIR") or RUST / "target") / "api"
-    command = ["cargo", "rustdoc", "-q", "--lib", "--features", "oxilangtag", "--target-dir", target, "--", "-Z", "unstable-options", "--output-format", "json", "--document-hidden-items"]
+    command = ["cargo", "rustdoc", "-q", "--lib", "--features", "names,oxilangtag", "--target-dir", target, "--", "-Z", "unstable-options", "--output-format", "json", "--document-hidden-items"]
     subprocess.run(command, cwd=RUST, check=True, env={**os.environ, "RUSTC_BOOTSTRAP": "1", "CARGO_NET_OFFLINE": "true"})
     return json.loads((target / "doc/langtag.json").read_text())
 

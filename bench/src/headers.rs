@@ -1,6 +1,6 @@
 //! Chooses a tag for each header of a browser in rows/choices.txt: `headers tags N` by `best_for_header` among N tags, and
 //! `headers site N` by a `Site` with these tags. It calls once for each header, for a tool that counts instructions, and prints the
-//! number of headers.
+//! number of headers. `headers list N` prints these tags, and then the headers, for another program.
 
 use std::hint::black_box;
 
@@ -45,6 +45,10 @@ fn main() {
         (call == "best" && tags == BROWSERS).then_some(header)
     });
     let texts = site_of(args[2].parse().unwrap());
+    if args[1] == "list" {
+        println!("{}\n\n{}", texts.join("\n"), headers.collect::<Vec<_>>().join("\n"));
+        return;
+    }
     let tags: Vec<LangTag<'_>> = texts.iter().map(|text| LangTag::new(text).unwrap()).collect();
     let site = Site::new(&tags);
     let mut count = 0;

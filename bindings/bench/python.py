@@ -1,12 +1,14 @@
 #!/usr/bin/env python3
-"""Times the Python package and babel in one run. Each round makes every call once, in random order, and the median of the rounds is
-printed. Beside it are the limit, and whether the time is within it. The status is 1 if a time is not.
+"""Times the Python package and babel in one run. FOLDER has the package langtag with its C module, and babel is installed.
 
-    PYTHONPATH=FOLDER bench/python.py [ROUNDS]    FOLDER has the package langtag with its C module, and babel is installed
+    PYTHONPATH=FOLDER bench/python.py [ROUNDS]    each round makes every call once, in random order. Prints the median of the
+                                                  rounds, the limit, and whether the time is within it; if not, the status is 1
+    PYTHONPATH=FOLDER bench/python.py FILE        makes a tag of each line of a file, and reads its parts
 """
 from __future__ import annotations
 
 import gc
+import pathlib
 import random
 import statistics
 import sys
@@ -15,7 +17,7 @@ import time
 import babel.core
 import langtag
 
-ROUNDS = int(sys.argv[1]) if len(sys.argv) > 1 else 301
+ROUNDS = int(sys.argv[1]) if sys.argv[1:] and sys.argv[1].isdigit() else 301
 TEXTS = ("en de fr es it ja ko ru ar he en-US de-CH de-AT fr-CA pt-BR pt-PT zh-Hant-TW zh-Hans-CN sr-Latn-RS sr-Cyrl es-419 "
          "en-GB uz-Cyrl-UZ nb-NO").split()
 HEADER = "de-CH-1996;q=0.9, fr-CA, en;q=0.7, sr-Latn-RS;q=0.5, *;q=0.1"
@@ -85,6 +87,39 @@ def timed() -> dict[str, float]:
     return {name: statistics.median(found) for name, found in times.items()}
 
 
+def refused(texts: list[str]) -> int:
+    """Returns how many texts babel refuses. Most of these are for private use or have an extension."""
+    count = 0
+    for text in texts:
+        try:
+            babel.core.parse_locale(text, sep="-")
+        except ValueError:
+            count += 1
+    return count
+
+
+def read_all(texts: list[str]) -> None:
+    for text in texts:
+        tag = langtag.Tag(text)
+        tag.language, tag.script, tag.region, tag.variants
+
+
+def parse(path: str) -> int:
+    """Prints the least time over the pieces of a file. Both parsers read each piece."""
+    texts = pathlib.Path(path).read_text().split()
+    pieces = [texts[start : start + 1000] for start in range(0, len(texts), 1000)]
+    least = {"langtag.Tag": float("inf"), "babel": float("inf")}
+    for piece in pieces * 5:
+        for name, run in (("langtag.Tag", read_all), ("babel", refused)):
+            begun = time.perf_counter_ns()
+            run(piece)
+            least[name] = min(least[name], (time.perf_counter_ns() - begun) / len(piece))
+    for name, nanoseconds in least.items():
+        print(f"{name:18} {nanoseconds:8.1f} ns a tag")
+    print(f"babel refuses {refused(texts)} of {len(texts)} tags")
+    return 0
+
+
 def main() -> int:
     found = timed()
     parse, negotiate = found["babel's parse_locale"], found["babel's negotiate_locale"]
@@ -104,4 +139,4 @@ def main() -> int:
 
 
 if __name__ == "__main__":
-    sys.exit(main())
+    sys.exit(parse(sys.argv[1]) if sys.argv[1:] and not sys.argv[1].isdigit() else main())

@@ -5,8 +5,8 @@
     EACH(parse) \
     EACH(kind) \
     EACH(base_len) \
-    EACH(viable) \
-    EACH(stop) \
+    EACH(viable_len) \
+    EACH(stop_len) \
     EACH(refused) \
     EACH(eq) \
     EACH(cmp) \
@@ -33,14 +33,22 @@
     EACH(canonical) \
     EACH(is_canonical) \
     EACH(registry_date) \
-    EACH(maximize) \
-    EACH(minimize) \
+    EACH(maximized) \
+    EACH(minimized) \
+    EACH(parent) \
     EACH(is_right_to_left) \
     EACH(distance) \
     EACH(best_for_header) \
     EACH(match_for_header) \
     EACH(best_for_ranges) \
+    EACH(suitable_for_header) \
+    EACH(suitable_for_ranges) \
+    EACH(prepare) \
+    EACH(site_best_for_header) \
+    EACH(site_match_for_header) \
+    EACH(site_best_for_ranges) \
     EACH(from_posix) \
+    EACH(to_posix) \
     EACH(unknown_modifier) \
     EACH(cldr_version) \
     EACH(grandfathered) \
@@ -56,8 +64,8 @@
 #define LANGTAG_OF_ONE(EACH) \
     EACH(kind) \
     EACH(base_len) \
-    EACH(viable) \
-    EACH(stop) \
+    EACH(viable_len) \
+    EACH(stop_len) \
     EACH(is_locale) \
     EACH(is_canonical) \
     EACH(is_right_to_left) \

@@ -34,15 +34,11 @@ aarch64_rows() {
 check "aarch64: an example, under qemu" aarch64_example
 check "aarch64: C's tests, under qemu" aarch64_rows
 
-# The answers to random calls, and about the registry's tags, have to be the same as on this processor.
-aarch64_random() { on_aarch64 "$work/built/test-aarch64" --answer <"$work/calls" | cmp - "$work/answers"; }
-aarch64_tags() {
-    sed 's/.*/validity &\ncanonical &/' "$work/tags" | on_aarch64 "$work/built/test-aarch64" --answer | in_its_words | cmp - "$work/told"
-}
-aarch64_likely() { on_aarch64 "$work/built/test-aarch64" --answer <"$work/asked" | cmp - "$work/told_of_likely"; }
-check "aarch64: answers to random calls as on x86-64, under qemu" aarch64_random
-check "aarch64: validity and canonical form of 50,000 tags as on x86-64, under qemu" aarch64_tags
-check "aarch64: 100,000 rows of likely subtags and choices as on x86-64, under qemu" aarch64_likely
+# The answers to rows that checks/c.sh wrote have to be the same as on this processor.
+answered() { on_aarch64 "$work/built/test-aarch64" --answer "$work/rows/calls.txt" <"$work/$1"; }
+check "aarch64: answers to random calls as on x86-64, under qemu" answered answers
+check "aarch64: validity and canonical form of 50,000 tags as on x86-64, under qemu" answered answers_about_tags
+check "aarch64: 100,000 rows of likely subtags and choices as on x86-64, under qemu" answered told_of_likely
 
 # Checks the symbols of archive and library, and the stack. The growth of running time is measured only on x86-64.
 aarch64_symbols() {

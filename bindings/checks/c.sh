@@ -15,14 +15,11 @@ elif has objdump && [ -x "$root/.ci/stack" ]; then
 else
     not_run "C: the stack" "there is no objdump, or no .ci/stack"
 fi
-if has clang && has clang++; then
-    check "C: the same by clang" with_make check CC=clang CXX=clang++ VALGRIND= BUILD="$work/clang"
-else
-    not_run "C: the same by clang" "it is not there"
-fi
+needs 'has clang && has clang++' "it is not there" \
+    "C: the same by clang" with_make check CC=clang CXX=clang++ VALGRIND= BUILD="$work/clang"
 check "C: forms, suggestions, distances, choices and refusals of each length to 4,200 bytes, and to 2 MB" with_make sweep BUILD="$work/c"
-check "C: random texts against a second reading, each at the edge of a page" \
-    with_make fuzz SECONDS="$FUZZ_SECONDS" SEED="$FUZZ_SEED" BUILD="$work/c"
+check "C: rows about $FUZZ_COUNT random texts, by a second implementation of the RFCs" \
+    with_make fuzz COUNT="$FUZZ_COUNT" SEED="$FUZZ_SEED" BUILD="$work/c"
 
 # The date that the library returns has to be the date of the registry's file.
 dated() {
@@ -32,11 +29,12 @@ dated() {
 }
 check "C: the date of the registry is that of its file" dated
 
-# C's answers to random calls, with which the answers of Rust and Python are compared.
+# Random rows, and C's answers to random questions, with which the answers of Rust, Python and JavaScript are compared.
 answers_of_c() {
-    python3 random_calls.py "$FUZZ_SEED" >"$work/calls" && "$work/c/test" --answer "$work/rows/calls.txt" <"$work/calls" >"$work/answers"
+    python3 random_rows.py rows 1000 "$FUZZ_SEED" >"$work/answers" && python3 random_rows.py questions 2000 "$FUZZ_SEED" >"$work/calls" &&
+        "$work/c/test" --answer "$work/rows/calls.txt" <"$work/calls" >>"$work/answers"
 }
-check "C: answers to random calls, for Rust and Python" answers_of_c
+check "C: answers to random calls, for Rust, Python and JavaScript" answers_of_c
 
 # Compares C's answers about tags of the registry's subtags with those of registry/oracle.py.
 oracle() { python3 "$root/registry/oracle.py" "$root/registry/language-subtag-registry" "$@"; }
@@ -46,7 +44,8 @@ in_its_words() {
 }
 as_the_oracle() {
     { oracle --each && oracle --make 30000 "$FUZZ_SEED"; } >"$work/tags" || return 1
-    sed 's/.*/validity | &\ncanonical | &/' "$work/tags" | "$work/c/test" --answer "$work/rows/calls.txt" | in_its_words >"$work/told" || return 1
+    sed 's/.*/validity | &\ncanonical | &/' "$work/tags" | "$work/c/test" --answer "$work/rows/calls.txt" >"$work/answers_about_tags" || return 1
+    in_its_words <"$work/answers_about_tags" >"$work/told"
     oracle validity canonical --compare "$work/told" <"$work/tags"
 }
 check "C: validity and canonical form of 50,000 tags, by a plain reading of the registry" as_the_oracle
@@ -78,8 +77,4 @@ as_intl() {
         "$work/c/test" --answer "$work/rows/calls.txt" | sed 's/.* | //' >"$work/told_of_aliases" || return 1
     node "$likely/intl.mjs" "$work/told_of_aliases" "$version" <"$work/aliases"
 }
-if has node; then
-    check "C: the maximal forms of 2,600 deprecated tags, by Intl" as_intl
-else
-    not_run "C: the maximal forms by Intl" "there is no node"
-fi
+needs 'has node' "there is no node" "C: the maximal forms of 2,600 deprecated tags, by Intl" as_intl

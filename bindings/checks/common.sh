@@ -2,8 +2,8 @@
 passed=0 failed=0
 
 # The seconds after which a check counts as hanging, and is ended. Some checks take two minutes, and many times as long on a busy
-# machine. One of them runs random texts twice.
-limit=$((1800 + 2 * FUZZ_SECONDS))
+# machine.
+limit=1800
 
 # Sets a variable to the processor seconds of the commands that have ended. Only the shell that ran the commands knows this number.
 count_processors() {
@@ -34,6 +34,9 @@ check() {
 not_run() { echo "not run: $1: $2"; }
 
 has() { command -v "$1" >/dev/null; }
+
+# needs CONDITION REASON NAME COMMAND..: runs a check if a condition holds, or else says why it is not run.
+needs() { if eval "$1"; then check "${@:3}"; else not_run "$3" "$2"; fi; }
 
 # give_up REASON: ends the run, because nothing can be checked.
 give_up() {

@@ -38,10 +38,7 @@ can_overlay() { [ "$(id -u)" = 0 ] && mkdir -p "$work/try/upper" "$work/try/work
 if ! ls "$work"/dist/*.deb >/dev/null 2>&1; then
     not_run "Debian packages" "bindings/release made none (in Debian: apt-get install build-essential debhelper dh-python python3-pip)"
 else
-    if has lintian; then check "Debian: lintian says nothing" debian_lintian; else not_run "Debian: lintian" "it is not there"; fi
-    if can_overlay; then
-        check "Debian: apt installs the packages, each works, and nothing is left of them" debian_installed
-    else
-        not_run "Debian: installing the packages" "this user cannot make a copy of the system by overlayfs"
-    fi
+    needs 'has lintian' "it is not there" "Debian: lintian says nothing" debian_lintian
+    needs 'can_overlay' "this user cannot make a copy of the system by overlayfs" \
+        "Debian: apt installs the packages, each works, and nothing is left of them" debian_installed
 fi

@@ -1,15 +1,15 @@
 # Runs the code of the documents and headers, in each language that is installed. SQL runs in postgresql.sh, which has the servers.
 examples_of() { LANGTAG_ARCHIVE="$work/lib/liblangtag_c.a" LANGTAG_JS="$work/bindings/js" CARGO_TARGET_DIR="$work/target" "$root/.ci/examples" "$@"; }
 for language in c c++ python; do check "documents: the examples in $language" examples_of $language; done
-if [ -f js/module.js ] && has node; then check "documents: the examples in JavaScript" examples_of javascript; else not_run "documents: JavaScript" "the package is not built"; fi
-if has cargo; then check "documents: the examples in Rust and of the programs" examples_of rust shell; else not_run "documents: Rust" "there is no cargo"; fi
+needs '[ -f js/module.js ] && has node' "the package is not built" "documents: the examples in JavaScript" examples_of javascript
+needs 'has cargo' "there is no cargo" "documents: the examples in Rust and of the programs" examples_of rust shell
 if has sqlite3 && echo '#include <sqlite3ext.h>' | cc -E - >/dev/null 2>&1; then
     check "documents: the examples in SQLite" examples_of sqlite
 else
     not_run "documents: SQLite" "there is no sqlite3, or its headers are not installed"
 fi
 check "documents: the commands in a clone" examples_of clone
-if has rt; then check "documents: the program by rt try" examples_of rattle; else not_run "documents: the program by rt try" "there is no rt"; fi
+needs 'has rt' "there is no rt" "documents: the program by rt try" examples_of rattle
 if [ -d "$work/dist" ]; then
     export LANGTAG_DIST="$work/dist"
     check "documents: the commands that install" examples_of install

@@ -27,6 +27,12 @@ python3 -c 'import flask' 2>/dev/null || not_run "Python: the Flask site" "Flask
 
 count_tags() { python3 examples/count_tags.py | diff - <(wanted_counts); }
 wanted_counts() { env -i PATH="$PATH" PYTHONPATH="$PYTHONPATH" LANGTAG_LIBRARY="$LANGTAG_LIBRARY" python3 -S examples/count_tags.py; }
+# The messages of the catalogue for a tag: that of a parent, of the tag itself, of the default.
+catalogues() {
+    local asked=("pt-AO bus" "de-ch-1996 bike" "de-CH hello" "zh-TW bike" "zh-TW hello" "fr train")
+    for it in "${asked[@]}"; do python3 examples/catalogue.py $it; done | diff <(printf '%s\n' autocarro Velo Hallo 腳踏車 Hello train) -
+}
+check "the example of a catalogue asks the parents of a tag" catalogues
 check "the example counts a million rows by pandas, where it is there, as without" count_tags
 
 sqlite_extension() {

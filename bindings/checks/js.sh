@@ -41,7 +41,7 @@ echo "Node $(node --version)$(has wasm-opt && echo ", $(wasm-opt --version)")"
 check "JavaScript: no import, and the functions of the header" wasm_symbols
 js_tests() { (cd js && LANGTAG_ANSWERS=$work/answers node --test --test-reporter=spec test/rows.test.js test/langtag.test.js test/examples.test.js); }
 check "JavaScript: tests, the example, the rows, and C's answers to random calls" js_tests
-js_wide() { (cd js && node --experimental-wasm-memory64 test/lowering.js "$work/calls"); }
+js_wide() { (cd js && node --experimental-wasm-memory64 test/lowering.js "$work/answers"); }
 if [ ! -e js/langtag64.wasm ]; then
     not_run "JavaScript: the module of 64-bit addresses" "cargo builds none"
 elif node --experimental-wasm-memory64 -e '' 2>/dev/null; then
@@ -57,16 +57,10 @@ js_types() {
         tsc --strict --noEmit --target es2022 --lib es2022,dom --module $resolution types.ts || return 1
     done
 }
-if has tsc; then
-    check "JavaScript: types, by tsc $(tsc --version | sed 's/[^0-9.]//g')" js_types
-else
-    not_run "JavaScript: types" "there is no tsc (in Debian: apt-get install node-typescript)"
-fi
+needs 'has tsc' "there is no tsc (in Debian: apt-get install node-typescript)" \
+    "JavaScript: types, by tsc $(tsc --version 2>/dev/null | sed 's/[^0-9.]//g')" js_types
 CHROMIUM=$(command -v chromium || command -v google-chrome)
 js_in_browser() { (cd js && node --test --test-reporter=spec test/browser.test.js test/page.test.js); }
-if [ -n "$CHROMIUM" ]; then
-    check "JavaScript: the rows, a worker and the page in $("$CHROMIUM" --version 2>/dev/null | sed 's/ built.*//')" js_in_browser
-else
-    not_run "JavaScript: a browser" "there is no chromium (in Debian: apt-get install chromium)"
-fi
+needs '[ -n "$CHROMIUM" ]' "there is no chromium (in Debian: apt-get install chromium)" \
+    "JavaScript: the rows, a worker and the page in $("$CHROMIUM" --version 2>/dev/null | sed 's/ built.*//')" js_in_browser
 check "JavaScript: parsing with six parts takes at most half the time of Intl.Locale" node js/test/speed.js

@@ -95,20 +95,14 @@ else
     check "PostgreSQL: the rows, and tags of the registry beside a plain reading of it" in_postgresql test_rows.py "$root"
     check "PostgreSQL: ranges by each scan" in_postgresql test_ranges.py
     check "PostgreSQL: faults, lengths, memory, dump and restore" in_postgresql test_faults.py
-    if [ -f "$("$pg_config" --sharedir)/extension/postgres_fdw.control" ]; then
-        check "PostgreSQL: two shards and a hub" in_postgresql test_shards.py
-    else
-        not_run "PostgreSQL: shards" "there is no postgres_fdw"
-    fi
+    needs '[ -f "$("$pg_config" --sharedir)/extension/postgres_fdw.control" ]' "there is no postgres_fdw" \
+        "PostgreSQL: two shards and a hub" in_postgresql test_shards.py
     check "PostgreSQL: a release with another registry installs" postgresql_later
     check "PostgreSQL: an owner gets no rights by the scripts of the extension" in_postgresql test_privileges.py
-    if [ -f "$("$pg_config" --sharedir)/extension/amcheck.control" ]; then
-        check "PostgreSQL: the update to another registry" in_postgresql test_update.py
-    else
-        not_run "PostgreSQL: the update to another registry" "there is no amcheck"
-    fi
+    needs '[ -f "$("$pg_config" --sharedir)/extension/amcheck.control" ]' "there is no amcheck" \
+        "PostgreSQL: the update to another registry" in_postgresql test_update.py
     check "PostgreSQL: SQL says whether the library is proved, and the versions of the program" postgresql_proved
-    if [ -d "$work/clone" ]; then check "PostgreSQL: a clone installs by cargo" postgresql_clone; else not_run "PostgreSQL: a clone" "there is no cargo"; fi
+    needs '[ -d "$work/clone" ]' "there is no cargo" "PostgreSQL: a clone installs by cargo" postgresql_clone
     check "PostgreSQL: planted faults are found by make installcheck" postgresql_wrong
 fi
 end_all

@@ -1,5 +1,5 @@
-# Looks for leaks of the C module in three ways: references in a debug Python, blocks with valgrind, and sanitizers. A lost
-# reference and a block that is not freed are planted, and have to be found. leaks_of NAME CFLAGS PYTHON COMMAND..: builds the
+# Looks for leaks of the C module in three ways: references, in a debug Python if there is one, blocks with valgrind, and sanitizers. A
+# lost reference and a block that is not freed are planted, and have to be found. leaks_of NAME CFLAGS PYTHON COMMAND..: builds the
 # module in a copy of its own, and runs the command there.
 leaks_of() {
     local folder=$work/leaks-$1 flags=$2 python=$3
@@ -9,11 +9,11 @@ leaks_of() {
     INCLUDE=$here/include CFLAGS=$flags native/compile "$archive" langtag/_native.abi3.so "$python" || return 1
     env -u LANGTAG_LIBRARY "$@"
 }
-lost='s/^    Py_DECREF(given.owner);$//'
+lost='s/^    Py_DECREF(it.value.owner);$//'
 unfreed='s/^    if (offered->text != offered->little) PyMem_Free(offered->text);$//'
 unreleased='s/^    Py_XDECREF(pair);$//'
 
-by_references() { leaks_of references -DPy_DEBUG "$header" $debug leaks.py; }
+by_references() { leaks_of references "${debug:+-DPy_DEBUG}" "$header" "${debug:-$real}" leaks.py; }
 # The sources of the module, as valgrind names them.
 sources=$(cd "$here/python/native" && printf '%s|' *.c)
 by_blocks() {
@@ -39,12 +39,8 @@ for python in python3.11-dbg python3-dbg python3.12-dbg python3.13-dbg; do
     if "$python" -c 'import sys; sys.gettotalrefcount()' 2>/dev/null; then debug=$python; break; fi
 done
 real=$("$header" -c 'import sys; print(sys.executable)')
-if [ -n "$debug" ]; then
-    check "Python: no reference is kept" by_references
-    check "Python: a lost reference is seen" seen "$lost" "replace: .* references more" by_references
-else
-    not_run "Python: references" "there is no debug Python (in Debian: apt-get install python3-dbg)"
-fi
+check "Python: no reference is kept" by_references
+check "Python: a lost reference is seen" seen "$lost" "replace: .* references more" by_references
 if has valgrind; then
     check "Python: no block is kept, by valgrind" by_blocks
     check "Python: a block that is not freed is seen" seen "$unfreed" "choice\.c" by_blocks

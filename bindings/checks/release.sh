@@ -4,7 +4,7 @@
 COMMIT=$(git -C "$root" rev-parse HEAD 2>/dev/null || echo "not known") # for `bindings/release` in a copy without git, and for `proves`
 
 releases() {
-    (cd "$root" && cp --parents CHANGELOG.md $(sed -n '/^LICENCES = /s/[^"]*"\([^"]*\)"[^"]*/\1 /gp' "$here/release") "$work") || return 1
+    (cd "$root" && cp --parents CHANGELOG.md LICENSE-APACHE LICENSE-MIT likely/LICENSE-UNICODE "$work") || return 1
     cp -r "$root/docs" "$work" || return 1
     tar -C "$root" -c --exclude=out --exclude=must-fail crates crates.txt | tar -x -C "$work" || return 1
     local targets=()
@@ -102,15 +102,15 @@ by_cmake() {
         b/still zh-Hant-TW | cmp - <(b/parts zh-Hant-TW); b/parts zh-Hant-TW'
 }
 check "release: C by the tarball's own archive and examples" by_itself
-if has pkg-config; then check "release: C by pkg-config" by_pkg_config; else not_run "release: C by pkg-config" "it is not there"; fi
-if has cmake; then check "release: C by find_package" by_cmake; else not_run "release: C by find_package" "there is no cmake"; fi
+needs 'has pkg-config' "it is not there" "release: C by pkg-config" by_pkg_config
+needs 'has cmake' "there is no cmake" "release: C by find_package" by_cmake
 
 # The first program for Windows, with mingw and wine. Its lines end in CR LF.
 windows_released() {
     away 'export WINEDEBUG=-all WINEPREFIX=$PWD/prefix; python3 -m zipfile -e ../dist/*-windows.zip .; cd liblangtag-verified-*-windows
         x86_64-w64-mingw32-gcc ../parts.c -Iinclude lib/liblangtag.dll.a -o bin/parts.exe; '"$wine"' bin/parts.exe zh-Hant-TW | tr -d "\r"'
 }
-if [ -n "${wine:-}" ]; then check "release: C by the DLL for Windows" windows_released; else not_run "release: the DLL for Windows" "there is no mingw, or no wine64"; fi
+needs '[ -n "${wine:-}" ]' "there is no mingw, or no wine64" "release: C by the DLL for Windows" windows_released
 
 # The crate names serde, which cargo looks up even if the feature is off.
 crate() {
@@ -204,6 +204,6 @@ else
     check "release: the package for npm in Node" npm_package
     check "release: npm packs the same files" npm_pack
     check "release: its archive" proves 'langtag-verified-*.tgz' "$wasm_archive" wasm64-unknown-unknown
-    if has esbuild; then check "release: the package for npm in a bundle" npm_bundled; else not_run "release: a bundle" "there is no esbuild"; fi
+    needs 'has esbuild' "there is no esbuild" "release: the package for npm in a bundle" npm_bundled
     if [ -n "${CHROMIUM:-}" ]; then check "release: the package for npm in a page, and the page" npm_in_page; fi
 fi

@@ -20,6 +20,7 @@ rust_crate=$work/rust
 
 check "Rust: C's answers to random calls" \
     env LANGTAG_ANSWERS="$work/answers" bash -c 'cd "$rust_crate" && cargo test -q --features oxilangtag --test rows as_c_answers -- --nocapture'
+check "Rust: names of languages" bash -c 'cd "$rust_crate" && cargo test -q --features names,oxilangtag --test rows display_names && cargo test -q --features names,oxilangtag --doc names'
 check "Rust: the names of oxilangtag" bash -c 'cd "$rust_crate" && cargo test -q --features oxilangtag --doc oxilangtag && cargo test -q --features oxilangtag --test oxilangtag'
 
 # The same program with the crate for which it was written. Only the line with `use` differs.
@@ -37,11 +38,8 @@ literals() {
 }
 check "Rust: the store of RDF's literals over the names of oxilangtag" literals
 ls -d "$registry"/oxilangtag-0.1.* >/dev/null 2>&1 || not_run "Rust: the same over oxilangtag" "its source is not in $registry"
-if ls -d "$registry"/oxilangtag-0.1.[36] "$registry/language-tags-0.3.2" >/dev/null 2>&1; then
-    check "Rust: the tests of oxilangtag and language-tags, but for those that are named" "$rust_crate/peers/run"
-else
-    not_run "Rust: the tests of oxilangtag and language-tags" "their sources are not in $registry"
-fi
+needs 'ls -d "$registry"/oxilangtag-0.1.[36] "$registry/language-tags-0.3.2" >/dev/null 2>&1' "their sources are not in $registry" \
+    "Rust: the tests of oxilangtag and language-tags, but for those that are named" "$rust_crate/peers/run"
 
 # The manifest of a release, with serde from a folder of sources.
 with_serde() {
@@ -54,11 +52,9 @@ with_serde() {
     cargo run -q --features serde,oxilangtag --example articles | diff - <(printf '%s\n' 'fr Vélo' 'zh-Hant 單車' \
         'invalid value: string "de_CH", expected a language tag at line 1 column 19')
 }
-if ls "$registry"/serde-1.* "$registry"/serde_json-1.* >/dev/null 2>&1; then
-    check "Rust: tags as strings of serde" with_serde
-else
-    not_run "Rust: tags as strings of serde" "serde and serde_json are not in $registry (in Debian: librust-serde-dev, librust-serde-json-dev)"
-fi
+needs 'ls "$registry"/serde-1.* "$registry"/serde_json-1.* >/dev/null 2>&1' \
+    "serde and serde_json are not in $registry (in Debian: librust-serde-dev, librust-serde-json-dev)" \
+    "Rust: tags as strings of serde" with_serde
 
 program() {
     cargo new -q --vcs none tags && cd tags && cargo add -q --offline --path "$rust_crate" || return 1

@@ -54,7 +54,9 @@ of_windows() {
 windows_c() { of_windows test "$mingw-gcc -std=c99" c/test/*.c && (cd c && "$wine" "$work/windows/test.exe" $(make -s asked) | tail -1); }
 windows_cc() {
     of_windows views "$mingw-g++ -std=c++17" c/test/views.cc && "$wine" "$work/windows/views.exe" || return 1
-    of_windows rows "$mingw-g++ -std=c++17" c/test/rows.cc && (cd c && "$wine" "$work/windows/rows.exe" $(make -s asked) | tail -1)
+    (cd "$work/windows" && $mingw-gcc -std=c99 -c "$here/c/test/rows.c" "$here/c/test/fences.c") || return 1
+    of_windows rows "$mingw-g++ -std=c++17" c/test/rows.cc "$work/windows/rows.o" "$work/windows/fences.o" &&
+        (cd c && "$wine" "$work/windows/rows.exe" $(make -s asked-cc) | tail -1)
 }
 check "Windows: the tests of C with all rows, over the DLL by wine" windows_c
 check "Windows: the tests of C++, over the DLL by wine" windows_cc

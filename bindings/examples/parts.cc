@@ -11,7 +11,7 @@ int main(int argc, char **argv) {
     const std::string_view text = argc > 1 ? argv[1] : "zh-Hant-TW";
     const auto tag = langtag::tag::parse(text);
     if (!tag) {
-        std::cout << "not a tag: it goes wrong after " << langtag::viable(text) << " bytes\n";
+        std::cout << "not a tag: it goes wrong after " << langtag::viable_len(text) << " bytes\n";
         return 1;
     }
     print("language", tag->language());

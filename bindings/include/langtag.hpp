@@ -72,7 +72,7 @@ struct invalid_subtag {
     std::string_view subtag;
     std::size_t start;
 
-    /* Returns the registered code that is probably meant, by CLDR's aliases, or an empty string: "de" for the language ger. */
+    /* Returns the registered code that was probably meant, according to CLDR's aliases, or an empty string: "de" for the language ger. */
     std::string suggestion() const {
         char code[3];
         const auto len = langtag_suggestion(static_cast<std::uint32_t>(fault), subtag.data(), subtag.size(), code, sizeof code);
@@ -247,8 +247,31 @@ public:
 
     /* Return the tag with its likely subtags (UTS #35), and without them: zh-TW becomes zh-Hant-TW, and zh-Hant-TW becomes zh-TW.
      * Deprecated subtags stay: iw becomes iw-Hebr-IL. */
-    std::string maximized() const { return written(langtag_maximize); }
-    std::string minimized() const { return written(langtag_minimize); }
+    std::string maximized() const { return written(langtag_maximized); }
+    std::string minimized() const { return written(langtag_minimized); }
+
+    /* Returns the POSIX locale name for the tag: sr_RS@latin for sr-Latn-RS, zh_TW for zh-Hant-TW. Returns std::nullopt if a name cannot
+     * say all of the tag, such as its extensions; base() has none. The codeset is the caller's. */
+    std::optional<std::string> to_posix() const {
+        std::string made = written(langtag_to_posix);
+        if (made.empty()) return std::nullopt;
+        return made;
+    }
+
+    /* Returns the parent of the tag in CLDR, which a catalogue of strings asks next: pt-PT for pt-AO, zh-Hant for zh-TW. Returns
+     * std::nullopt if there is none, such as for pt. A parent is written in the same script, so zh-Hant has none. */
+    std::optional<std::string> parent() const {
+        std::string made = written(langtag_parent);
+        if (made.empty()) return std::nullopt;
+        return made;
+    }
+
+    /* Returns the tag, its parent, the parent of this one, and so on: pt-AO, pt-PT and pt for pt-AO. */
+    std::vector<std::string> parents() const {
+        std::vector<std::string> found;
+        for (std::string next(text_); !next.empty(); next = written_by(langtag_parent, found.back())) found.push_back(std::move(next));
+        return found;
+    }
 
     /* Returns whether the tag is written from right to left, by its script or its likely script. */
     bool is_right_to_left() const noexcept { return langtag_is_right_to_left(text_.data(), text_.size()); }
@@ -416,6 +439,9 @@ public:
     std::string extensions_form() const { return view().extensions_form(); }
     bool is_locale() const noexcept { return view().is_locale(); }
     std::optional<std::string> locale_form() const { return view().locale_form(); }
+    std::optional<std::string> to_posix() const { return view().to_posix(); }
+    std::optional<std::string> parent() const { return view().parent(); }
+    std::vector<std::string> parents() const { return view().parents(); }
 
     /* Changes one part; an empty string removes it. Returns false and leaves the tag unchanged if it is not a normal tag, or the string
      * is not such a part. */
@@ -488,6 +514,12 @@ public:
                                           text_.data(), text_.size(), spans_.data(), given_.size()));
     }
 
+    /* Returns the index of the tag of a site that this list of ranges chooses. */
+    std::size_t chosen_in(const std::string &text, const std::vector<langtag_prepared_tag> &tags) const {
+        return langtag_site_best_for_ranges(text_.data(), text_.size(), spans_.data(), given_.size(), text.data(), text.size(), tags.data(),
+                                            tags.size());
+    }
+
     /* Returns the best tag for a header, with its index, range and distance, or std::nullopt. */
     std::optional<best_match> matched(std::string_view header) const {
         langtag_best_match match;
@@ -498,9 +530,29 @@ public:
         return best_match{index, *best, header.substr(match.range.start, match.range.len), match.distance};
     }
 
+    /* Returns the suitable tags for a header or for a list of ranges, best first. */
+    std::vector<tag> suitable(std::string_view header) const {
+        std::vector<std::size_t> found(given_.size() + 1); /* so that data() is not null */
+        found.resize(langtag_suitable_for_header(langtag_bytes(header.data()), header.size(), text_.data(), text_.size(), spans_.data(),
+                                                 given_.size(), found.data(), given_.size()));
+        return all_at(found);
+    }
+    std::vector<tag> suitable(const listed_tags &ranges) const {
+        std::vector<std::size_t> found(given_.size() + 1);
+        found.resize(langtag_suitable_for_ranges(ranges.text_.data(), ranges.text_.size(), ranges.spans_.data(), ranges.given_.size(),
+                                                 text_.data(), text_.size(), spans_.data(), given_.size(), found.data(), given_.size()));
+        return all_at(found);
+    }
+
 private:
     std::optional<tag> at(std::size_t index) const {
         return index < given_.size() ? tag::parse(given_[index]) : std::nullopt;
+    }
+
+    std::vector<tag> all_at(const std::vector<std::size_t> &indices) const {
+        std::vector<tag> tags;
+        for (const std::size_t index : indices) tags.push_back(*at(index)); /* a suitable entry is a tag */
+        return tags;
     }
 
     std::string text_;
@@ -618,13 +670,13 @@ inline std::optional<refusal> refused(std::string_view text) noexcept {
 template <class Allocator> std::optional<refusal> refused(temporary_string<Allocator>) = delete;
 
 /* Returns the length of the longest prefix with which some tag begins. */
-inline std::size_t viable(std::string_view text) noexcept {
-    return langtag_viable(langtag_bytes(text.data()), text.size());
+inline std::size_t viable_len(std::string_view text) noexcept {
+    return langtag_viable_len(langtag_bytes(text.data()), text.size());
 }
 
 /* Returns the length of the shortest prefix with which no tag begins, or of the whole string if there is none. */
-inline std::size_t stop(std::string_view text) noexcept {
-    return langtag_stop(langtag_bytes(text.data()), text.size());
+inline std::size_t stop_len(std::string_view text) noexcept {
+    return langtag_stop_len(langtag_bytes(text.data()), text.size());
 }
 
 /* Returns the date of the IANA registry inside this library as one number, so that 20250131 is 2025-01-31. */
@@ -657,7 +709,8 @@ public:
     bool matches_basic(const tag &tag) const noexcept { return langtag::matches_basic(text_, tag); }
     bool matches_extended(const tag &tag) const noexcept { return langtag::matches_extended(text_, tag); }
 
-    /* Returns the next shorter range of a lookup (section 3.4), or std::nullopt if none is left: zh-Hant-CN is followed by zh-Hant. */
+    /* Returns the next shorter range of a lookup (RFC 4647 section 3.4), or std::nullopt if none is left: zh-Hant-CN is followed by zh-Hant.
+     * For a catalogue of strings, call tag::parents, since zh is not written in the script of zh-Hant. */
     std::optional<range> fallback() const noexcept {
         langtag_span rest = {0, text_.size()};
         if (!langtag_next_fallback(text_.data(), text_.size(), &rest)) return std::nullopt;
@@ -737,6 +790,78 @@ template <class Ranges = texts, class Tags = texts, std::enable_if_t<stays<Tags>
 std::optional<tag> best_for_ranges(const Ranges &ranges, Tags &&tags) {
     return listed_tags(tags).chosen_for(listed_tags(ranges));
 }
+
+/* Returns all suitable tags for a header, best first: the tag that best_for_header chooses, the tag that it chooses among the other
+ * tags, and so on. A player offers its tracks in this order. */
+template <class Tags = texts, std::enable_if_t<stays<Tags>, int> = 0>
+std::vector<tag> suitable_for_header(std::string_view header, Tags &&tags) {
+    return listed_tags(tags).suitable(header);
+}
+inline std::vector<tag> suitable_for_header(std::string_view header, const std::vector<tag> &tags) {
+    return suitable_for_header<const std::vector<tag> &>(header, tags);
+}
+
+/* Returns all suitable tags for a list of ranges, in order of preference, as suitable_for_header does for a header. */
+template <class Ranges = texts, class Tags = texts, std::enable_if_t<stays<Tags>, int> = 0>
+std::vector<tag> suitable_for_ranges(const Ranges &ranges, Tags &&tags) {
+    return listed_tags(tags).suitable(listed_tags(ranges));
+}
+
+/* The tags of a site that are known before the requests. What a choice needs of each tag is computed once, so a choice among
+ * 40 tags takes about half of the time. It returns what best_for_header and its neighbours return for the same tags.
+ *
+ *     static const langtag::site site({"en", "zh-Hans", "zh-Hant"});
+ *     site.best_for_header("zh-TW,zh;q=0.9,en;q=0.8")->text(); // "zh-Hant"
+ *
+ * A site owns its tags and does not change, so threads can share it. A string that is not a tag is never chosen. The tags that the
+ * calls return are views of the site. */
+class site {
+public:
+    template <class Tags = texts> explicit site(const Tags &tags) {
+        for (const auto &it : tags) {
+            const std::string_view text = text_of(it);
+            tags_.push_back({{text_.size(), text.size()}, {0, 0}});
+            text_.append(text);
+        }
+        for (langtag_prepared_tag &it : tags_) langtag_prepare(text_.data(), text_.size(), &it);
+    }
+
+    /* Returns the number of tags. */
+    std::size_t size() const noexcept { return tags_.size(); }
+
+    /* Returns the tag at an index, or std::nullopt if its string is not a tag. */
+    std::optional<tag> operator[](std::size_t index) const {
+        return tag::parse(std::string_view(text_).substr(tags_[index].tag.start, tags_[index].tag.len));
+    }
+
+    /* Returns the best tag for a header, as langtag::best_for_header does. */
+    std::optional<tag> best_for_header(std::string_view header) const {
+        return at(langtag_site_best_for_header(langtag_bytes(header.data()), header.size(), text_.data(), text_.size(), tags_.data(),
+                                               tags_.size()));
+    }
+
+    /* Returns the best tag for a header with its index, range and distance, as langtag::match_for_header does. */
+    std::optional<best_match> match_for_header(std::string_view header) const {
+        langtag_best_match match;
+        const std::size_t index = langtag_site_match_for_header(langtag_bytes(header.data()), header.size(), text_.data(), text_.size(),
+                                                                tags_.data(), tags_.size(), &match);
+        const std::optional<tag> best = at(index);
+        if (!best) return std::nullopt;
+        return best_match{index, *best, header.substr(match.range.start, match.range.len), match.distance};
+    }
+    template <class Allocator> std::optional<best_match> match_for_header(temporary_string<Allocator>) const = delete;
+
+    /* Returns the best tag for a list of ranges, as langtag::best_for_ranges does. */
+    template <class Ranges = texts> std::optional<tag> best_for_ranges(const Ranges &ranges) const {
+        return at(listed_tags(ranges).chosen_in(text_, tags_));
+    }
+
+private:
+    std::optional<tag> at(std::size_t index) const { return index < tags_.size() ? (*this)[index] : std::nullopt; }
+
+    std::string text_;
+    std::vector<langtag_prepared_tag> tags_;
+};
 
 /* A range of a header, and its weight in thousandths, from 1 to 1000. */
 struct weighted_range {

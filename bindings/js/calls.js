@@ -9,8 +9,9 @@
  * - If C writes numbers, the list of the result and these numbers is returned. If the result is only true or false, the list of the numbers
  *   or undefined is returned.
  * - If C removes one item after another, the list of all items is returned.
+ * - If C writes numbers to an array, the list of the numbers that it wrote is returned. `room` is the length of the array.
  */
-import { aligned, close, count, lengthOf, module, open, prepare, read, size, SPAN, write, writeList, written } from "./memory.js";
+import { aligned, close, count, lengthOf, module, open, prepare, read, readSizes, size, SPAN, WORD, write, writeList, written } from "./memory.js";
 
 /** Returns [result, parts.language.start, parts.language.len, parts.script.start, parts.script.len, parts.region.start, parts.region.len, parts.variants.start, parts.variants.len, parts.extensions.start, parts.extensions.len, parts.private_use.start, parts.private_use.len]. */
 export function parse(bytes) {
@@ -32,16 +33,16 @@ export function baseLen(bytes) {
     return close(count(module.calls.langtag_base_len(module.begin, size(bytes.length))));
 }
 
-export function viable(bytes) {
+export function viableLen(bytes) {
     const at0 = open(bytes.length);
     write(bytes, at0);
-    return close(count(module.calls.langtag_viable(module.begin, size(bytes.length))));
+    return close(count(module.calls.langtag_viable_len(module.begin, size(bytes.length))));
 }
 
-export function stop(bytes) {
+export function stopLen(bytes) {
     const at0 = open(bytes.length);
     write(bytes, at0);
-    return close(count(module.calls.langtag_stop(module.begin, size(bytes.length))));
+    return close(count(module.calls.langtag_stop_len(module.begin, size(bytes.length))));
 }
 
 /** Returns [result, subtag.start, subtag.len, offset]. */
@@ -274,23 +275,33 @@ export function registryDate() {
 }
 
 /** Returns the written string. */
-export function maximize(bytes, room = bytes.length + 32) {
+export function maximized(bytes, room = bytes.length + 32) {
     const at0 = open(bytes.length + room);
     const at1 = write(bytes, at0);
-    const length = count(module.calls.langtag_maximize(module.begin, size(bytes.length), size(at1), size(room)));
+    const length = count(module.calls.langtag_maximized(module.begin, size(bytes.length), size(at1), size(room)));
     if (length <= room) return close(read(at1, length));
     close();
-    return maximize(bytes, length);
+    return maximized(bytes, length);
 }
 
 /** Returns the written string. */
-export function minimize(bytes, room = bytes.length + 32) {
+export function minimized(bytes, room = bytes.length + 32) {
     const at0 = open(bytes.length + room);
     const at1 = write(bytes, at0);
-    const length = count(module.calls.langtag_minimize(module.begin, size(bytes.length), size(at1), size(room)));
+    const length = count(module.calls.langtag_minimized(module.begin, size(bytes.length), size(at1), size(room)));
     if (length <= room) return close(read(at1, length));
     close();
-    return minimize(bytes, length);
+    return minimized(bytes, length);
+}
+
+/** Returns the written string. */
+export function parent(bytes, room = bytes.length + 32) {
+    const at0 = open(bytes.length + room);
+    const at1 = write(bytes, at0);
+    const length = count(module.calls.langtag_parent(module.begin, size(bytes.length), size(at1), size(room)));
+    if (length <= room) return close(read(at1, length));
+    close();
+    return parent(bytes, length);
 }
 
 export function isRightToLeft(bytes) {
@@ -337,6 +348,30 @@ export function bestForRanges(ranges, tags) {
     return close(count(module.calls.langtag_best_for_ranges(module.begin, size(rangesLength), size(rangesAt), size(ranges.length), size(at1), size(tagsLength), size(tagsAt), size(tags.length))));
 }
 
+/** Returns the numbers that C writes. */
+export function suitableForHeader(header, tags, room) {
+    const tagsLength = lengthOf(tags);
+    const at0 = open(header.length + tagsLength + SPAN * tags.length + WORD * room);
+    const tagsAt = aligned(at0 + header.length + tagsLength);
+    const foundAt = tagsAt + SPAN * tags.length;
+    const at1 = write(header, at0);
+    writeList(tags, at1, tagsAt);
+    return close(readSizes(foundAt, count(module.calls.langtag_suitable_for_header(module.begin, size(header.length), size(at1), size(tagsLength), size(tagsAt), size(tags.length), size(foundAt), size(room)))));
+}
+
+/** Returns the numbers that C writes. */
+export function suitableForRanges(ranges, tags, room) {
+    const rangesLength = lengthOf(ranges);
+    const tagsLength = lengthOf(tags);
+    const at0 = open(rangesLength + tagsLength + SPAN * ranges.length + SPAN * tags.length + WORD * room);
+    const rangesAt = aligned(at0 + rangesLength + tagsLength);
+    const tagsAt = aligned(rangesAt + SPAN * ranges.length);
+    const foundAt = tagsAt + SPAN * tags.length;
+    const at1 = writeList(ranges, at0, rangesAt);
+    writeList(tags, at1, tagsAt);
+    return close(readSizes(foundAt, count(module.calls.langtag_suitable_for_ranges(module.begin, size(rangesLength), size(rangesAt), size(ranges.length), size(at1), size(tagsLength), size(tagsAt), size(tags.length), size(foundAt), size(room)))));
+}
+
 /** Returns the written string. */
 export function fromPosix(name, room = name.length + 32) {
     const at0 = open(name.length + room);
@@ -345,6 +380,16 @@ export function fromPosix(name, room = name.length + 32) {
     if (length <= room) return close(read(at1, length));
     close();
     return fromPosix(name, length);
+}
+
+/** Returns the written string. */
+export function toPosix(bytes, room = bytes.length + 32) {
+    const at0 = open(bytes.length + room);
+    const at1 = write(bytes, at0);
+    const length = count(module.calls.langtag_to_posix(module.begin, size(bytes.length), size(at1), size(room)));
+    if (length <= room) return close(read(at1, length));
+    close();
+    return toPosix(bytes, length);
 }
 
 /** Returns [modifier.start, modifier.len] or undefined. */

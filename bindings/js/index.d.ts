@@ -47,7 +47,7 @@ export interface InvalidSubtag {
     readonly subtag: string;
     /** Where the subtag begins. */
     readonly start: number;
-    /** The registered code that is probably meant, by CLDR's aliases: "de" for the language ger, "GB" for the region UK. */
+    /** The registered code that was probably meant, according to CLDR's aliases: "de" for the language ger, "GB" for the region UK. */
     readonly suggestion: string | undefined;
     toString(): string;
 }
@@ -159,6 +159,18 @@ export class LanguageTag {
     extensionsForm(): LanguageTag;
     /** The tag without extensions and private use, as baseName of Intl.Locale: de-CH for de-CH-u-co-phonebk. It keeps its case. */
     get base(): LanguageTag;
+    /**
+     * Returns the POSIX locale name for the tag, or undefined if no name expresses the whole tag: sr_RS@latin for sr-Latn-RS, zh_TW for
+     * zh-Hant-TW. A script that is likely anyway is left out. The codeset is yours, as in zh_TW.UTF-8. `fromPosix` reads the name.
+     */
+    toPosix(): string | undefined;
+    /**
+     * The parent of the tag in CLDR, which a catalogue of strings asks next, or undefined if there is none: pt-PT for pt-AO, zh-Hant for
+     * zh-TW. A parent is written in the same script, so zh-Hant has none: zh is Simplified.
+     */
+    get parent(): LanguageTag | undefined;
+    /** The tag, its parent, the parent of this one, and so on, in which order to search a catalogue: pt-AO, pt-PT and pt. */
+    get parents(): LanguageTag[];
     /** Whether the tag is a Unicode locale identifier (UTS #35), as Intl requires: false for zh-yue, i-klingon and x-a. */
     get isLocale(): boolean;
     /**
@@ -199,7 +211,10 @@ export class LanguageRange {
     readonly text: string;
     /** Whether this is a basic range (section 2.1): de-CH, or only *. */
     get isBasic(): boolean;
-    /** Iterates over the ranges that a lookup tries (section 3.4), from this range to the shortest: zh-Hant-CN, zh-Hant, zh. */
+    /**
+     * Iterates over the ranges that a lookup tries (RFC 4647 section 3.4), from this range to the shortest: zh-Hant-CN, zh-Hant, zh. For a
+     * catalogue of strings, use `parents` of LanguageTag.
+     */
     fallbacks(): IterableIterator<LanguageRange>;
     /**
      * Returns whether this range matches a tag by basic filtering (section 3.3.1): de-DE matches de-DE-1996, but not de-Latn-DE. It does not
@@ -309,12 +324,51 @@ export function matchForHeader<Tag extends Text>(header: Header, tags: Iterable<
 
 /**
  * Returns the best tag for a list of ranges in order of preference, such as `navigator.languages`. An extended range is read without its
- * *. A string that is not a range, such as de;q=0, is skipped.
+ * *. A string that is not a range, such as de;q=0, is skipped. A name such as sr_RS@latin is read without its modifier: pass names from LANG
+ * through fromPosix first.
  *
  *     bestForRanges(["fi", "zh_TW", "en"], ["en", "zh-Hans", "zh-Hant"]); // "zh-Hant"
  */
 export function bestForRanges<Tag extends Text>(ranges: Iterable<Text>, tags: Iterable<Tag>): Tag | undefined;
 export function bestForRanges<Tag extends Text, Otherwise>(ranges: Iterable<Text>, tags: Iterable<Tag>, otherwise: Otherwise): Tag | Otherwise;
+
+/**
+ * Returns all suitable tags for a header, best first: the tag that bestForHeader chooses, the tag that it chooses among the other tags, and
+ * so on. A catalogue looks for a message in this order.
+ *
+ *     suitableForHeader("de-CH,fr;q=0.7", ["en", "fr", "de", "de-AT"]); // ["de", "de-AT", "fr"]
+ */
+export function suitableForHeader<Tag extends Text>(header: Header, tags: Iterable<Tag>): Tag[];
+
+/**
+ * Returns all suitable tags for a list of ranges in order of preference, best first, as suitableForHeader does for a header.
+ *
+ *     suitableForRanges(["de_CH", "fr"], ["en", "fr", "de"]); // ["de", "fr"]
+ */
+export function suitableForRanges<Tag extends Text>(ranges: Iterable<Text>, tags: Iterable<Tag>): Tag[];
+
+/**
+ * The tags of a site that are known before the requests, such as the languages of its translations. What a choice needs of each tag is
+ * computed once, so a choice takes less time than with a list. The methods return what `bestForHeader`, `matchForHeader` and
+ * `bestForRanges` return for the same tags. A site does not change.
+ *
+ *     const site = new Site(["en", "zh-Hans", "zh-Hant"]);
+ *     site.bestForHeader("zh-TW,zh;q=0.9,en;q=0.8"); // "zh-Hant"
+ *     site.bestForHeader("fi", "en");                // "en"
+ */
+export class Site<Tag extends Text = Text> {
+    constructor(tags: Iterable<Tag>);
+    /** The tags, as they were given. */
+    readonly tags: readonly Tag[];
+    /** Returns the best tag for a header, or the last argument. */
+    bestForHeader(header: Header): Tag | undefined;
+    bestForHeader<Otherwise>(header: Header, otherwise: Otherwise): Tag | Otherwise;
+    /** Returns the best tag for a header with its index, range and distance, or undefined. */
+    matchForHeader(header: Header): BestMatch<Tag> | undefined;
+    /** Returns the best tag for a list of ranges in order of preference, or the last argument. */
+    bestForRanges(ranges: Iterable<Text>): Tag | undefined;
+    bestForRanges<Otherwise>(ranges: Iterable<Text>, otherwise: Otherwise): Tag | Otherwise;
+}
 
 /**
  * Returns an English name of a tag, made of CLDR's names for the subtags of its canonical form: "Portuguese (Brazil)" for pt-BR. A subtag
@@ -349,7 +403,7 @@ export class InvalidTag extends RangeError {
     /** What is wrong, without the string. */
     readonly reason: string;
     /** The length of the longest prefix with which some tag begins. */
-    readonly viable: number;
+    readonly viableLength: number;
 }
 
 /** Thrown if a string is not a language range. */

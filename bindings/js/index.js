@@ -3,6 +3,7 @@
  * grammar. index.d.ts documents each export.
  */
 import * as calls from "./calls.js";
+import { prepareSite, siteBestForHeader, siteBestForRanges, siteMatchForHeader } from "./memory.js";
 import * as built from "./module.js";
 import { AUTONYMS, NAMES } from "./names.js";
 
@@ -74,7 +75,7 @@ export class InvalidTag extends Refusal {
         const reason = answer === 1 ? (subtag === "" ? "empty subtag" : `unexpected subtag ${quoted(subtag)}`) :
             answer === 2 ? `invalid character ${quoted(String.fromCodePoint(text.codePointAt(offset)))}: expected a letter, a digit or a hyphen` :
             "unexpected end: expected a subtag";
-        super(`invalid language tag ${quoted(text)}: ${reason}`, { text, subtag, start, offset, viable: calls.viable(text), reason });
+        super(`invalid language tag ${quoted(text)}: ${reason}`, { text, subtag, start, offset, viableLength: calls.viableLen(text), reason });
     }
 }
 
@@ -306,11 +307,11 @@ export class LanguageTag {
     }
 
     maximize() {
-        return new LanguageTag(calls.maximize(this.text));
+        return new LanguageTag(calls.maximized(this.text));
     }
 
     minimize() {
-        return new LanguageTag(calls.minimize(this.text));
+        return new LanguageTag(calls.minimized(this.text));
     }
 
     get isRightToLeft() {
@@ -335,6 +336,22 @@ export class LanguageTag {
 
     get base() {
         return new LanguageTag(this.#at(0, calls.baseLen(this.text)));
+    }
+
+    toPosix() {
+        const name = calls.toPosix(this.text);
+        return name === "" ? undefined : name;
+    }
+
+    get parent() {
+        const parent = calls.parent(this.text);
+        return parent === "" ? undefined : new LanguageTag(parent);
+    }
+
+    get parents() {
+        const found = [];
+        for (let tag = this; tag !== undefined; tag = tag.parent) found.push(tag);
+        return found;
     }
 
     get isLocale() {
@@ -530,16 +547,61 @@ export function matchForHeader(header, tags) {
     return index < list.length ? { index, tag: list[index], distance, range: text.slice(start, start + length) } : undefined;
 }
 
+/** Returns the tags of a list that a call names by their indices. */
+function suitable(choose, wanted, tags) {
+    const list = [...several(tags, "tags")];
+    return choose(wanted, list.map((tag) => tagOf(tag).text), list.length).map((index) => list[index]);
+}
+
+export function suitableForHeader(header, tags) {
+    return suitable(calls.suitableForHeader, headerText(header), tags);
+}
+
+export function suitableForRanges(ranges, tags) {
+    return suitable(calls.suitableForRanges, rangeTexts(ranges), tags);
+}
+
 export function viableLength(text) {
-    return calls.viable(textOf(text));
+    return calls.viableLen(textOf(text));
 }
 
 export function stopLength(text) {
-    return calls.stop(textOf(text));
+    return calls.stopLen(textOf(text));
 }
 
 export function bestForRanges(ranges, tags, otherwise) {
-    return chosen(calls.bestForRanges, [...several(ranges, "ranges")].map((range) => textOf(range, "a string, a LanguageRange or a LanguageTag")), tags, otherwise);
+    return chosen(calls.bestForRanges, rangeTexts(ranges), tags, otherwise);
+}
+
+function rangeTexts(ranges) {
+    return [...several(ranges, "ranges")].map((range) => textOf(range, "a string, a LanguageRange or a LanguageTag"));
+}
+
+export class Site {
+    #prepared;
+
+    constructor(tags) {
+        this.tags = Object.freeze([...several(tags, "tags")]);
+        this.#prepared = prepareSite(this.tags.map((tag) => tagOf(tag).text));
+        Object.freeze(this);
+    }
+
+    bestForHeader(header, otherwise) {
+        return this.#at(siteBestForHeader(this.#prepared, headerText(header)), otherwise);
+    }
+
+    matchForHeader(header) {
+        const text = headerText(header), [index, start, length, distance] = siteMatchForHeader(this.#prepared, text);
+        return index < this.tags.length ? { index, tag: this.tags[index], distance, range: text.slice(start, start + length) } : undefined;
+    }
+
+    bestForRanges(ranges, otherwise) {
+        return this.#at(siteBestForRanges(this.#prepared, rangeTexts(ranges)), otherwise);
+    }
+
+    #at(index, otherwise) {
+        return index < this.tags.length ? this.tags[index] : otherwise;
+    }
 }
 
 /** Returns a function that returns the name of a key. The lines are split when it is first called. */

@@ -19,7 +19,9 @@ const PAGE = 65536;
 const KEPT = 1 << 20; // the bytes that the block may keep between calls
 const OUTS = 16; // the numbers that a call may write besides strings: at most langtag_parts, which has 12
 const ALIGNED = 8; // where spans begin
-const WORD = IS_WIDE ? 8 : 4; // the bytes of a size
+
+/** The bytes of a size. */
+export const WORD = IS_WIDE ? 8 : 4;
 
 /** The bytes of a span: an offset and a length. */
 export const SPAN = 2 * WORD;
@@ -107,6 +109,9 @@ export function read(at, length) {
     return text;
 }
 
+/** Returns the sizes of an array. */
+export const readSizes = (at, length) => Array.from({ length }, (_, index) => view.getUint32(at + WORD * index, true));
+
 function writeSize(at, number) {
     view.setUint32(at, number, true);
     if (IS_WIDE) view.setUint32(at + 4, 0, true);
@@ -127,13 +132,60 @@ export function lengthOf(list) {
     return length;
 }
 
-/** Writes strings one after another to `at`, and their spans to `spans`. Returns the address after the strings. */
-export function writeList(list, at, spans) {
+/** Writes strings one after another to `at`, and their spans to `spans`, a span for each `step` bytes. Returns the address after them. */
+export function writeList(list, at, spans, step = SPAN) {
     let end = at;
     for (let index = 0; index < list.length; index++) {
-        writeSize(spans + SPAN * index, end - at);
-        writeSize(spans + SPAN * index + WORD, list[index].length);
+        writeSize(spans + step * index, end - at);
+        writeSize(spans + step * index + WORD, list[index].length);
         end = write(list[index], end);
     }
     return end;
+}
+
+const PREPARED = SPAN + 16; // the bytes of a langtag_prepared_tag
+
+/**
+ * Returns the tags of a site: their joined strings, what langtag_prepare writes, and their number. They are kept outside the block, and
+ * each choice copies them into it.
+ */
+export function prepareSite(list) {
+    const length = lengthOf(list), at = open(length + PREPARED * list.length), tags = aligned(at + length);
+    writeList(list, at, tags, PREPARED);
+    for (let index = 0; index < list.length; index++) {
+        module.calls.langtag_prepare(module.begin, size(length), size(tags + PREPARED * index));
+    }
+    return close({ text: bytes.slice(at, at + length), tags: bytes.slice(tags, tags + PREPARED * list.length), count: list.length });
+}
+
+/** Copies a site to an address in the block, and returns its arguments of a call. */
+function writeSite(site, at) {
+    const tags = aligned(at + site.text.length);
+    bytes.set(site.text, at);
+    bytes.set(site.tags, tags);
+    return [size(at), size(site.text.length), size(tags), size(site.count)];
+}
+
+const lengthOfSite = (site) => site.text.length + site.tags.length;
+
+/** Returns the index of the best tag. */
+export function siteBestForHeader(site, header) {
+    const at = write(header, open(header.length + lengthOfSite(site)));
+    return close(count(module.calls.langtag_site_best_for_header(module.begin, size(header.length), ...writeSite(site, at))));
+}
+
+/** Returns [index, range.start, range.len, distance]. */
+export function siteMatchForHeader(site, header) {
+    const at = write(header, open(header.length + lengthOfSite(site)));
+    const given = [module.begin, size(header.length), ...writeSite(site, at)];
+    const index = count(module.calls.langtag_site_match_for_header(...given, module.outs[0]));
+    return close([index, written(0), written(1), written(2)]);
+}
+
+/** Returns the index of the best tag. */
+export function siteBestForRanges(site, ranges) {
+    const length = lengthOf(ranges), at = open(length + SPAN * ranges.length + ALIGNED + lengthOfSite(site)), spans = aligned(at + length);
+    writeList(ranges, at, spans);
+    const given = [module.begin, size(length), size(spans), size(ranges.length), ...writeSite(site, spans + SPAN * ranges.length)];
+    return close(count(module.calls.langtag_site_best_for_ranges(...given)));
 }

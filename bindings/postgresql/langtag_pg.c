@@ -12,6 +12,7 @@
 #include "postgres.h"
 
 #include <langtag.h>
+#include <langtag_names.h>
 
 #include "access/htup_details.h"
 #include "access/stratnum.h"
@@ -51,6 +52,13 @@ void _PG_init(void) {
 
 #define BYTES(value) ((const char *)VARDATA_ANY(value))
 #define LEN(value) ((size_t)VARSIZE_ANY_EXHDR(value))
+
+/* A function of SQL with one argument, or whose first argument is `it`. */
+#define OF_ONE(name, it)                                                                                               \
+    PG_FUNCTION_INFO_V1(name);                                                                                         \
+    static Datum name##_of(FunctionCallInfo fcinfo, struct varlena *it);                                               \
+    Datum name(PG_FUNCTION_ARGS) { return name##_of(fcinfo, PG_GETARG_VARLENA_PP(0)); }                                \
+    static Datum name##_of(FunctionCallInfo fcinfo, struct varlena *it)
 
 static struct varlena *value_of(const char *bytes, size_t len) {
     return (struct varlena *)cstring_to_text_with_len(bytes, (int)len);
@@ -166,33 +174,21 @@ INPUT(langtag_part, checked_part)
 PG_FUNCTION_INFO_V1(pg_langtag_out);
 Datum pg_langtag_out(PG_FUNCTION_ARGS) { PG_RETURN_CSTRING(TextDatumGetCString(PG_GETARG_DATUM(0))); }
 
-PG_FUNCTION_INFO_V1(pg_langtag_send);
-Datum pg_langtag_send(PG_FUNCTION_ARGS) {
-    struct varlena *value = PG_GETARG_VARLENA_PP(0);
+OF_ONE(pg_langtag_send, value) {
     StringInfoData message;
     pq_begintypsend(&message);
     pq_sendtext(&message, BYTES(value), (int)LEN(value));
     PG_RETURN_BYTEA_P(pq_endtypsend(&message));
 }
 
-PG_FUNCTION_INFO_V1(pg_langtag_is_langtag);
-Datum pg_langtag_is_langtag(PG_FUNCTION_ARGS) {
-    text *given = PG_GETARG_TEXT_PP(0);
-    PG_RETURN_BOOL(langtag_kind(BYTES(given), LEN(given)) != LANGTAG_NONE);
-}
+OF_ONE(pg_langtag_is_langtag, given) { PG_RETURN_BOOL(langtag_kind(BYTES(given), LEN(given)) != LANGTAG_NONE); }
 
-PG_FUNCTION_INFO_V1(pg_langtag_try_langtag);
-Datum pg_langtag_try_langtag(PG_FUNCTION_ARGS) {
-    text *given = PG_GETARG_TEXT_PP(0);
+OF_ONE(pg_langtag_try_langtag, given) {
     if (langtag_kind(BYTES(given), LEN(given)) == LANGTAG_NONE) PG_RETURN_NULL();
     PG_RETURN_POINTER(tag_of(BYTES(given), LEN(given)));
 }
 
-PG_FUNCTION_INFO_V1(pg_langtag_viable);
-Datum pg_langtag_viable(PG_FUNCTION_ARGS) {
-    text *given = PG_GETARG_TEXT_PP(0);
-    PG_RETURN_INT32((int32)langtag_viable(BYTES(given), LEN(given)));
-}
+OF_ONE(pg_langtag_viable_len, given) { PG_RETURN_INT32((int32)langtag_viable_len(BYTES(given), LEN(given))); }
 
 /* ---- order, equality and hash of tags and parts, ignoring case; equal tags have equal bytes ---- */
 
@@ -312,11 +308,7 @@ PART(pg_langtag_script, script)
 PART(pg_langtag_region, region)
 PART(pg_langtag_private_use, private_use)
 
-PG_FUNCTION_INFO_V1(pg_langtag_base);
-Datum pg_langtag_base(PG_FUNCTION_ARGS) {
-    struct varlena *tag = PG_GETARG_VARLENA_PP(0);
-    PG_RETURN_POINTER(value_of(BYTES(tag), langtag_base_len(BYTES(tag), LEN(tag))));
-}
+OF_ONE(pg_langtag_base, tag) { PG_RETURN_POINTER(value_of(BYTES(tag), langtag_base_len(BYTES(tag), LEN(tag)))); }
 
 /* Returns the primary subtag, and sets `rest` to the extended subtags after it. */
 static langtag_span primary_of(struct varlena *tag, langtag_span *rest) {
@@ -328,16 +320,12 @@ static langtag_span primary_of(struct varlena *tag, langtag_span *rest) {
     return primary;
 }
 
-PG_FUNCTION_INFO_V1(pg_langtag_language);
-Datum pg_langtag_language(PG_FUNCTION_ARGS) {
-    struct varlena *tag = PG_GETARG_VARLENA_PP(0);
+OF_ONE(pg_langtag_language, tag) {
     langtag_span rest;
     return span_or_null(fcinfo, BYTES(tag), primary_of(tag, &rest));
 }
 
-PG_FUNCTION_INFO_V1(pg_langtag_extlang);
-Datum pg_langtag_extlang(PG_FUNCTION_ARGS) {
-    struct varlena *tag = PG_GETARG_VARLENA_PP(0);
+OF_ONE(pg_langtag_extlang, tag) {
     langtag_span rest;
     primary_of(tag, &rest);
     return span_or_null(fcinfo, BYTES(tag), rest);
@@ -371,9 +359,7 @@ LIST(pg_langtag_variants, variants, langtag_next_subtag)
 LIST(pg_langtag_extensions, extensions, langtag_next_extension)
 
 /* Returns the value of a key, which is empty if the key has none, or NULL if the key is absent. */
-PG_FUNCTION_INFO_V1(pg_langtag_keyword);
-Datum pg_langtag_keyword(PG_FUNCTION_ARGS) {
-    struct varlena *tag = PG_GETARG_VARLENA_PP(0);
+OF_ONE(pg_langtag_keyword, tag) {
     text *key = PG_GETARG_TEXT_PP(1);
     langtag_span value;
     if (!langtag_keyword(BYTES(tag), LEN(tag), BYTES(key), LEN(key), &value)) PG_RETURN_NULL();
@@ -381,9 +367,7 @@ Datum pg_langtag_keyword(PG_FUNCTION_ARGS) {
 }
 
 /* Returns each key once, with its first value, as an array of rows: a key and its value. */
-PG_FUNCTION_INFO_V1(pg_langtag_keywords);
-Datum pg_langtag_keywords(PG_FUNCTION_ARGS) {
-    struct varlena *tag = PG_GETARG_VARLENA_PP(0);
+OF_ONE(pg_langtag_keywords, tag) {
     ArrayBuildState *found = NULL;
     size_t passed = 0, count = 0;
     langtag_span span[2];
@@ -401,12 +385,10 @@ Datum pg_langtag_keywords(PG_FUNCTION_ARGS) {
 }
 
 /* The labels of the enum langtag_kind, in the order of the library's numbers. */
-static const char *const kinds[] = {[LANGTAG_NORMAL] = "normal", [LANGTAG_PRIVATE_USE] = "private use",
+static const char *const kinds[] = {[LANGTAG_NORMAL] = "normal", [LANGTAG_PRIVATE_USE] = "private-use",
                                     [LANGTAG_IRREGULAR] = "irregular"};
 
-PG_FUNCTION_INFO_V1(pg_langtag_tag_kind);
-Datum pg_langtag_tag_kind(PG_FUNCTION_ARGS) {
-    struct varlena *tag = PG_GETARG_VARLENA_PP(0);
+OF_ONE(pg_langtag_tag_kind, tag) {
     uint32 kind = langtag_kind(BYTES(tag), LEN(tag));
     Datum *known = fcinfo->flinfo->fn_extra; /* the values of the enum, looked up once a statement */
     if (known == NULL) {
@@ -489,30 +471,31 @@ Datum pg_langtag_recommended(PG_FUNCTION_ARGS) { PG_RETURN_POINTER(PG_GETARG_VAR
 
 /* ---- the registry, and likely subtags ---- */
 
-PG_FUNCTION_INFO_V1(pg_langtag_is_valid);
-Datum pg_langtag_is_valid(PG_FUNCTION_ARGS) {
-    struct varlena *tag = PG_GETARG_VARLENA_PP(0);
+OF_ONE(pg_langtag_is_valid, tag) {
     langtag_span invalid;
     PG_RETURN_BOOL(langtag_validity(BYTES(tag), LEN(tag), &invalid) == LANGTAG_VALID);
 }
 
-PG_FUNCTION_INFO_V1(pg_langtag_invalid_subtag);
-Datum pg_langtag_invalid_subtag(PG_FUNCTION_ARGS) {
-    struct varlena *tag = PG_GETARG_VARLENA_PP(0);
+OF_ONE(pg_langtag_invalid_subtag, tag) {
     langtag_span invalid;
     langtag_validity(BYTES(tag), LEN(tag), &invalid);
     return span_or_null(fcinfo, BYTES(tag), invalid);
 }
 
-PG_FUNCTION_INFO_V1(pg_langtag_suggestion);
-Datum pg_langtag_suggestion(PG_FUNCTION_ARGS) {
-    struct varlena *tag = PG_GETARG_VARLENA_PP(0);
+OF_ONE(pg_langtag_suggestion, tag) {
     langtag_span invalid;
     char code[3];
     uint32 fault = langtag_validity(BYTES(tag), LEN(tag), &invalid);
     size_t len = langtag_suggestion(fault, BYTES(tag) + invalid.start, invalid.len, code, sizeof code);
     if (len == 0 || len > sizeof code) PG_RETURN_NULL();
     PG_RETURN_POINTER(value_of(code, len));
+}
+
+OF_ONE(pg_langtag_to_posix, tag) {
+    char name[28];
+    size_t len = langtag_to_posix(BYTES(tag), LEN(tag), name, sizeof name);
+    if (len == 0 || len > sizeof name) PG_RETURN_NULL();
+    PG_RETURN_POINTER(value_of(name, len));
 }
 
 /* The greatest lengths of strings for calls whose time grows faster than the string, and that cannot be interrupted. A form of the
@@ -530,29 +513,78 @@ typedef size_t (*form_of)(const char *, size_t, char *, size_t);
 
 /* Returns a form of a tag in its recommended case, or NULL if the library writes none. A canonical form has at most twice as many
  * bytes as the tag, plus 14. */
-static Datum form(FunctionCallInfo fcinfo, form_of write) {
-    struct varlena *tag = PG_GETARG_VARLENA_PP(0), *form;
+static struct varlena *form_of_tag(struct varlena *tag, form_of write) {
     size_t room = 2 * LEN(tag) + 14, len;
-    form = palloc(VARHDRSZ + room);
+    struct varlena *form = palloc(VARHDRSZ + room);
     len = write(BYTES(tag), LEN(tag), VARDATA(form), room);
     if (len > room) {
         pfree(form);
         form = palloc(VARHDRSZ + len);
         write(BYTES(tag), LEN(tag), VARDATA(form), len);
     }
-    if (len == 0) PG_RETURN_NULL();
+    if (len == 0) return NULL;
     SET_VARSIZE(form, VARHDRSZ + len);
     langtag_recommend(VARDATA(form), len);
-    PG_RETURN_POINTER(form);
+    return form;
+}
+
+static Datum form(FunctionCallInfo fcinfo, form_of write) {
+    struct varlena *made = form_of_tag(PG_GETARG_VARLENA_PP(0), write);
+    if (made == NULL) PG_RETURN_NULL();
+    PG_RETURN_POINTER(made);
 }
 
 #define FORM(name, write)                                                                                              \
     PG_FUNCTION_INFO_V1(name);                                                                                         \
     Datum name(PG_FUNCTION_ARGS) { return form(fcinfo, write); }
 FORM(pg_langtag_canonical, langtag_canonical)
-FORM(pg_langtag_maximized, langtag_maximize)
-FORM(pg_langtag_minimized, langtag_minimize)
+FORM(pg_langtag_maximized, langtag_maximized)
+FORM(pg_langtag_minimized, langtag_minimized)
 FORM(pg_langtag_from_posix, langtag_from_posix)
+FORM(pg_langtag_parent, langtag_parent)
+
+/* Returns an array of a tag, its parent, the parent of this one, and so on. Its size is quadratic in the number of variants. */
+PG_FUNCTION_INFO_V1(pg_langtag_parents);
+Datum pg_langtag_parents(PG_FUNCTION_ARGS) {
+    Oid type = get_element_type(get_func_rettype(fcinfo->flinfo->fn_oid));
+    ArrayBuildState *found = NULL;
+    check_length("tag", PG_GETARG_VARLENA_PP(0), LONGEST_HEADER);
+    for (struct varlena *tag = PG_GETARG_VARLENA_PP(0); tag != NULL; tag = form_of_tag(tag, langtag_parent)) {
+        CHECK_FOR_INTERRUPTS();
+        found = accumArrayResult(found, PointerGetDatum(tag), false, type, CurrentMemoryContext);
+    }
+    return makeArrayResult(found, CurrentMemoryContext);
+}
+
+/* Returns the canonical form of a tag in its recommended case. */
+#define CANONICAL(tag) form_of_tag(tag, langtag_canonical)
+
+/* The library's names are in UTF-8. */
+static text *in_server_encoding(const char *name, size_t len) {
+    char *converted = pg_any_to_server(name, (int)len, PG_UTF8);
+    return converted == name ? cstring_to_text_with_len(name, (int)len) : cstring_to_text(converted);
+}
+
+PG_FUNCTION_INFO_V1(pg_langtag_describe);
+Datum pg_langtag_describe(PG_FUNCTION_ARGS) {
+    struct varlena *form;
+    char none, *name;
+    size_t len;
+    check_length("tag", PG_GETARG_VARLENA_PP(0), LONGEST_HEADER);
+    form = CANONICAL(PG_GETARG_VARLENA_PP(0));
+    len = langtag_name_describe(BYTES(form), LEN(form), &none, 0);
+    name = palloc(len);
+    langtag_name_describe(BYTES(form), LEN(form), name, len);
+    PG_RETURN_TEXT_P(in_server_encoding(name, len));
+}
+
+PG_FUNCTION_INFO_V1(pg_langtag_autonym);
+Datum pg_langtag_autonym(PG_FUNCTION_ARGS) {
+    struct varlena *form = CANONICAL(PG_GETARG_VARLENA_PP(0));
+    const char *name = langtag_name_autonym(BYTES(form), LEN(form));
+    if (name == NULL) PG_RETURN_NULL();
+    PG_RETURN_TEXT_P(in_server_encoding(name, strlen(name)));
+}
 
 PG_FUNCTION_INFO_V1(pg_langtag_extensions_form);
 Datum pg_langtag_extensions_form(PG_FUNCTION_ARGS) {
@@ -560,9 +592,7 @@ Datum pg_langtag_extensions_form(PG_FUNCTION_ARGS) {
     return form(fcinfo, langtag_extensions_form);
 }
 
-PG_FUNCTION_INFO_V1(pg_langtag_is_locale);
-Datum pg_langtag_is_locale(PG_FUNCTION_ARGS) {
-    struct varlena *tag = PG_GETARG_VARLENA_PP(0);
+OF_ONE(pg_langtag_is_locale, tag) {
     check_length("tag", tag, LONGEST_TAG);
     PG_RETURN_BOOL(langtag_is_locale(BYTES(tag), LEN(tag)));
 }
@@ -573,9 +603,7 @@ Datum pg_langtag_locale_form(PG_FUNCTION_ARGS) {
     return form(fcinfo, langtag_locale_form);
 }
 
-PG_FUNCTION_INFO_V1(pg_langtag_unknown_modifier);
-Datum pg_langtag_unknown_modifier(PG_FUNCTION_ARGS) {
-    struct varlena *name = PG_GETARG_VARLENA_PP(0);
+OF_ONE(pg_langtag_unknown_modifier, name) {
     langtag_span found;
     if (!langtag_unknown_modifier(BYTES(name), LEN(name), &found)) PG_RETURN_NULL();
     PG_RETURN_TEXT_P(cstring_to_text_with_len(BYTES(name) + found.start, (int)found.len));
@@ -587,11 +615,7 @@ Datum pg_langtag_distance(PG_FUNCTION_ARGS) {
     PG_RETURN_INT32((int32)langtag_distance(BYTES(desired), LEN(desired), BYTES(supported), LEN(supported)));
 }
 
-PG_FUNCTION_INFO_V1(pg_langtag_is_right_to_left);
-Datum pg_langtag_is_right_to_left(PG_FUNCTION_ARGS) {
-    struct varlena *tag = PG_GETARG_VARLENA_PP(0);
-    PG_RETURN_BOOL(langtag_is_right_to_left(BYTES(tag), LEN(tag)));
-}
+OF_ONE(pg_langtag_is_right_to_left, tag) { PG_RETURN_BOOL(langtag_is_right_to_left(BYTES(tag), LEN(tag))); }
 
 /* Returns the version of CLDR as a string of C. */
 static char *cldr_version(void) {
@@ -734,26 +758,87 @@ Datum pg_langtag_extended_support(PG_FUNCTION_ARGS) { return support(fcinfo, tru
 
 /* ---- the best tag for a request ---- */
 
-/* Returns the tags of an array, or its strings, which have to be tags, without NULLs. Writes the index of each in the array, unless
- * `places` is NULL. */
-static struct varlena **tags_of(ArrayType *array, int *count, int **places) {
+/* The tags of an array, without NULLs, and the index of each in the array. If they are prepared, they are also in one string. */
+typedef struct offered {
     struct varlena **tags;
+    int *places, count;
+    langtag_prepared_tag *prepared; /* or NULL */
+    const char *bytes;              /* of the string */
+    size_t len;
+} offered;
+
+/* Returns the tags of an array, or its strings, which have to be tags. */
+static offered tags_of(ArrayType *array) {
+    offered all = {NULL};
     Datum *values;
     bool *nulls;
-    int all;
-    deconstruct_array(array, ARR_ELEMTYPE(array), -1, false, TYPALIGN_INT, &values, &nulls, &all);
-    tags = palloc(all * sizeof *tags);
-    if (places != NULL) *places = palloc(all * sizeof **places);
-    *count = 0;
-    for (int k = 0; k < all; k++) {
+    int count;
+    deconstruct_array(array, ARR_ELEMTYPE(array), -1, false, TYPALIGN_INT, &values, &nulls, &count);
+    all.tags = palloc(count * sizeof *all.tags);
+    all.places = palloc(count * sizeof *all.places);
+    for (int k = 0; k < count; k++) {
         struct varlena *tag = nulls[k] ? NULL : PG_DETOAST_DATUM_PACKED(values[k]);
         CHECK_FOR_INTERRUPTS();
         if (tag == NULL) continue;
         if (ARR_ELEMTYPE(array) == TEXTOID) check_tag(BYTES(tag), LEN(tag));
-        if (places != NULL) (*places)[*count] = k;
-        tags[(*count)++] = tag;
+        all.places[all.count] = k;
+        all.tags[all.count++] = tag;
     }
-    return tags;
+    return all;
+}
+
+/* Prepares the tags for many choices. */
+static void prepare(offered *all) {
+    langtag_prepared_tag *prepared = palloc(all->count * sizeof *prepared);
+    StringInfoData string;
+    initStringInfo(&string);
+    for (int k = 0; k < all->count; k++) {
+        prepared[k].tag = (langtag_span){.start = (size_t)string.len, .len = LEN(all->tags[k])};
+        appendBinaryStringInfo(&string, BYTES(all->tags[k]), (int)LEN(all->tags[k]));
+    }
+    for (int k = 0; k < all->count; k++) langtag_prepare(string.data, (size_t)string.len, &prepared[k]);
+    all->bytes = string.data;
+    all->len = (size_t)string.len;
+    all->prepared = prepared;
+}
+
+/* The array of the last call of a function in a statement. A longer array is not kept. */
+#define LONGEST_KEPT 65536
+typedef struct kept {
+    MemoryContext memory; /* of the array and its tags */
+    ArrayType *array;     /* or NULL */
+    offered tags;         /* if they are prepared */
+} kept;
+
+static void keep(FunctionCallInfo fcinfo, ArrayType *array) {
+    kept *it = fcinfo->flinfo->fn_extra;
+    if (it == NULL) {
+        it = MemoryContextAllocZero(fcinfo->flinfo->fn_mcxt, sizeof *it);
+        it->memory = AllocSetContextCreate(fcinfo->flinfo->fn_mcxt, "tags of langtag", ALLOCSET_SMALL_SIZES);
+        fcinfo->flinfo->fn_extra = it;
+    }
+    it->array = NULL;
+    it->tags.prepared = NULL;
+    MemoryContextReset(it->memory);
+    if (VARSIZE(array) <= LONGEST_KEPT) it->array = memcpy(MemoryContextAlloc(it->memory, VARSIZE(array)), array, VARSIZE(array));
+}
+
+/* Returns the tags of the array of a call. They are prepared if the call before had the same array, not earlier, because that takes
+ * longer than a single choice. */
+static offered tags_of_call(FunctionCallInfo fcinfo, ArrayType *array) {
+    kept *it = fcinfo->flinfo->fn_extra;
+    if (it == NULL || it->array == NULL || VARSIZE(it->array) != VARSIZE(array) || memcmp(it->array, array, VARSIZE(array)) != 0) {
+        keep(fcinfo, array);
+        return tags_of(array);
+    }
+    if (it->tags.prepared == NULL) {
+        MemoryContext before = MemoryContextSwitchTo(it->memory);
+        offered all = tags_of(it->array);
+        prepare(&all);
+        it->tags = all;
+        MemoryContextSwitchTo(before);
+    }
+    return it->tags;
 }
 
 /* A function of the library that chooses among tags for a header. */
@@ -764,57 +849,84 @@ typedef size_t choice(const char *header, size_t header_len, const char *bytes, 
 #define TAGS_AT_ONCE 64
 #define BYTES_AT_ONCE 4096
 
-/* Returns the index of the chosen tag, or `count` if none is chosen. */
-static int chosen_of(choice *choose, text *header, struct varlena **tags, int count) {
+/* Returns which of some tags is chosen, or `count` if none is. */
+static int chosen_of(choice *choose, text *header, const offered *all, const int *some, int count) {
     langtag_span spans[TAGS_AT_ONCE];
-    StringInfoData all;
+    StringInfoData string;
     size_t chosen;
-    initStringInfo(&all);
+    initStringInfo(&string);
     for (int k = 0; k < count; k++) {
-        spans[k] = (langtag_span){.start = (size_t)all.len, .len = LEN(tags[k])};
-        appendBinaryStringInfo(&all, BYTES(tags[k]), (int)LEN(tags[k]));
+        struct varlena *tag = all->tags[some[k]];
+        spans[k] = (langtag_span){.start = (size_t)string.len, .len = LEN(tag)};
+        appendBinaryStringInfo(&string, BYTES(tag), (int)LEN(tag));
     }
-    chosen = choose(BYTES(header), LEN(header), all.data, (size_t)all.len, spans, (size_t)count);
-    pfree(all.data);
+    chosen = choose(BYTES(header), LEN(header), string.data, (size_t)string.len, spans, (size_t)count);
+    pfree(string.data);
     return (int)Min(chosen, (size_t)count);
+}
+
+/* Returns what chosen_of returns for langtag_best_for_header, if the tags are prepared. */
+static int chosen_of_prepared(text *header, const offered *all, const int *some, int count) {
+    langtag_prepared_tag prepared[TAGS_AT_ONCE];
+    for (int k = 0; k < count; k++) prepared[k] = all->prepared[some[k]];
+    return (int)Min(langtag_site_best_for_header(BYTES(header), LEN(header), all->bytes, all->len, prepared, (size_t)count), (size_t)count);
 }
 
 /* The tag chosen so far is put before the next tags. This is correct because the choice between two tags depends on no third tag,
  * and of two equally good tags the first is chosen. */
-static int chosen_index(choice *choose, text *header, struct varlena **tags, int count) {
+static int chosen_index(choice *choose, text *header, const offered *all) {
     int best = -1;
-    for (int next = 0; next < count;) {
-        struct varlena *some[TAGS_AT_ONCE];
-        int first, taken = 0, found;
+    for (int next = 0; next < all->count;) {
+        int some[TAGS_AT_ONCE], taken = 0, found;
         size_t bytes = 0;
         CHECK_FOR_INTERRUPTS();
-        if (best >= 0) some[taken++] = tags[best];
-        first = next - taken;
-        while (taken < TAGS_AT_ONCE && next < count && (bytes == 0 || bytes + LEN(tags[next]) <= BYTES_AT_ONCE)) {
-            bytes += LEN(tags[next]);
-            some[taken++] = tags[next++];
+        if (best >= 0) some[taken++] = best;
+        while (taken < TAGS_AT_ONCE && next < all->count && (bytes == 0 || bytes + LEN(all->tags[next]) <= BYTES_AT_ONCE)) {
+            bytes += LEN(all->tags[next]);
+            some[taken++] = next++;
         }
-        found = chosen_of(choose, header, some, taken);
-        if (found < taken && (found > 0 || best < 0)) best = first + found;
+        found = all->prepared != NULL ? chosen_of_prepared(header, all, some, taken) : chosen_of(choose, header, all, some, taken);
+        if (found < taken) best = some[found];
     }
     return best;
 }
 
-static Datum chosen(FunctionCallInfo fcinfo, choice *choose) {
-    int count;
-    struct varlena **tags = tags_of(PG_GETARG_ARRAYTYPE_P(0), &count, NULL);
-    int best = chosen_index(choose, PG_GETARG_TEXT_PP(1), tags, count);
+PG_FUNCTION_INFO_V1(pg_langtag_tag_for_header);
+Datum pg_langtag_tag_for_header(PG_FUNCTION_ARGS) {
+    offered all = tags_of(PG_GETARG_ARRAYTYPE_P(0));
+    int best = chosen_index(langtag_tag_for_header_lenient, PG_GETARG_TEXT_PP(1), &all);
     if (best < 0) PG_RETURN_NULL();
-    PG_RETURN_POINTER(tags[best]);
+    PG_RETURN_POINTER(all.tags[best]);
 }
 
-PG_FUNCTION_INFO_V1(pg_langtag_tag_for_header);
-Datum pg_langtag_tag_for_header(PG_FUNCTION_ARGS) { return chosen(fcinfo, langtag_tag_for_header_lenient); }
-
+/* Returns a tag, as a copy, since what is kept may be freed before the result is. */
 PG_FUNCTION_INFO_V1(pg_langtag_best_for_header);
 Datum pg_langtag_best_for_header(PG_FUNCTION_ARGS) {
-    check_length("header", PG_GETARG_TEXT_PP(1), LONGEST_HEADER);
-    return chosen(fcinfo, langtag_best_for_header);
+    text *header = PG_GETARG_TEXT_PP(1);
+    offered all;
+    int best;
+    check_length("header", header, LONGEST_HEADER);
+    all = tags_of_call(fcinfo, PG_GETARG_ARRAYTYPE_P(0));
+    best = chosen_index(langtag_best_for_header, header, &all);
+    if (best < 0) PG_RETURN_NULL();
+    PG_RETURN_POINTER(value_of(BYTES(all.tags[best]), LEN(all.tags[best])));
+}
+
+/* Returns an array of the suitable tags, best first. Each choice is a call of its own, so the query can be cancelled. */
+PG_FUNCTION_INFO_V1(pg_langtag_suitable_for_header);
+Datum pg_langtag_suitable_for_header(PG_FUNCTION_ARGS) {
+    ArrayType *array = PG_GETARG_ARRAYTYPE_P(0);
+    text *header = PG_GETARG_TEXT_PP(1);
+    int best, count = 0;
+    offered left = tags_of(array);
+    Datum *found = palloc((left.count + 1) * sizeof *found);
+    check_length("header", header, LONGEST_HEADER);
+    while ((best = chosen_index(langtag_best_for_header, header, &left)) >= 0) {
+        found[count++] = PointerGetDatum(left.tags[best]);
+        left.count--;
+        memmove(left.tags + best, left.tags + best + 1, (left.count - best) * sizeof *left.tags);
+    }
+    PG_RETURN_ARRAYTYPE_P(construct_array(found, count, ARR_ELEMTYPE(array), -1, false, TYPALIGN_INT));
 }
 
 /* Returns the row of the best tag. The range that it serves is found with this tag alone, since the best range for a tag does not
@@ -822,20 +934,22 @@ Datum pg_langtag_best_for_header(PG_FUNCTION_ARGS) {
 PG_FUNCTION_INFO_V1(pg_langtag_match_for_header);
 Datum pg_langtag_match_for_header(PG_FUNCTION_ARGS) {
     text *header = PG_GETARG_TEXT_PP(1);
-    int count, best, *places;
-    struct varlena **tags = tags_of(PG_GETARG_ARRAYTYPE_P(0), &count, &places);
+    offered all;
+    struct varlena *tag;
+    int best;
     TupleDesc row;
     langtag_best_match match;
     Datum values[4];
     bool nulls[4] = {false, false, false, false};
     check_length("header", header, LONGEST_HEADER);
+    all = tags_of_call(fcinfo, PG_GETARG_ARRAYTYPE_P(0));
     if (get_call_result_type(fcinfo, NULL, &row) != TYPEFUNC_COMPOSITE) elog(ERROR, "a row is wanted");
-    best = chosen_index(langtag_best_for_header, header, tags, count);
+    best = chosen_index(langtag_best_for_header, header, &all);
     if (best < 0) PG_RETURN_NULL();
-    langtag_match_for_header(BYTES(header), LEN(header), BYTES(tags[best]), LEN(tags[best]), &(langtag_span){.start = 0, .len = LEN(tags[best])}, 1,
-                             &match);
-    values[0] = Int32GetDatum(places[best] + 1);
-    values[1] = PointerGetDatum(tags[best]);
+    tag = all.tags[best];
+    langtag_match_for_header(BYTES(header), LEN(header), BYTES(tag), LEN(tag), &(langtag_span){.start = 0, .len = LEN(tag)}, 1, &match);
+    values[0] = Int32GetDatum(all.places[best] + 1);
+    values[1] = PointerGetDatum(tag);
     values[2] = Int32GetDatum((int32)match.distance);
     values[3] = PointerGetDatum(cstring_to_text_with_len(BYTES(header) + match.range.start, (int)match.range.len));
     PG_RETURN_DATUM(HeapTupleGetDatum(heap_form_tuple(BlessTupleDesc(row), values, nulls)));

@@ -20,6 +20,7 @@ import sysconfig
 import tarfile
 import tempfile
 import zipfile
+from typing import Mapping
 
 HERE = pathlib.Path(__file__).resolve().parent
 CLONE = HERE.parent if (HERE.parent / "archive").is_file() else None  # the folder bindings, if this is a clone
@@ -27,7 +28,7 @@ NAME = "liblangtag_verified.so.1"
 TIME = 315532800  # the first second of 1980, the earliest that a wheel can say
 MODULE_FILES = r"\w+\.pyi?|py\.typed|names\.txt|autonyms\.txt"
 SDIST_FILES = r"pyproject\.toml|backend\.py|README\.md|PROVED\.txt|native/.*|(examples|rows)/.*"
-EXAMPLES = r"(negotiate|count_tags)\.py"
+EXAMPLES = r"(negotiate|count_tags|catalogue)\.py"
 
 
 class Archive:
@@ -165,6 +166,21 @@ def zipped(path: pathlib.Path, files: dict[str, bytes]) -> None:
             out.writestr(entry, content)
 
 
+def pack(path: pathlib.Path, top: str, files: Mapping[str, bytes | str]) -> None:
+    """Writes a tarball that does not depend on who makes it, or when. A path given as a text is a link."""
+    raw = io.BytesIO()
+    with tarfile.open(fileobj=raw, mode="w", format=tarfile.USTAR_FORMAT) as tar:
+        for name, content in sorted(files.items()):
+            entry = tarfile.TarInfo(f"{top}/{name}")
+            entry.mtime, entry.mode = TIME, 0o755 if ".so." in name else 0o644
+            if isinstance(content, str):
+                entry.type, entry.linkname, content = tarfile.SYMTYPE, content, b""
+            entry.size = len(content)
+            tar.addfile(entry, io.BytesIO(content))
+    with open(path, "wb") as out, gzip.GzipFile("", "wb", 9, out, TIME) as packed:
+        packed.write(raw.getvalue())
+
+
 def write_wheel(folder: pathlib.Path, tag: str, proved: bool, files: dict[str, bytes], more: dict[str, bytes]) -> str:
     """Writes a wheel for the platforms of a tag, and returns its name. `more` are files beside the metadata."""
     info, kind = f"langtag_verified-{version(proved)}.dist-info", tag.rpartition("-")[0]
@@ -213,12 +229,5 @@ def build_sdist(sdist_directory: str, config_settings: object = None) -> str:
         if shared:
             files[f"langtag/{NAME}"] = shared.read_bytes()
     top = f"langtag_verified-{version(library.is_proved)}"
-    raw = io.BytesIO()
-    with tarfile.open(fileobj=raw, mode="w", format=tarfile.PAX_FORMAT) as tar:
-        for name, content in sorted(files.items()):
-            entry = tarfile.TarInfo(f"{top}/{name}")
-            entry.size, entry.mtime, entry.mode = len(content), TIME, 0o755 if name == "native/compile" else 0o644
-            tar.addfile(entry, io.BytesIO(content))
-    with open(pathlib.Path(sdist_directory, f"{top}.tar.gz"), "wb") as out, gzip.GzipFile("", "wb", 9, out, TIME) as packed:
-        packed.write(raw.getvalue())
+    pack(pathlib.Path(sdist_directory, f"{top}.tar.gz"), top, files)
     return f"{top}.tar.gz"

@@ -2,7 +2,6 @@
 read."""
 import copy
 import doctest
-import gc
 import itertools
 import os
 import pickle
@@ -13,15 +12,15 @@ import subprocess
 import sys
 import threading
 import time
-import tracemalloc
 import types
 import unittest
 import unittest.mock
 import weakref
 
 import langtag
-from langtag import (AcceptLanguage, EditError, InvalidRange, InvalidTag, Kind, Range, Tag, kind, look_up, parse, stop,
-                     tag_for_header, tag_for_header_lenient, viable)
+import leaks
+from langtag import (AcceptLanguage, EditError, InvalidRange, InvalidTag, Kind, Range, Tag, kind, look_up, parse, stop_len,
+                     tag_for_header, tag_for_header_lenient, viable_len)
 
 
 class Parts(unittest.TestCase):
@@ -32,10 +31,6 @@ class Parts(unittest.TestCase):
 
 
 class Kinds(unittest.TestCase):
-    def test_private_use(self):
-        tag = parse("X-a")
-        self.assertEqual((tag.kind, tag.private_use, tag.language, tag.primary_language), (Kind.PRIVATE_USE, "X-a", None, None))
-
     def test_none(self):
         for text in ("", "f", "en_US", "zh-x-é", "en\0", b"en\xff", "\ud800", "i-notexist", "K-ab", "\u212a"):
             self.assertIsNone(kind(text))
@@ -61,25 +56,14 @@ class Kinds(unittest.TestCase):
                 return b"x-a"
 
         for text in (Short(b"zh-Hant"), Long(b"zh-Hant"), Odd("zh-Hant")):
-            self.assertEqual((str(parse(text)), kind(text), viable(text), stop(text)), ("zh-Hant", Kind.NORMAL, 7, 7))
+            self.assertEqual((str(parse(text)), kind(text), viable_len(text), stop_len(text)), ("zh-Hant", Kind.NORMAL, 7, 7))
             self.assertEqual(str(Range(text)), "zh-Hant")
-        self.assertEqual((kind(Short(b"de\0")), viable(Short(b"de\0"))), (None, 2))
-
-    def test_where_a_text_goes_wrong(self):
-        self.assertEqual((viable("i-no"), stop("i-no"), viable("en-"), stop("en-")), (3, 4, 3, 3))
-        self.assertEqual(str(InvalidTag("en-")), "invalid language tag `en-`: unexpected end: expected a subtag")
+        self.assertEqual((kind(Short(b"de\0")), viable_len(Short(b"de\0"))), (None, 2))
 
     def test_the_invalid_character(self):
         self.assertEqual((caught(Tag, "dé").subtag, caught(Tag, "d\udc80").subtag, caught(Tag, b"d\xff").subtag), ("dé", "d\udc80", "d\\xff"))
         for text, shown in (("d\ud800", "\\u{d800}"), ("d\udc80", "\\x80"), (b"d\xed\xb2\x80", "\\xed")):
             self.assertIn(f"invalid character `{shown}`: ", str(caught(Tag, text)))
-
-    def test_any_bytes(self):
-        numbers = random.Random(1)
-        for _ in range(5000):
-            text = bytes(numbers.choice(b"abixX-1\x00\xff") for _ in range(numbers.randrange(12)))
-            reach = viable(text)
-            self.assertTrue(0 <= reach <= len(text) and stop(text) == min(reach + 1, len(text)))
 
 
 class Values(unittest.TestCase):
@@ -108,10 +92,6 @@ class Values(unittest.TestCase):
         self.assertTrue(parse("en") >= parse("EN") and parse("de") < parse("EN"))
         with self.assertRaises(TypeError):
             parse("en") < Range("en")
-
-    def test_texts(self):
-        self.assertEqual((str(parse("ZH-hant")), repr(parse("ZH-hant"))), ("ZH-hant", "Tag('ZH-hant')"))
-        self.assertEqual((str(parse("EN-ca-X-CA").recommended()), parse("EN-ca-X-CA").folded()), ("en-CA-x-ca", "en-ca-x-ca"))
 
     def test_lengths(self):
         """Forms whose lengths are near the size of the first buffer of a call."""
@@ -229,13 +209,9 @@ class Refusals(unittest.TestCase):
 
 
 class Ranges(unittest.TestCase):
-    def test_kinds(self):
-        for text, is_basic in (("de-CH", True), ("*", True), ("*-CH", False), ("de-*", False), (b"a-1", True)):
-            self.assertIs(Range(text).is_basic, is_basic)
-        for text in ("", "de_CH", "1-de", "de-", "de-**", "abcdefghi", "é", "\ud800"):
-            with self.assertRaises(InvalidRange) as caught:
-                Range(text)
-            self.assertEqual(caught.exception.text, text)
+    def test_what_is_refused(self):
+        for text in ("de_CH", "é", "\ud800"):
+            self.assertEqual(caught(Range, text).text, text)
 
     def test_matching_of_no_tag(self):
         for value in (5, None, Range("de")):
@@ -338,21 +314,6 @@ class Negotiation(unittest.TestCase):
         self.assertIsNone(langtag.best_for_ranges(["de-*a"], ["dea"]))
         self.assertEqual(langtag.best_for_ranges(["zh-*-Hant-x-" + "abcdefgh-" * 9 + "a"], ["en", "zh-Hant"]), "zh-Hant")
 
-    def test_equal_weights(self):
-        for header in ("a, nl, b", "a;q=0.5, nl;q=0.5, b;q=0.5, c;q=0.5, fr;q=0.1"):
-            self.assertEqual(str(tag_for_header_lenient(header, [Tag("fr"), Tag("nl")], None)), "nl")
-
-    def test_weights(self):
-        """Compares every weight of up to four of these bytes, and some longer ones, with RFC 9110 section 12.4.2."""
-        texts = ["".join(text) for length in range(5) for text in itertools.product("01.>5", repeat=length)]
-        texts += ["0.1234", "0.0004", "0.999", "1.0000", "1.000", "0.5 5", "00.5", "+0.5", "0,5", "0.001", "0.0001"]
-        for text in texts:
-            is_weight = re.fullmatch(r"0(\.\d{0,3})?|1(\.0{0,3})?", text)
-            found = AcceptLanguage.lenient(f"fr;q={text}, de;q=0.5").ranges
-            wanted = ["fr"] if is_weight and float(text) >= 0.5 else []
-            wanted += ["de"] + (["fr"] if is_weight and 0 < float(text) < 0.5 else [])
-            self.assertEqual([str(it.range) for it in found], wanted, text)
-
     def test_best(self):
         tags = ["en", b"zh-Hant", Tag("de")]
         for ranges, wanted in ((["fi", "", "*", "en;q=0", "de,de", "*-AT", b"de-*AT", "en-*-*-GB", "de"], "en"), ([Range("*-DE"), Range("de-*-DE")], Tag("de")),
@@ -371,54 +332,18 @@ class Negotiation(unittest.TestCase):
         with self.assertRaises(InvalidTag):
             langtag.best_for_header("de", ["de", "de_"])
 
-    def test_long_headers(self):
-        begun = time.monotonic()
-        for header in ("ab-" * 21_000 + "ab", "a-" * 32_000 + "b", "de-CH," * 10_000):
-            tag_for_header_lenient(header, [Tag("en"), Tag("de")], None)
-        self.assertLess(time.monotonic() - begun, 10)
-
-
-#: Tags with their English names, of which the last are CLDR's own cases, and tags with the names of their languages in themselves.
-#: JavaScript's tests have the same lists.
-NAMES = (
-    ("pt-BR", "Portuguese (Brazil)"), ("sr-Latn", "Serbian (Latin)"), ("zh-yue-HK", "Cantonese (Hong Kong SAR China)"),
-    ("yue", "Cantonese"), ("ZH-hant-tw", "Chinese (Traditional, Taiwan)"), ("zh-TW", "Chinese (Taiwan)"), ("el", "Greek"),
-    ("ckb", "Central Kurdish"), ("iw", "Hebrew"), ("es-419", "Spanish (Latin America)"), ("i-klingon", "Klingon"),
-    ("ART-lojban", "Lojban"), ("i-default", "i-default"), ("en-GB-oed", "English (United Kingdom, Oxford English Dictionary spelling)"),
-    ("x-a", "x-a"), ("de-1996-u-co-phonebk-x-mine", "German (German orthography of 1996, u-co-phonebk, x-mine)"),
-    ("sgn-ase", "American Sign Language"), ("qt-FQ-1997", "qt (FQ, 1997)"), ("aaa-Qaaa", "aaa (Qaaa)"),
-    ("und-a-bb-A-cc", "Unknown language (a-bb)"),
-    ("en-MM", "English (Myanmar [Burma])"), ("es", "Spanish"), ("es-Cyrl-MX", "Spanish (Cyrillic, Mexico)"), ("hi-Latn", "Hindi (Latin)"),
-    ("nl-BE", "Dutch (Belgium)"), ("nl-Latn-BE", "Dutch (Latin, Belgium)"), ("zh-Hans-fonipa", "Chinese (Simplified, IPA Phonetics)"),
-    ("en-Latn-GB-scouse-fonipa", "English (Latin, United Kingdom, IPA Phonetics, Scouse)"),
-)
-AUTONYMS = (
-    ("de-DE", "Deutsch"), ("de-AT", "Österreichisches Deutsch"), ("zh-TW", "繁體中文"), ("zh-Hans-SG", "简体中文"), ("zh-CN", "中文"),
-    ("sr-Latn-RS", "srpski"), ("sr-ME", "srpski"), ("sr", "српски"), ("el-polyton", "Ἑλληνικά"), ("iw", "עברית"),
-    ("EN-gb-x-a", "British English"), ("ru-Latn", None), ("tlh", None), ("x-a", None), ("i-default", None),
-)
-
 
 class Names(unittest.TestCase):
-    def test_names(self):
-        for text, name in NAMES:
-            for tag in (text, text.encode(), Tag(text)):
-                self.assertEqual(langtag.describe(tag), name)
-        with self.assertRaises(InvalidTag):
-            langtag.describe("de_CH")
+    def test_that_only_a_tag_has_one(self):
+        for call in (langtag.describe, langtag.autonym):
+            with self.assertRaises(InvalidTag):
+                call("de_CH")
 
     def test_that_each_language_of_two_letters_has_one(self):
         letters = "abcdefghijklmnopqrstuvwxyz"
         for text in map("".join, itertools.product(letters, letters)):
             if text != "bh":  # a collection of languages, for which CLDR has no name
                 self.assertEqual(Tag(text).is_valid, langtag.describe(text) != text, text)
-
-    def test_autonyms(self):
-        for text, name in AUTONYMS:
-            for tag in (text, text.encode(), Tag(text)):
-                self.assertEqual(langtag.autonym(tag), name, text)
-        with self.assertRaises(InvalidTag):
-            langtag.autonym("de_CH")
 
 
 class Edits(unittest.TestCase):
@@ -499,31 +424,8 @@ class Edits(unittest.TestCase):
 
 
 class Memory(unittest.TestCase):
-    def calls(self, number):
-        """Makes each call that could keep memory once, with texts that differ for each number."""
-        tag = Tag(f"iw-BU-heploc-t-de-m0-u{number}-u-attr-co-a{number:02}-x-a{number}")
-        tag.keyword("co"), tag.keyword("zz"), tag.keywords, tag.attributes, tag.transform
-        tag.canonical(), tag.recommended(), tag.folded(), tag.replace(script="Latn"), hash(tag), repr(tag), tag.is_valid
-        tag.extensions_form(), tag.locale_form(), Tag(f"x-a{number}").locale_form(), tag.replace(keywords={"ca": f"a{number:02}", "co": None})
-        Tag.from_parts("de", private_use=f"x-a{number}"), Range(f"de-{number}").matches_extended(tag), tag == Tag("de")
-        tag_for_header_lenient(f"de-x-a{number}, d!;q=2, fr;q=0.5", [tag, Tag("fr")], None)
-        for wrong in (lambda: Tag(f"a_{number}"), lambda: tag.replace(script=f"a{number}"), lambda: Range(f"a_{number}"),
-                      lambda: AcceptLanguage(f"a_{number}"), lambda: tag.replace(keywords={f"a{number}": "roc"})):
-            with self.assertRaises(ValueError):
-                wrong()
-
     def test_that_nothing_is_kept(self):
-        """The memory from Python's allocators grows by less than one object for each number."""
-        tracemalloc.start()
-        self.addCleanup(tracemalloc.stop)
-        for number in range(200):
-            self.calls(number)
-        gc.collect()
-        before = tracemalloc.get_traced_memory()[0]
-        for number in range(2000):
-            self.calls(number)
-        gc.collect()
-        self.assertLess(tracemalloc.get_traced_memory()[0] - before, 2000 * 20)
+        self.assertEqual(leaks.kept(100), [])
 
 
 IS_NATIVE = langtag._backend.__name__ == "langtag._native"
@@ -575,12 +477,34 @@ class Threads(unittest.TestCase):
     def test_that_others_run_during_a_choice(self):
         tags = [f"zh-x-{number}" for number in range(2000)] + ["fr"]
         header = ",".join(f"aa-x-{number}" for number in range(3000)) + ",fr"  # over 4,096 bytes
-        counted, answer = self.meanwhile(lambda: langtag.best_for_header(header, tags))
-        self.assertEqual(answer, "fr")
-        self.assertGreater(counted, 20)
+        for call, wanted in (langtag.best_for_header, "fr"), (langtag.suitable_for_header, ["fr"]):
+            counted, answer = self.meanwhile(lambda call=call: call(header, tags))
+            self.assertEqual(answer, wanted)
+            self.assertGreater(counted, 20)
         listed = list(tags)
         threading.Timer(0.05, listed.clear).start()
         self.assertEqual(langtag.best_for_header(header, listed), "fr")
+
+    def test_that_threads_share_a_site(self):
+        tags = ["en", "de-CH", "zh-Hans", "zh-Hant", "nb", "sr-Latn", "pt-PT", "x-a", *(f"fr-x-{number}" for number in range(40))]
+        headers = ["zh-TW,zh;q=0.9,en;q=0.8", "gsw", "nn-NO, da;q=0.5", "sr_RS@latin", "fi", "", "de;q=0, de-AT", "*;q=0.1, pt-AO", "fr-x-39"]
+        site, said = langtag.Site(tags), [[] for _ in range(8)]
+        wanted = [(langtag.best_for_header(it, tags), langtag.match_for_header(it, tags), langtag.best_for_ranges([it[:2], "nn"], tags)) for it in headers]
+
+        def ask(answers, begin):
+            for number in range(begin, begin + 50 * len(headers)):
+                it = headers[number % len(headers)]
+                choices = site.best_for_header(it), site.match_for_header(it), site.best_for_ranges([it[:2], "nn"])
+                answers.append(choices == wanted[number % len(headers)])
+
+        self.addCleanup(sys.setswitchinterval, sys.getswitchinterval())
+        sys.setswitchinterval(1e-5)
+        threads = [threading.Thread(target=ask, args=(answers, number)) for number, answers in enumerate(said)]
+        for thread in threads:
+            thread.start()
+        for thread in threads:
+            thread.join()
+        self.assertEqual([(len(answers), sum(answers)) for answers in said], [(50 * len(headers),) * 2] * 8)
 
     def runs_during(self, call, meanwhile=lambda: None):
         """Calls `meanwhile` from another thread during a call. Returns whether that thread ran then, and the result of the call. The
@@ -609,7 +533,7 @@ class Threads(unittest.TestCase):
         tag, header, tags = Tag(text), "fi," * 50_000 + "de", ["en", "de"]
         keyed, repeated = Tag("en-u-" + "abcdefgh-" * 200_000 + "ca-roc"), Tag("de-" + "-".join(f"{number:05}" for number in range(20_000)))
         for name, call in {
-            "kind": lambda: kind(text), "viable": lambda: viable(text), "stop": lambda: stop(text), "refused": lambda: langtag._backend.refused(text + "_"),
+            "kind": lambda: kind(text), "viable_len": lambda: viable_len(text), "stop_len": lambda: stop_len(text), "refused": lambda: langtag._backend.refused(text + "_"),
             "Tag": lambda: Tag(text), "Range": lambda: Range(text), "Range of a Tag": lambda: Range(tag), "is_valid": lambda: tag.is_valid,
             "is_canonical": lambda: tag.is_canonical, "is_locale": lambda: tag.is_locale, "invalid_subtag": lambda: tag.invalid_subtag,
             "canonical": tag.canonical, "maximized": tag.maximized, "minimized": tag.minimized, "extensions_form": tag.extensions_form,
@@ -677,7 +601,7 @@ for call in (
     *(lambda it=it: Tag(it) for it in (5, None, ["en"], Range("en"), bytearray(b"en"), made, "de_", b"d\\xff", "d\\udc80")),
     *(lambda it=it: Range(it) for it in (5, None, made, "de_", Range.__new__(Range))),
     *(lambda it=it, call=call: call(it) for it in (5, None, Tag("de")) for call in (
-        langtag.kind, langtag.viable, langtag.stop, Tag.from_posix, langtag.unknown_modifier, Tag("de").keyword)),
+        langtag.kind, langtag.viable_len, langtag.stop_len, Tag.from_posix, langtag.unknown_modifier, Tag("de").keyword)),
     *(lambda it=it, call=call: call(it) for it in (5, None, Range("de"), made, "de_") for call in (
         Range("de").matches_basic, Range("de").matches_extended, lambda it: langtag.distance("de", it), lambda it: langtag.distance(it, "de"), langtag.describe, langtag.autonym)),
     *(lambda it=it, call=call: call(it) for it in ([5], [None], [Range("de")], [made], ["de_"], 5, None, "de", {5: 6}) for call in (
@@ -716,7 +640,7 @@ print(*sorted(name for base in (langtag._backend.TagBase, langtag._backend.Range
 class Help(unittest.TestCase):
     def test_that_it_shows_the_calls(self):
         said = pydoc.render_doc(langtag, renderer=pydoc.plaintext)
-        for name in ("matches_basic", "canonical", "extensions_form", "locale_form", "is_locale", "keywords", "key", "tag_for_header_lenient", "viable", "invalid_subtag", "private_use"):
+        for name in ("matches_basic", "canonical", "extensions_form", "locale_form", "is_locale", "keywords", "key", "tag_for_header_lenient", "viable_len", "invalid_subtag", "private_use"):
             self.assertIn(name, said)
         for name in ("with_traceback", "__getnewargs__", "_asdict", "add_note"):
             self.assertNotIn(f" {name}(", said)

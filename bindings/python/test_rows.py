@@ -131,7 +131,7 @@ def answer_scan(text):
         for part in (tag.script, tag.region, "-".join(tag.variants), extensions, tag.private_use):
             ends.append(ends[-1] + (1 + len(part) if part else 0))
         what = " ".join([what, *map(str, ends)])
-    return f"{langtag.stop(text)} {fronts} {what}"
+    return f"{langtag.stop_len(text)} {fronts} {what}"
 
 
 def answer_recommended(text):
@@ -180,6 +180,20 @@ def answer_header(header, tags):
     accepted = AcceptLanguage.lenient(header)
     assert look_up([it.range for it in accepted.ranges], tags) is accepted.look_up(tags), "by its ranges"
     return f"{strict(header.decode(), tags)} | {tag_for_header_lenient(header, iter(tags), DEFAULT)}"
+
+
+def answer_elements(header):
+    listed = " ".join(f"{it.range} {it.weight}" for it in AcceptLanguage.lenient(header).ranges) or "-"
+    try:
+        assert AcceptLanguage(header).ranges == AcceptLanguage.lenient(header).ranges
+        return listed
+    except AcceptLanguageError as error:
+        return f"{error} | {listed}"
+
+
+def answer_fallbacks(text):
+    range = made(Range, text)
+    return " ".join(map(str, range.fallbacks())) if range else "refused"
 
 
 def answer_ranges(ranges, tags):
@@ -234,16 +248,19 @@ def answer_with_keyword(tag, key, value):
 
 
 def answer_extensions_form(text):
-    form = Tag(text).extensions_form()
+    tag = made(Tag, text)
+    if tag is None:
+        return "-"
+    form = tag.extensions_form()
     assert form.extensions_form() == form and type(form) is Tag
     return str(form)
 
 
 def answer_locale_form(text):
-    tag = Tag(text)
-    form = tag.locale_form()
+    tag = made(Tag, text)
+    form = tag and tag.locale_form()
     if form is None:
-        assert not tag.is_locale
+        assert not (tag and tag.is_locale)
         return "-"
     assert form.is_locale and str(form.locale_form()) == str(form) and type(form) is Tag
     return str(form)
@@ -259,7 +276,7 @@ def answer_refused(text):
     try:
         Tag(text)
     except InvalidTag as error:
-        assert text.decode("utf-8", "backslashreplace").find(error.subtag) >= 0 and error.viable <= len(text)
+        assert text.decode("utf-8", "backslashreplace").find(error.subtag) >= 0 and error.viable_len <= len(text)
         why = error.reason
         kind = "end" if why == "unexpected end: expected a subtag" else "byte" if why.startswith("invalid character ") else "subtag"
         answer, start, length, offset = langtag._backend.refused(text)
@@ -298,11 +315,29 @@ def answer_direction(text):
     return "-" if tag is None else "yes" if tag.is_right_to_left else "no"
 
 
+def answer_parents(text):
+    tag = made(Tag, text)
+    if tag is None:
+        return "-"
+    assert tag.parents[0] is tag and tag.parent == (tag.parents[1] if len(tag.parents) > 1 else None)
+    return " ".join(map(str, tag.parents))
+
+
 def answer_posix(name):
     try:
         return str(Tag.from_posix(name))
     except ValueError:
         return "-"
+
+
+def answer_posix_name(text):
+    tag = made(Tag, text)
+    name = None if tag is None else tag.to_posix()
+    if name is None:
+        return "-"
+    read = Tag.from_posix(name)
+    assert read == tag or read.maximized() == tag.maximized()
+    return name
 
 
 def answer_unknown_modifier(name):
@@ -315,6 +350,7 @@ def answer_best(header, tags):
     found = langtag.best_for_header(header, texts, DEFAULT)
     assert langtag.best_for_header(header, map(Tag, texts), DEFAULT) == (found if found == DEFAULT else Tag(found))
     assert b";" in header or langtag.best_for_ranges(header.split(b","), texts, DEFAULT) == found
+    assert langtag.Site(texts).best_for_header(header, DEFAULT) == found
     return found
 
 
@@ -329,7 +365,19 @@ def answer_best_ranges(ranges, tags):
     wanted, texts = ranges.split(), tags.decode().split()
     found = langtag.best_for_ranges(wanted, texts, DEFAULT)
     assert langtag.best_for_ranges(map(Range, wanted), map(Tag, texts), DEFAULT) == (found if found == DEFAULT else Tag(found))
+    assert langtag.Site(texts).best_for_ranges(wanted, DEFAULT) == found
     return found
+
+
+def answer_suitable(header, tags):
+    texts = tags.decode().split()
+    found = langtag.suitable_for_header(header, texts)
+    assert langtag.suitable_for_header(header, map(Tag, texts)) == [Tag(it) for it in found]
+    return " ".join(found) or "-"
+
+
+def answer_suitable_ranges(ranges, tags):
+    return " ".join(langtag.suitable_for_ranges(ranges.split(), tags.decode().split())) or "-"
 
 
 def answer_keyword(text, key):
@@ -355,6 +403,7 @@ def answer_transform(text):
 def answer_best_match(header, tags):
     texts = tags.decode().split()
     found = langtag.match_for_header(header, texts)
+    assert langtag.Site(texts).match_for_header(header) == found
     again = langtag.match_for_header(header, map(Tag, texts))
     if found is None or again is None:
         assert found is again
@@ -364,10 +413,19 @@ def answer_best_match(header, tags):
     return f"{found.index} {found.distance} {found.range}"
 
 
+def answer_name(text, call):
+    """Returns the name for the bytes, and checks that it is the same for a str and a Tag."""
+    if made(Tag, text) is None:
+        return "-"
+    assert call(text) == call(text.decode()) == call(Tag(text))
+    return call(text) or "-"
+
+
 ANSWERS = {
+    "describe": lambda text: answer_name(text, langtag.describe), "autonym": lambda text: answer_name(text, langtag.autonym),
     "with-keyword": answer_with_keyword, "extensions-form": answer_extensions_form,
     "base": lambda text: str(Tag(text).base),
-    "is-locale": lambda text: "yes" if Tag(text).is_locale else "no", "locale-form": answer_locale_form,
+    "is-locale": lambda text: "yes" if getattr(made(Tag, text), "is_locale", False) else "no", "locale-form": answer_locale_form,
     "cldr-version": lambda: langtag.CLDR_VERSION,
     "keyword": answer_keyword, "keywords": answer_keywords, "transform": answer_transform,
     "attributes": lambda text: " ".join(Tag(text).attributes) or "-",
@@ -376,15 +434,20 @@ ANSWERS = {
     "best-ranges": answer_best_ranges,
     "best-accepted": answer_best_accepted,
     "best-match": answer_best_match,
+    "parents": answer_parents,
+    "suitable": answer_suitable, "suitable-ranges": answer_suitable_ranges,
+    "posix-name": answer_posix_name,
     "maximized": lambda text: likely(text, Tag.maximized), "minimized": lambda text: likely(text, Tag.minimized),
     "tag": answer_tag, "scan": answer_scan, "recommended": answer_recommended, "validity": answer_validity, "suggestion": answer_suggestion,
     "canonical": answer_canonical, "grandfathered": answer_grandfathered,
-    "viable": lambda text: f"{langtag.viable(text)} {langtag.stop(text)}", "range": answer_range, "match": answer_match,
-    "order": answer_order, "header": answer_header, "ranges": answer_ranges, "edit": answer_edit,
+    "viable": lambda text: f"{langtag.viable_len(text)} {langtag.stop_len(text)}", "range": answer_range, "match": answer_match,
+    "order": answer_order, "header": answer_header, "ranges": answer_ranges, "elements": answer_elements, "fallbacks": answer_fallbacks,
+    "edit": answer_edit,
 }
-FLOORS = {"table.txt": 360, "texts.txt": 710, "negotiation.txt": 102, "edits.txt": 125, "likely.txt": 250,
-          "refused.txt": 80, "distance.txt": 140, "direction.txt": 325, "posix.txt": 150, "choices.txt": 285, "lists.txt": 28, "lengths.txt": 180,
-          "unicode.txt": 400, "keywords.txt": 380, "extensions.txt": 630, "locale.txt": 780, "cldr.txt": 1774}
+FLOORS = {"table.txt": 360, "texts.txt": 710, "negotiation.txt": 102, "ranges.txt": 55, "edits.txt": 125, "likely.txt": 250, "parents.txt": 330,
+          "refused.txt": 80, "distance.txt": 140, "direction.txt": 325, "posix.txt": 240, "choices.txt": 285, "lists.txt": 28, "suitable.txt": 32, "lengths.txt": 180,
+          "unicode.txt": 400, "keywords.txt": 380, "extensions.txt": 630, "locale.txt": 780, "cldr.txt": 1774,
+          "names.txt": 430}
 
 
 class Rows(unittest.TestCase):

@@ -10,7 +10,7 @@
  *     sqlite> SELECT langtag_is_well_formed('de-1996-1996');         -- 1
  *     sqlite> SELECT langtag_is_valid('de-1996-1996');               -- 0
  *     sqlite> SELECT langtag_suggestion('ger-AT');                   -- de
- *     sqlite> SELECT langtag_maximize('zh-TW');                      -- zh-Hant-TW
+ *     sqlite> SELECT langtag_maximized('zh-TW');                      -- zh-Hant-TW
  *     sqlite> SELECT langtag_from_posix('sr_RS@latin');              -- sr-Latn-RS
  *     sqlite> SELECT langtag_best_for_header('zh-TW,zh;q=0.9', 'en', 'zh-Hans', 'zh-Hant'); -- zh-Hant
  *     sqlite> SELECT langtag_match_for_header('tlh', 'de', 'en') ->> 'distance'; -- 30
@@ -39,14 +39,21 @@
  *   - langtag_extensions_form(tag), the tag with its extensions u and t in canonical form (UTS #35, part 1, Annex C)
  *   - langtag_locale_form(tag), the canonical form of a Unicode locale identifier, also NULL if there is none
  *   - langtag_canonical(tag) (RFC 5646 section 4.5)
+ *   - langtag_parent(tag), the parent in CLDR, which a catalogue of strings asks next: pt-PT for pt-AO. Also NULL if there is none
  *   - langtag_suggestion(tag), the registered code that is probably meant by the invalid subtag, also NULL if there is none
- *   - langtag_maximize(tag), langtag_minimize(tag), langtag_distance(desired, supported) (UTS #35)
+ *   - langtag_maximized(tag), langtag_minimized(tag), langtag_distance(desired, supported) (UTS #35)
+ *
+ * langtag_describe(tag) returns an English name of a tag, made of CLDR's names for the subtags of its canonical form, such as Portuguese
+ * (Brazil). langtag_autonym(tag) returns the name of the tag's language in the language itself, such as português, or NULL if CLDR has
+ * none. Both return NULL if the string is not a tag.
  *
  * langtag_from_posix(name) returns the tag for a POSIX locale name, or NULL if it has none. langtag_unknown_modifier(name) returns
- * the modifier that langtag_from_posix drops because it is not known, or NULL.
+ * the modifier that langtag_from_posix drops because it is not known, or NULL. langtag_to_posix(tag) returns the POSIX locale name for a
+ * tag, sr_RS@latin for sr-Latn-RS, or NULL if a name cannot say all of the tag.
  *
  * langtag_best_for_header(header, tag, ..) returns the best tag for a header, or NULL if none is suitable. langtag_match_for_header
- * returns this tag as JSON, with its index, the range of the header that it serves, and the distance from that range. The aggregate
+ * returns this tag as JSON, with its index, the range of the header that it serves, and the distance from that range.
+ * langtag_suitable_for_header(header, tag, ..) returns all suitable tags as a JSON array, best first. The aggregate
  * langtag_group_best_for_header(header, tag) returns the best tag of the rows of a group. Among equally good tags it takes the first, and
  * the order of rows is that of a subquery with ORDER BY. It is an error if the header is not the same in all rows of a group.
  *
@@ -55,6 +62,7 @@
  * alphabetical order use ORDER BY lower(tag).
  */
 #include <langtag.h>
+#include <langtag_names.h>
 #include <sqlite3ext.h>
 #include <string.h>
 SQLITE_EXTENSION_INIT1
@@ -151,6 +159,49 @@ static void form(sqlite3_context *context, int count, sqlite3_value **values) {
     sqlite3_result_text64(context, form, form_len, sqlite3_free, SQLITE_UTF8);
 }
 
+/* Returns the canonical form of a tag in its recommended case, in memory to be freed, and sets `len`. Returns NULL if the string is not a
+ * tag, or memory is short, which is an error. */
+static char *form_of(sqlite3_context *context, text tag, size_t *len) {
+    char none;
+    *len = tag.at ? langtag_canonical(tag.at, tag.len, &none, 0) : 0;
+    if (*len == 0) return NULL;
+    char *form = sqlite3_malloc64(*len);
+    if (!form) {
+        sqlite3_result_error_nomem(context);
+        return NULL;
+    }
+    langtag_canonical(tag.at, tag.len, form, *len);
+    langtag_recommend(form, *len);
+    return form;
+}
+
+static void describe(sqlite3_context *context, int count, sqlite3_value **values) {
+    (void)count;
+    size_t len;
+    char room[256], *form = form_of(context, text_of(values[0]), &len);
+    if (!form) return; /* NULL, or the error */
+    const size_t name_len = langtag_name_describe(form, len, room, sizeof room);
+    char *name = name_len > sizeof room ? sqlite3_malloc64(name_len) : NULL;
+    if (name_len <= sizeof room) {
+        sqlite3_result_text(context, room, (int)name_len, SQLITE_TRANSIENT);
+    } else if (!name) {
+        sqlite3_result_error_nomem(context);
+    } else {
+        langtag_name_describe(form, len, name, name_len);
+        sqlite3_result_text64(context, name, name_len, sqlite3_free, SQLITE_UTF8);
+    }
+    sqlite3_free(form);
+}
+
+static void autonym(sqlite3_context *context, int count, sqlite3_value **values) {
+    (void)count;
+    size_t len;
+    char *form = form_of(context, text_of(values[0]), &len);
+    const char *name = form ? langtag_name_autonym(form, len) : NULL;
+    if (name) sqlite3_result_text(context, name, -1, SQLITE_STATIC);
+    sqlite3_free(form);
+}
+
 /* Writes a tag with the value of a key, or without the key if the value is NULL. Returns what the library returns. */
 static size_t write_keyword(text tag, text key, text value, char *buffer, size_t room) {
     if (!value.at) return langtag_without_keyword(tag.at, tag.len, key.at, key.len, buffer, room);
@@ -240,32 +291,88 @@ static void distance(sqlite3_context *context, int count, sqlite3_value **values
     if (far != LANGTAG_NO_DISTANCE) sqlite3_result_int(context, (int)far); /* else NULL */
 }
 
-/* Returns the place of the chosen tag among the arguments, or 0 if no tag is chosen. The tags are spans of one string in one
- * allocated block. */
-static size_t chosen(sqlite3_context *context, int count, sqlite3_value **values, langtag_best_match *match) {
-    if (count < 1) {
-        sqlite3_result_error(context, "langtag: expected a header", -1);
-        return 0;
-    }
-    const text header = text_of(values[0]);
-    size_t tags = (size_t)count - 1, len = 0;
-    if (!header.at) return 0;
-    for (size_t k = 1; k <= tags; k++) len += text_of(values[k]).len;
-    langtag_span *spans = sqlite3_malloc64(tags * sizeof *spans + len + 1);
-    if (!spans) {
+/* The tags of a call, as spans of one string. They are in one allocated block, with room for the index of each tag, and for what a choice
+ * computes of each tag. A string that is NULL has an empty span, which is no tag. */
+typedef struct offered {
+    size_t count, len;
+    langtag_span *spans;
+    size_t *found;
+    langtag_prepared_tag *site; /* prepared if `is_prepared` */
+    char *bytes;
+    bool is_prepared;
+} offered;
+
+/* Returns the tags of a call, which the caller frees. Returns NULL if there is no memory, which is an error. */
+static offered *offer(sqlite3_context *context, int count, sqlite3_value **values) {
+    const size_t tags_count = (size_t)count - 1;
+    size_t len = 0;
+    for (size_t k = 1; k <= tags_count; k++) len += text_of(values[k]).len;
+    offered *tags = sqlite3_malloc64(sizeof *tags + tags_count * (sizeof *tags->site + sizeof *tags->spans + sizeof *tags->found) + len + 1);
+    if (!tags) {
         sqlite3_result_error_nomem(context);
-        return 0;
+        return NULL;
     }
-    char *all = (char *)(spans + tags);
-    for (size_t k = 0, at = 0; k < tags; k++) {
+    tags->count = tags_count;
+    tags->len = len;
+    tags->site = (langtag_prepared_tag *)(tags + 1);
+    tags->spans = (langtag_span *)(tags->site + tags_count);
+    tags->found = (size_t *)(tags->spans + tags_count);
+    tags->bytes = (char *)(tags->found + tags_count);
+    tags->is_prepared = false;
+    for (size_t k = 0, at = 0; k < tags_count; k++) {
         const text tag = text_of(values[k + 1]);
-        spans[k] = (langtag_span){at, tag.len};
-        if (tag.at) memcpy(all + at, tag.at, tag.len);
+        tags->spans[k] = (langtag_span){at, tag.len};
+        if (tag.at) memcpy(tags->bytes + at, tag.at, tag.len);
         at += tag.len;
     }
-    size_t best = langtag_match_for_header(header.at, header.len, all, len, spans, tags, match);
-    sqlite3_free(spans);
-    return best < tags ? best + 1 : 0;
+    return tags;
+}
+
+/* Returns whether the tags are those of a call. */
+static bool are_those_of(const offered *tags, int count, sqlite3_value **values) {
+    if (tags->count != (size_t)count - 1) return false;
+    for (size_t k = 0; k < tags->count; k++) {
+        const text tag = text_of(values[k + 1]);
+        if (tag.len != tags->spans[k].len || (tag.len > 0 && memcmp(tag.at, tags->bytes + tags->spans[k].start, tag.len) != 0)) return false;
+    }
+    return true;
+}
+
+static void prepare(offered *tags) {
+    for (size_t k = 0; k < tags->count; k++) {
+        tags->site[k].tag = tags->spans[k];
+        langtag_prepare(tags->bytes, tags->len, &tags->site[k]);
+    }
+    tags->is_prepared = true;
+}
+
+/* Reads the header of a call. Returns false if the result is NULL or an error. */
+static bool has_header(sqlite3_context *context, int count, sqlite3_value **values, text *header) {
+    if (count < 1) {
+        sqlite3_result_error(context, "langtag: expected a header", -1);
+        return false;
+    }
+    *header = text_of(values[0]);
+    return header->at != NULL;
+}
+
+/* Returns the place of the chosen tag among the arguments, or 0 if no tag is chosen. SQLite keeps the tags of a call for the next call of the
+ * statement if the first tag is constant. They are prepared when a second call has the same tags, because that costs more than one choice. */
+static size_t chosen(sqlite3_context *context, int count, sqlite3_value **values, langtag_best_match *match) {
+    text header;
+    if (!has_header(context, count, values, &header) || count < 2) return 0;
+    offered *kept = sqlite3_get_auxdata(context, 1);
+    if (kept && are_those_of(kept, count, values)) {
+        if (!kept->is_prepared) prepare(kept);
+        size_t best = langtag_site_match_for_header(header.at, header.len, kept->bytes, kept->len, kept->site, kept->count, match);
+        return best < kept->count ? best + 1 : 0;
+    }
+    offered *tags = offer(context, count, values);
+    if (!tags) return 0;
+    size_t best = langtag_match_for_header(header.at, header.len, tags->bytes, tags->len, tags->spans, tags->count, match);
+    best = best < tags->count ? best + 1 : 0;
+    sqlite3_set_auxdata(context, 1, tags, sqlite3_free); /* may free them */
+    return best;
 }
 
 static void best_for_header(sqlite3_context *context, int count, sqlite3_value **values) {
@@ -282,6 +389,24 @@ static void match_for_header(sqlite3_context *context, int count, sqlite3_value 
     char *json = sqlite3_mprintf("{\"index\":%d,\"tag\":\"%s\",\"distance\":%u,\"range\":\"%.*s\"}", (int)best - 1, text_of(values[best]).at,
                                  (unsigned)match.distance, (int)match.range.len, text_of(values[0]).at + match.range.start);
     if (json) sqlite3_result_text(context, json, -1, sqlite3_free);
+    else sqlite3_result_error_nomem(context);
+}
+
+/* Returns a JSON array of the suitable tags, best first. The bytes of tags need no escapes in JSON. */
+static void suitable_for_header(sqlite3_context *context, int count, sqlite3_value **values) {
+    text header;
+    offered *tags = has_header(context, count, values, &header) ? offer(context, count, values) : NULL;
+    if (!tags) return; /* NULL, or the error */
+    size_t found = langtag_suitable_for_header(header.at, header.len, tags->bytes, tags->len, tags->spans, tags->count, tags->found, tags->count);
+    sqlite3_str *json = sqlite3_str_new(sqlite3_context_db_handle(context));
+    for (size_t k = 0; k < found; k++) {
+        const langtag_span tag = tags->spans[tags->found[k]];
+        sqlite3_str_appendf(json, "%s\"%.*s\"", k ? "," : "[", (int)tag.len, tags->bytes + tag.start);
+    }
+    sqlite3_str_appendall(json, found ? "]" : "[]");
+    sqlite3_free(tags);
+    char *text = sqlite3_str_finish(json);
+    if (text) sqlite3_result_text(context, text, -1, sqlite3_free);
     else sqlite3_result_error_nomem(context);
 }
 
@@ -386,14 +511,19 @@ int sqlite3_sqlitelangtag_init(sqlite3 *db, char **message, const sqlite3_api_ro
         {.name = "langtag_is_well_formed", .arguments = 1, .call = is, .is = is_well_formed},
         {.name = "langtag_is_valid", .arguments = 1, .call = is, .is = is_valid},
         {.name = "langtag_suggestion", .arguments = 1, .call = suggestion},
-        {.name = "langtag_maximize", .arguments = 1, .call = form, .form = langtag_maximize},
-        {.name = "langtag_minimize", .arguments = 1, .call = form, .form = langtag_minimize},
+        {.name = "langtag_maximized", .arguments = 1, .call = form, .form = langtag_maximized},
+        {.name = "langtag_minimized", .arguments = 1, .call = form, .form = langtag_minimized},
+        {.name = "langtag_parent", .arguments = 1, .call = form, .form = langtag_parent},
+        {.name = "langtag_describe", .arguments = 1, .call = describe},
+        {.name = "langtag_autonym", .arguments = 1, .call = autonym},
         {.name = "langtag_from_posix", .arguments = 1, .call = form, .form = langtag_from_posix},
+        {.name = "langtag_to_posix", .arguments = 1, .call = form, .form = langtag_to_posix},
         {.name = "langtag_unknown_modifier", .arguments = 1, .call = unknown_modifier},
         {.name = "langtag_distance", .arguments = 2, .call = distance},
         {.name = "langtag_is_right_to_left", .arguments = 1, .call = is, .is = langtag_is_right_to_left},
         {.name = "langtag_best_for_header", .arguments = -1, .call = best_for_header},
         {.name = "langtag_match_for_header", .arguments = -1, .call = match_for_header},
+        {.name = "langtag_suitable_for_header", .arguments = -1, .call = suitable_for_header},
         {.name = "langtag_version", .arguments = 0, .call = version},
         {.name = "langtag_proved", .arguments = 0, .call = proved},
         {.name = "langtag_matches_basic", .arguments = 2, .call = matches, .matches = langtag_matches_basic},

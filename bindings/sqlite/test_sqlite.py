@@ -40,6 +40,12 @@ def of_arguments(header, tags):
     return f"coalesce(langtag_best_for_header({', '.join(map(text, [header, *tags]))}), '-')" if len(tags) < 100 else f"({of_rows(header, tags)})"
 
 
+def chain_of(tag):
+    """Returns the query of a tag and its parents, each of which is asked of the one before it."""
+    return (f"WITH RECURSIVE chain(tag, place) AS (SELECT {tag}, 0 UNION ALL SELECT langtag_parent(tag), place + 1 FROM chain"
+            f" WHERE langtag_parent(tag) IS NOT NULL) SELECT group_concat(tag, ' ') FROM (SELECT tag FROM chain ORDER BY place)")
+
+
 # Each call of the rows as a statement that returns one line.
 QUERIES = {
     "tag": lambda tag: f"SELECT {','.join(shown(f'langtag_part({text(tag)}, {name!r})') for name in PARTS)}",
@@ -51,15 +57,20 @@ QUERIES = {
     "is-locale": lambda tag: f"SELECT langtag_is_locale({text(tag)})",
     "locale-form": lambda tag: f"SELECT {shown(f'langtag_locale_form({text(tag)})')}",
     "canonical": lambda tag: f"SELECT {shown(f'langtag_canonical({text(tag)})')}",
-    "maximized": lambda tag: f"SELECT {shown(f'langtag_maximize({text(tag)})')}",
-    "minimized": lambda tag: f"SELECT {shown(f'langtag_minimize({text(tag)})')}",
+    "maximized": lambda tag: f"SELECT {shown(f'langtag_maximized({text(tag)})')}",
+    "minimized": lambda tag: f"SELECT {shown(f'langtag_minimized({text(tag)})')}",
+    "describe": lambda tag: f"SELECT {shown(f'langtag_describe({text(tag)})')}",
+    "autonym": lambda tag: f"SELECT {shown(f'langtag_autonym({text(tag)})')}",
+    "parents": lambda tag: f"SELECT CASE WHEN langtag_is_well_formed({text(tag)}) THEN ({chain_of(text(tag))}) ELSE '-' END",
     "posix": lambda name: f"SELECT {shown(f'langtag_from_posix({text(name)})')}",
+    "posix-name": lambda tag: f"SELECT {shown(f'langtag_to_posix({text(tag)})')}",
     "unknown-modifier": lambda name: f"SELECT {shown(f'langtag_unknown_modifier({text(name)})')}",
     "distance": lambda a, b: f"SELECT langtag_distance({text(a)}, {text(b)})",
     "right-to-left": lambda tag: f"SELECT langtag_is_well_formed({text(tag)}), langtag_is_right_to_left({text(tag)})",
     "best": lambda header, tags: f"SELECT {of_arguments(header, tags.split())}, ({of_rows(header, tags.split())})",
     "best-match": lambda header, tags:
         f"SELECT coalesce(langtag_match_for_header({', '.join(map(text, [header, *tags.split()]))}), '-')",
+    "suitable": lambda header, tags: f"SELECT langtag_suitable_for_header({', '.join(map(text, [header, *tags.split()]))})",
     "suggestion": lambda tag: f"SELECT {shown(f'langtag_suggestion({text(tag)})')}",
     "validity": lambda tag: f"SELECT langtag_is_well_formed({text(tag)}), langtag_is_valid({text(tag)})",
     "match": lambda range, tag: f"SELECT langtag_matches_basic({text(range)}, {text(tag)}),"
@@ -118,12 +129,17 @@ ANSWERS = {
     "suggestion": lambda said: bytes_of(said) or "-",
     "maximized": lambda said: bytes_of(said) or "-",
     "minimized": lambda said: bytes_of(said) or "-",
+    "describe": lambda said: rows.escaped(bytes_of(said) or "-"),
+    "autonym": lambda said: rows.escaped(bytes_of(said) or "-"),
+    "parents": str,
     "posix": lambda said: bytes_of(said) or "-",
+    "posix-name": lambda said: bytes_of(said) or "-",
     "unknown-modifier": lambda said: bytes_of(said) or "-",
     "distance": lambda said: said or "-",
     "right-to-left": {"0|0": "-", "1|1": "yes", "1|0": "no"}.get,
     "best": answer_best,
     "best-match": answer_match,
+    "suitable": lambda said: " ".join(json.loads(said)) or "-",
     "validity": {"0|0": "none", "1|1": "valid", "1|0": "invalid"}.get,
     "match": {"1|1": "both", "1|0": "basic", "0|1": "extended", "0|0": "neither"}.get,
     "order": {"1|0|0": "before", "0|1|0": "equal", "0|0|1": "after"}.get,
@@ -140,7 +156,7 @@ def adapted(row):
     return "".join(f"\n  {name} {'-'.join(subtags)}" for name, *subtags in lines if name in PARTS)
 
 
-FLOORS = {"table.txt": 255, "likely.txt": 250, "distance.txt": 140, "direction.txt": 325, "posix.txt": 150, "choices.txt": 285, "lengths.txt": 90,
+FLOORS = {"table.txt": 255, "likely.txt": 250, "parents.txt": 330, "names.txt": 430, "distance.txt": 140, "direction.txt": 325, "posix.txt": 240, "choices.txt": 285, "suitable.txt": 25, "lengths.txt": 90,
           "unicode.txt": 25, "keywords.txt": 380, "extensions.txt": 630, "locale.txt": 780, "cldr.txt": 1770}
 
 TABLE = "CREATE TABLE texts (tag TEXT PRIMARY KEY COLLATE langtag); INSERT INTO texts VALUES ('zh-Hant'), ('de'), ('zh'), ('');"
@@ -168,7 +184,7 @@ STATEMENTS = [
     ("SELECT langtag_part('zh-Hant', 'script'), typeof(langtag_canonical('iw')), typeof(langtag_is_valid('iw'));",
      "Hant|text|integer"),
     ("SELECT langtag_from_posix(NULL) IS NULL, langtag_unknown_modifier(NULL) IS NULL, langtag_unknown_modifier('de@ö');", "1|1|ö"),
-    ("SELECT langtag_maximize(NULL) IS NULL, langtag_distance('de', NULL) IS NULL, langtag_best_for_header(NULL, 'de') IS NULL;",
+    ("SELECT langtag_maximized(NULL) IS NULL, langtag_distance('de', NULL) IS NULL, langtag_best_for_header(NULL, 'de') IS NULL;",
      "1|1|1"),
     ("SELECT langtag_best_for_header('zh-TW,zh;q=0.9,en;q=0.8', 'en', 'zh-Hans', NULL, 'zh-Hant');", "zh-Hant"),
     ("SELECT langtag_best_for_header('zh-TW', NULL, 'zh-Hant'), langtag_best_for_header('zh-TW', NULL, NULL, 'de', 'zh-Hant', NULL);", "zh-Hant|zh-Hant"),
@@ -187,7 +203,7 @@ STATEMENTS = [
     ("WITH RECURSIVE n(k) AS (SELECT 1 UNION ALL SELECT k + 1 FROM n WHERE k < 1000) SELECT langtag_group_best_for_header('de-CH, fr;q=0.5', CASE k WHEN 9 THEN 'fr' WHEN 999 THEN 'de-CH' "
      "WHEN 1000 THEN 'de' ELSE 'x-a' || k END) FROM n;", "de-CH"),
     # A schema that is not trusted may use the functions.
-    ("PRAGMA trusted_schema = off; CREATE TABLE t (tag TEXT CHECK (langtag_is_valid(tag)), form TEXT AS (langtag_canonical(tag)) STORED); CREATE INDEX i ON t (langtag_maximize(tag));"
+    ("PRAGMA trusted_schema = off; CREATE TABLE t (tag TEXT CHECK (langtag_is_valid(tag)), form TEXT AS (langtag_canonical(tag)) STORED); CREATE INDEX i ON t (langtag_maximized(tag));"
      "CREATE VIEW best AS SELECT langtag_group_best_for_header('he', tag) AS tag FROM t; CREATE VIEW more AS SELECT langtag_best_for_header('he', tag), langtag_match_for_header('de', tag) FROM t;"
      "INSERT INTO t VALUES ('iw'), (NULL); SELECT form FROM t WHERE form IS NOT NULL; SELECT * FROM best; SELECT count(*) FROM more;", "he\niw\n2"),
     ("SELECT langtag_version() GLOB 'langtag *.*.* (IANA''s registry of 20[0-9][0-9]-[01][0-9]-[0-3][0-9], CLDR [0-9]*)', langtag_proved() IN (0, 1);", "1|1"),
@@ -226,6 +242,32 @@ class Sqlite(unittest.TestCase):
         self.assertIn("no part has that name", sqlite("SELECT langtag_part('de', 'scr');")[1])
         self.assertIn("the header differs in the rows of a group", sqlite("SELECT langtag_group_best_for_header(column1, 'de') FROM (VALUES ('de'), ('en'));")[1])
 
+    def differing(self, choose, tags, headers="headers"):
+        """Returns the query that counts the headers for which a choice differs from one whose tags SQLite does not keep, because the
+        first is a column."""
+        kept, column = ", ".join(tags), ", ".join(["first", *tags[1:]])
+        return f"SELECT count(*) FROM {headers}, firsts WHERE {choose}(header, {kept}) IS NOT {choose}(header, {column});"
+
+    def test_tags_that_are_kept(self):
+        """A statement that has the same tags for many rows prepares them once. Its choices are those of a call for each row."""
+        choices = [row.arguments for row in rows.read(rows.FOLDER / "choices.txt") if row.call == "best"]
+        headers = "CREATE TABLE headers AS SELECT column1 AS header FROM (VALUES " + ", ".join(f"({text(header)})" for header, _ in choices) + ");"
+        lists = sorted({tuple(map(text, tags.split())) for _, tags in choices if 0 < len(tags.split()) < 99})
+        self.assertGreater(len(lists), 80)
+        for choose in ("langtag_best_for_header", "langtag_match_for_header"):
+            script = "".join(f"DROP TABLE IF EXISTS firsts; CREATE TABLE firsts AS SELECT {tags[0]} AS first;" + self.differing(choose, tags) for tags in lists)
+            self.assertEqual(sqlite(headers + script), ("0\n" * len(lists), ""))
+
+    def test_tags_that_change(self):
+        """Tags that change in a statement are read again: a longer list, other bytes of the same length, NULL, and the same tags later."""
+        lists = "('de', 'fr'), ('de', 'fr'), ('de', 'ja'), ('de', 'ja'), ('d', 'efr'), ('ja', 'de'), ('ja', 'de'), (NULL, 'de'), (NULL, 'de'), ('', 'de'), ('de', NULL), ('de', 'fr'), ('de', 'fr')"
+        script = (f"CREATE TABLE lists AS SELECT column1 AS a, column2 AS b FROM (VALUES {lists}); CREATE TABLE headers AS SELECT header, a, b "
+                  "FROM (SELECT 'de' AS header UNION ALL SELECT 'fr,ja;q=0.5' UNION ALL SELECT 'ja') CROSS JOIN lists;")
+        script += "CREATE TABLE firsts AS SELECT 'en' AS first;" + "".join(
+            self.differing(choose, ["'en'", "a", "b"]) for choose in ("langtag_best_for_header", "langtag_match_for_header"))
+        script += "SELECT group_concat(coalesce(langtag_best_for_header(header, 'en', a, b), '-'), ' ') FROM headers WHERE header = 'fr,ja;q=0.5';"
+        self.assertEqual(sqlite(script), ("0\n0\nfr fr ja ja - ja ja - - - - fr fr\n", ""))
+
     def test_check(self):
         """A CHECK refuses what is no valid tag, and NOT NULL refuses NULL."""
         for value in ("'de_DE'", "'not a tag at all'", "''", "'qt-FR'", "5"):
@@ -238,7 +280,7 @@ class Sqlite(unittest.TestCase):
         """Texts of each length are whole: parts, keywords, forms, and choices among rows and arguments."""
         for length in (200, 300, 2000, 4506, 100_000):
             tail = "x-" + "abcdefgh-" * (length // 9) + "a"
-            said, complaint = sqlite(f"SELECT langtag_part('zh-TW-{tail}', 'private_use'), langtag_canonical('zh-yue-{tail}'), langtag_maximize('zh-TW-{tail}'), langtag_locale_form('ger-UK-{tail}'), "
+            said, complaint = sqlite(f"SELECT langtag_part('zh-TW-{tail}', 'private_use'), langtag_canonical('zh-yue-{tail}'), langtag_maximized('zh-TW-{tail}'), langtag_locale_form('ger-UK-{tail}'), "
                                      f"langtag_best_for_header('de', 'de-{tail}'), (SELECT langtag_group_best_for_header('de', column1) FROM (VALUES ('de-CH-{tail}'), ('de-{tail}'))), langtag_set_keyword('de-{tail}', 'ca', 'roc');")
             self.assertEqual(complaint, "")
             self.assertEqual(said.strip(), "|".join([tail, f"yue-{tail}", f"zh-Hant-TW-{tail}", f"de-GB-{tail}", f"de-{tail}", f"de-{tail}", f"de-u-ca-roc-{tail}"]))
@@ -246,12 +288,13 @@ class Sqlite(unittest.TestCase):
     def test_memory(self):
         """Makes 20,000 calls of each function. The memory of SQLite's allocator must not grow."""
         numbers = "WITH RECURSIVE n(k) AS (SELECT 1 UNION ALL SELECT k + 1 FROM n WHERE k < {})"
-        calls = ("langtag_best_for_header('de', 'en', 'de-x-a' || k)", "langtag_canonical('iw-x-' || replace(printf('%.40c', 'a'), 'a', 'abcdefgh-') || k)", "langtag_maximize('de-x-a' || k)",
+        calls = ("langtag_best_for_header('de', 'en', 'de-x-a' || k)", "langtag_canonical('iw-x-' || replace(printf('%.40c', 'a'), 'a', 'abcdefgh-') || k)", "langtag_maximized('de-x-a' || k)",
                  "langtag_part('de-x-a' || k, 'private_use')", "langtag_canonical('iw-x-a' || k)", "langtag_is_valid('de' || k)",
                  "langtag_keyword('de-u-ca-a' || k, 'ca')", "langtag_set_keyword('de-u-ca-a', 'ca', 1000 + k)",
                  "langtag_set_keyword('de-u-a' || k, 'ca', NULL)", "langtag_extensions_form('de-u-kn-ca-a' || k)", "langtag_is_locale('de-x-a' || k)",
                  "langtag_locale_form('ger-x-a' || k)", "langtag_from_posix('de_x@' || k)", "langtag_unknown_modifier('de@' || k)",
-                 "langtag_matches_basic('de', 'de-x-a' || k)", "langtag_matches_extended('de', 'de-x-a' || k)")
+                 "langtag_matches_basic('de', 'de-x-a' || k)", "langtag_matches_extended('de', 'de-x-a' || k)",
+                 "langtag_describe('de-x-a' || k)", "langtag_autonym('de-x-a' || k)")
         asked = ", ".join(f"count({call})" for call in calls)
         groups = "SELECT count(*) FROM (SELECT langtag_group_best_for_header('de', 'de-x-a' || k) FROM n GROUP BY k / 2)"
         statements = "".join(f"{numbers.format(count)} SELECT {asked}, ({groups}) FROM n;\n" for count in (100, 20_000))

@@ -49,7 +49,7 @@ class Doc:
 
 def words_in(text):
     text = re.sub(r"\btry_(from_parts|lenient)\b", r"\1", text)
-    text = re.sub(rf"\[({SECTION})\]", r"\1", PATH.sub("", text))
+    text = re.sub(rf"\[({SECTION}|`[\w:]+`)\]", r"\1", PATH.sub("", text))
     return re.sub(r"\balloc, |, alloc\b(?=\))|(?<=\()alloc(?=\))", "", text).split()
 
 

@@ -30,7 +30,7 @@ CRATES = {
 MADE = "erased"
 ELSEWHERE = {"langtag_span": "../c/src", "langtag_c": "../c/src"}
 # The folders with other files: the program, and the list of the modules.
-BY_HAND = ["bin", "bin/langtag", "erased"]
+BY_HAND = ["bin", "bin/langtag", "erased", "names"]
 # The modules that also export what another crate exports.
 SHOWING = {"langtag_unicode": "langtag_locale", "langtag_likely": "langtag_parent"}
 # The error whose message ends with a suggestion, which is written by hand.

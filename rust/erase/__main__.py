@@ -35,7 +35,7 @@ def erase(source, module):
     erase_allocators(code)
     erase_forms(code)
     rename_calls(code)
-    mark_inlined(code)
+    mark_inlined(code, module, source.stem)
     if module.crate not in ("langtag_span", "langtag_c"):
         add_attributes(code, source)
     erase_paths(code, module)

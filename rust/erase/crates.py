@@ -42,13 +42,19 @@ PUBLIC = {"scan", "matching", "registry", "likely", "choice", "unicode"}
 SHOWN_IN = {"langtag_locale": "langtag_unicode", "langtag_parent": "langtag_likely"}
 EXPORTED_BY = {"langtag_keyword": "langtag_unicode", "langtag_case": "langtag_scan"}
 
+# The crates whose modules need the feature `data`, and those of the C library. In a module of another crate every function is inlined.
+WITH_DATA = {"langtag_registry", "langtag_likely", "langtag_parent", "langtag_choice", "langtag_keyword", "langtag_unicode", "langtag_locale"}
+OF_C = {"langtag_span", "langtag_c"}
+
 
 # The functions that users call in another form: for example, `langtag::registry::canonical` takes more types than the proved
 # function, and returns a tag instead of a Result. And the items that users do not have. An example that uses one of them names it in
 # the module `erased`.
 REPLACED = set("""
     look_up tag_for_header canonical extlang_form write_canonical maximized minimized write_maximized write_minimized
-    write_from_posix extensions_form write_extensions_form locale_form write_locale_form write_with_keyword write_without_keyword Site
+    write_from_posix to_posix write_to_posix extensions_form write_extensions_form locale_form write_locale_form write_with_keyword
+    write_without_keyword Site suitable_for_header
+    suitable_for_ranges suitable_among write_suitable
 """.split())
 HIDDEN = set("""
     put_part is_among_first Part Replacement Keys element_at is_empty_element listed_range locale_place split_wanted weight_of

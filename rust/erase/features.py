@@ -70,6 +70,16 @@ def mark_owning(code, owning):
             split_import(code, item, owning)
         elif used & owning or calls & METHODS:
             code.replace(item.start, item.start, LEFT_OUT)
+        else:
+            unlink(code.tokens[item.start], owning)
+
+
+LINK = re.compile(r"\[(`(?:\w+::)*(\w+)(?:::\w+)*`)\](?![(:])")
+
+
+def unlink(token, owning):
+    """Makes code of the links, in the doc comment before an item that stays, to items that may be left out."""
+    token.before = LINK.sub(lambda link: link[1] if link[2] in owning else link[0], token.before)
 
 
 def split_import(code, item, owning):

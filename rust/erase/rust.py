@@ -1,7 +1,11 @@
 """Changes syntax that differs between Rattle and Rust of edition 2021."""
 import re
 
-INLINED = 40  # A function with at most this many tokens is inlined across crates.
+from crates import OF_C, WITH_DATA
+
+INLINED = 40  # In a module with data, a function with at most this many tokens is inlined across crates.
+# Longer functions that are inlined, too, by file: they are called for each tag of a site and each range of a header.
+OFTEN_CALLED = {"prepared_form": {"form", "has_language_of", "is_far_from"}}
 
 FORMS = [
     # The C library has its exports in a separate file, rust/c/src/exports.rs.
@@ -68,14 +72,17 @@ def nest(code, ands, body):
         code.replace(at, at + 2, "{ if")
 
 
-def mark_inlined(code):
-    """Adds `#[inline]` to short functions, private ones too. Without it, calls between the modules of this crate cost a quarter
-    more."""
+def mark_inlined(code, module, file):
+    """Adds `#[inline]` to functions, private ones too, so that rustc compiles them only for a program that calls them. In modules with
+    data only short functions get it, and those that are often called, because a long one would be compiled again in each crate that calls it."""
+    often_called = OFTEN_CALLED.get(file, set())
+    longest = INLINED if module.crate in WITH_DATA | OF_C else len(code)
     place = 0
     while (place := code.find("fn", place)) >= 0:
         start = start_of_function(code, place)
         body = next((at for at in range(place, len(code)) if code[at] in ("{", ";")), place)
-        if code[body] == "{" and code.tokens[place + 1].kind == "word" and code.after(body) - body <= INLINED + 1 and code[start - 1] != "]":
+        is_short = code.after(body) - body <= longest + 1 if code[body] == "{" else False
+        if (is_short or code[place + 1] in often_called) and code.tokens[place + 1].kind == "word" and code[start - 1] != "]":
             place = code.replace(start, start, "#[inline]\n") + (place - start)
         place += 1
 

@@ -25,7 +25,7 @@ impl Catalogue {
     /// `pt`. A parent is written in the same script, so `zh-TW` never leads to `zh`.
     fn get<'t>(&self, tag: impl Into<LangTag<'t>>, key: &str) -> Option<&str> {
         let canonical = tag.into().canonical();
-        let mut parents = canonical.as_lang_tag().parents();
+        let mut parents = canonical.parents();
         parents.find_map(|tag| {
             let messages = self.messages.get(tag.caseless())?;
             messages.get(key).map(String::as_str)

@@ -34,6 +34,7 @@ pub trait CaselessText {
     fn text(&self) -> &str;
 
     /// Returns the string as a key for looking it up in a map.
+    #[inline]
     fn caseless(&self) -> &dyn CaselessText
     where
         Self: Sized,
@@ -43,12 +44,14 @@ pub trait CaselessText {
 }
 
 impl<T: AsRef<str>> CaselessText for T {
+    #[inline]
     fn text(&self) -> &str {
         self.as_ref()
     }
 }
 
 impl PartialEq for dyn CaselessText + '_ {
+    #[inline]
     fn eq(&self, other: &Self) -> bool {
         case_insensitive_eq(self.text().as_bytes(), other.text().as_bytes())
     }
@@ -57,24 +60,28 @@ impl PartialEq for dyn CaselessText + '_ {
 impl Eq for dyn CaselessText + '_ {}
 
 impl PartialOrd for dyn CaselessText + '_ {
+    #[inline]
     fn partial_cmp(&self, other: &Self) -> Option<Ordering> {
         Some(self.cmp(other))
     }
 }
 
 impl Ord for dyn CaselessText + '_ {
+    #[inline]
     fn cmp(&self, other: &Self) -> Ordering {
         case_insensitive_cmp(self.text().as_bytes(), other.text().as_bytes())
     }
 }
 
 impl Hash for dyn CaselessText + '_ {
+    #[inline]
     fn hash<H: Hasher>(&self, state: &mut H) {
         case_insensitive_hash(self.text().as_bytes(), state);
     }
 }
 
 impl fmt::Debug for dyn CaselessText + '_ {
+    #[inline]
     fn fmt(&self, f: &mut fmt::Formatter<'_>) -> fmt::Result {
         self.text().fmt(f)
     }
@@ -83,6 +90,7 @@ impl fmt::Debug for dyn CaselessText + '_ {
 macro_rules! asked {
     ($($name:ident, $owned:ident, $error:ident, $lend:ident, $what:literal;)+) => {$(
         impl<'k, 'a: 'k> Borrow<dyn CaselessText + 'k> for $name<'a> {
+            #[inline]
             fn borrow(&self) -> &(dyn CaselessText + 'k) {
                 self
             }
@@ -90,6 +98,7 @@ macro_rules! asked {
 
         #[cfg(feature = "alloc")]
         impl<'k> Borrow<dyn CaselessText + 'k> for $owned {
+            #[inline]
             fn borrow(&self) -> &(dyn CaselessText + 'k) {
                 self
             }

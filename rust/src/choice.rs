@@ -19,11 +19,15 @@
 use crate::erased::choice;
 #[cfg(feature = "alloc")]
 use crate::matching::AcceptLanguage;
+#[cfg(feature = "alloc")]
+use crate::memory::or_abort;
 use crate::LangTag;
+#[cfg(feature = "alloc")]
+use alloc::vec::Vec;
 use core::fmt;
 
 pub use crate::erased::choice::{
-    BestMatch, KnownTag, PreparedTag, RangeList, TagList, FORMLESS_DISTANCE,
+    BestMatch, PreparedForm, RangeList, TagList, FORMLESS_DISTANCE,
 };
 use crate::lists::Ranges;
 pub use crate::lists::TagEntry;
@@ -76,9 +80,10 @@ pub fn best_for_accept_language(
 /// Returns the index of the best tag for a list of language ranges in order of preference, as
 /// [`best_for_header`] does.
 ///
-/// A range is read as in a header: `zh_TW.UTF-8` as `zh-TW`. An extended range is read without its
-/// `*`: `zh-*-Hant` as `zh-Hant`. A string that is not a language range, such as `de;q=0`, is
-/// skipped.
+/// A range is read as in a header: `zh_TW.UTF-8` as `zh-TW`, and `sr_RS@latin` as `sr-RS`. Call
+/// `likely::from_posix` first for the names in `LANG` and `LANGUAGE`. An extended range is read
+/// without its `*`: `zh-*-Hant` as `zh-Hant`. A string that is not a language range, such as
+/// `de;q=0`, is skipped.
 ///
 /// ```
 /// use langtag::choice::best_for_ranges;
@@ -146,6 +151,87 @@ pub fn match_among<'a>(
     choice::match_among(ranges, &tags)
 }
 
+/// Returns the indices of all suitable tags for an `Accept-Language` header, best first.
+///
+/// They are the tag that [`best_for_header`] chooses, the tag that it chooses among the others, and
+/// so on. A player offers its tracks in this order, and a catalogue looks for a message in it.
+///
+/// The time is that of one choice for each index, and of a comparison with each earlier index for
+/// each tag. [`write_suitable`] stops after as many as you want, and does not allocate.
+///
+/// ```
+/// use langtag::choice::suitable_for_header;
+///
+/// assert_eq!(suitable_for_header("de-CH,fr;q=0.7", &["en", "fr", "de", "de-AT"]), [2, 3, 1]);
+/// ```
+#[cfg(feature = "alloc")]
+#[doc(alias = "filtering")]
+#[doc(alias = "negotiate_languages")]
+#[must_use]
+pub fn suitable_for_header(
+    header: &(impl AsRef<[u8]> + ?Sized),
+    tags: &(impl TagList + ?Sized),
+) -> Vec<usize> {
+    suitable_among(header.as_ref(), tags)
+}
+
+/// Returns the indices of all suitable tags for a list of language ranges in order of preference,
+/// best first, as [`suitable_for_header`] does.
+///
+/// ```
+/// use langtag::choice::suitable_for_ranges;
+///
+/// assert_eq!(suitable_for_ranges(&["de_CH", "fr"], &["en", "fr", "de"]), [2, 1]);
+/// ```
+#[cfg(feature = "alloc")]
+#[must_use]
+pub fn suitable_for_ranges(
+    ranges: &[impl AsRef<str>],
+    tags: &(impl TagList + ?Sized),
+) -> Vec<usize> {
+    suitable_among(Ranges(ranges), tags)
+}
+
+/// Returns the indices of all suitable tags, as [`suitable_for_header`] does, for any list of
+/// ranges.
+///
+/// ```
+/// use langtag::choice::suitable_among;
+/// use langtag::matching::AcceptLanguage;
+///
+/// let accepted = AcceptLanguage::lenient("de-CH, fr;q=0.5");
+/// assert_eq!(suitable_among(accepted.ranges(), &["en", "fr", "de"]), [2, 1]);
+/// ```
+#[cfg(feature = "alloc")]
+#[must_use]
+pub fn suitable_among<'a>(
+    ranges: impl RangeList<'a>,
+    tags: &(impl TagList + ?Sized),
+) -> Vec<usize> {
+    or_abort(choice::suitable_among(ranges, &tags))
+}
+
+/// Writes the indices of the suitable tags to an array, best first, and returns those that it
+/// wrote.
+///
+/// If the array is too short, it gets the best. It does not allocate.
+///
+/// ```
+/// use langtag::choice::write_suitable;
+///
+/// let mut found = [0; 2];
+/// let tracks = ["en", "fr", "de", "de-AT"];
+/// assert_eq!(write_suitable(&b"de-CH,fr;q=0.7"[..], &tracks, &mut found), [2, 3]);
+/// ```
+pub fn write_suitable<'a, 'f>(
+    ranges: impl RangeList<'a>,
+    tags: &(impl TagList + ?Sized),
+    found: &'f mut [usize],
+) -> &'f [usize] {
+    let count = choice::write_suitable(ranges, &tags, found);
+    &found[..count]
+}
+
 /// Returns the distance from the tag that a user wants to the tag that a site has.
 ///
 /// It is 0 if language, script and region are equal, and [`FORMLESS_DISTANCE`] if the tags differ
@@ -167,18 +253,15 @@ pub fn distance<'a, 'b>(desired: impl Into<LangTag<'a>>, supported: impl Into<La
     choice::distance(desired.into(), supported.into())
 }
 
-impl fmt::Debug for PreparedTag<'_> {
+impl fmt::Debug for choice::PreparedTag<'_> {
     fn fmt(&self, f: &mut fmt::Formatter<'_>) -> fmt::Result {
         f.debug_tuple("PreparedTag").field(&self.tag()).finish()
     }
 }
 
-impl fmt::Debug for KnownTag<'_> {
+impl fmt::Debug for PreparedForm {
     fn fmt(&self, f: &mut fmt::Formatter<'_>) -> fmt::Result {
-        match self {
-            KnownTag::Text(text) => write!(f, "Text(\"{}\")", text.escape_ascii()),
-            KnownTag::Prepared(tag) => f.debug_tuple("Prepared").field(tag).finish(),
-        }
+        f.debug_struct("PreparedForm").finish_non_exhaustive()
     }
 }
 

@@ -36,6 +36,7 @@ impl LangTag<'static> {
 }
 
 impl Default for LangTag<'_> {
+    #[inline]
     fn default() -> Self {
         LangTag::UND
     }
@@ -43,6 +44,7 @@ impl Default for LangTag<'_> {
 
 #[cfg(feature = "alloc")]
 impl Default for LangTagBuf {
+    #[inline]
     fn default() -> Self {
         LangTag::UND.to_owned()
     }
@@ -156,6 +158,7 @@ impl<'a> Extensions<'a> {
     /// # Ok::<(), Box<dyn std::error::Error>>(())
     /// ```
     #[must_use]
+    #[inline]
     pub fn get(&self, singleton: impl TryInto<Singleton>) -> Option<Extension<'a>> {
         self.get_singleton(singleton.try_into().ok()?)
     }
@@ -174,6 +177,7 @@ impl NormalLangTagBuf {
     /// # Ok::<(), Box<dyn std::error::Error>>(())
     /// ```
     #[must_use]
+    #[inline]
     pub fn from_parts(
         language: Language<'_>,
         script: Option<Script<'_>>,
@@ -196,6 +200,7 @@ impl LangTagBuf {
     /// # Ok::<(), Box<dyn std::error::Error>>(())
     /// ```
     #[must_use]
+    #[inline]
     pub fn from_parts(
         language: Language<'_>,
         script: Option<Script<'_>>,
@@ -210,6 +215,7 @@ impl LangTagBuf {
     /// # Errors
     ///
     /// Returns an error if allocation fails.
+    #[inline]
     pub fn try_from_parts(
         language: Language<'_>,
         script: Option<Script<'_>>,
@@ -230,6 +236,7 @@ impl<'a> AcceptLanguage<'a> {
     /// assert!(accepted.ranges().iter().map(|it| it.range).eq(["en", "fr"]));
     /// ```
     #[must_use]
+    #[inline]
     pub fn lenient(header: &'a str) -> AcceptLanguage<'a> {
         or_abort(Self::try_lenient(header))
     }
@@ -251,6 +258,7 @@ macro_rules! recommended {
             /// # Ok::<(), Box<dyn std::error::Error>>(())
             /// ```
             #[must_use]
+            #[inline]
             pub fn to_recommended_case(&self) -> $owned {
                 or_abort(self.try_to_recommended_case())
             }

@@ -10,6 +10,7 @@ use crate::message::Reason;
 macro_rules! compared {
     ($($error:ident),+) => {$(
         impl<T: Clone> Clone for $error<T> {
+            #[inline]
             fn clone(&self) -> Self {
                 $error(self.0.clone())
             }
@@ -18,6 +19,7 @@ macro_rules! compared {
         impl<T: Copy> Copy for $error<T> {}
 
         impl<T: PartialEq> PartialEq for $error<T> {
+            #[inline]
             fn eq(&self, other: &Self) -> bool {
                 self.0 == other.0
             }
@@ -26,6 +28,7 @@ macro_rules! compared {
         impl<T: Eq> Eq for $error<T> {}
 
         impl<T: core::hash::Hash> core::hash::Hash for $error<T> {
+            #[inline]
             fn hash<H: core::hash::Hasher>(&self, state: &mut H) {
                 self.0.hash(state);
             }
@@ -81,6 +84,7 @@ impl<T: AsRef<str>> InvalidLangTag<T> {
     /// assert_eq!(&error.0[refusal.start..refusal.end], "DE");
     /// ```
     #[must_use]
+    #[inline]
     pub fn refusal(&self) -> Option<Refusal> {
         Refusal::of(self.0.as_ref().as_bytes())
     }
@@ -95,6 +99,7 @@ impl<T: AsRef<str>> InvalidLangTag<T> {
     /// let error = LangTag::new("de-419-DE").unwrap_err();
     /// assert_eq!(error.reason().to_string(), "unexpected subtag `DE`");
     /// ```
+    #[inline]
     pub fn reason(&self) -> impl fmt::Display + '_ {
         Reason(self.0.as_ref().as_bytes())
     }

@@ -2,6 +2,8 @@
 //! `owned.as_lang_tag().script()`.
 #[allow(unused_imports)]
 use crate::erased::tag::*;
+#[cfg(feature = "data")]
+use crate::likely::Parents;
 #[allow(unused_imports)] // only links name LanguageRange
 use crate::matching::{Fallbacks, LanguageRange, LanguageRangeBuf};
 #[cfg(feature = "data")]
@@ -61,9 +63,12 @@ lent! {
         private_use_subtags() -> PrivateUseIter<'_>;
         subtags() -> Subtags<'_>;
         repeated_variant() -> Option<Variant<'_>>;
+        repeated_variant_index() -> Option<usize>;
         repeated_singleton() -> Option<Singleton>;
+        repeated_singleton_index() -> Option<usize>;
         in_recommended_case() -> InRecommendedCase<'_>;
         is_in_recommended_case() -> bool;
+        to_recommended_case() -> NormalLangTagBuf;
     }
     LangTagBuf: LangTag by as_lang_tag {
         kind() -> Kind;
@@ -107,6 +112,8 @@ lent! {
         attributes() -> AttributesIter<'_>;
         transform() -> Option<Transformation<'_>>;
         is_right_to_left() -> bool;
+        parent() -> Option<LangTag<'_>>;
+        parents() -> Parents<'_>;
     }
 }
 

@@ -38,6 +38,10 @@
     feature = "data",
     doc = "- [`choice`]: the best tag for an `Accept-Language` header, and the distance of two tags (UTS #35)"
 )]
+#![cfg_attr(
+    feature = "names",
+    doc = "- [`names`]: names of tags in English, and of languages in themselves"
+)]
 //! - [`matching`]: language ranges, filters and lookup (RFC 4647); `Accept-Language` (RFC 9110)
 #![cfg_attr(
     feature = "data",
@@ -45,7 +49,7 @@
 )]
 #![cfg_attr(
     feature = "data",
-    doc = "- [`likely`]: likely subtags, direction, POSIX locale names (UTS #35)"
+    doc = "- [`likely`]: likely subtags, the parents of a tag, direction, POSIX locale names (UTS #35)"
 )]
 #![cfg_attr(
     feature = "data",
@@ -74,6 +78,7 @@
 //!
 //! - `alloc` (default): owned forms, setters, and calls that return new tags
 //! - `data` (default): `choice`, `likely`, `registry` and `unicode`, with their data
+//! - `names`: the module `names`, with names of languages in English and in themselves
 //! - `oxilangtag`: the module `oxilangtag`, with the names of that crate
 //! - `serde` (releases only): tags, parts and ranges as strings
 //!
@@ -111,6 +116,8 @@ mod text_types;
 // Rattle.
 #[doc(hidden)]
 #[allow(dead_code, unused_imports, missing_docs)]
+// For a few keys, `contains` takes longer than `iter().any()`.
+#[allow(clippy::manual_contains)]
 pub mod erased;
 
 // The modules that users call.
@@ -119,6 +126,8 @@ pub mod choice;
 #[cfg(feature = "data")]
 pub mod likely;
 pub mod matching;
+#[cfg(feature = "names")]
+pub mod names;
 #[cfg(feature = "oxilangtag")]
 pub mod oxilangtag;
 #[cfg(feature = "data")]

@@ -18,6 +18,8 @@ use crate::too_short::written;
 #[cfg(feature = "alloc")]
 use crate::{memory::or_abort, AllocError, LangTagBuf};
 use crate::{LangTag, TooShort};
+#[cfg(feature = "alloc")]
+use alloc::string::String;
 
 #[cfg(feature = "alloc")]
 pub use crate::erased::likely::{from_posix, PosixError};
@@ -156,6 +158,72 @@ pub fn write_from_posix(
     }
 }
 
+/// Returns the POSIX locale name for a tag: `pt_BR` for `pt-BR`, `sr_RS@latin` for `sr-Latn-RS`,
+/// `ca_ES@valencia` for `ca-ES-valencia`, `zh_TW` for `zh-Hant-TW`. Returns `None` if a name cannot
+/// say all of the tag.
+///
+/// The modifiers are `latin`, `cyrillic`, `devanagari`, `valencia`, `tarask`, `ijekavian` and
+/// `ijekavianlatin`. A likely script is left out. Another script or variant has no name, nor have
+/// extensions other than `u-va-posix`, private use, extended languages, languages of more than three
+/// letters, and `und`. To leave extensions out, ask for the name of [`LangTag::base`]. The codeset
+/// is the caller's, as in `pt_BR.UTF-8`.
+///
+/// [`from_posix`] reads the name as the same tag, in its recommended case, without a script that was
+/// left out.
+///
+/// ```
+/// use langtag::likely::to_posix;
+/// use langtag::LangTag;
+///
+/// assert_eq!(to_posix(LangTag::new("sr-Latn-RS")?).as_deref(), Some("sr_RS@latin"));
+/// assert_eq!(to_posix(LangTag::new("zh-Hant-TW")?).as_deref(), Some("zh_TW"));
+/// assert_eq!(to_posix(LangTag::new("de-DE-u-co-phonebk")?), None);
+/// # Ok::<(), Box<dyn std::error::Error>>(())
+/// ```
+#[cfg(feature = "alloc")]
+#[must_use]
+pub fn to_posix<'a>(tag: impl Into<LangTag<'a>>) -> Option<String> {
+    or_abort(try_to_posix(tag))
+}
+
+/// Returns the POSIX locale name for a tag, as [`to_posix`] does.
+///
+/// # Errors
+///
+/// Returns an error if allocation fails.
+#[cfg(feature = "alloc")]
+pub fn try_to_posix<'a>(tag: impl Into<LangTag<'a>>) -> Result<Option<String>, AllocError> {
+    likely::to_posix(tag.into())
+}
+
+/// Writes the POSIX locale name for a tag to a buffer, as `to_posix` returns it, and returns what was
+/// written, or `None` if the tag has no name. A name has at most 28 bytes.
+///
+/// It does not allocate.
+///
+/// # Errors
+///
+/// Returns the length of the name if the buffer is too short.
+///
+/// ```
+/// use langtag::likely::write_to_posix;
+/// use langtag::LangTag;
+///
+/// let mut buffer = [0; 28];
+/// assert_eq!(write_to_posix(LangTag::new("sr-Latn-RS")?, &mut buffer)?, Some("sr_RS@latin"));
+/// assert_eq!(write_to_posix(LangTag::new("und")?, &mut buffer)?, None);
+/// # Ok::<(), Box<dyn std::error::Error>>(())
+/// ```
+pub fn write_to_posix<'a, 'b>(
+    tag: impl Into<LangTag<'a>>,
+    buffer: &'b mut [u8],
+) -> Result<Option<&'b str>, TooShort> {
+    match likely::write_to_posix(tag.into(), buffer) {
+        Some(len) => written(buffer, len).map(Some),
+        None => Ok(None),
+    }
+}
+
 /// Returns whether a tag's language is written from right to left, in the script of the tag or else
 /// in its likely script.
 ///
@@ -182,7 +250,7 @@ pub fn is_right_to_left<'a>(tag: impl Into<LangTag<'a>>) -> bool {
 /// static string if CLDR names another tag. Case is ignored.
 ///
 /// CLDR does not list deprecated or extended languages, so replace them first with
-/// [`canonical`](crate::LangTag::canonical). Private-use tags, irregular tags and `und` have no parent.
+/// `canonical`. Private-use tags, irregular tags and `und` have no parent.
 ///
 /// ```
 /// use langtag::likely::parent;

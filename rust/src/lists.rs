@@ -66,7 +66,7 @@ impl<E: TagEntry> TagEntry for &E {
 #[cfg(feature = "data")]
 mod of_tags {
     use super::TagEntry;
-    use crate::choice::{KnownTag, TagList};
+    use crate::choice::{PreparedForm, TagList};
     use crate::LangTag;
 
     impl<E: TagEntry> TagList for [E] {
@@ -129,8 +129,8 @@ mod of_tags {
         }
 
         #[inline]
-        fn known_at(&self, index: usize) -> KnownTag<'_> {
-            (**self).known_at(index)
+        fn form_at(&self, index: usize) -> Option<&PreparedForm> {
+            (**self).form_at(index)
         }
     }
 }
@@ -140,6 +140,7 @@ mod of_tags {
 pub(crate) struct Ranges<'a, R>(pub(crate) &'a [R]);
 
 impl<R> Clone for Ranges<'_, R> {
+    #[inline]
     fn clone(&self) -> Self {
         *self
     }

@@ -117,6 +117,7 @@ impl LanguageRangeBuf {
 ///
 /// [RFC 4647 section 3.4]: https://www.rfc-editor.org/rfc/rfc4647#section-3.4
 #[must_use]
+#[inline]
 pub fn look_up<'t, T: TagEntry>(
     ranges: &[impl AsRef<str>],
     tags: &'t [T],
@@ -145,6 +146,7 @@ pub fn look_up<'t, T: TagEntry>(
 ///
 /// [RFC 4647 section 3.4]: https://www.rfc-editor.org/rfc/rfc4647#section-3.4
 #[cfg(feature = "alloc")]
+#[inline]
 pub fn tag_for_header<'h, 't, T: TagEntry>(
     header: &'h str,
     tags: &'t [T],
@@ -167,6 +169,7 @@ impl AcceptLanguage<'_> {
     /// # Ok::<(), Box<dyn std::error::Error>>(())
     /// ```
     #[must_use]
+    #[inline]
     pub fn look_up<'t, T: TagEntry>(&self, tags: &'t [T], default: &'t T) -> &'t T {
         let ranges = self.ranges().iter().map(|weighted| weighted.range);
         found(ranges, tags).unwrap_or(default)
@@ -174,6 +177,7 @@ impl AcceptLanguage<'_> {
 }
 
 /// Returns the tag that lookup finds.
+#[inline]
 fn found<'r, 't, T: TagEntry>(
     mut ranges: impl Iterator<Item = LanguageRange<'r>>,
     tags: &'t [T],
@@ -182,6 +186,7 @@ fn found<'r, 't, T: TagEntry>(
 }
 
 /// Returns the first tag that equals a range, ignoring case and each `-*`.
+#[inline]
 fn equal<'t, T: TagEntry>(range: LanguageRange<'_>, tags: &'t [T]) -> Option<&'t T> {
     let range = range.as_bytes();
     tags.iter()

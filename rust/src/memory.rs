@@ -16,6 +16,7 @@ use core::fmt;
 pub struct AllocError;
 
 impl fmt::Display for AllocError {
+    #[inline]
     fn fmt(&self, f: &mut fmt::Formatter<'_>) -> fmt::Result {
         f.write_str("out of memory")
     }
@@ -24,6 +25,7 @@ impl fmt::Display for AllocError {
 impl core::error::Error for AllocError {}
 
 impl From<alloc::collections::TryReserveError> for AllocError {
+    #[inline]
     fn from(_: alloc::collections::TryReserveError) -> AllocError {
         AllocError
     }
@@ -36,6 +38,7 @@ pub(crate) fn or_abort<T>(made: Result<T, AllocError>) -> T {
 }
 
 /// Copies a string.
+#[inline]
 pub(crate) fn try_string(text: &str) -> Result<String, AllocError> {
     let mut owned = try_string_with_capacity(text.len())?;
     owned.push_str(text);
@@ -43,18 +46,20 @@ pub(crate) fn try_string(text: &str) -> Result<String, AllocError> {
 }
 
 /// Returns an empty string with room for `room` bytes.
+#[inline]
 pub(crate) fn try_string_with_capacity(room: usize) -> Result<String, AllocError> {
     let mut owned = String::new();
     owned.try_reserve_exact(room)?;
     Ok(owned)
 }
 
-/// Returns a list with one byte repeated `len` times.
-pub(crate) fn try_vec(byte: u8, len: usize) -> Result<Vec<u8>, AllocError> {
-    let mut bytes = Vec::new();
-    bytes.try_reserve_exact(len)?;
-    bytes.resize(len, byte);
-    Ok(bytes)
+/// Returns a list with one item repeated `len` times.
+#[inline]
+pub(crate) fn try_vec<T: Clone>(item: T, len: usize) -> Result<Vec<T>, AllocError> {
+    let mut items = Vec::new();
+    items.try_reserve_exact(len)?;
+    items.resize(len, item);
+    Ok(items)
 }
 
 /// Calls that make a string longer, and return an error if allocation fails.
@@ -68,12 +73,14 @@ pub(crate) trait TryText {
 }
 
 impl TryText for String {
+    #[inline]
     fn try_push_str(&mut self, text: &str) -> Result<(), AllocError> {
         self.try_reserve(text.len())?;
         self.push_str(text);
         Ok(())
     }
 
+    #[inline]
     fn try_replace_range(
         &mut self,
         range: core::ops::Range<usize>,
@@ -95,12 +102,14 @@ pub(crate) trait TryItems<T> {
 }
 
 impl<T> TryItems<T> for Vec<T> {
+    #[inline]
     fn try_push(&mut self, item: T) -> Result<(), AllocError> {
         self.try_reserve(1)?;
         self.push(item);
         Ok(())
     }
 
+    #[inline]
     fn try_sort_by_key<K: Ord>(&mut self, mut key: impl FnMut(&T) -> K) -> Result<(), AllocError> {
         let mut order = Vec::new();
         order.try_reserve_exact(self.len())?;

@@ -8,11 +8,13 @@ use crate::erased::tag::{Refusal, RefusalKind};
 const MOST: usize = 80;
 
 /// Writes a space, and the string between backticks.
+#[inline]
 pub(crate) fn write_text(f: &mut fmt::Formatter<'_>, text: &[u8]) -> fmt::Result {
     write!(f, " {}", Quoted(text))
 }
 
 /// Writes a space, the string, and why it is not a tag.
+#[inline]
 pub(crate) fn write_tag(f: &mut fmt::Formatter<'_>, text: &[u8]) -> fmt::Result {
     write!(f, " {}: {}", Quoted(text), Reason(text))
 }
@@ -21,6 +23,7 @@ pub(crate) fn write_tag(f: &mut fmt::Formatter<'_>, text: &[u8]) -> fmt::Result 
 pub(crate) struct Quoted<'a>(pub(crate) &'a [u8]);
 
 impl fmt::Display for Quoted<'_> {
+    #[inline]
     fn fmt(&self, f: &mut fmt::Formatter<'_>) -> fmt::Result {
         write!(f, "`{}`", Escaped(self.0))
     }
@@ -31,6 +34,7 @@ impl fmt::Display for Quoted<'_> {
 struct Escaped<'a>(&'a [u8]);
 
 impl fmt::Display for Escaped<'_> {
+    #[inline]
     fn fmt(&self, f: &mut fmt::Formatter<'_>) -> fmt::Result {
         let mut left = MOST;
         for chunk in self.0.utf8_chunks() {
@@ -55,6 +59,7 @@ impl fmt::Display for Escaped<'_> {
 
 /// Writes a character. Control characters are escaped, and so are the characters of Unicode that
 /// are invisible or change the direction of the string. All languages have this list.
+#[inline]
 fn write_escaped(f: &mut fmt::Formatter<'_>, character: char) -> fmt::Result {
     match character {
         '\t' => f.write_str("\\t"),
@@ -75,6 +80,7 @@ fn write_escaped(f: &mut fmt::Formatter<'_>, character: char) -> fmt::Result {
 pub(crate) struct Reason<'a>(pub(crate) &'a [u8]);
 
 impl fmt::Display for Reason<'_> {
+    #[inline]
     fn fmt(&self, f: &mut fmt::Formatter<'_>) -> fmt::Result {
         let Some(refusal) = Refusal::of(self.0) else {
             return f.write_str("it is a tag");
@@ -94,6 +100,7 @@ impl fmt::Display for Reason<'_> {
 }
 
 /// Returns the first character, or the first byte if it does not begin a character.
+#[inline]
 fn first_character(text: &[u8]) -> &[u8] {
     let valid = text.utf8_chunks().next().map_or("", |chunk| chunk.valid());
     let len = valid.chars().next().map_or(1, char::len_utf8);

@@ -172,6 +172,7 @@ impl<'a> LangTag<'a> {
     /// assert_eq!(files, ["en-AT.json", "en-150.json", "en-001.json", "en.json"]);
     /// # Ok::<(), Box<dyn std::error::Error>>(())
     /// ```
+    #[must_use]
     pub fn parents(self) -> Parents<'a> {
         Parents::new(self)
     }

@@ -59,6 +59,7 @@ impl InvalidSubtagBuf {
     /// assert!(matches!(error.as_invalid_subtag(), InvalidSubtag::Language(_)));
     /// ```
     #[must_use]
+    #[inline]
     pub fn as_invalid_subtag(&self) -> InvalidSubtag<'_> {
         match self {
             InvalidSubtagBuf::Language(subtag) => {
@@ -84,6 +85,7 @@ impl InvalidSubtagBuf {
 
     /// Returns the registered code that is probably meant, as [`InvalidSubtag::suggestion`] does.
     #[must_use]
+    #[inline]
     pub fn suggestion(&self) -> Option<&'static str> {
         self.as_invalid_subtag().suggestion()
     }
@@ -93,6 +95,7 @@ impl InvalidSubtagBuf {
 impl InvalidSubtag<'_> {
     /// Returns the same error with a copy of the subtag, so that it does not borrow the tag.
     #[must_use]
+    #[inline]
     pub fn into_owned(self) -> InvalidSubtagBuf {
         match self {
             InvalidSubtag::Language(subtag) => InvalidSubtagBuf::Language(subtag.into()),
@@ -113,6 +116,7 @@ impl InvalidSubtag<'_> {
 
 #[cfg(feature = "data")]
 impl fmt::Display for InvalidSubtagBuf {
+    #[inline]
     fn fmt(&self, f: &mut fmt::Formatter<'_>) -> fmt::Result {
         self.as_invalid_subtag().fmt(f)
     }
@@ -153,6 +157,7 @@ pub enum AcceptLanguageErrorBuf {
 impl AcceptLanguageError<'_> {
     /// Returns the same error with a copy of the header, so that it does not borrow the input.
     #[must_use]
+    #[inline]
     pub fn into_owned(self) -> AcceptLanguageErrorBuf {
         match self {
             AcceptLanguageError::BadElement {
@@ -172,6 +177,7 @@ impl AcceptLanguageError<'_> {
 }
 
 impl fmt::Display for AcceptLanguageErrorBuf {
+    #[inline]
     fn fmt(&self, f: &mut fmt::Formatter<'_>) -> fmt::Result {
         match self {
             AcceptLanguageErrorBuf::BadElement { index, part, .. } => {
@@ -208,6 +214,7 @@ pub enum PosixErrorBuf {
 impl PosixError<'_> {
     /// Returns the same error with a copy of the name, so that it does not borrow the input.
     #[must_use]
+    #[inline]
     pub fn into_owned(self) -> PosixErrorBuf {
         match self {
             PosixError::NoTag(name) => PosixErrorBuf::NoTag(name.into()),
@@ -218,6 +225,7 @@ impl PosixError<'_> {
 
 #[cfg(feature = "data")]
 impl fmt::Display for PosixErrorBuf {
+    #[inline]
     fn fmt(&self, f: &mut fmt::Formatter<'_>) -> fmt::Result {
         match self {
             PosixErrorBuf::NoTag(name) => PosixError::NoTag(name).fmt(f),
@@ -233,6 +241,7 @@ macro_rules! errors {
 
         $(#[$feature])?
         impl From<$borrowed<'_>> for $owned {
+            #[inline]
             fn from(error: $borrowed<'_>) -> Self {
                 error.into_owned()
             }

@@ -26,6 +26,7 @@ impl AsStr for alloc::string::String {
 
 /// Writes ASCII bytes as [`Formatter::pad`](core::fmt::Formatter::pad) writes a string: at most as
 /// many bytes as the precision, filled up to the width. `len` is the number of bytes.
+#[inline]
 pub(crate) fn pad_ascii(
     f: &mut core::fmt::Formatter<'_>,
     len: usize,
@@ -49,6 +50,7 @@ pub(crate) fn pad_ascii(
 
 /// The string of a tag or a part has the same debug output as any other string.
 impl<T: core::fmt::Debug> core::fmt::Debug for crate::erased::scan::Caseless<T> {
+    #[inline]
     fn fmt(&self, f: &mut core::fmt::Formatter<'_>) -> core::fmt::Result {
         self.0.fmt(f)
     }
@@ -59,6 +61,7 @@ impl<T: core::fmt::Debug> core::fmt::Debug for crate::erased::scan::Caseless<T> 
 macro_rules! by_text {
     ($tag:ty) => {
         impl PartialEq for $tag {
+            #[inline]
             fn eq(&self, other: &Self) -> bool {
                 self.text == other.text
             }
@@ -67,24 +70,28 @@ macro_rules! by_text {
         impl Eq for $tag {}
 
         impl PartialOrd for $tag {
+            #[inline]
             fn partial_cmp(&self, other: &Self) -> Option<core::cmp::Ordering> {
                 Some(self.cmp(other))
             }
         }
 
         impl Ord for $tag {
+            #[inline]
             fn cmp(&self, other: &Self) -> core::cmp::Ordering {
                 self.text.cmp(&other.text)
             }
         }
 
         impl core::hash::Hash for $tag {
+            #[inline]
             fn hash<H: core::hash::Hasher>(&self, state: &mut H) {
                 self.text.hash(state);
             }
         }
 
         impl core::fmt::Debug for $tag {
+            #[inline]
             fn fmt(&self, f: &mut core::fmt::Formatter<'_>) -> core::fmt::Result {
                 let name = stringify!($tag);
                 f.debug_struct(name.split('<').next().unwrap_or(name))

@@ -5,6 +5,7 @@ use crate::erased::scan::{ByteSource, Found, Metered};
 use crate::Kind;
 
 impl fmt::Debug for Found {
+    #[inline]
     fn fmt(&self, f: &mut fmt::Formatter<'_>) -> fmt::Result {
         if let Some(ends) = self.ends() {
             return f.debug_tuple("Normal").field(&ends).finish();
@@ -17,6 +18,7 @@ impl fmt::Debug for Found {
 }
 
 impl fmt::Debug for Metered<'_> {
+    #[inline]
     fn fmt(&self, f: &mut fmt::Formatter<'_>) -> fmt::Result {
         let mut shown = f.debug_struct("Metered");
         shown
@@ -33,14 +35,15 @@ impl fmt::Debug for Metered<'_> {
 /// use langtag::{Kind, LangTag};
 ///
 /// assert_eq!(LangTag::new("de-CH")?.kind().to_string(), "normal");
-/// assert_eq!(Kind::PrivateUse.to_string(), "private use");
+/// assert_eq!(Kind::PrivateUse.to_string(), "private-use");
 /// # Ok::<(), Box<dyn std::error::Error>>(())
 /// ```
 impl fmt::Display for Kind {
+    #[inline]
     fn fmt(&self, f: &mut fmt::Formatter<'_>) -> fmt::Result {
         f.pad(match self {
             Kind::Normal => "normal",
-            Kind::PrivateUse => "private use",
+            Kind::PrivateUse => "private-use",
             Kind::Grandfathered => "grandfathered",
         })
     }

@@ -1,5 +1,7 @@
 //! The tags of a site, prepared once for many choices.
-use crate::choice::{match_among, BestMatch, KnownTag, RangeList, TagEntry, TagList};
+use crate::choice::{
+    match_among, suitable_among, BestMatch, PreparedForm, RangeList, TagEntry, TagList,
+};
 use crate::erased::choice::PreparedTag;
 use crate::lists::Ranges;
 use crate::matching::AcceptLanguage;
@@ -35,6 +37,18 @@ use alloc::vec::Vec;
 /// static SITE: LazyLock<Site<&str>> = LazyLock::new(|| Site::new(&["en", "de", "pt-BR"]));
 ///
 /// assert_eq!(SITE.best_for_header("gsw"), Some(&"de"));
+/// ```
+///
+/// A server that reads its tags when it starts can leak them, because it needs them until it ends:
+///
+/// ```
+/// use langtag::choice::Site;
+/// use langtag::LangTagBuf;
+///
+/// let tags = "en de pt-BR".split(' ').map(str::parse).collect::<Result<Vec<_>, _>>()?;
+/// let site: Site<'static, LangTagBuf> = Site::new(tags.leak());
+/// assert_eq!(site.best_for_header("gsw").unwrap(), "de");
+/// # Ok::<(), Box<dyn std::error::Error>>(())
 /// ```
 #[doc(alias = "matcher")]
 #[doc(alias = "negotiator")]
@@ -123,6 +137,33 @@ impl<'t, E: TagEntry> Site<'t, E> {
         let index = crate::choice::best_among(ranges, self)?;
         Some(&self.tags[index])
     }
+
+    /// Returns all suitable tags for an `Accept-Language` header, best first, as
+    /// [`suitable_for_header`](crate::choice::suitable_for_header) orders them.
+    ///
+    /// ```
+    /// use langtag::choice::Site;
+    ///
+    /// let site = Site::new(&["en", "fr", "de", "de-AT"]);
+    /// assert_eq!(site.suitable_for_header("de-CH,fr;q=0.7"), [&"de", &"de-AT", &"fr"]);
+    /// ```
+    #[must_use]
+    pub fn suitable_for_header(&self, header: &(impl AsRef<[u8]> + ?Sized)) -> Vec<&'t E> {
+        self.suitable_among(header.as_ref())
+    }
+
+    /// Returns all suitable tags for a list of language ranges in order of preference, best first.
+    #[must_use]
+    pub fn suitable_for_ranges(&self, ranges: &[impl AsRef<str>]) -> Vec<&'t E> {
+        self.suitable_among(Ranges(ranges))
+    }
+
+    /// Returns all suitable tags for any list of ranges, best first.
+    #[must_use]
+    pub fn suitable_among<'a>(&self, ranges: impl RangeList<'a>) -> Vec<&'t E> {
+        let found = suitable_among(ranges, self);
+        found.into_iter().map(|index| &self.tags[index]).collect()
+    }
 }
 
 impl<E: TagEntry> TagList for Site<'_, E> {
@@ -142,11 +183,8 @@ impl<E: TagEntry> TagList for Site<'_, E> {
     }
 
     #[inline]
-    fn known_at(&self, index: usize) -> KnownTag<'_> {
-        match &self.prepared[index] {
-            Some(tag) => KnownTag::Prepared(tag),
-            None => KnownTag::Text(self.tags[index].tag_bytes()),
-        }
+    fn form_at(&self, index: usize) -> Option<&PreparedForm> {
+        self.prepared[index].as_ref().map(PreparedTag::form)
     }
 }
 

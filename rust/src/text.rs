@@ -12,6 +12,8 @@ use crate::matching::{InvalidLanguageRange, LanguageRange};
 
 macro_rules! borrowed {
     ($($name:ident, $owned:ident, $error:ident, $lend:ident, $what:literal;)+) => {$(
+        /// Gives access to the methods of `str`, such as `len` and `starts_with`. A `str` has a case:
+        /// unlike `==` of this type, `==` of a `str` does not ignore it.
         impl Deref for $name<'_> {
             type Target = str;
 
@@ -180,6 +182,9 @@ mod owned {
                 }
             }
 
+            /// Gives access to the methods of `str`, such as `len` and `starts_with`. A `str` has a
+            /// case: unlike `==` of this type, `==` of a `str` does not ignore it, nor does `==` of what
+            /// `Option::as_deref` returns.
             impl Deref for $owned {
                 type Target = str;
 
@@ -296,6 +301,7 @@ mod owned {
     impl FromStr for Singleton {
         type Err = InvalidSingleton<String>;
 
+        #[inline]
         fn from_str(text: &str) -> Result<Self, Self::Err> {
             Singleton::from_string(text).map_err(|error| InvalidSingleton(error.0.into()))
         }

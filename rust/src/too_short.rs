@@ -1,9 +1,9 @@
 //! The error of a buffer that is too short.
 use core::fmt;
 
-/// The error of a call that writes to a buffer, if the buffer is too short. It has the length that
-/// the result needs. The buffer is unchanged, except that the bytes after
-/// `unicode::write_extensions_form` and `unicode::write_locale_form` are unspecified.
+/// The error of a call that writes to a buffer, if the buffer is too short. It contains the length
+/// that the result needs. The buffer is unchanged, except that `unicode::write_extensions_form` and
+/// `unicode::write_locale_form` leave its bytes unspecified.
 ///
 #[cfg_attr(feature = "data", doc = "```")]
 #[cfg_attr(not(feature = "data"), doc = "```ignore")]
@@ -23,12 +23,14 @@ pub struct TooShort {
 impl TooShort {
     /// Returns the number of bytes that the result needs.
     #[must_use]
+    #[inline]
     pub fn needed(&self) -> usize {
         self.needed
     }
 }
 
 impl fmt::Display for TooShort {
+    #[inline]
     fn fmt(&self, f: &mut fmt::Formatter<'_>) -> fmt::Result {
         write!(f, "buffer is too short: {} bytes are needed", self.needed)
     }
@@ -39,6 +41,7 @@ impl core::error::Error for TooShort {}
 /// Returns what was written to a buffer, if it has room for it. `len` is the length of the result,
 /// whether it was written or not.
 #[cfg(feature = "data")]
+#[inline]
 pub(crate) fn written(buffer: &[u8], len: usize) -> Result<&str, TooShort> {
     let bytes = buffer.get(..len).ok_or(TooShort { needed: len })?;
     // Each form of a tag is ASCII.

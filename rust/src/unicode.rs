@@ -217,7 +217,7 @@ pub fn write_locale_form<'a, 'b>(
 }
 
 /// Writes a tag with a value of a key of the extension `u` to a buffer, as
-/// [`LangTagBuf::set_keyword`] sets it, and returns what was written.
+/// `LangTagBuf::set_keyword` sets it, and returns what was written.
 ///
 /// It does not allocate. The lengths of the tag, the key and the value, and 4 more bytes, are
 /// always enough.
@@ -236,8 +236,6 @@ pub fn write_locale_form<'a, 'b>(
 /// assert_eq!(text, "de-u-ca-buddhist-x-a");
 /// # Ok::<(), Box<dyn std::error::Error>>(())
 /// ```
-///
-/// [`LangTagBuf::set_keyword`]: crate::LangTagBuf#method.set_keyword
 pub fn write_with_keyword<'a, 'b>(
     tag: impl Into<LangTag<'a>>,
     key: &str,
@@ -248,7 +246,7 @@ pub fn write_with_keyword<'a, 'b>(
     Ok(written(buffer, len)?)
 }
 
-/// Writes a tag without a key of the extension `u` to a buffer, as [`LangTagBuf::remove_keyword`]
+/// Writes a tag without a key of the extension `u` to a buffer, as `LangTagBuf::remove_keyword`
 /// removes it, and returns what was written.
 ///
 /// It does not allocate. The length of the tag is always enough.
@@ -266,8 +264,6 @@ pub fn write_with_keyword<'a, 'b>(
 /// assert_eq!(write_without_keyword(tag, "ca", &mut [0; 32])?, "th-u-nu-thai");
 /// # Ok::<(), Box<dyn std::error::Error>>(())
 /// ```
-///
-/// [`LangTagBuf::remove_keyword`]: crate::LangTagBuf#method.remove_keyword
 pub fn write_without_keyword<'a, 'b>(
     tag: impl Into<LangTag<'a>>,
     key: &str,

@@ -23,8 +23,8 @@ struct Span {
 #[link(name = "langtag_c", kind = "static")]
 unsafe extern "C" {
     fn langtag_parse(bytes: *const u8, len: usize, parts: *mut [Span; 6]) -> u32;
-    fn langtag_viable(bytes: *const u8, len: usize) -> usize;
-    fn langtag_stop(bytes: *const u8, len: usize) -> usize;
+    fn langtag_viable_len(bytes: *const u8, len: usize) -> usize;
+    fn langtag_stop_len(bytes: *const u8, len: usize) -> usize;
     fn langtag_refused(bytes: *const u8, len: usize, subtag: *mut Span, offset: *mut usize) -> u32;
     fn langtag_cmp(a: *const u8, a_len: usize, b: *const u8, b_len: usize) -> i32;
     fn langtag_recommend(bytes: *mut u8, len: usize);
@@ -33,8 +33,8 @@ unsafe extern "C" {
     fn langtag_suggestion(fault: u32, subtag: *const u8, subtag_len: usize, buffer: *mut u8, buffer_len: usize) -> usize;
     fn langtag_canonical(bytes: *const u8, len: usize, buffer: *mut u8, buffer_len: usize) -> usize;
     fn langtag_is_canonical(bytes: *const u8, len: usize) -> bool;
-    fn langtag_maximize(bytes: *const u8, len: usize, buffer: *mut u8, buffer_len: usize) -> usize;
-    fn langtag_minimize(bytes: *const u8, len: usize, buffer: *mut u8, buffer_len: usize) -> usize;
+    fn langtag_maximized(bytes: *const u8, len: usize, buffer: *mut u8, buffer_len: usize) -> usize;
+    fn langtag_minimized(bytes: *const u8, len: usize, buffer: *mut u8, buffer_len: usize) -> usize;
     fn langtag_is_right_to_left(bytes: *const u8, len: usize) -> bool;
     fn langtag_distance(desired: *const u8, desired_len: usize, supported: *const u8, supported_len: usize) -> u32;
     fn langtag_best_for_header(header: *const u8, header_len: usize, bytes: *const u8, len: usize, tags: *const Span, tags_len: usize) -> usize;
@@ -118,12 +118,12 @@ fn same_reads(text: &str) {
     assert_eq!(found.is_some(), LangTag::new(text).is_ok(), "{text:?}");
     assert_eq!(
         viable_len(text.as_bytes()),
-        unsafe { langtag_viable(text.as_ptr(), text.len()) },
+        unsafe { langtag_viable_len(text.as_ptr(), text.len()) },
         "{text:?}"
     );
     assert_eq!(
         source.reads(),
-        unsafe { langtag_stop(text.as_ptr(), text.len()) } as u128,
+        unsafe { langtag_stop_len(text.as_ptr(), text.len()) } as u128,
         "{text:?}"
     );
     let (mut subtag, mut offset) = (Span::default(), 0);
@@ -191,8 +191,8 @@ type Writes = unsafe extern "C" fn(*const u8, usize, *mut u8, usize) -> usize;
 fn same_forms(text: &str, tag: LangTag<'_>) {
     let forms: [(fn(LangTag<'_>, &mut [u8]) -> usize, Writes); 3] = [
         (write_canonical, langtag_canonical),
-        (write_maximized, langtag_maximize),
-        (write_minimized, langtag_minimize),
+        (write_maximized, langtag_maximized),
+        (write_minimized, langtag_minimized),
     ];
     for (ours, theirs) in forms {
         let mut buffers = [[0; 300]; 2];

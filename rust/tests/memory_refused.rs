@@ -4,7 +4,7 @@
 use std::alloc::{GlobalAlloc, Layout, System};
 use std::cell::Cell;
 
-use langtag::likely::{from_posix, try_maximized, try_minimized, PosixError};
+use langtag::likely::{from_posix, try_maximized, try_minimized, try_to_posix, PosixError};
 use langtag::matching::{tag_for_header, AcceptLanguage, AcceptLanguageError, LanguageRange};
 use langtag::registry::{try_canonical, try_extlang_form};
 use langtag::unicode::{try_extensions_form, try_locale_form, SetKeywordError};
@@ -138,6 +138,8 @@ fn tags_from_parts_and_names() {
     refuse_each("from_posix", || {
         matches!(from_posix("de_CH.UTF-8@euro"), Err(PosixError::Memory(_)))
     });
+    let serbian = LangTag::new("sr-Latn-RS").unwrap();
+    refuse_each("to_posix", || try_to_posix(serbian).is_err());
 }
 
 #[test]

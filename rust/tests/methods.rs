@@ -114,7 +114,7 @@ fn valid_and_base() {
     assert!(!tag("de-x-DE").to_owned().matches(range("de-DE")));
     assert_eq!(
         [Kind::Normal, Kind::PrivateUse, Kind::Grandfathered].map(|kind| kind.to_string()),
-        ["normal", "private use", "grandfathered"]
+        ["normal", "private-use", "grandfathered"]
     );
 }
 

@@ -7,6 +7,7 @@ static langtag_parts parts;
 static langtag_span rest, found;
 static langtag_repeated repeated;
 static langtag_best_match match;
+static langtag_prepared_tag prepared;
 static uint32_t weight;
 static size_t offset;
 static char buffer[2 * sizeof text];
@@ -49,20 +50,35 @@ FUNCTION(suggestion, result = langtag_suggestion(LANGTAG_INVALID_LANGUAGE, text,
                                langtag_suggestion(LANGTAG_INVALID_REGION, text, len, buffer, sizeof buffer))
 FUNCTION(canonical, result = langtag_canonical(text, len, buffer, sizeof buffer))
 FUNCTION(registry_date, result = langtag_registry_date())
-FUNCTION(maximize, result = langtag_maximize(text, len, buffer, sizeof buffer))
-FUNCTION(minimize, result = langtag_minimize(text, len, buffer, sizeof buffer))
+FUNCTION(maximized, result = langtag_maximized(text, len, buffer, sizeof buffer))
+FUNCTION(minimized, result = langtag_minimized(text, len, buffer, sizeof buffer))
+FUNCTION(parent, result = langtag_parent(text, len, buffer, sizeof buffer))
 FUNCTION(best_for_header, found = (langtag_span){0, len};
          result = langtag_best_for_header(text, len, "de-DE", 5, &(langtag_span){0, 5}, 1) +
                   langtag_best_for_header("de", 2, text, len, &found, 1))
 FUNCTION(match_for_header, result = langtag_match_for_header(text, len, "de-DE", 5, &(langtag_span){0, 5}, 1, &match) + match.range.len)
 FUNCTION(best_for_ranges, found = (langtag_span){0, len};
          result = langtag_best_for_ranges(text, len, &found, 1, "de-DE", 5, &(langtag_span){0, 5}, 1))
+FUNCTION(suitable_for_header,
+         result = langtag_suitable_for_header(text, len, "de-DE", 5, &(langtag_span){0, 5}, 1, &offset, 1) + offset)
+FUNCTION(suitable_for_ranges, found = (langtag_span){0, len};
+         result = langtag_suitable_for_ranges(text, len, &found, 1, "de-DE", 5, &(langtag_span){0, 5}, 1, &offset, 1) + offset)
+FUNCTION(prepare, prepared.tag = (langtag_span){0, len}; langtag_prepare(text, len, &prepared))
+FUNCTION(site_best_for_header, prepared.tag = (langtag_span){0, 5}; langtag_prepare("de-DE", 5, &prepared);
+         result = langtag_site_best_for_header(text, len, "de-DE", 5, &prepared, 1);
+         prepared.tag = (langtag_span){0, len};
+         result += langtag_site_best_for_header("de", 2, text, len, &prepared, 1))
+FUNCTION(site_match_for_header, prepared.tag = (langtag_span){0, 5}; langtag_prepare("de-DE", 5, &prepared);
+         result = langtag_site_match_for_header(text, len, "de-DE", 5, &prepared, 1, &match) + match.range.len)
+FUNCTION(site_best_for_ranges, found = (langtag_span){0, len}; prepared.tag = (langtag_span){0, 5}; langtag_prepare("de-DE", 5, &prepared);
+         result = langtag_site_best_for_ranges(text, len, &found, 1, "de-DE", 5, &prepared, 1))
 FUNCTION(best_of_tags, result = best_among("fr, aaaaaaaa;q=0.5, x-1;q=0, aaaaaaaa-DE;q=0"))
 FUNCTION(tag_for_header, result = langtag_tag_for_header(text, len, "de-DE", 5, &(langtag_span){0, 5}, 1, &offset, &found))
 FUNCTION(tag_for_header_lenient, found = (langtag_span){0, len};
          result = langtag_tag_for_header_lenient(text, len, "de-DE", 5, &(langtag_span){0, 5}, 1) +
                   langtag_tag_for_header_lenient("de", 2, text, len, &found, 1))
 FUNCTION(from_posix, result = langtag_from_posix(text, len, buffer, sizeof buffer))
+FUNCTION(to_posix, result = langtag_to_posix(text, len, buffer, sizeof buffer))
 FUNCTION(unknown_modifier, result = langtag_unknown_modifier(text, len, &found))
 FUNCTION(cldr_version, result = langtag_cldr_version(buffer, sizeof buffer))
 FUNCTION(next_fallback, rest = (langtag_span){0, len};

@@ -1,8 +1,9 @@
 /* The library's answers to the calls of the rows, in the form of the rows. */
 #include "rows.h"
 
-#include "check.h"
+#include <langtag.h>
 #include <stdlib.h>
+#include <string.h>
 
 /* The name of each number of an enum, as in the header. */
 static const char *named(const char *const *names, size_t count, uint32_t number) {
@@ -40,12 +41,11 @@ static void put_part(text *to, const char *name, text from, langtag_span part) {
 }
 
 static void put_changed(text *to, const char *name, text from, void (*change)(char *, size_t)) {
-    text copy = {NULL, 0, 0};
-    put(&copy, from.at, from.len);
-    change(copy.at, copy.len);
+    char *copy = fenced(BUFFER, from.len);
+    memcpy(copy, from.at, from.len);
+    change(copy, from.len);
     put_word(to, name);
-    put_bytes(to, copy.at, copy.len);
-    free(copy.at);
+    put_bytes(to, copy, from.len);
 }
 
 static const char *name_of_kind(uint32_t kind) {
@@ -135,24 +135,37 @@ static void answer_suggestion(text *to, const text *arguments) {
 
 typedef size_t write_form(const char *, size_t, char *, size_t);
 
-/* A form in a buffer that is too long, exactly long enough, and too short. The call may change only the bytes of the form. */
-static void put_form(text *to, text a, write_form *write) {
-    size_t len = write(a.at, a.len, (char[]){'~'}, 0);
-    size_t rooms[] = {len + 8, len, len > 0 ? len - 1 : 0};
-    if (len == 0) put_word(to, " -");
+/* A call that writes a text, for the arguments of a row. */
+typedef size_t write_text(const text *arguments, char *buffer, size_t room);
+
+/* Writes what a call writes, and returns its length. The buffer is too long, exactly long enough, and too short. A call changes only
+ * the bytes of its text, and none if the text does not fit, unless `is_partly` is true. */
+static size_t put_written(text *to, const text *arguments, write_text *write, bool is_partly) {
+    size_t len = write(arguments, fenced(BUFFER, 0), 0);
+    const size_t rooms[] = {len + 8, len, len > 0 ? len - 1 : 0};
     for (int k = 0; k < 3; k++) {
-        bool fits = len <= rooms[k], unspecified = write == langtag_extensions_form || write == langtag_locale_form;
-        size_t room = rooms[k], at = fits ? len : unspecified ? room : 0;
-        char *buffer = malloc(room ? room : 1);
-        if (!buffer) abort();
+        bool fits = len <= rooms[k];
+        size_t room = rooms[k], at = fits ? len : is_partly ? room : 0;
+        char *buffer = fenced(BUFFER, room);
         memset(buffer, '~', room);
-        if (write(a.at, a.len, buffer, room) != len) put_word(to, " whose length changes with the room");
+        if (write(arguments, buffer, room) != len) put_word(to, " whose length changes with the room");
         if (fits && len > 0 && k == 0) put_bytes(to, buffer, len);
         if (fits && len > 0 && memcmp(to->at + 1, buffer, len) != 0) put_word(to, " that changes with the room");
         for (; at < room; at++)
-            if (buffer[at] != '~') put_word(to, " and a byte after it");
-        free(buffer);
+            if (buffer[at] != '~') put_word(to, " and another byte");
     }
+    return len;
+}
+
+static write_form *form_of_row;
+static size_t write_form_of_row(const text *arguments, char *buffer, size_t room) {
+    return form_of_row(arguments->at, arguments->len, buffer, room);
+}
+
+static void put_form(text *to, text a, write_form *write) {
+    form_of_row = write;
+    bool is_partly = write == langtag_extensions_form || write == langtag_locale_form;
+    if (put_written(to, &a, write_form_of_row, is_partly) == 0) put_word(to, " -");
 }
 
 static void answer_canonical(text *to, const text *arguments) {
@@ -163,8 +176,26 @@ static void answer_canonical(text *to, const text *arguments) {
     if (langtag_is_canonical(a.at, a.len) != is_form) put_word(to, " but langtag_is_canonical says otherwise");
 }
 
-static void answer_maximized(text *to, const text *arguments) { put_form(to, arguments[0], langtag_maximize); }
-static void answer_minimized(text *to, const text *arguments) { put_form(to, arguments[0], langtag_minimize); }
+static void answer_maximized(text *to, const text *arguments) { put_form(to, arguments[0], langtag_maximized); }
+static void answer_minimized(text *to, const text *arguments) { put_form(to, arguments[0], langtag_minimized); }
+
+/* The tag and its parents. Each parent is asked of the one before it. */
+static void answer_parents(text *to, const text *arguments) {
+    text a = arguments[0];
+    if (langtag_kind(a.at, a.len) == LANGTAG_NONE) {
+        put_form(to, a, langtag_parent);
+        return;
+    }
+    put_bytes(to, a.at, a.len);
+    for (size_t at = to->len - a.len; ; ) {
+        text tag = {to->at + at, to->len - at, 0}, parent = {0};
+        put_form(&parent, tag, langtag_parent);
+        bool is_last = parent.len == 2 && parent.at[1] == '-';
+        if (!is_last) at = to->len + 1, put(to, parent.at, parent.len);
+        free(parent.at);
+        if (is_last) return;
+    }
+}
 
 static void answer_extensions_form(text *to, const text *arguments) { put_form(to, arguments[0], langtag_extensions_form); }
 
@@ -198,6 +229,8 @@ static void answer_locale_form(text *to, const text *arguments) {
 }
 
 static void answer_posix(text *to, const text *arguments) { put_form(to, arguments[0], langtag_from_posix); }
+
+static void answer_posix_name(text *to, const text *arguments) { put_form(to, arguments[0], langtag_to_posix); }
 
 static void answer_unknown_modifier(text *to, const text *arguments) {
     text name = arguments[0];
@@ -249,8 +282,8 @@ static void answer_refused(text *to, const text *arguments) {
 
 static void answer_viable(text *to, const text *arguments) {
     text a = arguments[0];
-    put_number(to, "", langtag_viable(a.at, a.len));
-    put_number(to, "", langtag_stop(a.at, a.len));
+    put_number(to, "", langtag_viable_len(a.at, a.len));
+    put_number(to, "", langtag_stop_len(a.at, a.len));
 }
 
 /* Where each part of a normal tag ends, including absent parts. */
@@ -267,7 +300,7 @@ static void answer_scan(text *to, const text *arguments) {
     langtag_parts parts;
     uint32_t kind = langtag_parse(a.at, a.len, &parts);
     for (size_t len = 0; len <= a.len; len++) tags += langtag_kind(a.at, len) != LANGTAG_NONE;
-    put_number(to, "", langtag_stop(a.at, a.len)), put_number(to, "", tags);
+    put_number(to, "", langtag_stop_len(a.at, a.len)), put_number(to, "", tags);
     put_word(to, " "), put_word(to, name_of_kind(kind));
     if (kind == LANGTAG_NORMAL) put_ends(to, parts);
     if (kind == LANGTAG_IRREGULAR) put_number(to, "", langtag_grandfathered(a.at, a.len));
@@ -275,6 +308,51 @@ static void answer_scan(text *to, const text *arguments) {
 
 static void answer_recommended(text *to, const text *arguments) {
     put_changed(to, "", arguments[0], langtag_recommend);
+}
+
+static void answer_fallbacks(text *to, const text *arguments) {
+    text a = arguments[0];
+    langtag_span rest = {0, a.len};
+    if (langtag_range_kind(a.at, a.len) == LANGTAG_RANGE_NONE) {
+        put_word(to, " refused");
+        return;
+    }
+    do put_bytes(to, a.at, rest.len);
+    while (langtag_next_fallback(a.at, a.len, &rest));
+}
+
+static size_t commas_before(text header, size_t end) {
+    size_t commas = 0;
+    for (size_t at = 0; at < end; at++) commas += header.at[at] == ',';
+    return commas;
+}
+
+/* Writes the elements of a weight, and returns the next lower weight. */
+static uint32_t put_elements(text *to, text a, uint32_t of) {
+    langtag_span rest = {0, a.len}, range;
+    uint32_t answer, weight, next = 0;
+    while ((answer = langtag_next_accepted(a.at, a.len, &rest, &range, &weight)) != LANGTAG_ACCEPTED_END) {
+        if (answer != LANGTAG_ACCEPTED_RANGE) continue;
+        if (weight < of && weight > next) next = weight;
+        if (weight == of) put_bytes(to, a.at + range.start, range.len), put_number(to, "", weight);
+    }
+    return next;
+}
+
+/* The message for the first malformed element, and the ranges by descending weight. */
+static void answer_elements(text *to, const text *arguments) {
+    text a = arguments[0];
+    langtag_span rest = {0, a.len}, range;
+    uint32_t weight, answer;
+    do answer = langtag_next_accepted(a.at, a.len, &rest, &range, &weight);
+    while (answer == LANGTAG_ACCEPTED_RANGE);
+    if (answer != LANGTAG_ACCEPTED_END) {
+        put_number(to, " element", commas_before(a, range.start));
+        put_word(to, answer == LANGTAG_ACCEPTED_BAD_RANGE ? " has a bad language range |" : " has a bad weight |");
+    }
+    size_t before = to->len;
+    for (uint32_t of = put_elements(to, a, 1001); of > 0;) of = put_elements(to, a, of);
+    if (to->len == before) put_word(to, " -");
 }
 
 static void answer_range(text *to, const text *arguments) {
@@ -312,35 +390,21 @@ static uint32_t part_named(text name) {
     return part;
 }
 
-/* Writes to a buffer that is too long, in which the call may change only the bytes of the new tag, and to a buffer that is too
- * short. */
-static void put_edited(text *to, text tag, uint32_t part, text given) {
-    size_t room = tag.len + given.len + 2, at;
-    char *buffer = malloc(room);
-    if (!buffer) abort();
-    memset(buffer, '~', room);
-    size_t len = langtag_with_part(tag.at, tag.len, part, given.at, given.len, buffer, room);
-    if (len == 0) put_word(to, langtag_kind(tag.at, tag.len) == LANGTAG_NORMAL ? " refused" : " no parts");
-    else if (len < room) put_bytes(to, buffer, len);
-    else put_word(to, " longer than there is room");
-    for (at = len; at < room; at++)
-        if (buffer[at] != '~') put_word(to, " and a byte after it");
-    memset(buffer, '~', room);
-    if (len > 0 && langtag_with_part(tag.at, tag.len, part, given.at, given.len, buffer, len - 1) != len)
-        put_word(to, " whose length changes with the room");
-    for (at = 0; at < room; at++)
-        if (buffer[at] != '~') put_word(to, " and a byte in too little room");
-    free(buffer);
+/* In C the empty text removes any part, as `none` does. */
+static size_t write_part(const text *arguments, char *buffer, size_t room) {
+    text tag = arguments[0], given = arguments[2];
+    bool is_none = given.len == 4 && memcmp(given.at, "none", 4) == 0;
+    return langtag_with_part(tag.at, tag.len, part_named(arguments[1]), given.at, is_none ? 0 : given.len, buffer, room);
 }
 
-/* In C the empty text removes any part, as `none` does. A script, a region and a private-use part are never empty. */
+/* An empty script, region or private-use part is no question for other languages. */
 static void answer_edit(text *to, const text *arguments) {
     text tag = arguments[0], given = arguments[2];
     uint32_t part = part_named(arguments[1]);
     bool is_optional = part == LANGTAG_PART_SCRIPT || part == LANGTAG_PART_REGION || part == LANGTAG_PART_PRIVATE_USE;
-    if (given.len == 0 && is_optional && langtag_kind(tag.at, tag.len) == LANGTAG_NORMAL) return;
-    if (given.len == 4 && memcmp(given.at, "none", 4) == 0) given.len = 0;
-    put_edited(to, tag, part, given);
+    bool is_normal = langtag_kind(tag.at, tag.len) == LANGTAG_NORMAL;
+    if (given.len == 0 && is_optional && is_normal) return;
+    if (put_written(to, arguments, write_part, false) == 0) put_word(to, is_normal ? " refused" : " no parts");
 }
 
 enum { MOST_TAGS = 1 << 20 };
@@ -380,15 +444,14 @@ static void put_chosen(text *to, choice *choose, text header, text words) {
 static void put_strictly(text *to, text header, text words) {
     static langtag_span tags[MOST_TAGS];
     langtag_span bad;
-    size_t count = find_tags(words, tags), index, commas = 0;
+    size_t count = find_tags(words, tags), index;
     uint32_t answer = langtag_tag_for_header(header.at, header.len, words.at, words.len, tags, count, &index, &bad);
     if (answer == LANGTAG_ACCEPTED_END) {
         put_tag(to, words, tags, count, index);
         if (bad.start != header.len || bad.len != 0) put_word(to, " and a bad element");
         return;
     }
-    for (size_t at = 0; at < bad.start; at++) commas += header.at[at] == ',';
-    put_number(to, " bad", commas), put_number(to, "", bad.start);
+    put_number(to, " bad", commas_before(header, bad.start)), put_number(to, "", bad.start);
     put_word(to, answer == LANGTAG_ACCEPTED_BAD_RANGE ? " range" : answer == LANGTAG_ACCEPTED_BAD_WEIGHT ? " weight" : " unknown");
     if (index != count || memchr(header.at + bad.start, ',', bad.len) || (bad.start + bad.len < header.len && header.at[bad.start + bad.len] != ','))
         put_word(to, " and another element");
@@ -423,40 +486,20 @@ static void answer_keyword(text *to, const text *arguments) {
 }
 
 /* Calls langtag_without_keyword if the value is -, otherwise langtag_with_keyword. */
-static size_t change_keyword(text tag, text key, text value, char *buffer, size_t room) {
+static size_t write_keyword(const text *arguments, char *buffer, size_t room) {
+    text tag = arguments[0], key = arguments[1], value = arguments[2];
     if (value.len == 1 && value.at[0] == '-') return langtag_without_keyword(tag.at, tag.len, key.at, key.len, buffer, room);
     return langtag_with_keyword(tag.at, tag.len, key.at, key.len, value.at, value.len, buffer, room);
 }
 
 /* Asks what langtag.h says how to find out what was refused. */
-static const char *refused_keyword(text tag, text key, text value) {
-    text und = {(char[]){'u', 'n', 'd'}, 3, 3};
-    char none[] = {'~'};
-    if (langtag_without_keyword("und", 3, key.at, key.len, none, 0) == 0) return " bad key";
-    if (change_keyword(und, key, value, none, 0) == 0) return " bad value";
-    return langtag_kind(tag.at, tag.len) == LANGTAG_NORMAL ? " refused for no reason" : " no parts";
-}
-
-/* Writes to a buffer of the size that is always enough, and to a buffer that is too short. The call may change only the bytes of the
- * new tag. */
 static void answer_with_keyword(text *to, const text *arguments) {
-    text tag = arguments[0], key = arguments[1], value = arguments[2];
-    bool is_removed = value.len == 1 && value.at[0] == '-';
-    size_t room = tag.len + (is_removed ? 0 : key.len + value.len + 4), at;
-    char *buffer = malloc(room + 1);
-    if (!buffer) abort();
-    memset(buffer, '~', room + 1);
-    size_t len = change_keyword(tag, key, value, buffer, room);
-    if (len == 0) put_word(to, refused_keyword(tag, key, value));
-    else if (len <= room) put_bytes(to, buffer, len);
-    else put_word(to, " longer than there is room");
-    for (at = len; at <= room; at++)
-        if (buffer[at] != '~') put_word(to, " and a byte after it");
-    memset(buffer, '~', room + 1);
-    if (len > 0 && change_keyword(tag, key, value, buffer, len - 1) != len) put_word(to, " whose length changes with the room");
-    for (at = 0; at <= room; at++)
-        if (buffer[at] != '~') put_word(to, " and a byte in too little room");
-    free(buffer);
+    const text und[] = {{(char[]){'u', 'n', 'd'}, 3, 3}, arguments[1], arguments[2]};
+    char none[] = {'~'};
+    if (put_written(to, arguments, write_keyword, false) > 0) return;
+    if (langtag_without_keyword("und", 3, und[1].at, und[1].len, none, 0) == 0) put_word(to, " bad key");
+    else if (write_keyword(und, none, 0) == 0) put_word(to, " bad value");
+    else put_word(to, langtag_kind(arguments->at, arguments->len) == LANGTAG_NORMAL ? " refused for no reason" : " no parts");
 }
 
 /* Writes KEY=VALUE for each, and checks that each is found by its key. */
@@ -501,7 +544,40 @@ static void answer_transform(text *to, const text *arguments) {
     put_pairs(to, tag, langtag_next_field, langtag_field);
 }
 
-static void answer_best(text *to, const text *arguments) { put_chosen(to, langtag_best_for_header, arguments[0], arguments[1]); }
+static langtag_prepared_tag site[MOST_TAGS], stale[MOST_TAGS];
+
+/* Prepares the tags of a text, and one more span that reaches beyond the text. In `stale` each tag has what was prepared for the first. */
+static size_t prepare_tags(text words) {
+    static langtag_span tags[MOST_TAGS];
+    size_t count = find_tags(words, tags);
+    for (size_t i = 0; i <= count; i++) {
+        site[i].tag = tags[i];
+        langtag_prepare(words.at, words.len, &site[i]);
+        stale[i] = site[0];
+        stale[i].tag = tags[i];
+    }
+    return count;
+}
+
+/* Whether what an entry of `stale` has is true of its tag, or is nothing, because nothing was kept of the first tag. */
+static bool is_current(size_t index) {
+    return memcmp(stale[index].opaque, site[index].opaque, sizeof site->opaque) == 0 || (stale[index].opaque[0] & 0xFFFF) == 0;
+}
+
+/* The choice of a site is that of the tags, and no tag is chosen for which it was not prepared. */
+static void answer_best(text *to, const text *arguments) {
+    const text *header = &arguments[0], *words = &arguments[1];
+    text by_site = {NULL, 0, 0};
+    put_chosen(to, langtag_best_for_header, *header, *words);
+    put(&by_site, "", 0);
+    size_t count = prepare_tags(*words), index = langtag_site_best_for_header(header->at, header->len, words->at, words->len, site, count + 1);
+    if (index < count) put_bytes(&by_site, words->at + site[index].tag.start, site[index].tag.len);
+    else put_word(&by_site, index == count + 1 ? " -" : " beyond the tags");
+    if (by_site.len > to->len || memcmp(to->at + to->len - by_site.len, by_site.at, by_site.len) != 0) put_word(to, " but another of a site");
+    size_t wrong = langtag_site_best_for_header(header->at, header->len, words->at, words->len, stale, count);
+    if (wrong > count || (wrong < count && !is_current(wrong))) put_word(to, " but a stale tag of a site");
+    free(by_site.at);
+}
 
 /* Also with spans that reach beyond the texts. */
 static void answer_best_ranges(text *to, const text *arguments) {
@@ -512,6 +588,9 @@ static void answer_best_ranges(text *to, const text *arguments) {
     put_tag(to, *words, tags, count, index);
     size_t again = langtag_best_for_ranges(from->at, from->len, ranges, wanted + 1, words->at, words->len, tags, count + 1);
     if (again != (index < count ? index : count + 1)) put_word(to, " but another beside spans out of the texts");
+    prepare_tags(*words);
+    if (langtag_site_best_for_ranges(from->at, from->len, ranges, wanted, words->at, words->len, site, count) != index)
+        put_word(to, " but another of a site");
 }
 
 /* The index, the distance and the range. All out arguments are written even if no tag is suitable. */
@@ -522,6 +601,11 @@ static void answer_best_match(text *to, const text *arguments) {
     langtag_best_match match = {{1, 2}, 3};
     size_t index = langtag_match_for_header(header.at, header.len, words.at, words.len, tags, count, &match);
     if (index != langtag_best_for_header(header.at, header.len, words.at, words.len, tags, count)) put_word(to, " another tag");
+    langtag_best_match of_site = {{1, 2}, 3};
+    prepare_tags(words);
+    if (langtag_site_match_for_header(header.at, header.len, words.at, words.len, site, count, &of_site) != index ||
+        of_site.range.start != match.range.start || of_site.range.len != match.range.len || of_site.distance != match.distance)
+        put_word(to, " another of a site");
     if (index < count) {
         put_number(to, "", index), put_number(to, "", match.distance);
         put_word(to, " "), put(to, header.at + match.range.start, match.range.len);
@@ -532,6 +616,40 @@ static void answer_best_match(text *to, const text *arguments) {
         put_word(to, " and a match");
 }
 
+/* Puts the tags at the indices. The rest of the array has to stay unchanged. */
+static void put_tags(text *to, text words, const langtag_span *tags, size_t count, const size_t *found, size_t found_len) {
+    for (size_t k = 0; k < found_len; k++) put_tag(to, words, tags, count, found[k]);
+    if (found_len == 0) put_word(to, " -");
+    for (size_t k = found_len; k < MOST_TAGS; k++)
+        if (found[k] != SIZE_MAX) put_word(to, " and a changed array");
+}
+
+/* All suitable tags. An array that is too short has to get the first of them. */
+static void answer_suitable(text *to, const text *arguments) {
+    static langtag_span tags[MOST_TAGS];
+    static size_t found[MOST_TAGS], some[MOST_TAGS];
+    const text header = arguments[0], words = arguments[1];
+    size_t count = find_tags(words, tags);
+    memset(found, 0xff, sizeof found);
+    size_t found_len = langtag_suitable_for_header(header.at, header.len, words.at, words.len, tags, count + 1, found, count + 1);
+    put_tags(to, words, tags, count, found, found_len);
+    for (size_t room = 0; room <= found_len; room++) {
+        memset(some, 0xff, sizeof some);
+        if (langtag_suitable_for_header(header.at, header.len, words.at, words.len, tags, count, some, room) != room) put_word(to, " but another number");
+        if (memcmp(some, found, room * sizeof *some) || some[room] != SIZE_MAX) put_word(to, " but others in a short array");
+    }
+}
+
+static void answer_suitable_ranges(text *to, const text *arguments) {
+    static langtag_span ranges[MOST_TAGS], tags[MOST_TAGS];
+    static size_t found[MOST_TAGS];
+    const text *from = &arguments[0], *words = &arguments[1];
+    size_t wanted = find_tags(*from, ranges), count = find_tags(*words, tags);
+    memset(found, 0xff, sizeof found);
+    size_t found_len = langtag_suitable_for_ranges(from->at, from->len, ranges, wanted + 1, words->at, words->len, tags, count + 1, found, count + 1);
+    put_tags(to, *words, tags, count, found, found_len);
+}
+
 call calls[] = {
     {"tag", answer_tag, 0, 0},
     {"validity", answer_validity, 0, 0},
@@ -539,7 +657,9 @@ call calls[] = {
     {"canonical", answer_canonical, 0, 0},
     {"maximized", answer_maximized, 0, 0},
     {"minimized", answer_minimized, 0, 0},
+    {"parents", answer_parents, 0, 0},
     {"posix", answer_posix, 0, 0},
+    {"posix-name", answer_posix_name, 0, 0},
     {"unknown-modifier", answer_unknown_modifier, 0, 0},
     {"right-to-left", answer_right_to_left, 0, 0},
     {"distance", answer_distance, 0, 0},
@@ -547,6 +667,8 @@ call calls[] = {
     {"viable", answer_viable, 0, 0},
     {"refused", answer_refused, 0, 0},
     {"range", answer_range, 0, 0},
+    {"fallbacks", answer_fallbacks, 0, 0},
+    {"elements", answer_elements, 0, 0},
     {"scan", answer_scan, 0, 0},
     {"recommended", answer_recommended, 0, 0},
     {"match", answer_match, 0, 0},
@@ -556,6 +678,8 @@ call calls[] = {
     {"ranges", answer_ranges, 0, 0},
     {"best", answer_best, 0, 0},
     {"best-ranges", answer_best_ranges, 0, 0},
+    {"suitable", answer_suitable, 0, 0},
+    {"suitable-ranges", answer_suitable_ranges, 0, 0},
     {"keyword", answer_keyword, 0, 0},
     {"keywords", answer_keywords, 0, 0},
     {"attributes", answer_attributes, 0, 0},

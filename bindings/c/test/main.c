@@ -1,38 +1,228 @@
 /*
- * Tests of the C interface. `test CALLS FILE FLOOR ..` runs the rows of each file, which has to have at least FLOOR rows. It also
- * runs tests written by hand for what the rows do not have: limits of inputs, and arguments that have to stay unchanged.
- * `test --answer CALLS` answers the calls of standard input, and fails if an answer in a row differs. CALLS is rows/calls.txt.
+ * Tests of the C interface. `test CALLS FILE FLOOR ..` runs the rows of each file. It also runs tests written by hand for what the
+ * rows do not have: limits of inputs, and arguments that have to stay unchanged. `test --answer CALLS` answers the calls of standard
+ * input, and fails if an answer in a row differs. CALLS is rows/calls.txt.
  */
-#include "check.h"
 #include "rows.h"
 
-#include <stdlib.h>
+#include <langtag.h>
+#include <string.h>
 
-int checks, failures;
+#define CHECK(test)                                                                                                    \
+    (checks++, (test) ? (void)0 : (failures++, (void)printf("%s:%d: failed: %s\n", __FILE__, __LINE__, #test)))
 
-bool is(const char *text, langtag_span span, const char *wanted) {
-    return span.len == strlen(wanted) && memcmp(text + span.start, wanted, span.len) == 0;
+/* A literal as a pointer and a length. */
+#define TEXT(literal) (literal), (sizeof(literal) - 1)
+
+/* ---- langtag_parse and langtag_kind, langtag_repeats, langtag_suggestion, langtag_registry_date, langtag_with_part */
+
+static langtag_parts parts;
+static uint32_t parse(const char *text, size_t len) {
+    memset(&parts, 0xaa, sizeof parts);
+    return langtag_parse(text, len, &parts);
 }
 
-static void test_rows(const char *name, int floor) {
-    FILE *file = fopen(name, "rb");
-    int asked = file ? ask_rows(file, name) : 0;
-    printf("%s: %d rows\n", name, asked);
-    if (asked < floor) failures++, printf("at least %d were to be asked\n", floor);
-    if (file) fclose(file);
+static bool all_are_zero(void) {
+    static const langtag_parts none;
+    return memcmp(&parts, &none, sizeof none) == 0;
+}
+
+/* The spans of absent parts, which the rows do not have. */
+static void absent_parts(void) {
+    CHECK(parse(TEXT("en-x-a")) == LANGTAG_NORMAL);
+    CHECK(parts.script.start == 2 && parts.script.len == 0 && parts.extensions.start == 2 && parts.extensions.len == 0);
+    CHECK(parts.private_use.start == 3 && parts.private_use.len == 3);
+    CHECK(parse(TEXT("X-fr-CH")) == LANGTAG_PRIVATE_USE);
+    CHECK(parts.private_use.start == 0 && parts.private_use.len == 7 && parts.language.len == 0);
+    CHECK(parse(TEXT("I-KLINGON")) == LANGTAG_IRREGULAR && all_are_zero());
+    CHECK(parse(TEXT("en_US")) == LANGTAG_NONE && all_are_zero());
+}
+
+static void edges(void) {
+    CHECK(parse(TEXT("")) == LANGTAG_NONE && all_are_zero());
+    CHECK(parse((const char *)1, 0) == LANGTAG_NONE); /* no byte is read */
+    CHECK(langtag_kind((const char *)(size_t)-1, 0) == LANGTAG_NONE);
+    CHECK(langtag_bytes(NULL) != NULL && langtag_bytes(&parts) == (const char *)&parts);
+    CHECK(langtag_kind(langtag_bytes(NULL), 0) == LANGTAG_NONE);
+}
+
+/* What a call writes whatever it returns. */
+static void written_always(void) {
+    static const char *const texts[] = {"", "en_US", "de", "i-klingon", "de-1996-u-co-phonebk", "de-1996-1996"};
+    for (size_t k = 0; k < sizeof texts / sizeof *texts; k++) {
+        langtag_repeated repeated;
+        memset(&repeated, 0xaa, sizeof repeated);
+        bool is_repeated = langtag_repeats(texts[k], strlen(texts[k]), &repeated) == LANGTAG_REPEATED_VARIANT;
+        CHECK(is_repeated == (k == 5) && repeated.variant.len == (is_repeated ? 4 : 0) && repeated.singleton.len == 0);
+    }
+}
+
+/* 2 MB of variants, without a repeated one and with one. */
+static void many_variants(void) {
+    enum { MOST = 250000 };
+    static char tag[8 * MOST + 16] = "de";
+    langtag_repeated repeated;
+    size_t len = 2;
+    for (unsigned number = 0; number < MOST; number++) len += (size_t)sprintf(tag + len, "-a%06u", number);
+    CHECK(langtag_repeats(tag, len, &repeated) == 0);
+    len += (size_t)sprintf(tag + len, "-A000000");
+    CHECK(langtag_repeats(tag, len, &repeated) == LANGTAG_REPEATED_VARIANT && repeated.variant.start == len - 7);
+}
+
+/* A code that is longer than every code that has a suggestion. */
+static void long_codes(void) {
+    char code[4200], written[3];
+    memset(code, 'k', sizeof code), memcpy(code, "deu", 3);
+    for (size_t len = 4; len <= sizeof code; len++)
+        CHECK(langtag_suggestion(LANGTAG_INVALID_LANGUAGE, code, len, written, sizeof written) == 0);
+    memcpy(code, "UK", 2);
+    for (size_t len = 3; len <= sizeof code; len++)
+        CHECK(langtag_suggestion(LANGTAG_INVALID_REGION, code, len, written, sizeof written) == 0);
+}
+
+/* The date of the registry. */
+static void versions(void) {
+    uint32_t date = langtag_registry_date();
+    CHECK(date / 10000 > 2000 && date / 100 % 100 - 1 < 12 && date % 100 - 1 < 31);
+}
+
+/* A number that is no part's. */
+static void other_parts(void) {
+    static const uint32_t numbers[] = {6, 7, 255, 256, UINT32_MAX};
+    char buffer[] = "~~~~~~~~";
+    for (size_t k = 0; k < sizeof numbers / sizeof *numbers; k++)
+        CHECK(langtag_with_part(TEXT("de"), numbers[k], TEXT("x-a"), buffer, sizeof buffer) == 0 && strcmp(buffer, "~~~~~~~~") == 0);
+}
+
+/* ---- langtag_eq, langtag_cmp and langtag_hash */
+
+/* A text that changes between two calls is read again: LANGTAG_PURE does not mean `const`. */
+static void changed_bytes(void) {
+    static char text[] = "de-DE-1996";
+    size_t len = sizeof text - 1;
+#define BOTH_ANSWERS(call, first, second)                                                                              \
+    do {                                                                                                               \
+        text[2] = '-';                                                                                                 \
+        bool was = (call) == (first);                                                                                  \
+        text[2] = '_';                                                                                                 \
+        CHECK(was && (call) == (second));                                                                              \
+    } while (0)
+    BOTH_ANSWERS(langtag_kind(text, len), LANGTAG_NORMAL, LANGTAG_NONE);
+    BOTH_ANSWERS(langtag_viable_len(text, len), 10, 2);
+    BOTH_ANSWERS(langtag_stop_len(text, len), 10, 3);
+    BOTH_ANSWERS(langtag_eq(text, len, TEXT("DE-de-1996")), true, false);
+    BOTH_ANSWERS(langtag_cmp(text, len, TEXT("de-DE-1996")), 0, 1);
+    BOTH_ANSWERS(langtag_hash(LANGTAG_HASH, text, 3), UINT64_C(0xca9a6518f462643d), UINT64_C(0xca9a5318f46245a7));
+    BOTH_ANSWERS(langtag_range_kind(text, len), LANGTAG_RANGE_BASIC, LANGTAG_RANGE_NONE);
+    BOTH_ANSWERS(langtag_matches_basic(TEXT("de"), text, len), true, false);
+    BOTH_ANSWERS(langtag_is_canonical(text, len), true, false);
+    BOTH_ANSWERS(langtag_matches_extended(TEXT("de-1996"), text, len), true, false);
+}
+
+/* the published vectors of FNV-1a 64 */
+static void hashes(void) {
+    CHECK(langtag_hash(LANGTAG_HASH, TEXT("")) == UINT64_C(0xcbf29ce484222325));
+    CHECK(langtag_hash(LANGTAG_HASH, TEXT("a")) == UINT64_C(0xaf63dc4c8601ec8c));
+    CHECK(langtag_hash(LANGTAG_HASH, TEXT("FooBar")) == UINT64_C(0x85944171f73967e8));
+    CHECK(langtag_hash(langtag_hash(LANGTAG_HASH, TEXT("foo")), TEXT("BAR")) == UINT64_C(0x85944171f73967e8));
+}
+
+static void overlapping_texts(void) {
+    const char *same = "en-US";
+    CHECK(langtag_eq(same, 5, same, 5) && langtag_cmp(same, 2, same, 5) == 1);
+}
+
+/* ---- langtag_fold */
+
+static void any_bytes(void) {
+    char fold[] = "ZH-Hant[\xc0@Z";
+    langtag_fold(fold, sizeof fold - 1);
+    CHECK(strcmp(fold, "zh-hant[\xc0@z") == 0);
+    langtag_fold(fold, 0);
+    langtag_recommend(fold, 0);
+    CHECK(strcmp(fold, "zh-hant[\xc0@z") == 0);
+}
+
+/* ---- the walks: langtag_next_subtag, langtag_next_extension, langtag_next_fallback and langtag_next_accepted */
+
+static const char walked[] = "de-1996-ab1cd-u-co-phonebk-t-en-x-a";
+static const size_t len = sizeof walked - 1;
+
+static bool is(langtag_span span, const char *wanted) {
+    return span.len == strlen(wanted) && memcmp(walked + span.start, wanted, span.len) == 0;
+}
+static bool is_same(langtag_span a, langtag_span b) { return a.start == b.start && a.len == b.len; }
+
+static void whole_walks(void) {
+    langtag_parts parts;
+    langtag_span rest, got;
+    CHECK(langtag_parse(walked, len, &parts) == LANGTAG_NORMAL);
+    rest = parts.variants;
+    CHECK(langtag_next_subtag(walked, len, &rest, &got) && is(got, "1996"));
+    CHECK(langtag_next_subtag(walked, len, &rest, &got) && is(got, "ab1cd"));
+    CHECK(!langtag_next_subtag(walked, len, &rest, &got) && is(got, "ab1cd"));
+    rest = parts.extensions;
+    CHECK(langtag_next_extension(walked, len, &rest, &got) && is(got, "u-co-phonebk"));
+    CHECK(langtag_next_extension(walked, len, &rest, &got) && is(got, "t-en"));
+    CHECK(!langtag_next_extension(walked, len, &rest, &got) && is(got, "t-en"));
+}
+
+/* An empty subtag is returned if a hyphen follows it, but not at the end. */
+static void empty_subtags(void) {
+    langtag_span rest = {0, 2}, got;
+    CHECK(langtag_next_subtag("a-", 2, &rest, &got) && got.len == 1 && !langtag_next_subtag("a-", 2, &rest, &got));
+    rest = (langtag_span){0, 4};
+    CHECK(langtag_next_subtag("a--b", 4, &rest, &got) && got.len == 1);
+    CHECK(langtag_next_subtag("a--b", 4, &rest, &got) && got.start == 2 && got.len == 0);
+    CHECK(langtag_next_subtag("a--b", 4, &rest, &got) && got.start == 3 && got.len == 1);
+}
+
+/* No call reads or changes a span that is empty or reaches beyond the text. */
+static void outside(langtag_span all) {
+    const langtag_span before = {1, 2};
+    langtag_span rest = all, got = before;
+    uint32_t weight = 3;
+    CHECK(!langtag_next_subtag(walked, len, &rest, &got) && !langtag_next_extension(walked, len, &rest, &got));
+    CHECK(is_same(rest, all) && is_same(got, before));
+    CHECK(!langtag_next_fallback(walked, len, &rest) && is_same(rest, all));
+    CHECK(langtag_next_accepted(walked, len, &rest, &got, &weight) == LANGTAG_ACCEPTED_END && weight == 3);
+    CHECK(is_same(rest, all) && is_same(got, before));
+}
+
+/* In any other span there is a first subtag, which ends before a hyphen or at the end of the span. */
+static void inside(langtag_span all) {
+    langtag_span rest = all, got;
+    CHECK(langtag_next_subtag(walked, len, &rest, &got) && got.start == all.start && got.len <= all.len);
+    CHECK(!memchr(walked + got.start, '-', got.len) && (got.len == all.len || walked[got.start + got.len] == '-'));
+    rest = all;
+    CHECK(langtag_next_extension(walked, len, &rest, &got) && got.start == all.start && got.len <= all.len);
+}
+
+static void any_spans(void) {
+    static const langtag_span odd[] = {{99, 1}, {0, 99}, {(size_t)-1, 2}, {2, (size_t)-1}, {3, (size_t)-2}};
+    for (size_t k = 0; k < sizeof odd / sizeof *odd; k++) outside(odd[k]);
+    for (size_t start = 0; start <= len + 2; start++)
+        for (size_t length = 0; length <= len + 2; length++)
+            (length > 0 && start + length <= len ? inside : outside)((langtag_span){start, length});
 }
 
 int main(int argc, char **argv) {
-    bool is_asked = argc > 1 && strcmp(argv[1], "--answer") == 0;
-    if (!read_calls(argv[argc > 1 ? 1 + is_asked : 0])) return printf("no table of calls\n"), 1;
-    if (is_asked) return ask_rows(stdin, "the standard input"), failures != 0;
-    for (int k = 2; k + 1 < argc; k += 2) test_rows(argv[k], atoi(argv[k + 1]));
-    for (const call *it = calls; it->name; it++)
-        if (it->asked == 0) failures++, printf("no row asks %s\n", it->name);
-    test_parse();
-    test_compare();
-    test_case();
-    test_walks();
+    run_rows(argc, argv);
+    if (argc > 1 && strcmp(argv[1], "--answer") == 0) return failures != 0;
+    absent_parts();
+    edges();
+    written_always();
+    versions();
+    many_variants();
+    long_codes();
+    other_parts();
+    overlapping_texts();
+    changed_bytes();
+    hashes();
+    any_bytes();
+    whole_walks();
+    empty_subtags();
+    any_spans();
     printf("%d checks, %d failed\n", checks, failures);
     return failures != 0;
 }

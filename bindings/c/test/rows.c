@@ -1,8 +1,11 @@
 /* Reads rows, and compares their results with the answers of the calls. */
 #include "rows.h"
 
-#include "check.h"
 #include <stdlib.h>
+#include <string.h>
+
+call *asked;
+int checks, failures;
 
 void put(text *to, const char *bytes, size_t len) {
     if (to->len + len + 1 > to->room) {
@@ -42,11 +45,11 @@ static text take_field(const char **row) {
     return field;
 }
 
-/* Returns the bytes of a field in a block of exactly their number, so that a sanitizer finds reads beyond the end. */
-static text argument_of(text word) {
-    text out = {malloc(word.len ? word.len : 1), 0, word.len};
+/* Returns the bytes of a field. */
+static text argument_of(text word, int number) {
+    text out = {NULL, 0, 0};
     const char *at = word.at, *end = at + word.len;
-    if (!out.at) abort();
+    put(&out, "", 0);
     if (word.len == 2 && memcmp(at, "''", 2) == 0) at = end;
     for (; at < end; at++) {
         char byte = *at;
@@ -54,10 +57,12 @@ static text argument_of(text word) {
             byte = (char)strtoul((char[]){at[2], at[3], '\0'}, NULL, 16);
             at += 3;
         }
-        out.at[out.len++] = byte;
+        put(&out, &byte, 1);
     }
-    out.at = out.len == 0 ? out.at : realloc(out.at, out.len);
-    return out;
+    text placed = {fenced(number, out.len), out.len, out.len};
+    memcpy(placed.at, out.at, out.len);
+    free(out.at);
+    return placed;
 }
 
 static call *call_named(text name) {
@@ -76,9 +81,9 @@ static void tell(const char *name, int line, const char *row, const char *wanted
 static bool ask(const char *name, int line, const char *row, const char *more) {
     const char *rest = row;
     text arguments[ARGUMENTS], found = {NULL, 0, 0}, wanted = {NULL, 0, 0};
-    call *asked = call_named(take_field(&rest));
+    asked = call_named(take_field(&rest));
     if (!asked->name) return false;
-    for (int k = 0; k < asked->arguments; k++) arguments[k] = argument_of(take_field(&rest));
+    for (int k = 0; k < asked->arguments; k++) arguments[k] = argument_of(take_field(&rest), k);
     put(&found, "", 0), put(&wanted, " ", rest[0] != '\0' ? 1 : 0);
     put_word(&wanted, rest), put_word(&wanted, more);
     asked->answer(&found, arguments);
@@ -86,7 +91,6 @@ static bool ask(const char *name, int line, const char *row, const char *more) {
     if (is_asked && wanted.len == 0) printf("%s |%s\n", row, found.at);
     else if (is_asked && (checks++, strcmp(found.at, wanted.at) != 0)) tell(name, line, row, wanted.at, found.at);
     asked->asked += is_asked;
-    for (int k = 0; k < asked->arguments; k++) free(arguments[k].at);
     free(found.at), free(wanted.at);
     return is_asked;
 }
@@ -99,18 +103,18 @@ static text read_all(FILE *file) {
     return out;
 }
 
-bool read_calls(const char *name) {
-    FILE *file = fopen(name, "r");
+static void read_calls(const char *name) {
+    FILE *file = name ? fopen(name, "r") : NULL;
     char word[64], line[256];
     int count;
     while (file && fgets(line, sizeof line, file))
         if (sscanf(line, "%63s %d", word, &count) == 2 && count <= ARGUMENTS)
             call_named((text){word, strlen(word), sizeof word})->arguments = count;
-    if (file) fclose(file);
-    return file != NULL;
+    if (!file) failures++, printf("no table of calls\n");
+    else fclose(file);
 }
 
-int ask_rows(FILE *file, const char *name) {
+static int ask_rows(FILE *file, const char *name) {
     text all = read_all(file);
     int asked = 0, line = 0;
     for (const char *at = all.at; *at;) {
@@ -128,4 +132,24 @@ int ask_rows(FILE *file, const char *name) {
     }
     free(all.at);
     return asked;
+}
+
+static void ask_file(const char *name, int floor) {
+    FILE *file = fopen(name, "rb");
+    int count = file ? ask_rows(file, name) : 0;
+    printf("%s: %d rows\n", name, count);
+    if (count < floor) failures++, printf("at least %d were to be asked\n", floor);
+    if (file) fclose(file);
+}
+
+void run_rows(int argc, char **argv) {
+    if (argc > 1 && strcmp(argv[1], "--answer") == 0) {
+        read_calls(argv[2]);
+        ask_rows(stdin, "the standard input");
+        return;
+    }
+    read_calls(argc > 1 ? argv[1] : NULL);
+    for (int k = 2; k + 1 < argc; k += 2) ask_file(argv[k], atoi(argv[k + 1]));
+    for (const call *it = calls; it->name; it++)
+        if (it->asked == 0) failures++, printf("no row asks %s\n", it->name);
 }

@@ -1,15 +1,11 @@
-/*
- * Runs the rows that the tests of all languages read with langtag.hpp: rows FILE FLOOR .. . At most three rows that differ are
- * printed. A row without an answer is printed with its answer. It fails if a file has fewer rows than its FLOOR, or if no row has a
- * call that C++ has. rows/README.md describes the form of the files.
- */
+/* Answers the rows that the tests of all languages read, which rows.c reads and compares, with langtag.hpp. */
+#include "rows.h"
+
 #include <langtag.hpp>
+#include <langtag_names.hpp>
 
 #include <algorithm>
-#include <cstdio>
-#include <fstream>
 #include <functional>
-#include <iostream>
 #include <map>
 
 using langtag::tag;
@@ -131,7 +127,7 @@ static std::string grandfathered_of(const strings &asked) {
 }
 
 static std::string viable_of(const strings &asked) {
-    return std::to_string(langtag::viable(asked[0])) + " " + std::to_string(langtag::stop(asked[0]));
+    return std::to_string(langtag::viable_len(asked[0])) + " " + std::to_string(langtag::stop_len(asked[0]));
 }
 
 /* Returns how many bytes have to be read, how many prefixes are tags, and the kind of the text with the ends of its parts. */
@@ -140,7 +136,7 @@ static std::string scan_of(const strings &asked) {
     const auto one = tag::parse(text);
     int tags = 0;
     for (std::size_t len = 0; len <= text.size(); len++) tags += tag::parse(text.substr(0, len)).has_value();
-    std::string out = std::to_string(langtag::stop(text)) + " " + std::to_string(tags) + " " + kind_of(text);
+    std::string out = std::to_string(langtag::stop_len(text)) + " " + std::to_string(tags) + " " + kind_of(text);
     if (one && one->kind() == langtag::kind::irregular)
         out += " " + grandfathered_of(asked).substr(0, grandfathered_of(asked).find(' '));
     if (!one || one->kind() != langtag::kind::normal) return out;
@@ -239,6 +235,22 @@ static std::string header_of(const strings &asked) {
                        : bad->part == langtag::element_part::weight ? "weight"
                                                                     : "unknown";
     return "bad " + std::to_string(bad->index) + " " + std::to_string(bad->offset) + " " + part + " | " + found;
+}
+
+static std::string elements_of(const strings &asked) {
+    const langtag::accept_language accepted(asked[0]);
+    const auto bad = accepted.bad_element();
+    const char *what = bad && bad->part == langtag::element_part::range ? "language range" : "weight";
+    std::string out = bad ? "element " + std::to_string(bad->index) + " has a bad " + what + " |" : "";
+    for (const auto &it : accepted.ranges()) out += " " + std::string(it.range.text()) + " " + std::to_string(it.weight);
+    if (accepted.ranges().empty()) out += " -";
+    return out.substr(bad ? 0 : 1);
+}
+
+static std::string fallbacks_of(const strings &asked) {
+    std::string out;
+    for (auto it = langtag::range::parse(asked[0]); it; it = it->fallback()) out.append(out.empty() ? "" : " ").append(it->text());
+    return out.empty() ? "refused" : out;
 }
 
 static std::string ranges_of(const strings &asked) {
@@ -356,6 +368,26 @@ static std::string minimized_of(const strings &asked) {
     return one ? one->minimized() : "-";
 }
 
+static std::string describe_of(const strings &asked) {
+    const auto one = tag::parse(asked[0]);
+    return one ? as_in_row(langtag::describe(*one)) : "-";
+}
+
+static std::string autonym_of(const strings &asked) {
+    const auto one = tag::parse(asked[0]);
+    return one ? as_in_row(std::string(langtag::autonym(*one).value_or("-"))) : "-";
+}
+
+/* The parents of a tag. The second one is the parent of the first. */
+static std::string parents_of(const strings &asked) {
+    const auto one = tag::parse(asked[0]);
+    if (!one) return "-";
+    const std::vector<std::string> chain = one->parents();
+    std::string line;
+    for (const std::string &parent : chain) line.append(line.empty() ? "" : " ").append(parent);
+    return one->parent().value_or("") == (chain.size() > 1 ? chain[1] : "") ? line : line + ", and parent says otherwise";
+}
+
 static std::string right_to_left_of(const strings &asked) {
     const auto one = tag::parse(asked[0]);
     return !one ? "-" : one->is_right_to_left() ? "yes" : "no";
@@ -368,6 +400,15 @@ static std::string distance_of(const strings &asked) {
 
 static std::string posix_of(const strings &asked) { return langtag::from_posix(asked[0]).value_or("-"); }
 
+/* The name for a tag. If the tag has no script, the name is read as the tag. */
+static std::string posix_name_of(const strings &asked) {
+    const auto one = tag::parse(asked[0]);
+    const auto name = one ? one->to_posix() : std::nullopt;
+    if (!name) return "-";
+    const std::string read = langtag::from_posix(*name).value_or("");
+    return !one->script().empty() || *one == tag::parse(read) ? *name : *name + ", which is another tag";
+}
+
 static std::string unknown_modifier_of(const strings &asked) {
     return beyond_ascii(std::string(langtag::unknown_modifier(asked[0]).value_or("-")));
 }
@@ -379,6 +420,8 @@ static std::string best_of(const strings &asked) {
         return "another of texts";
     if (asked[0].find(';') == std::string::npos && langtag::best_for_ranges(split(asked[0], ","), texts) != best)
         return "another of ranges";
+    const langtag::site site(texts);
+    if (site.best_for_header(asked[0]) != best) return "another of a site";
     return found_or_default(best);
 }
 
@@ -393,6 +436,8 @@ static std::string best_of_ranges(const strings &asked) {
     const strings ranges = split(asked[0], " "), texts = split(asked[1], " ");
     const auto best = langtag::best_for_ranges(ranges, texts);
     if (langtag::best_for_ranges(ranges, tags_of(texts)) != best) return "another of texts";
+    const langtag::site site(texts);
+    if (site.best_for_ranges(ranges) != best) return "another of a site";
     return found_or_default(best);
 }
 
@@ -445,13 +490,36 @@ static std::string best_match_of(const strings &asked) {
     const strings texts = split(asked[1], " ");
     const std::string_view header = asked[0];
     const auto match = langtag::match_for_header(header, texts);
-    if (!match) return langtag::match_for_header(header, tags_of(texts)) ? "one of tags" : "-";
+    const langtag::site site(texts);
+    const auto of_site = site.match_for_header(header);
+    if (!match) return langtag::match_for_header(header, tags_of(texts)) ? "one of tags" : of_site ? "one of a site" : "-";
+    if (!of_site || of_site->index != match->index || of_site->tag != match->tag || of_site->range != match->range ||
+        of_site->distance != match->distance)
+        return "another of a site";
     if (match->tag.text() != texts[match->index] || match->tag != langtag::best_for_header(header, texts)) return "another tag";
     return std::to_string(match->index) + ' ' + std::to_string(match->distance) + ' ' + std::string(match->range);
 }
 
+static std::string joined_of(const std::vector<tag> &tags) {
+    std::string out;
+    for (const tag &one : tags) out.append(out.empty() ? "" : " ").append(one.text());
+    return out.empty() ? "-" : out;
+}
+
+static std::string suitable_of(const strings &asked) {
+    const strings texts = split(asked[1], " ");
+    const std::string found = joined_of(langtag::suitable_for_header(asked[0], texts));
+    const std::vector<tag> tags = tags_of(texts);
+    return joined_of(langtag::suitable_for_header(asked[0], tags)) == found ? found : "others of tags";
+}
+
+static std::string suitable_of_ranges(const strings &asked) {
+    const strings texts = split(asked[1], " ");
+    return joined_of(langtag::suitable_for_ranges(split(asked[0], " "), texts));
+}
+
 using answer = std::string (*)(const strings &asked); /* returns an empty text if C++ has no answer */
-static const std::map<std::string, answer> calls = {
+static const std::map<std::string, answer> answers = {
     {"tag", tag_of},
     {"validity", validity_of},
     {"suggestion", suggestion_of},
@@ -466,18 +534,26 @@ static const std::map<std::string, answer> calls = {
     {"edit", edit_of},
     {"header", header_of},
     {"ranges", ranges_of},
+    {"elements", elements_of},
+    {"fallbacks", fallbacks_of},
     {"refused", refused_of},
     {"fault", fault_of},
     {"message", message_of},
     {"range-message", range_message_of},
     {"maximized", maximized_of},
+    {"parents", parents_of},
+    {"describe", describe_of},
+    {"autonym", autonym_of},
     {"minimized", minimized_of},
     {"right-to-left", right_to_left_of},
     {"distance", distance_of},
     {"posix", posix_of},
+    {"posix-name", posix_name_of},
     {"unknown-modifier", unknown_modifier_of},
     {"best", best_of},
     {"best-ranges", best_of_ranges},
+    {"suitable", suitable_of},
+    {"suitable-ranges", suitable_of_ranges},
     {"best-accepted", best_of_accepted},
     {"keyword", keyword_of},
     {"keywords", keywords_of},
@@ -492,91 +568,19 @@ static const std::map<std::string, answer> calls = {
     {"cldr-version", cldr_version_of},
 };
 
-/* Returns a line in which each {N:piece} is expanded. */
-static std::string expand(const std::string &line) {
-    std::string out;
-    std::size_t from = 0;
-    for (auto at = line.find('{'); at != line.npos; at = line.find('{', from)) {
-        const auto colon = line.find(':', at), end = line.find('}', at);
-        out.append(line, from, at - from);
-        for (int times = std::stoi(line.substr(at + 1)); times > 0; times--)
-            out.append(line, colon + 1, end - colon - 1);
-        from = end + 1;
-    }
-    return out.append(line, from, line.npos);
+/* Answers the row that rows.c reads. */
+static void answer_row(text *to, const text *arguments) {
+    strings given;
+    for (int k = 0; k < asked->arguments; k++) given.emplace_back(arguments[k].at, arguments[k].len);
+    const std::string found = answers.at(asked->name)(given);
+    if (!found.empty()) put_word(to, " "), put(to, found.data(), found.size());
 }
 
-/* Returns the bytes of a word: '' is the empty text, and \xNN a byte. */
-static std::string unescape(const std::string &word) {
-    if (word == "''") return "";
-    const strings pieces = split(word, "\\x");
-    std::string out = pieces[0];
-    for (std::size_t k = 1; k < pieces.size(); k++)
-        out.append(1, static_cast<char>(std::stoi(pieces[k].substr(0, 2), nullptr, 16))).append(pieces[k], 2);
-    return out;
-}
+call calls[100];
 
-static std::string join(const strings &words, std::size_t from, const std::string &by) {
-    std::string out;
-    for (std::size_t k = from; k < words.size(); k++) out.append(k > from ? by : "").append(words[k]);
-    return out;
-}
-
-static std::map<std::string, int> times_asked;
-static int differing;
-
-/* Returns the number of arguments of each call, from rows/calls.txt. */
-static std::map<std::string, std::size_t> counts;
-
-static void read_counts(const char *name) {
-    std::ifstream file(name);
-    for (std::string line; std::getline(file, line);)
-        if (!line.empty() && line[0] != '#') counts[line.substr(0, line.find(' '))] = std::stoul(line.substr(line.find(' ')));
-}
-
-/* Runs one row, with the lines after it that belong to it. */
-static bool ask(const std::string &place, const std::string &row, const std::string &more) {
-    const strings fields = split(row, " | ");
-    const auto call = calls.find(fields[0]);
-    if (call == calls.end()) return false;
-    const std::size_t count = counts.at(fields[0]);
-    strings asked;
-    for (std::size_t k = 1; k <= count; k++) asked.push_back(unescape(fields.at(k)));
-    const std::string wanted = join(fields, count + 1, " | ") + more, found = call->second(asked);
-    if (found.empty()) return false;
-    times_asked[fields[0]]++;
-    if (wanted.empty()) std::cout << row << " | " << found << "\n";
-    else if (found != wanted && ++differing <= 3)
-        std::cout << place << ": " << row.substr(0, 300) << "\n  wanted " << wanted.substr(0, 300) << "\n  found  "
-                  << found.substr(0, 300) << "\n";
-    return true;
-}
-
-static int ask_all(const char *name) {
-    std::ifstream file(name);
-    strings lines;
-    int asked = 0;
-    for (std::string line; std::getline(file, line);) lines.push_back(line);
-    for (std::size_t at = 0; at < lines.size();) {
-        const std::string &line = lines[at], place = std::string(name) + ":" + std::to_string(++at);
-        if (line.empty() || line[0] == '#') continue;
-        std::string row = expand(line), more;
-        for (; at < lines.size() && lines[at][0] == ' '; at++) more += "\n" + expand(lines[at]);
-        asked += ask(place, row, more);
-    }
-    return asked;
-}
-
-int main(int count, char **arguments) {
-    int failures = 0;
-    read_counts(count > 1 ? arguments[1] : "");
-    for (int k = 2; k + 1 < count; k += 2) {
-        const int asked = ask_all(arguments[k]), floor = std::stoi(arguments[k + 1]);
-        std::cout << arguments[k] << ": " << asked << " rows\n";
-        if (asked < floor) failures++, std::cout << "at least " << floor << " were to be asked\n";
-    }
-    for (const auto &it : calls)
-        if (times_asked[it.first] == 0) failures++, std::cout << "no row asks " << it.first << "\n";
-    if (differing > 0) std::cout << differing << " differ\n";
-    return failures > 0 || differing > 0;
+int main(int argc, char **argv) {
+    std::size_t count = 0;
+    for (const auto &it : answers) calls[count++] = {it.first.c_str(), answer_row, 0, 0};
+    run_rows(argc, argv);
+    return failures > 0;
 }

@@ -7,7 +7,11 @@
 #include <stddef.h>
 #include <stdio.h>
 
-/* A growing array of bytes that ends in NUL. An argument has exactly its own bytes, without NUL. */
+#ifdef __cplusplus
+extern "C" {
+#endif
+
+/* A growing array of bytes that ends in NUL. An argument has exactly its own bytes, without NUL, at the edge of an unreadable page. */
 typedef struct text {
     char *at;
     size_t len, room;
@@ -24,16 +28,24 @@ typedef struct call {
     int arguments, asked;
 } call;
 
-enum { ARGUMENTS = 3 };
+enum { ARGUMENTS = 3, BUFFER = ARGUMENTS, FENCES };
 
-/* All calls. The last entry has no name. */
+/* Returns bytes at an edge of a page that must not be touched: in turn at its start, and at its end. They last until the next call with
+ * the same number, which is that of an argument, or BUFFER. */
+char *fenced(int number, size_t len);
+
+/* All calls. The last entry has no name. `asked` is the call of the row that is answered. */
 extern call calls[];
+extern call *asked;
+extern int checks, failures;
 
-/* Reads the number of arguments of each call from rows/calls.txt. Returns false if there is no such file. */
-bool read_calls(const char *name);
+/* Runs rows: `--answer CALLS` those of standard input, and `CALLS FILE FLOOR ..` those of files, which have to have at least FLOOR
+ * rows. Counts a row that differs as a failure, and prints the first three of them. Prints a row without an answer with its answer.
+ * CALLS is rows/calls.txt, which says how many arguments each call has. */
+void run_rows(int argc, char **argv);
 
-/* Runs each row, counts rows that differ as failures, and prints the first three of them. Prints a row without an answer with its
- * answer. Returns how many rows were run. */
-int ask_rows(FILE *file, const char *name);
+#ifdef __cplusplus
+}
+#endif
 
 #endif

@@ -55,7 +55,7 @@ struct is_matched<Header, std::void_t<decltype(langtag::match_for_header(std::de
 static_assert(is_matched<const char *>::value && is_matched<std::string &>::value && !is_matched<std::string>::value);
 
 static void check_views() {
-    CHECK(!tag::parse({}) && !langtag::range::parse({}) && langtag::viable({}) == 0 && langtag::stop({}) == 0);
+    CHECK(!tag::parse({}) && !langtag::range::parse({}) && langtag::viable_len({}) == 0 && langtag::stop_len({}) == 0);
     CHECK(langtag::recommended({}).empty() && langtag::folded({}).empty() &&
           langtag::subtags({}).begin() == langtag::subtags({}).end());
     CHECK(!langtag::accept_language({}).bad_element() && langtag::accept_language({}).ranges().empty());
@@ -79,11 +79,6 @@ static void check_walks() {
     CHECK(seen == "rozaj 1994 u-co-eor T-de de.rozaj.");
     auto at = langtag::subtags("de-AT").begin();
     CHECK(*at++ == "de" && *at == "AT" && ++at == langtag::subtags("de-AT").end());
-    const auto range = langtag::range::parse("zh-Hant-*-CN-x-a");
-    seen.clear();
-    for (auto next = range; next; next = next->fallback())
-        seen.append(next->text()).append(next->is_basic() ? ". " : " ");
-    CHECK(seen == "zh-Hant-*-CN-x-a zh-Hant-*-CN zh-Hant. zh. ");
 }
 
 static void check_keys() {
@@ -137,37 +132,25 @@ static void check_lookups() {
 }
 
 static void check_refused() {
-    const auto shown = [](std::string_view text) {
-        const auto found = langtag::refused(text);
-        return found ? std::string(found->subtag) + ' ' + std::to_string(found->offset) + ' ' + found->message() : "a tag";
-    };
-    CHECK(shown("de-419-DE") == "DE 7 unexpected subtag `DE`" && shown("de-DE") == "a tag");
-    const auto byte = langtag::refused("zh-de_CH");
-    CHECK(byte && byte->start == 3 && byte->offset == 5 && byte->subtag == "de_CH");
-    CHECK(tag::parse("de-1996-FQ") == std::nullopt && tag::parse("de-FQ")->invalid_subtag()->start == 3);
-    const auto meant = [](const char *text) { return tag::parse(text)->invalid_subtag()->suggestion(); };
-    CHECK(meant("ger-AT") == "de" && meant("en-uk") == "GB" && meant("en-840") == "US" && meant("hbs").empty() && meant("fr-FQ").empty());
+    const std::string_view text = "zh-de_CH";
+    const auto byte = langtag::refused(text);
+    CHECK(byte && byte->start == 3 && byte->offset == 5 && byte->subtag.data() == text.data() + 3 && !langtag::refused("de-DE"));
     CHECK(tag::parse("en-UK")->invalid_subtag()->message() == "region UK is not registered: did you mean GB?");
-    CHECK(shown("de_CH") == "de_CH 2 invalid character `_`: expected a letter, a digit or a hyphen");
-    CHECK(shown("de--AT") == " 3 empty subtag" && shown("en-a") == " 4 unexpected end: expected a subtag" && shown({}) == " 0 unexpected end: expected a subtag");
+    CHECK(langtag::refused({})->message() == "unexpected end: expected a subtag");
 }
 
 static void check_likely() {
-    const auto one = tag::parse("zh-TW"), other = tag::parse("zh-Hant");
-    CHECK(one->maximized() == "zh-Hant-TW" && other->minimized() == "zh-TW" && langtag::distance(*one, *other) == 0);
-    CHECK(tag::parse("x-a")->maximized() == "x-a" && !one->is_right_to_left() && tag::parse("az-IR")->is_right_to_left());
+    const auto other = tag::parse("zh-Hant");
     const std::vector<tag> tags = {*tag::parse("en"), *tag::parse("zh-Hans"), *other};
     const auto best = langtag::best_for_header("zh-TW,zh;q=0.9,en;q=0.8", tags);
     CHECK(best && best->text().data() == other->text().data());
-    CHECK(langtag::best_for_header("zh_CN.UTF-8", tags) == tags[1] && !langtag::best_for_header("fi", tags));
     CHECK(!langtag::best_for_header({}, tags) && !langtag::best_for_header("en", {}));
     CHECK(langtag::best_for_header("de", {tags[0]}) == std::nullopt && langtag::best_for_header("de", {"en", "DE"}) == "de");
     const auto match = langtag::match_for_header("fi, zh_TW;q=0.3", tags);
-    CHECK(match && match->index == 2 && match->tag.text().data() == other->text().data() && match->range == "zh_TW" && match->distance == 0);
-    CHECK(!langtag::match_for_header({}, tags) && !langtag::match_for_header("en", {}) && !langtag::match_for_header("fi", tags));
-    CHECK(langtag::from_posix("sr_RS@latin") == "sr-Latn-RS" && !langtag::from_posix("C") && !langtag::from_posix({}));
+    CHECK(match && match->index == 2 && match->tag.text().data() == other->text().data());
+    CHECK(!langtag::match_for_header({}, tags) && !langtag::match_for_header("en", {}) && !langtag::from_posix({}));
     const std::string name = "de_DE.UTF-8@Foo";
-    CHECK(langtag::unknown_modifier(name)->data() == name.data() + 12 && !langtag::unknown_modifier("sr_RS@latin") && !langtag::unknown_modifier({}));
+    CHECK(langtag::unknown_modifier(name)->data() == name.data() + 12 && !langtag::unknown_modifier({}));
     CHECK(langtag::cldr_version().size() == langtag_cldr_version(nullptr, 0));
 }
 
@@ -198,14 +181,6 @@ static void check_written() {
 #endif
 }
 
-static void check_ranges() {
-    const auto ranges = langtag::accept_language("FR;q=0.5, d!, de, *;q=0, nl;q=0.25, en;q=0.5").ranges();
-    std::string seen;
-    for (const auto &it : ranges)
-        seen.append(it.range.text()).append(1, ' ').append(std::to_string(it.weight)).append(1, ' ');
-    CHECK(seen == "de 1000 FR 500 en 500 nl 250 " && ranges[1].range.is_basic());
-}
-
 int main() {
     check_views();
     check_walks();
@@ -215,6 +190,5 @@ int main() {
     check_likely();
     check_lists();
     check_written();
-    check_ranges();
     return failures != 0;
 }

@@ -185,13 +185,13 @@ function showHeader(tags) {
         if (!(error instanceof AcceptLanguageError)) throw error;
         const end = `${header},`.indexOf(",", error.offset);
         showBroken("header-text", header, error.offset, end);
-        told = ` Element ${error.index + 1} has a bad ${error.part}: the best tag reads it as what it means, and look-up passes it over.`;
+        told = ` Element ${error.index + 1} has a bad ${error.part}: the best tag reads it as what it means, and lookup passes it over.`;
     }
     find("header").setAttribute("aria-invalid", String(told !== ""));
     const best = bestForHeader(header, tags);
     const name = (tag) => (tag === undefined ? "none of the tags" : short(tag.text));
     const differs = best === chosen ? "" : " Use the best tag, unless you have to follow RFC 4647.";
-    find("header-summary").textContent = `The best tag is ${name(best)}, by language distance. Look-up (RFC 4647) finds ${name(chosen)}.${differs}${told}`;
+    find("header-summary").textContent = `The best tag is ${name(best)}, by language distance. Lookup (RFC 4647) finds ${name(chosen)}.${differs}${told}`;
 }
 
 function showRange(tags) {

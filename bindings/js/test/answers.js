@@ -1,7 +1,8 @@
 /* Returns the package's answer to a row, in the form of the rows. It runs in Node and in a web page. */
 import {
-    AcceptLanguage, AcceptLanguageError, bestForHeader, bestForRanges, CLDR_VERSION, distance, EditError, GRANDFATHERED, InvalidRange, InvalidTag, matchForHeader,
-    LanguageRange, LanguageTag, lookUp, stopLength, tagForHeader, tagForHeaderLenient, unknownModifier, viableLength,
+    AcceptLanguage, AcceptLanguageError, autonym, bestForHeader, bestForRanges, CLDR_VERSION, describe, distance, EditError,
+    GRANDFATHERED, InvalidRange, InvalidTag, LanguageRange, LanguageTag, lookUp, matchForHeader, Site, stopLength,
+    suitableForHeader, suitableForRanges, tagForHeader, tagForHeaderLenient, unknownModifier, viableLength,
 } from "../index.js";
 import * as calls from "../calls.js";
 
@@ -151,6 +152,19 @@ function answerHeader(header, list) {
     return `${strict} | ${lenient}`;
 }
 
+/** Returns the ranges of a header by descending weight and, if an element is malformed, before them the error. */
+function answerElements(header) {
+    const said = ({ ranges }) => ranges.map(({ range, weight }) => `${range} ${weight}`).join(" ") || "-";
+    const lenient = said(AcceptLanguage.lenient(header));
+    try {
+        assert(said(AcceptLanguage.parse(header)) === lenient, "the ranges of a header without errors");
+        return lenient;
+    } catch (error) {
+        if (!(error instanceof AcceptLanguageError)) throw error;
+        return `${error.message} | ${lenient}`;
+    }
+}
+
 const answerRanges = (ranges, tags) =>
     String(lookUp(ranges.split(" ").filter(Boolean), tags.split(" ").filter(Boolean).map((text) => LanguageTag.parse(text)), DEFAULT));
 
@@ -163,7 +177,7 @@ function answerRefused(text) {
         } catch (thrown) {
             error = thrown;
         }
-        assert(error.message.endsWith(`: ${error.reason}`) && error.offset === offset && error.subtag === (answer < 3 ? text.slice(start, start + length) : undefined), "the error");
+        assert(error.message.endsWith(`: ${error.reason}`) && error.start === start && error.offset === offset && error.subtag === (answer < 3 ? text.slice(start, start + length) : undefined), "the error");
     }
     return `${["none", "subtag", "byte", "end"][answer]} ${start} ${length} ${offset}`;
 }
@@ -205,6 +219,7 @@ function answerBest(header, list) {
     const found = bestForHeader(header, texts, DEFAULT);
     assert(String(bestForHeader(header, texts.map((text) => LanguageTag.parse(text)), DEFAULT)) === found, "the tag of tags");
     assert(header.includes(";") || bestForRanges(header.split(","), texts, DEFAULT) === found, "the tag of ranges");
+    assert(new Site(texts).bestForHeader(header, DEFAULT) === found, "the tag of a site");
     return found;
 }
 
@@ -218,6 +233,7 @@ function answerBestAccepted(header, list) {
 function answerBestRanges(ranges, list) {
     const [wanted, texts] = [ranges, list].map((words) => words.split(" ").filter(Boolean));
     const found = bestForRanges(wanted, texts, DEFAULT);
+    assert(new Site(texts).bestForRanges(wanted, DEFAULT) === found, "the tag of a site");
     const again = bestForRanges(wanted.map((text) => LanguageRange.parse(text)), texts.map((text) => LanguageTag.parse(text)), DEFAULT);
     assert(String(again) === found, "the tag of ranges");
     return found;
@@ -228,7 +244,20 @@ function answerBestMatch(header, list) {
     const found = matchForHeader(header, texts);
     assert(matchForHeader(header, texts.map((text) => LanguageTag.parse(text)))?.index === found?.index, "the index of tags");
     assert(found?.tag === bestForHeader(header, texts), "the best tag");
+    assert(JSON.stringify(new Site(texts).matchForHeader(header)) === JSON.stringify(found), "the match of a site");
     return found === undefined ? "-" : `${found.index} ${found.distance} ${found.range}`;
+}
+
+function answerSuitable(header, list) {
+    const texts = list.split(" ").filter(Boolean);
+    const found = suitableForHeader(header, texts).join(" ");
+    assert(suitableForHeader(header, texts.map((text) => LanguageTag.parse(text))).join(" ") === found, "the tags of tags");
+    return found || "-";
+}
+
+function answerSuitableRanges(ranges, list) {
+    const [wanted, texts] = [ranges, list].map((words) => words.split(" ").filter(Boolean));
+    return suitableForRanges(wanted, texts).join(" ") || "-";
 }
 
 function edited(tag, part, value) {
@@ -278,15 +307,16 @@ function answerWithKeyword(text, key, given) {
 }
 
 function answerExtensionsForm(text) {
-    const form = LanguageTag.parse(text).extensionsForm();
+    const form = made(LanguageTag, text)?.extensionsForm();
+    if (form === undefined) return "-";
     assert(form.extensionsForm().text === form.text, "the form of the form");
     return form.text;
 }
 
 function answerLocaleForm(text) {
-    const tag = LanguageTag.parse(text), form = tag.localeForm();
+    const tag = made(LanguageTag, text), form = tag?.localeForm();
     if (form === undefined) {
-        assert(!tag.isLocale, "a locale has a form");
+        assert(!tag?.isLocale, "a locale has a form");
         return "-";
     }
     assert(form.isLocale && form.localeForm().text === form.text, "the form of the form");
@@ -307,11 +337,20 @@ function answerTransform(text) {
     return transform === undefined ? "-" : `${transform.language ?? "''"} ${said(transform.fields)}`.trimEnd();
 }
 
+/** Returns the name for a string, which has to be that for a tag. */
+function answerName(text, call) {
+    if (made(LanguageTag, text) === undefined) return "-";
+    assert(call(text) === call(LanguageTag.parse(text)), "the name of a tag");
+    return escaped(call(text) ?? "-");
+}
+
 export const answers = {
+    describe: (text) => answerName(text, describe),
+    autonym: (text) => answerName(text, autonym),
     "with-keyword": answerWithKeyword,
     "extensions-form": answerExtensionsForm,
     base: (text) => LanguageTag.parse(text).base.text,
-    "is-locale": (text) => (LanguageTag.parse(text).isLocale ? "yes" : "no"),
+    "is-locale": (text) => (made(LanguageTag, text)?.isLocale ? "yes" : "no"),
     "locale-form": answerLocaleForm,
     "cldr-version": () => CLDR_VERSION,
     keyword: (text, key) => orEmpty(LanguageTag.parse(text).keyword(key) ?? "-"),
@@ -337,6 +376,7 @@ export const answers = {
     message: messageOf(LanguageTag),
     "range-message": messageOf(LanguageRange),
     posix: (name) => LanguageTag.fromPosix(name)?.text ?? "-",
+    "posix-name": (text) => made(LanguageTag, text)?.toPosix() ?? "-",
     "unknown-modifier": answerUnknownModifier,
     "right-to-left": (text) => ({ true: "yes", false: "no", undefined: "-" })[made(LanguageTag, text)?.isRightToLeft],
     distance: answerDistance,
@@ -344,11 +384,16 @@ export const answers = {
     "best-ranges": answerBestRanges,
     "best-accepted": answerBestAccepted,
     "best-match": answerBestMatch,
+    parents: (text) => made(LanguageTag, text)?.parents.join(" ") ?? "-",
+    suitable: answerSuitable,
+    "suitable-ranges": answerSuitableRanges,
     maximized: (text) => made(LanguageTag, text)?.maximize().toString() ?? "-",
     minimized: (text) => made(LanguageTag, text)?.minimize().toString() ?? "-",
     header: answerHeader,
+    elements: answerElements,
+    fallbacks: (text) => Array.from(made(LanguageRange, text)?.fallbacks() ?? ["refused"], String).join(" "),
     ranges: answerRanges,
     edit: answerEdit,
 };
 
-export const FLOORS = { "table.txt": 360, "texts.txt": 710, "negotiation.txt": 102, "edits.txt": 125, "likely.txt": 200, "posix.txt": 150, "direction.txt": 300, "distance.txt": 130, "choices.txt": 275, "lists.txt": 28, "lengths.txt": 180, "refused.txt": 120, "unicode.txt": 400, "keywords.txt": 380, "extensions.txt": 630, "locale.txt": 750, "cldr.txt": 1774 };
+export const FLOORS = { "table.txt": 360, "texts.txt": 710, "negotiation.txt": 102, "ranges.txt": 55, "edits.txt": 125, "likely.txt": 200, "parents.txt": 330, "posix.txt": 240, "direction.txt": 300, "distance.txt": 130, "choices.txt": 275, "lists.txt": 28, "suitable.txt": 32, "lengths.txt": 180, "refused.txt": 120, "unicode.txt": 400, "keywords.txt": 380, "extensions.txt": 630, "locale.txt": 750, "cldr.txt": 1774, "names.txt": 430 };

@@ -1,6 +1,6 @@
 /* Tests the examples that answer requests. */
 import assert from "node:assert/strict";
-import { spawn } from "node:child_process";
+import { execFileSync, spawn } from "node:child_process";
 import { once } from "node:events";
 import { get } from "node:http";
 import test from "node:test";
@@ -33,6 +33,14 @@ test("the site answers in the language that its reader picked", async () => {
         }
     } finally {
         server.kill();
+    }
+});
+
+test("the catalogue asks the parents of a tag", () => {
+    const program = fileURLToPath(new URL("../examples/catalogue.js", import.meta.url));
+    for (const [tag, key, wanted] of [["pt-AO", "bus", "autocarro"], ["de-ch-1996", "bike", "Velo"], ["de-CH", "hello", "Hallo"],
+        ["zh-TW", "bike", "腳踏車"], ["zh-TW", "hello", "Hello"], ["fr", "train", "train"]]) {
+        assert.equal(execFileSync(process.execPath, [program, tag, key], { encoding: "utf8" }), `${wanted}\n`);
     }
 });
 

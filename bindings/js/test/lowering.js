@@ -1,7 +1,7 @@
 /*
- * Makes the calls of a file of random_calls.py in two modules: the module with 64-bit addresses that the toolchain linked, and the
- * module that wasm-opt made from it. Each function of the header is called with each text. The answers and the written bytes have to be
- * the same. node --experimental-wasm-memory64 lowering.js FILE
+ * Makes the calls `match` of a file of rows (random_rows.py) in two modules: the module with 64-bit addresses that the toolchain
+ * linked, and the module that wasm-opt made from it. Each function of the header is called with each text. The answers and the written
+ * bytes have to be the same. node --experimental-wasm-memory64 lowering.js FILE
  */
 import assert from "node:assert/strict";
 import { readFileSync } from "node:fs";
@@ -41,9 +41,12 @@ class Raw {
             return [address, BigInt(size)];
         }
         this.at += OUT;
-        if (word === "rest" || word === "spans") this.view.setBigUint64(begin + 8, BigInt(size), true);
-        if (word === "rest" || word === "spans" || word === "passed") this.view.setBigUint64(begin, 0n, true);
-        return word === "spans" ? [address, 1n] : [address];
+        if (word === "numbers") return [address, BigInt(OUT / 8)];
+        const isTag = word === "prepared" || word === "tag";
+        if (word === "rest" || word === "spans" || isTag) this.view.setBigUint64(begin + 8, BigInt(size), true);
+        if (word === "rest" || word === "spans" || isTag || word === "passed") this.view.setBigUint64(begin, 0n, true);
+        if (isTag) this.bytes.fill(0, begin + 16, begin + 32); // nothing was kept
+        return word === "spans" || word === "prepared" ? [address, 1n] : [address];
     }
 
     /** Returns the answer of a call, and the bytes that it leaves. */

@@ -152,13 +152,13 @@ test("a header finds a tag", { skip }, async () => {
     const ranges = await shown("#header-ranges li");
     assert.match(ranges[0], /^DE-ch-1996 with the weight 0.9; distances: en \d+, de-CH \d+, fr \d+, zh-Hant \d+$/);
     assert.match(ranges[1], /^fr with the weight 0.3; distances: .*fr 0, /);
-    assert.equal(await summary("header"), "The best tag is de-CH, by language distance. Look-up (RFC 4647) finds de-CH.");
+    assert.equal(await summary("header"), "The best tag is de-CH, by language distance. Lookup (RFC 4647) finds de-CH.");
     await type("header", "fr;q=0, de_CH, fr");
-    assert.equal(await summary("header"), "The best tag is de-CH, by language distance. Look-up (RFC 4647) finds fr. Use the best tag, unless you have to follow RFC 4647. " +
-        "Element 2 has a bad language range: the best tag reads it as what it means, and look-up passes it over.");
+    assert.equal(await summary("header"), "The best tag is de-CH, by language distance. Lookup (RFC 4647) finds fr. Use the best tag, unless you have to follow RFC 4647. " +
+        "Element 2 has a bad language range: the best tag reads it as what it means, and lookup passes it over.");
     assert.deepEqual(await shown("#header-text .refused"), [" de_CH"]);
     await type("header", "ja");
-    assert.equal(await summary("header"), "The best tag is none of the tags, by language distance. Look-up (RFC 4647) finds none of the tags.");
+    assert.equal(await summary("header"), "The best tag is none of the tags, by language distance. Lookup (RFC 4647) finds none of the tags.");
 });
 
 test("a range matches tags", { skip }, async () => {

@@ -1,5 +1,5 @@
 // Code that tsc has to accept, and code that it has to refuse.
-import { AcceptLanguage, bestForHeader, bestForRanges, EditError, InvalidTag, LanguageRange, LanguageTag, lookUp, REGISTRY_DATE, tagForHeader, tagForHeaderLenient, type Fault } from "langtag-verified";
+import { AcceptLanguage, bestForHeader, bestForRanges, EditError, InvalidTag, LanguageRange, LanguageTag, lookUp, REGISTRY_DATE, Site, tagForHeader, tagForHeaderLenient, type Fault } from "langtag-verified";
 
 const tag: LanguageTag = LanguageTag.parse("zh-Hant");
 const script: string | undefined = tag.script;
@@ -14,6 +14,10 @@ const found: "de" | "fr" = tagForHeader("fr", ["de", "fr"] as const, "de");
 const none: LanguageTag | undefined = lookUp(["fr", LanguageRange.parse("*")], [tag, again]);
 const best: "de" | "fr" | undefined = bestForRanges([...(["fr"] as readonly string[]), LanguageRange.parse("de")], ["de", "fr"] as const);
 const request: { headers: { "accept-language"?: string } } = { headers: {} }; // as node:http has it
+const site = new Site(["de", "fr"] as const);
+const ofSite: "de" | "fr" = site.bestForHeader(request.headers["accept-language"], "de");
+const index: number | undefined = site.matchForHeader(null)?.index;
+const ofRanges: LanguageTag | null = new Site([tag, again]).bestForRanges(["fr", LanguageRange.parse("*")], null);
 const absent = [
     bestForHeader(request.headers["accept-language"], ["de"], "en"), bestForHeader(new Headers().get("accept-language"), ["de"], "en"),
     tagForHeader(undefined, ["de"], "en"), tagForHeaderLenient(null, ["de"], "en"), AcceptLanguage.parse(undefined).best(["de"], "en"),
@@ -27,10 +31,10 @@ const kinds: "normal" | "private-use" | "irregular" = tag.kind;
 try {
     LanguageTag.parse(structuredClone(tag));
 } catch (error) {
-    if (error instanceof InvalidTag) console.log(error.text, error.offset, error.viable, error.message);
+    if (error instanceof InvalidTag) console.log(error.text, error.offset, error.viableLength, error.message);
     if (error instanceof EditError) console.log(error.part === "script" || error.part === "key");
 }
-console.log(script, subtags, form, identifier, fault, found, none, best, absent, weights, sorted, kinds, either, REGISTRY_DATE.length, tag.fnv1a() > 0n, tag.equals("ZH"));
+console.log(ofSite, index, ofRanges, script, subtags, form, identifier, fault, found, none, best, absent, weights, sorted, kinds, either, REGISTRY_DATE.length, tag.fnv1a() > 0n, tag.equals("ZH"));
 
 // @ts-expect-error a number is not a text
 LanguageTag.parse(5);
@@ -62,6 +66,14 @@ const foundForRanges: string = lookUp(["fi"], ["de"]);
 const chosenForAccepted: string = AcceptLanguage.parse("fi").best(["de"]);
 // @ts-expect-error no tag may be found
 const foundForAccepted: string = AcceptLanguage.parse("fi").lookUp(["de"]);
+// @ts-expect-error no tag may be suitable
+const chosenOfSite: "de" = new Site(["de"] as const).bestForHeader("fi");
+// @ts-expect-error no tag may be suitable
+const chosenOfRanges: "de" = new Site(["de"] as const).bestForRanges(["fi"]);
+// @ts-expect-error no tag may be suitable
+const matchOfSite: number = new Site(["de"]).matchForHeader("fi").index;
+// @ts-expect-error a site does not change
+site.tags[0] = "fr";
 function language(header: string | undefined): string {
     // @ts-expect-error no tag may be suitable
     return bestForHeader(header, ["de", "en"]);

@@ -1,33 +1,33 @@
-\pset null NULL
+\a \t on \pset null NULL
 CREATE TABLE texts (tag langtag PRIMARY KEY, t text);
 INSERT INTO texts VALUES ('zh-Hant', 'a'), ('de', 'b'), ('zh', 'c'), ('de-CH', 'd'), ('de-Latn-CH', 'e'), ('del', 'f'), ('de-CH-1996', 'g'), ('x-de', 'h');
 SET enable_seqscan = off; SET enable_indexscan = off; SET enable_indexonlyscan = off;
 EXPLAIN (COSTS OFF) SELECT tag FROM texts WHERE tag <@ 'DE-ch';
-SELECT tag FROM texts WHERE tag <@ 'DE-ch' ORDER BY tag;
+SELECT array_agg(tag ORDER BY tag) FROM texts WHERE tag <@ 'DE-ch';
 EXPLAIN (COSTS OFF) SELECT tag FROM texts WHERE tag ~ 'DE-*-ch';
-SELECT tag FROM texts WHERE tag ~ 'DE-*-ch' ORDER BY tag;
+SELECT array_agg(tag ORDER BY tag) FROM texts WHERE tag ~ 'DE-*-ch';
 EXPLAIN (COSTS OFF) SELECT tag FROM texts WHERE tag ~ '*-CH';
-SELECT tag FROM texts WHERE tag ~ '*-CH' ORDER BY tag;
+SELECT array_agg(tag ORDER BY tag) FROM texts WHERE tag ~ '*-CH';
 EXPLAIN (COSTS OFF) SELECT tag FROM texts WHERE tag <@ '*';
 SELECT count(*) FROM texts WHERE tag <@ '*';
 -- An extended range matches nothing by basic filtering
 EXPLAIN (COSTS OFF) SELECT tag FROM texts WHERE tag <@ 'de-*';
-SELECT tag FROM texts WHERE tag <@ 'de-*' ORDER BY tag;
+SELECT array_agg(tag ORDER BY tag) FROM texts WHERE tag <@ 'de-*';
 -- An index scan needs no filter for <@, and has one for ~
 RESET enable_indexscan; SET enable_bitmapscan = off;
 EXPLAIN (COSTS OFF) SELECT * FROM texts WHERE tag <@ 'de-CH' ORDER BY tag;
-SELECT tag FROM texts WHERE tag <@ 'DE' ORDER BY tag;
+SELECT array_agg(tag ORDER BY tag) FROM texts WHERE tag <@ 'DE';
 EXPLAIN (COSTS OFF) SELECT * FROM texts WHERE tag ~ 'de-CH' ORDER BY tag;
-SELECT tag FROM texts WHERE tag ~ 'de-CH' ORDER BY tag;
+SELECT array_agg(tag ORDER BY tag) FROM texts WHERE tag ~ 'de-CH';
 EXPLAIN (COSTS OFF) SELECT * FROM texts WHERE matches_basic(tag, 'de');
 RESET enable_indexonlyscan;
 EXPLAIN (COSTS OFF) SELECT tag FROM texts WHERE tag <@ 'zh-hant';
-SELECT tag FROM texts WHERE tag <@ 'zh-hant';
+SELECT array_agg(tag ORDER BY tag) FROM texts WHERE tag <@ 'zh-hant';
 -- Ranges from another table
 RESET enable_bitmapscan;
 EXPLAIN (COSTS OFF) SELECT r, tag FROM unnest('{de,zh,*,de-*}'::langtag_range[]) AS r JOIN texts ON tag <@ r;
-SELECT r, tag FROM unnest('{de,zh,*,de-*}'::langtag_range[]) AS r JOIN texts ON tag <@ r ORDER BY r::text COLLATE "C", tag;
-SELECT r, tag FROM unnest('{de,*-ch,*,de-*,NULL}'::langtag_range[]) AS r JOIN texts ON tag ~ r ORDER BY r::text COLLATE "C", tag;
+SELECT r::text, array_agg(tag ORDER BY tag) FROM unnest('{de,zh,*,de-*}'::langtag_range[]) AS r JOIN texts ON tag <@ r GROUP BY 1 ORDER BY 1;
+SELECT r::text, array_agg(tag ORDER BY tag) FROM unnest('{de,*-ch,*,de-*,NULL}'::langtag_range[]) AS r JOIN texts ON tag ~ r GROUP BY 1 ORDER BY 1;
 PREPARE below (langtag_range) AS SELECT tag FROM texts WHERE tag <@ $1 ORDER BY tag;
 SET plan_cache_mode = force_generic_plan;
 EXPLAIN (COSTS OFF) EXECUTE below ('zh');
@@ -35,8 +35,8 @@ EXECUTE below ('zh'); EXECUTE below ('*'); EXECUTE below (NULL);
 RESET plan_cache_mode;
 -- A tag is used as a range: an index on the tags is used, but an index on the ranges is not
 EXPLAIN (COSTS OFF) SELECT a.tag, b.tag FROM texts a JOIN texts b ON a.tag <@ b.tag AND a.tag <> b.tag;
-SELECT a.tag, b.tag FROM texts a JOIN texts b ON a.tag <@ b.tag AND a.tag <> b.tag ORDER BY 1, 2;
-SELECT tag FROM texts WHERE 'de-ch' <@ tag ORDER BY tag;
+SELECT array_agg(ROW(a.tag, b.tag) ORDER BY a.tag, b.tag) FROM texts a JOIN texts b ON a.tag <@ b.tag AND a.tag <> b.tag;
+SELECT array_agg(tag ORDER BY tag) FROM texts WHERE 'de-ch' <@ tag;
 RESET enable_seqscan;
 -- A text that is not a range is refused
 SELECT count(*) FROM texts WHERE tag <@ NULL;

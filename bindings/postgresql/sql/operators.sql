@@ -1,13 +1,13 @@
-\pset null NULL
+\a \t on \pset null NULL
 -- Equality and order ignore case, and a shorter tag sorts first
 SELECT 'ZH-hant'::langtag = 'zh-Hant', 'zh'::langtag <> 'zh-Hant', 'de' < 'de-AT'::langtag, 'de-CH'::langtag < 'dea', 'de'::langtag < 'DE', 'de'::langtag <= 'DE',
     'de'::langtag >= 'DE', 'de'::langtag > 'DE', 'ZH'::langtag <> 'zh';
-SELECT t FROM unnest('{zh-Latn,zh,DE,dea,de-CH,de-1996,x-a,de-AT,i-ami}'::langtag[]) AS t ORDER BY t;
-SELECT t FROM unnest('{zh-Latn,zh,DE,dea,de-CH,de-1996,x-a,de-AT,i-ami}'::langtag[]) AS t ORDER BY t DESC;
+SELECT ARRAY(SELECT t FROM unnest('{zh-Latn,zh,DE,dea,de-CH,de-1996,x-a,de-AT,i-ami}'::langtag[]) AS t ORDER BY t);
+SELECT ARRAY(SELECT t FROM unnest('{zh-Latn,zh,DE,dea,de-CH,de-1996,x-a,de-AT,i-ami}'::langtag[]) AS t ORDER BY t DESC);
 SELECT min(t), max(t), count(DISTINCT t) FROM unnest('{zh,DE,de-CH,DE-ch,aa}'::langtag[]) AS t;
 SELECT langtag_cmp('de', 'DE'), langtag_cmp('de', 'de-CH'), langtag_cmp('de-CH', 'de'), langtag_cmp('dea', 'de-CH');
 -- Tags with the same first eight letters, which abbreviated keys do not distinguish
-SELECT t FROM unnest('{zh-Hant-TW,zh-Hant-CN,zh-Hant,zh-Hant-AA-rozaj,ZH-hant-aa}'::langtag[]) AS t ORDER BY t;
+SELECT ARRAY(SELECT t FROM unnest('{zh-Hant-TW,zh-Hant-CN,zh-Hant,zh-Hant-AA-rozaj,ZH-hant-aa}'::langtag[]) AS t ORDER BY t);
 -- These hashes must never change, because hash indexes and partitions contain them.
 SELECT langtag_hash('zh-HANT'), langtag_hash_extended('zh-Hant', 0), langtag_hash_extended('zh-Hant', 8816678312871386365);
 SELECT langtag_part_hash('HANT'), langtag_part_hash_extended('Hant', 0), langtag_part_hash_extended('hant', 8816678312871386365);
@@ -16,7 +16,7 @@ SELECT langtag_part_hash(('x-' || repeat('ABCDEFGH-', 40) || 'a')::langtag_part)
     langtag_part_hash(('x-' || repeat('ABCDEFGH-', 40) || 'a')::langtag_part) = langtag_part_hash(('x-' || repeat('abcdefgh-', 40) || 'b')::langtag_part);
 -- Parts are compared and grouped ignoring case
 SELECT 'DE'::langtag_part = 'de', 'DE'::langtag_part <> 'de', 'DE'::langtag_part < 'DEa', 'x'::langtag_part > 'A', 'A'::langtag_part <= 'a', 'A'::langtag_part >= 'b';
-SELECT p FROM unnest('{Latn,DE,de-x,419}'::langtag_part[]) AS p ORDER BY p;
+SELECT ARRAY(SELECT p FROM unnest('{Latn,DE,de-x,419}'::langtag_part[]) AS p ORDER BY p);
 SELECT min(p), max(p), count(DISTINCT p) FROM unnest('{DE,de,419,CH}'::langtag_part[]) AS p;
 CREATE TABLE texts (tag langtag PRIMARY KEY, t text);
 INSERT INTO texts VALUES ('zh-Hant', 'a'), ('de', 'b'), ('zh', 'c'), ('de-CH', 'd'), ('de-Latn-CH', 'e'), ('del', 'f'), ('de-CH-1996', 'g');
@@ -25,9 +25,9 @@ INSERT INTO texts VALUES ('ZH-hant', 'again') ON CONFLICT (tag) DO UPDATE SET t 
 SET enable_seqscan = off;
 EXPLAIN (COSTS OFF) SELECT tag FROM texts WHERE tag = 'ZH-HANT';
 SELECT tag FROM texts WHERE tag = 'ZH-HANT';
-SELECT tag FROM texts WHERE tag > 'de-ch' AND tag <= 'zh' ORDER BY tag;
-SELECT tag FROM texts WHERE tag >= 'de-ch' AND tag < 'zh' ORDER BY tag;
-SELECT tag FROM texts WHERE tag IN ('DE', 'ZH-hant') ORDER BY tag;
+SELECT ARRAY(SELECT tag FROM texts WHERE tag > 'de-ch' AND tag <= 'zh' ORDER BY tag);
+SELECT ARRAY(SELECT tag FROM texts WHERE tag >= 'de-ch' AND tag < 'zh' ORDER BY tag);
+SELECT ARRAY(SELECT tag FROM texts WHERE tag IN ('DE', 'ZH-hant') ORDER BY tag);
 SELECT min(tag), max(tag) FROM texts;
 -- The plan reads the index backwards. The lines above this one differ between versions of PostgreSQL.
 CREATE FUNCTION plan_of(query text) RETURNS SETOF text LANGUAGE plpgsql AS $$ BEGIN RETURN QUERY EXECUTE 'EXPLAIN (COSTS OFF) ' || query; END $$;
@@ -63,7 +63,7 @@ SELECT count(*) FROM texts a JOIN hashed b USING (tag);
 RESET enable_nestloop; RESET enable_hashjoin;
 SELECT region(tag), count(*) FROM texts GROUP BY region(tag) ORDER BY 1;
 SET enable_hashagg = off;
-SELECT tag, count(*) FROM (SELECT tag FROM texts UNION ALL SELECT tag FROM hashed) s GROUP BY tag ORDER BY tag;
+SELECT ARRAY(SELECT ROW(tag, count(*)) FROM (SELECT tag FROM texts UNION ALL SELECT tag FROM hashed) s GROUP BY tag ORDER BY tag);
 RESET enable_hashagg;
 -- Arrays with a GIN index
 CREATE TABLE lists (tags langtag[]); INSERT INTO lists VALUES ('{de,FR-ch}'), ('{en}'); CREATE INDEX ON lists USING gin (tags);

@@ -1,6 +1,6 @@
-\pset null NULL
+\a \t on \pset null NULL
 SELECT t, language(t), extlang(t), script(t), region(t), variants(t), extensions(t), private_use(t), kind(t)
-FROM unnest('{zh-yue-Hant-HK-rozaj-1994-u-co-pinyin-t-de-x-mine,de,x-Mine,i-klingon,de-419,zh-cmn-yue,zh-min-nan}'::langtag[]) AS t;
+FROM unnest('{zh-yue-Hant-HK-rozaj-1994-u-co-pinyin-t-de-x-mine,de,x-Mine,i-klingon}'::langtag[]) AS t;
 SELECT set_script('sl-IT-rozaj', 'LATN'), set_region('de-CH', ''), set_language('de-CH', 'zh-YUE'), set_variants('de', '1996-1901'),
     set_extensions('de-x-a', 'u-CO-phonebk'), set_private_use('de', 'X-a');
 SELECT set_script('de', 'Latin');
@@ -35,4 +35,4 @@ FROM unnest('{300,1000}'::int[]) AS n, (VALUES ('abcdefghijklmnopqrstuvwxyz01234
 SELECT keyword(t, 'ca'), set_keyword(t, 'ca', NULL) = set_private_use('de-u-attr', private_use(t)::text) AS removed, length(set_script(t, 'latn')::text) - length(t::text) AS longer
 FROM (SELECT ('de-u-attr-ca-roc-x-' || repeat('abcdefgh-', 500) || 'a')::langtag AS t) s;
 -- Without extensions and private use.
-SELECT t, base(t), base(t) = t AS same FROM unnest('{de-CH-1996-u-co-phonebk-x-mine,ZH-hant,x-a,i-klingon,en-x-y}'::langtag[]) AS t;
+SELECT base('de-CH-1996-u-co-phonebk-x-mine'), base('x-a');

@@ -1,5 +1,5 @@
 CREATE EXTENSION langtag;
-\pset null NULL
+\a \t on \pset null NULL
 -- Input changes a tag to its recommended case, and refuses a text that is not a tag.
 SELECT 'zh-hant-tw'::langtag, 'X-Mine'::langtag, 'I-KLINGON'::langtag, 'zh-MIN-nan'::langtag, 'EN-ca-X-CA'::langtag;
 \set VERBOSITY sqlstate
@@ -20,7 +20,7 @@ SELECT ('de-' || repeat('あ', 100))::langtag_range;
 SELECT 'DE'::langtag_part, '1996-rozaj'::langtag_part, ''::langtag_part, 'x-mine'::langtag_part;
 SELECT 'D_E'::langtag_part;
 -- Functions that take texts
-SELECT is_langtag('de-CH'), is_langtag('de_CH'), is_langtag(''), is_langtag(NULL), langtag_viable('de_CH'), langtag_viable('de-CH');
+SELECT is_langtag('de-CH'), is_langtag('de_CH'), is_langtag(''), is_langtag(NULL), langtag_viable_len('de_CH'), langtag_viable_len('de-CH');
 -- The binary form is the text's bytes.
 SELECT encode(langtag_send('zh-HANT'), 'escape'), encode(langtag_range_send('*-CH'), 'escape'), encode(langtag_part_send('CH'), 'escape');
 -- It is whole, also where it is long, and a value that is read again is the same.

@@ -20,44 +20,30 @@ LOOK_UP = ("SET enable_memoize = off; SET enable_hashjoin = off; SET enable_merg
            "SET enable_bitmapscan = off;")
 
 
-def look_ups(expression, table):
-    """Looks up each frequent tag in turn, 20,000 times in total. The time of a look-up depends on where in a page of the index the
-    tag begins."""
-    one = f"SELECT id FROM {table.replace('lower', 'tx')} WHERE {expression} = wanted LIMIT 1"
-    return f"SELECT count(*) FROM wanted_{table} CROSS JOIN LATERAL ({one}) s"
+# For each kind of column: its table, the table of all its tags, the expression that is compared, and a tag as it is compared.
+KINDS = {
+    "langtag": {"table": "lt", "names": "lt", "tag": "lt.tag", "wanted": "zh-Hant-TW"},
+    "text": {"table": "tx", "names": "tx", "tag": "tx.tag", "wanted": "zh-Hant-TW"},
+    "lower": {"table": "tx", "names": "lower", "tag": "lower(tx.tag)", "wanted": "zh-hant-tw"},
+    "citext": {"table": "ci", "names": "ci", "tag": "ci.tag", "wanted": "zh-Hant-TW"},
+}
 
 
+def of_kinds(statement, kinds=tuple(KINDS)):
+    return {kind: statement.format(**KINDS[kind], file="{file}") for kind in kinds}
+
+
+# What is timed: a name, the settings, and the statement of each kind.
 STATEMENTS = [
-    ("equality, by a scan", SCAN, {
-        "langtag": "SELECT count(*) FROM lt WHERE tag = 'zh-Hant-TW'",
-        "text": "SELECT count(*) FROM tx WHERE tag = 'zh-Hant-TW'",
-        "lower": "SELECT count(*) FROM tx WHERE lower(tag) = 'zh-hant-tw'",
-        "citext": "SELECT count(*) FROM ci WHERE tag = 'zh-Hant-TW'"}),
-    ("groups", "", {
-        "langtag": "SELECT count(*) FROM (SELECT tag, count(*) FROM lt GROUP BY tag) s",
-        "text": "SELECT count(*) FROM (SELECT tag, count(*) FROM tx GROUP BY tag) s",
-        "lower": "SELECT count(*) FROM (SELECT lower(tag), count(*) FROM tx GROUP BY 1) s",
-        "citext": "SELECT count(*) FROM (SELECT tag, count(*) FROM ci GROUP BY tag) s"}),
-    ("hash join with all tags", JOIN, {
-        "langtag": "SELECT count(*) FROM lt JOIN names_lt USING (tag)",
-        "text": "SELECT count(*) FROM tx JOIN names_tx USING (tag)",
-        "lower": "SELECT count(*) FROM tx JOIN names_lower n ON lower(tx.tag) = n.tag",
-        "citext": "SELECT count(*) FROM ci JOIN names_ci USING (tag)"}),
-    ("sort", SORT, {
-        "langtag": "SELECT count(*) FROM (SELECT tag FROM lt ORDER BY tag OFFSET 0) s",
-        "text": "SELECT count(*) FROM (SELECT tag FROM tx ORDER BY tag OFFSET 0) s",
-        "lower": "SELECT count(*) FROM (SELECT tag FROM tx ORDER BY lower(tag) OFFSET 0) s",
-        "citext": "SELECT count(*) FROM (SELECT tag FROM ci ORDER BY tag OFFSET 0) s"}),
-    ("build of a btree", "", {
-        "langtag": "CREATE INDEX bench_i ON lt (tag)",
-        "text": "CREATE INDEX bench_i ON tx (tag)",
-        "lower": "CREATE INDEX bench_i ON tx (lower(tag))",
-        "citext": "CREATE INDEX bench_i ON ci (tag)"}),
-    ("look-ups of frequent tags, by btree", LOOK_UP, {
-        "langtag": look_ups("tag", "lt"),
-        "text": look_ups("tag", "tx"),
-        "lower": look_ups("lower(tag)", "lower"),
-        "citext": look_ups("tag", "ci")}),
+    ("equality, by a scan", SCAN, of_kinds("SELECT count(*) FROM {table} WHERE {tag} = '{wanted}'")),
+    ("groups", "", of_kinds("SELECT count(*) FROM (SELECT {tag}, count(*) FROM {table} GROUP BY 1) s")),
+    ("hash join with all tags", JOIN, of_kinds("SELECT count(*) FROM {table} JOIN names_{names} n ON {tag} = n.tag")),
+    ("sort", SORT, of_kinds("SELECT count(*) FROM (SELECT tag FROM {table} ORDER BY {tag} OFFSET 0) s")),
+    ("build of a btree", "", {kind: statement.replace(f"{KINDS[kind]['table']}.tag", "tag") for kind, statement in
+                              of_kinds("CREATE INDEX bench_i ON {table} ({tag})").items()}),
+    # Each frequent tag in turn, 20,000 times in total: the time depends on where in a page of the index the tag begins.
+    ("look-ups of frequent tags, by btree", LOOK_UP,
+     of_kinds("SELECT count(*) FROM wanted_{names} CROSS JOIN LATERAL (SELECT id FROM {table} WHERE {tag} = wanted LIMIT 1) s")),
     ("de and all below, best plan", "", {
         "langtag": "SELECT count(*) FROM lt WHERE tag <@ 'de'",
         "text": "SELECT count(*) FROM tx WHERE tag ILIKE 'de' OR tag ILIKE 'de-%'",
@@ -67,11 +53,8 @@ STATEMENTS = [
         "langtag": "SELECT count(*) FROM lt WHERE tag ~ 'de-*-DE'",
         "text": "SELECT count(*) FROM tx WHERE tag ~* '^de(-[a-z0-9]{2,8})*-DE(-|$)'",
         "citext": "SELECT count(*) FROM ci WHERE tag ~ '^de(-[a-z0-9]{2,8})*-DE(-|$)'"}),
-    ("COPY", "", {"langtag": "COPY bench_lt FROM '{file}'",
-        "text": "COPY bench_tx FROM '{file}'",
-        "citext": "COPY bench_ci FROM '{file}'"}),
-    ("count of the column", SCAN, {"langtag": "SELECT count(tag) FROM lt",
-        "text": "SELECT count(tag) FROM tx"}),
+    ("COPY", "", of_kinds("COPY bench_{table} FROM '{file}'", ("langtag", "text", "citext"))),
+    ("count of the column", SCAN, of_kinds("SELECT count({tag}) FROM {table}", ("langtag", "text"))),
 ]
 
 

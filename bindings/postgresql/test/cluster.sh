@@ -65,7 +65,7 @@ later() {
     version=$(sed -n 's/.*LANGTAG_VERSION "\(.*\)"/\1/p' "$2/langtag.h")
     cc -O2 -fPIC -c -I"$2" "$1/test/later_registry.c" -o "$pg_folder/later_registry.o" || return 1
     cc -O2 -fPIC -shared -I"$2" -I"$("$pg_config" --includedir-server)" -Dlangtag_canonical=later_canonical \
-        -Dlangtag_registry_date=later_registry_date -Dlangtag_maximize=later_maximize -Dlangtag_cldr_version=later_cldr_version "$1/langtag_pg.c" "$pg_folder/later_registry.o" "$3" \
+        -Dlangtag_registry_date=later_registry_date -Dlangtag_maximized=later_maximized -Dlangtag_cldr_version=later_cldr_version "$1/langtag_pg.c" "$pg_folder/later_registry.o" "$3" \
         -Wl,--exclude-libs,ALL -Wl,-Bsymbolic -o "$at$("$pg_config" --pkglibdir)/$dated.so" || return 1
     sed "s/@MODULE@/$dated/" "$1/update.sql.in" >"$at$("$pg_config" --sharedir)/extension/langtag--$version--99.0.sql"
 }

@@ -5,7 +5,7 @@
 
 size_t later_canonical(const char *bytes, size_t len, char *buffer, size_t buffer_len);
 uint32_t later_registry_date(void);
-size_t later_maximize(const char *bytes, size_t len, char *buffer, size_t buffer_len);
+size_t later_maximized(const char *bytes, size_t len, char *buffer, size_t buffer_len);
 size_t later_cldr_version(char *buffer, size_t buffer_len);
 
 size_t later_canonical(const char *bytes, size_t len, char *buffer, size_t buffer_len) {
@@ -16,8 +16,8 @@ size_t later_canonical(const char *bytes, size_t len, char *buffer, size_t buffe
 
 uint32_t later_registry_date(void) { return 20310101; }
 
-size_t later_maximize(const char *bytes, size_t len, char *buffer, size_t buffer_len) {
-    size_t form_len = langtag_maximize(bytes, len, buffer, buffer_len);
+size_t later_maximized(const char *bytes, size_t len, char *buffer, size_t buffer_len) {
+    size_t form_len = langtag_maximized(bytes, len, buffer, buffer_len);
     if (form_len == 10 && form_len <= buffer_len && memcmp(buffer, "fr-Latn-FR", 10) == 0) memcpy(buffer + 8, "BE", 2);
     return form_len;
 }

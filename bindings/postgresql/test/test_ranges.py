@@ -1,12 +1,17 @@
 #!/usr/bin/env python3
 """Filters by a sequential scan, an index scan, an index-only scan, a bitmap scan, and by the index for ranges of a table. The
-results are compared with each other and with a second implementation of RFC 4647 section 3.3. The order of a sort and of an index
-is compared with Python's order of the lowercase texts."""
+results are compared with each other and with a second implementation of RFC 4647 section 3.3 (random_rows.py). The order of a sort
+and of an index is compared with Python's order of the lowercase texts."""
+import pathlib
 import random
 import re
+import sys
 import unittest
 
 import server
+
+sys.path.append(str(pathlib.Path(__file__).resolve().parents[2]))
+import random_rows  # noqa: E402
 
 COMMON = ("en de fr es zh ja pt it ru nl sr sl x i-klingon i-default x-a x-de en-US en-GB de-DE de-CH de-AT fr-CA es-419 pt-BR "
           "zh-CN zh-TW zh-Hant "
@@ -20,24 +25,11 @@ KEEP = {"SET enable_seqscan = off; SET enable_bitmapscan = off; SET enable_index
 
 
 def basic(range, tag):
-    range, tag = range.lower(), tag.lower()
-    return range == "*" or (range + "-" == (tag + "-")[: len(range) + 1] and "*" not in range)
+    return random_rows.match(range.encode(), tag.encode()) in ("both", "basic")
 
 
 def extended(range, tag):
-    wanted, given = range.lower().split("-"), tag.lower().split("-")
-    if wanted[0] not in ("*", given[0]):
-        return False
-    at = 1
-    for subtag in wanted[1:]:
-        if subtag == "*":
-            continue
-        while at < len(given) and given[at] != subtag and len(given[at]) > 1:
-            at += 1
-        if at == len(given) or given[at] != subtag:
-            return False
-        at += 1
-    return True
+    return random_rows.match(range.encode(), tag.encode()) in ("both", "extended")
 
 
 def some_tags(random):

@@ -14,7 +14,7 @@ import time
 from switched import Change, switched
 
 HERE = pathlib.Path(__file__).resolve().parent.parent
-C, SQL = "langtag_pg.c", "langtag.sql.in"
+C, SQL, TYPE, ORDER = "langtag_pg.c", "langtag.sql.in", "type.sql.in", "order.sql.in"
 
 # A fault: the file, the old text (its first occurrence), the new text, and the test that fails.
 FAULTS = [
@@ -25,8 +25,8 @@ FAULTS = [
     (C, "if (bytes[0] == '*') end = 0;\n    else if", "if", "filters"),
     (C, "return BYTES(value)[0] != '*';", "return true;", "filters"),
     (C, "if (tag == NULL) continue;", "if (tag == NULL) break;", "registry"),
-    (C, "        if (best >= 0) some[taken++] = tags[best];\n", "", "registry"),
-    (C, "(*places)[*count] = k;", "(*places)[*count] = *count;", "registry"),
+    (C, "        if (best >= 0) some[taken++] = best;\n", "", "registry"),
+    (C, "all.places[all.count] = k;", "all.places[all.count] = all.count;", "registry"),
     (C, "    if (len > sizeof room) folded = palloc(len);\n", "", "operators"),
     (C, "(int)len, (uint64)PG_GETARG_INT64(1))", "(int)len, 0)", "operators"),
     (C, "int size = pg_mblen(text);", "int size = 1;", "types"),
@@ -38,14 +38,17 @@ FAULTS = [
     (C, "== LANGTAG_NONE) PG_RETURN_NULL();", "== LANGTAG_NONE) refuse_tag(\"\", 0);", "types"),
     (C, "(int)LEN(value));\n    PG_RETURN_BYTEA_P", "(int)Min(LEN(value), 2000));\n    PG_RETURN_BYTEA_P", "types"),
     (C, "&span[1])) { /* each call reads the tag from its start */\n        CHECK_FOR_INTERRUPTS();", "&span[1])) {", "registry"),
-    (C, "deconstruct_array(array, ARR_ELEMTYPE(array), -1, false, TYPALIGN_INT, &values, &nulls, &all);", "deconstruct_array(array, ARR_ELEMTYPE(array), -1, false, TYPALIGN_INT, &values, &nulls, &all); all = Min(all, 256);", "registry"),
+    (C, "deconstruct_array(array, ARR_ELEMTYPE(array), -1, false, TYPALIGN_INT, &values, &nulls, &count);", "deconstruct_array(array, ARR_ELEMTYPE(array), -1, false, TYPALIGN_INT, &values, &nulls, &count); count = Min(count, 256);", "registry"),
+    (C, " || memcmp(it->array, array, VARSIZE(array)) != 0", "", "registry"),
+    (C, "langtag_prepare(string.data, (size_t)string.len, &prepared[k]);", "if (k > 0) langtag_prepare(string.data, (size_t)string.len, &prepared[k]);", "registry"),
+    (C, "prepared[k] = all->prepared[some[k]];", "prepared[k] = all->prepared[k];", "registry"),
     (C, "    while (next(BYTES(tag), LEN(tag), &rest, &one)) {", "    for (int k = 0; k < 256 && next(BYTES(tag), LEN(tag), &rest, &one); k++) {", "parts"),
     (SQL, "'pg_langtag_set_script'\n    LANGUAGE C IMMUTABLE STRICT", "'pg_langtag_set_script'\n    LANGUAGE C IMMUTABLE STRICT LEAKPROOF", "types"),
     (SQL, "'byteane'", "'byteaeq'", "operators"),
-    (SQL, "OPERATOR 1 <, OPERATOR 2 <=", "OPERATOR 1 <=, OPERATOR 2 <", "operators"),
-    (SQL, "SORTOP = >", "SORTOP = <", "operators"),
+    (ORDER, "OPERATOR 1 <, OPERATOR 2 <=", "OPERATOR 1 <=, OPERATOR 2 <", "operators"),
+    (ORDER, "SORTOP = >", "SORTOP = <", "operators"),
     (SQL, "'pg_langtag_script'", "'pg_langtag_region'", "parts"),
-    (SQL, ", HASHES, MERGES", "", "operators"),
+    (ORDER, ", HASHES, MERGES", "", "operators"),
     (SQL, "IMMUTABLE STRICT PARALLEL SAFE COST 50", "STABLE STRICT COST 50", "types"),
     (C, "    langtag_recommend(VARDATA(tag), len);\n", "", "types"),
     (C, "    langtag_recommend(VARDATA(changed), len);\n", "", "parts"),
@@ -70,13 +73,13 @@ FAULTS = [
     (C, "else if (extended) end", "else if (!extended) end", "filters"),
     (C, "return DatumBigEndianToNative(number);", "return number;", "operators"),
     (C, "BYTES(b), LEN(b)) >= 0 ? a : b", "BYTES(b), LEN(b)) <= 0 ? a : b", "types"),
-    (C, "[LANGTAG_PRIVATE_USE] = \"private use\"", "[LANGTAG_PRIVATE_USE] = \"irregular\"", "parts"),
+    (C, "[LANGTAG_PRIVATE_USE] = \"private-use\"", "[LANGTAG_PRIVATE_USE] = \"irregular\"", "parts"),
     (SQL, "'$libdir/@MODULE@', 'pg_langtag_canonical'", "'MODULE_PATHNAME', 'pg_langtag_canonical'", "registry"),
     (SQL, ", FUNCTION 4 btequalimage(oid)", "", "operators"),
-    (SQL, "WITHOUT FUNCTION AS ASSIGNMENT", "WITHOUT FUNCTION AS IMPLICIT", "types"),
+    (TYPE, "WITHOUT FUNCTION AS ASSIGNMENT", "WITHOUT FUNCTION AS IMPLICIT", "types"),
     (SQL, "'pg_langtag_matches_extended'", "'pg_langtag_matches_basic'", "filters"),
     (SQL, "LANGUAGE internal IMMUTABLE STRICT LEAKPROOF", "LANGUAGE internal IMMUTABLE STRICT", "types"),
-    (SQL, "'MODULE_PATHNAME', 'pg_langtag_hash_extended'", "'MODULE_PATHNAME', 'pg_langtag_hash'", "operators"),
+    (ORDER, "'MODULE_PATHNAME', 'pg_langtag_hash_extended'", "'MODULE_PATHNAME', 'pg_langtag_hash'", "operators"),
     (SQL, "RESTRICT = matchingsel", "RESTRICT = eqsel", "filters"),
     (SQL, "langtag_basic_upper(langtag_range) RETURNS langtag_bound", "langtag_basic_upper(langtag_range) RETURNS langtag", "filters"),
 ]
@@ -138,7 +141,7 @@ def accepted(sources, arguments):
 
 
 def main(arguments):
-    kept = {name: (HERE / name).read_text() for name in (C, SQL)}
+    kept = {name: (HERE / name).read_text() for name in (C, SQL, TYPE, ORDER)}
     for name, here, _, _ in FAULTS:
         assert here in kept[name], f"no such code: {here}"
     changes = [Change(number, kept[C].index(here), kept[C].index(here) + len(here), wrong)

@@ -136,12 +136,9 @@ def show(tag: Tag, options: Options) -> Answer:
 
 def parts_of(tag: Tag) -> dict[str, str]:
     """Returns the parts of a normal tag by their names in the answer."""
-    parts = {"language": tag.language or "", "script": tag.script or "", "region": tag.region or "", "variants": "-".join(tag.variants)}
-    begin = len("-".join(filter(None, parts.values())))
-    rest = str(tag)[begin + 1 :].split("-")
-    mark = next((index for index, subtag in enumerate(rest) if subtag in ("x", "X")), len(rest))
     repeats = tag.repeated_variant is not None or tag.repeated_singleton is not None
-    return {**parts, "extensions": "-".join(rest[:mark]), "private": "-".join(rest[mark:]), "repeats": "yes" if repeats else "no"}
+    return {"language": tag.language or "", "script": tag.script or "", "region": tag.region or "",
+            "variants": "-".join(tag.variants), "extensions": tag._extensions or "", "private": tag.private_use or "", "repeats": "yes" if repeats else "no"}
 
 
 def check(tag: Tag, options: Options) -> Answer:

@@ -6,7 +6,7 @@ import ctypes
 import functools
 from typing import Any, Callable, Iterable, Iterator
 
-from ._declarations import FUNCTIONS, BestMatch, Parts, Repeated, Span
+from ._declarations import FUNCTIONS, BestMatch, Parts, PreparedTag, Repeated, Span
 from ._library import opened
 from ._texts import Text, bytes_of, unchangeable, uninitialized, wrong_type
 
@@ -132,6 +132,49 @@ def match_for_header(header: Text, tags: Iterable[Any], tag_class: Any) -> tuple
     return index, listed[index], match.distance, bytes_of(header)[match.range.start : match.range.start + match.range.len]
 
 
+def _suitable(choose: Callable[..., int], wanted: tuple[Any, ...], tags: Iterable[Any], tag_class: Any) -> list[Any]:
+    listed = list(tags)
+    found = (ctypes.c_size_t * max(len(listed), 1))()
+    count = _index(choose, wanted, listed, tag_class, found, len(listed))
+    return [listed[index] for index in found[:count]]
+
+
+def suitable_for_header(header: Text, *more: Any) -> list[Any]:
+    return _suitable(_c.langtag_suitable_for_header, _header(header), *more)
+
+
+def suitable_for_ranges(ranges: list[bytes], *more: Any) -> list[Any]:
+    return _suitable(_c.langtag_suitable_for_ranges, _joined(ranges), *more)
+
+
+def prepare(texts: list[bytes]) -> tuple[bytes, bytes]:
+    """Returns the joined tags, and what the choice computes of them."""
+    text, length, spans, count = _joined(texts)
+    tags = (PreparedTag * count)()
+    for tag, span in zip(tags, spans):
+        tag.tag = span
+        _c.langtag_prepare(text, length, tag)
+    return text, bytes(tags)
+
+
+def _site(text: bytes, tags: bytes) -> tuple[bytes, int, Any, int]:
+    return text, len(text), ctypes.cast(tags, ctypes.POINTER(PreparedTag)), len(tags) // ctypes.sizeof(PreparedTag)
+
+
+def site_best_for_header(header: Text, text: bytes, tags: bytes) -> int:
+    return int(_c.langtag_site_best_for_header(*_header(header), *_site(text, tags)))
+
+
+def site_match_for_header(header: Text, text: bytes, tags: bytes) -> tuple[int, int, bytes]:
+    match = BestMatch()
+    index = _c.langtag_site_match_for_header(*_header(header), *_site(text, tags), match)
+    return index, match.distance, bytes_of(header)[match.range.start : match.range.start + match.range.len]
+
+
+def site_best_for_ranges(ranges: list[bytes], text: bytes, tags: bytes) -> int:
+    return int(_c.langtag_site_best_for_ranges(*_joined(ranges), *_site(text, tags)))
+
+
 @functools.total_ordering
 class _Value:
     """An immutable text that compares ignoring case. A subclass has `_base`, which is Tag or Range, and `_error`, which is raised
@@ -193,9 +236,6 @@ class TagBase(_Value):
     def _cut(self, span: Span) -> str | None:
         return str(self._data[span.start : span.start + span.len], "ascii") if span.len else None
 
-    def _subtags(self, span: Span) -> tuple[str, ...]:
-        return tuple((self._cut(span) or "").split("-")) if span.len else ()
-
     def _repeated(self, which: str) -> str | None:
         found = Repeated()
         self._ask(_c.langtag_repeats, found)
@@ -206,11 +246,10 @@ class TagBase(_Value):
         return self._base(made) if made else None
 
     language = property(lambda self: self._cut(self._parts.language))
-    primary_language = property(lambda self: (self._subtags(self._parts.language) or (None,))[0])
-    extended_language = property(lambda self: self._subtags(self._parts.language)[1:])
     script = property(lambda self: self._cut(self._parts.script))
     region = property(lambda self: self._cut(self._parts.region))
-    variants = property(lambda self: self._subtags(self._parts.variants))
+    _variants = property(lambda self: self._cut(self._parts.variants))
+    _extensions = property(lambda self: self._cut(self._parts.extensions))
     private_use = property(lambda self: self._cut(self._parts.private_use))
     repeated_variant = property(lambda self: self._repeated("variant"))
     repeated_singleton = property(lambda self: self._repeated("singleton"))
@@ -218,20 +257,17 @@ class TagBase(_Value):
     is_canonical = property(lambda self: self._ask(_c.langtag_is_canonical))
     is_locale = property(lambda self: self._ask(_c.langtag_is_locale))
     canonical = functools.partialmethod(_form, _c.langtag_canonical)
-    maximized = functools.partialmethod(_form, _c.langtag_maximize)
-    minimized = functools.partialmethod(_form, _c.langtag_minimize)
+    maximized = functools.partialmethod(_form, _c.langtag_maximized)
+    minimized = functools.partialmethod(_form, _c.langtag_minimized)
     extensions_form = functools.partialmethod(_form, _c.langtag_extensions_form)
     locale_form = functools.partialmethod(_form, _c.langtag_locale_form)
+    _parent = functools.partialmethod(_form, _c.langtag_parent)
     _grandfathered = functools.partialmethod(_Value._ask, _c.langtag_grandfathered)
 
-    @property
-    def extensions(self) -> dict[str, tuple[str, ...]]:
-        found: dict[str, tuple[str, ...]] = {}
-        rest, extension = Span(self._parts.extensions.start, self._parts.extensions.len), Span()
-        for _ in _taken(_c.langtag_next_extension, self._data, rest, extension):
-            singleton, *subtags = self._subtags(extension)
-            found.setdefault(singleton.lower(), tuple(subtags))
-        return found
+    def to_posix(self) -> str | None:
+        name = ctypes.create_string_buffer(28)
+        length = self._ask(_c.langtag_to_posix, name, len(name))
+        return str(name.raw[:length], "ascii") or None
 
     def _validity(self) -> tuple[int, str | None, int]:
         span = Span()

@@ -17,6 +17,10 @@ class Parts(Structure):
     _fields_ = [("language", Span), ("script", Span), ("region", Span), ("variants", Span), ("extensions", Span), ("private_use", Span)]
 
 
+class PreparedTag(Structure):
+    _fields_ = [("tag", Span), ("form", c_uint64 * 2)]
+
+
 class Repeated(Structure):
     _fields_ = [("variant", Span), ("singleton", Span)]
 
@@ -26,8 +30,8 @@ FUNCTIONS: dict[str, tuple[Any, ...]] = {
     "langtag_parse": (c_uint32, c_char_p, c_size_t, POINTER(Parts)),
     "langtag_kind": (c_uint32, c_char_p, c_size_t),
     "langtag_base_len": (c_size_t, c_char_p, c_size_t),
-    "langtag_viable": (c_size_t, c_char_p, c_size_t),
-    "langtag_stop": (c_size_t, c_char_p, c_size_t),
+    "langtag_viable_len": (c_size_t, c_char_p, c_size_t),
+    "langtag_stop_len": (c_size_t, c_char_p, c_size_t),
     "langtag_refused": (c_uint32, c_char_p, c_size_t, POINTER(Span), POINTER(c_size_t)),
     "langtag_eq": (c_bool, c_char_p, c_size_t, c_char_p, c_size_t),
     "langtag_cmp": (c_int32, c_char_p, c_size_t, c_char_p, c_size_t),
@@ -54,14 +58,22 @@ FUNCTIONS: dict[str, tuple[Any, ...]] = {
     "langtag_canonical": (c_size_t, c_char_p, c_size_t, POINTER(c_char), c_size_t),
     "langtag_is_canonical": (c_bool, c_char_p, c_size_t),
     "langtag_registry_date": (c_uint32,),
-    "langtag_maximize": (c_size_t, c_char_p, c_size_t, POINTER(c_char), c_size_t),
-    "langtag_minimize": (c_size_t, c_char_p, c_size_t, POINTER(c_char), c_size_t),
+    "langtag_maximized": (c_size_t, c_char_p, c_size_t, POINTER(c_char), c_size_t),
+    "langtag_minimized": (c_size_t, c_char_p, c_size_t, POINTER(c_char), c_size_t),
+    "langtag_parent": (c_size_t, c_char_p, c_size_t, POINTER(c_char), c_size_t),
     "langtag_is_right_to_left": (c_bool, c_char_p, c_size_t),
     "langtag_distance": (c_uint32, c_char_p, c_size_t, c_char_p, c_size_t),
     "langtag_best_for_header": (c_size_t, c_char_p, c_size_t, c_char_p, c_size_t, POINTER(Span), c_size_t),
     "langtag_match_for_header": (c_size_t, c_char_p, c_size_t, c_char_p, c_size_t, POINTER(Span), c_size_t, POINTER(BestMatch)),
     "langtag_best_for_ranges": (c_size_t, c_char_p, c_size_t, POINTER(Span), c_size_t, c_char_p, c_size_t, POINTER(Span), c_size_t),
+    "langtag_suitable_for_header": (c_size_t, c_char_p, c_size_t, c_char_p, c_size_t, POINTER(Span), c_size_t, POINTER(c_size_t), c_size_t),
+    "langtag_suitable_for_ranges": (c_size_t, c_char_p, c_size_t, POINTER(Span), c_size_t, c_char_p, c_size_t, POINTER(Span), c_size_t, POINTER(c_size_t), c_size_t),
+    "langtag_prepare": (None, c_char_p, c_size_t, POINTER(PreparedTag)),
+    "langtag_site_best_for_header": (c_size_t, c_char_p, c_size_t, c_char_p, c_size_t, POINTER(PreparedTag), c_size_t),
+    "langtag_site_match_for_header": (c_size_t, c_char_p, c_size_t, c_char_p, c_size_t, POINTER(PreparedTag), c_size_t, POINTER(BestMatch)),
+    "langtag_site_best_for_ranges": (c_size_t, c_char_p, c_size_t, POINTER(Span), c_size_t, c_char_p, c_size_t, POINTER(PreparedTag), c_size_t),
     "langtag_from_posix": (c_size_t, c_char_p, c_size_t, POINTER(c_char), c_size_t),
+    "langtag_to_posix": (c_size_t, c_char_p, c_size_t, POINTER(c_char), c_size_t),
     "langtag_unknown_modifier": (c_bool, c_char_p, c_size_t, POINTER(Span)),
     "langtag_cldr_version": (c_size_t, POINTER(c_char), c_size_t),
     "langtag_grandfathered": (c_uint32, c_char_p, c_size_t),

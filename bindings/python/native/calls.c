@@ -103,5 +103,11 @@ PyMethodDef lt_functions[] = {
     {"unknown_modifier", lt_unknown_modifier, METH_O, NULL},
     {"best_for_header", lt_best_for_header, METH_VARARGS, NULL},
     {"best_for_ranges", lt_best_for_ranges, METH_VARARGS, NULL},
+    {"prepare", lt_prepare, METH_O, NULL},
+    {"site_best_for_header", lt_site_best_for_header, METH_VARARGS, NULL},
+    {"site_best_for_ranges", lt_site_best_for_ranges, METH_VARARGS, NULL},
+    {"site_match_for_header", lt_site_match_for_header, METH_VARARGS, NULL},
     {"match_for_header", lt_match_for_header, METH_VARARGS, NULL},
+    {"suitable_for_header", lt_suitable_for_header, METH_VARARGS, NULL},
+    {"suitable_for_ranges", lt_suitable_for_ranges, METH_VARARGS, NULL},
     {NULL, NULL, 0, NULL}};

@@ -99,20 +99,35 @@ static size_t choose(const Wanted *wanted, const Offered *tags) {
     return wanted->choose(header, len, tags->text, tags->len, tags->spans, tags->count);
 }
 
+/* Writes the indices of the suitable tags, best first, and returns their number. */
+static size_t suit(const Wanted *wanted, const Offered *tags, size_t *found) {
+    const Offered *ranges = wanted->ranges;
+    if (ranges)
+        return langtag_suitable_for_ranges(ranges->text, ranges->len, ranges->spans, ranges->count, tags->text, tags->len, tags->spans, tags->count,
+                                           found, tags->count);
+    return langtag_suitable_for_header(wanted->header.data, (size_t)wanted->header.len, tags->text, tags->len, tags->spans, tags->count, found,
+                                       tags->count);
+}
+
+/* Opens the texts of a list of tags. Returns 0, or -1 with an exception. */
+static int offer(Offered *offered, PyObject *listed, PyObject *type) {
+    size_t count = (size_t)PySequence_Size(listed);
+    if (open_offered(offered, count)) return -1;
+    int status = 0;
+    for (size_t i = 0; i < count && !status; i++) status = add_item(offered, item_at(listed, i), type);
+    if (status) close_offered(offered);
+    return status;
+}
+
 /* Writes the index of the chosen tag, or `count` if none is chosen. Returns 0, or -1 with an exception. */
 static int choose_index(const Wanted *wanted, PyObject *listed, PyObject *type, size_t *index) {
     Offered offered;
-    size_t count = (size_t)PySequence_Size(listed);
-    if (open_offered(&offered, count)) return -1;
-    int status = 0;
-    for (size_t i = 0; i < count && !status; i++) status = add_item(&offered, item_at(listed, i), type);
-    if (!status) {
-        LET_GO((Py_ssize_t)length(wanted));
-        *index = choose(wanted, &offered);
-        TAKE_BACK();
-    }
+    if (offer(&offered, listed, type)) return -1;
+    LET_GO((Py_ssize_t)length(wanted));
+    *index = choose(wanted, &offered);
+    TAKE_BACK();
     close_offered(&offered);
-    return status;
+    return 0;
 }
 
 /* Returns the caller's own list, or a copy if the text is long: other threads run during such a call, and may change the list. */
@@ -129,6 +144,36 @@ static PyObject *chosen(const Wanted *wanted, PyObject *all, PyObject *otherwise
     if (listed && !choose_index(wanted, listed, type, &index))
         found = index < (size_t)PySequence_Size(listed) ? item_at(listed, index) : otherwise;
     Py_XINCREF(found);
+    Py_XDECREF(listed);
+    return found;
+}
+
+static PyObject *items_at(PyObject *listed, const size_t *indices, size_t count) {
+    PyObject *items = PyList_New((Py_ssize_t)count);
+    for (size_t i = 0; items && i < count; i++) {
+        PyObject *item = item_at(listed, indices[i]);
+        Py_INCREF(item);
+        PyList_SetItem(items, (Py_ssize_t)i, item);
+    }
+    return items;
+}
+
+/* Returns a list of the suitable items of `all`, best first. */
+static PyObject *suitable(const Wanted *wanted, PyObject *all, PyObject *type) {
+    PyObject *listed = listed_for(wanted, all), *found = NULL;
+    Offered offered;
+    if (listed && !offer(&offered, listed, type)) {
+        size_t *indices = PyMem_Malloc((offered.count + 1) * sizeof *indices);
+        if (indices) {
+            size_t count;
+            LET_GO((Py_ssize_t)length(wanted));
+            count = suit(wanted, &offered, indices);
+            TAKE_BACK();
+            found = items_at(listed, indices, count);
+        } else PyErr_NoMemory();
+        PyMem_Free(indices);
+        close_offered(&offered);
+    }
     Py_XDECREF(listed);
     return found;
 }
@@ -183,17 +228,137 @@ static int add_range(Offered *ranges, PyObject *from) {
     return status;
 }
 
+/* Opens the texts of a list of bytes. Returns 0, or -1 with an exception. */
+static int open_ranges(Offered *ranges, PyObject *from) {
+    size_t count = (size_t)PyList_Size(from);
+    if (open_offered(ranges, count)) return -1;
+    int status = 0;
+    for (size_t i = 0; i < count && !status; i++) status = add_range(ranges, PyList_GetItem(from, (Py_ssize_t)i));
+    if (status) close_offered(ranges);
+    return status;
+}
+
 /* The arguments are a list of bytes, the tags, the default, and the class of tags. */
 PyObject *lt_best_for_ranges(PyObject *module, PyObject *arguments) {
-    PyObject *from, *all, *otherwise, *type, *found = NULL;
+    PyObject *from, *all, *otherwise, *type, *found;
     Offered ranges;
     (void)module;
-    if (!PyArg_ParseTuple(arguments, "O!OOO", &PyList_Type, &from, &all, &otherwise, &type)) return NULL;
+    if (!PyArg_ParseTuple(arguments, "O!OOO", &PyList_Type, &from, &all, &otherwise, &type) || open_ranges(&ranges, from)) return NULL;
+    found = chosen(&(Wanted){.ranges = &ranges}, all, otherwise, type);
+    close_offered(&ranges);
+    return found;
+}
+
+PyObject *lt_suitable_for_header(PyObject *module, PyObject *arguments) {
+    PyObject *from, *all, *type, *found;
+    Wanted wanted = {.ranges = NULL};
+    (void)module;
+    if (!PyArg_UnpackTuple(arguments, "a choice", 3, 3, &from, &all, &type) || lt_text(from, &wanted.header)) return NULL;
+    found = suitable(&wanted, all, type);
+    Py_DECREF(wanted.header.owner);
+    return found;
+}
+
+/* The arguments are a list of bytes, the tags, and the class of tags. */
+PyObject *lt_suitable_for_ranges(PyObject *module, PyObject *arguments) {
+    PyObject *from, *all, *type, *found;
+    Offered ranges;
+    (void)module;
+    if (!PyArg_ParseTuple(arguments, "O!OO", &PyList_Type, &from, &all, &type) || open_ranges(&ranges, from)) return NULL;
+    found = suitable(&(Wanted){.ranges = &ranges}, all, type);
+    close_offered(&ranges);
+    return found;
+}
+
+/* ---- the tags of a site, which are prepared once: the joined texts, and an array of langtag_prepared_tag, both as bytes */
+
+typedef struct {
+    const char *text;
+    const langtag_prepared_tag *tags;
+    Py_ssize_t len, size;
+} Site;
+
+static size_t count_of(const Site *site) { return (size_t)site->size / sizeof *site->tags; }
+
+/* Returns (text, tags) for a list of bytes that are tags. */
+PyObject *lt_prepare(PyObject *module, PyObject *from) {
+    (void)module;
+    if (!PyList_Check(from)) return PyErr_Format(PyExc_TypeError, "a list is wanted");
+    Offered offered;
     size_t count = (size_t)PyList_Size(from);
+    if (open_offered(&offered, count)) return NULL;
+    PyObject *tags = NULL, *found = NULL;
+    int status = 0;
+    for (size_t i = 0; i < count && !status; i++) status = add_range(&offered, PyList_GetItem(from, (Py_ssize_t)i));
+    if (!status) tags = PyBytes_FromStringAndSize(NULL, (Py_ssize_t)(count * sizeof(langtag_prepared_tag)));
+    if (tags) {
+        langtag_prepared_tag *prepared = (langtag_prepared_tag *)PyBytes_AsString(tags);
+        for (size_t i = 0; i < count; i++) {
+            prepared[i] = (langtag_prepared_tag){offered.spans[i], {0, 0}};
+            langtag_prepare(offered.text, offered.len, &prepared[i]);
+        }
+        found = Py_BuildValue("y#O", offered.text, (Py_ssize_t)offered.len, tags);
+    }
+    Py_XDECREF(tags);
+    close_offered(&offered);
+    return found;
+}
+
+static int read_site(PyObject *text, PyObject *tags, Site *site) {
+    char *start, *array;
+    if (PyBytes_AsStringAndSize(text, &start, &site->len) || PyBytes_AsStringAndSize(tags, &array, &site->size)) return -1;
+    site->text = start;
+    site->tags = (const langtag_prepared_tag *)array;
+    return 0;
+}
+
+/* Returns the index of the best tag, or (index, distance, range of the header). */
+static PyObject *of_site(PyObject *arguments, langtag_best_match *match) {
+    PyObject *from, *text, *tags;
+    Text header;
+    Site site;
+    if (!PyArg_UnpackTuple(arguments, "a choice", 3, 3, &from, &text, &tags) || read_site(text, tags, &site) || lt_text(from, &header)) return NULL;
+    const size_t header_len = (size_t)header.len, len = (size_t)site.len;
+    size_t index;
+    LET_GO(header.len);
+    if (match) index = langtag_site_match_for_header(header.data, header_len, site.text, len, site.tags, count_of(&site), match);
+    else index = langtag_site_best_for_header(header.data, header_len, site.text, len, site.tags, count_of(&site));
+    TAKE_BACK();
+    PyObject *found = match ? Py_BuildValue("nIy#", (Py_ssize_t)index, (unsigned)match->distance, header.data + match->range.start,
+                                            (Py_ssize_t)match->range.len)
+                            : PyLong_FromSize_t(index);
+    Py_DECREF(header.owner);
+    return found;
+}
+
+PyObject *lt_site_best_for_header(PyObject *module, PyObject *arguments) {
+    (void)module;
+    return of_site(arguments, NULL);
+}
+
+PyObject *lt_site_match_for_header(PyObject *module, PyObject *arguments) {
+    (void)module;
+    langtag_best_match match;
+    return of_site(arguments, &match);
+}
+
+/* The arguments are a list of bytes, and what lt_prepare returned. */
+PyObject *lt_site_best_for_ranges(PyObject *module, PyObject *arguments) {
+    (void)module;
+    PyObject *from, *text, *tags;
+    Offered ranges;
+    Site site;
+    if (!PyArg_ParseTuple(arguments, "O!OO", &PyList_Type, &from, &text, &tags) || read_site(text, tags, &site)) return NULL;
+    size_t count = (size_t)PyList_Size(from), index = 0;
     if (open_offered(&ranges, count)) return NULL;
     int status = 0;
     for (size_t i = 0; i < count && !status; i++) status = add_range(&ranges, PyList_GetItem(from, (Py_ssize_t)i));
-    if (!status) found = chosen(&(Wanted){.ranges = &ranges}, all, otherwise, type);
+    if (!status) {
+        LET_GO((Py_ssize_t)ranges.len);
+        index = langtag_site_best_for_ranges(ranges.text, ranges.len, ranges.spans, ranges.count, site.text, (size_t)site.len, site.tags,
+                                             count_of(&site));
+        TAKE_BACK();
+    }
     close_offered(&ranges);
-    return found;
+    return status ? NULL : PyLong_FromSize_t(index);
 }

@@ -88,10 +88,21 @@ static PyObject *tag_by_call(const Written *it, Write *write) {
         return lt_lacks((Value *)self) ? NULL : tag_by_call(&it, write_form); \
     }
 FORM(lt_canonical, langtag_canonical)
-FORM(lt_maximized, langtag_maximize)
-FORM(lt_minimized, langtag_minimize)
+FORM(lt_maximized, langtag_maximized)
+FORM(lt_minimized, langtag_minimized)
 FORM(lt_extensions_form, langtag_extensions_form)
 FORM(lt_locale_form, langtag_locale_form)
+FORM(lt_parent, langtag_parent)
+
+/* Returns the locale name for a tag, as a str, or None if it has none. */
+PyObject *lt_to_posix(PyObject *object, PyObject *unused) {
+    (void)unused;
+    Value *self = (Value *)object;
+    char name[28];
+    if (lt_lacks(self)) return NULL;
+    size_t len = langtag_to_posix(self->text.data, (size_t)self->text.len, name, sizeof name);
+    return len > 0 && len <= sizeof name ? lt_str(name, len) : lt_none();
+}
 
 PyObject *lt_folded(PyObject *object, PyObject *unused) {
     (void)unused;

@@ -12,71 +12,6 @@ static PyObject *tag_part(PyObject *object, void *number) {
     return lt_span(self, ((const langtag_span *)&self->parts)[(intptr_t)number]);
 }
 
-/* Returns the subtags after the first `pass` ones. */
-static PyObject *subtags_from(const Value *self, langtag_span rest, size_t pass) {
-    PyObject *list = PyList_New(0);
-    langtag_span found;
-    while (list && langtag_next_subtag(self->text.data, (size_t)self->text.len, &rest, &found)) {
-        if (pass) {
-            pass--;
-            continue;
-        }
-        PyObject *text = lt_str(self->text.data + found.start, found.len);
-        if (!text || PyList_Append(list, text)) Py_CLEAR(list);
-        Py_XDECREF(text);
-    }
-    if (!list) return NULL;
-    PyObject *tuple = PyList_AsTuple(list);
-    Py_DECREF(list);
-    return tuple;
-}
-
-static PyObject *tag_primary(PyObject *object, void *unused) {
-    (void)unused;
-    Value *self = (Value *)object;
-    if (lt_lacks(self)) return NULL;
-    langtag_span rest = self->parts.language, found;
-    return langtag_next_subtag(self->text.data, (size_t)self->text.len, &rest, &found) ? lt_span(self, found) : lt_none();
-}
-
-static PyObject *tag_extended(PyObject *object, void *unused) {
-    (void)unused;
-    Value *self = (Value *)object;
-    if (lt_lacks(self)) return NULL;
-    return self->parts.language.len <= 8 && !memchr(self->text.data, '-', self->parts.language.len)
-               ? PyTuple_New(0) : subtags_from(self, self->parts.language, 1);
-}
-
-static PyObject *tag_variants(PyObject *object, void *unused) {
-    (void)unused;
-    Value *self = (Value *)object;
-    if (lt_lacks(self)) return NULL;
-    return self->parts.variants.len ? subtags_from(self, self->parts.variants, 0) : PyTuple_New(0);
-}
-
-/* Adds an extension under its lowercase singleton, unless the key is there already. Returns 0, or -1 with an exception. */
-static int add_extension(const Value *self, langtag_span found, PyObject *dict) {
-    char singleton = self->text.data[found.start];
-    langtag_fold(&singleton, 1);
-    PyObject *key = lt_str(&singleton, 1), *subtags = key ? subtags_from(self, found, 1) : NULL;
-    int there = subtags ? PyDict_Contains(dict, key) : -1;
-    if (!there) there = PyDict_SetItem(dict, key, subtags);
-    Py_XDECREF(key);
-    Py_XDECREF(subtags);
-    return there < 0 ? -1 : 0;
-}
-
-static PyObject *tag_extensions(PyObject *object, void *unused) {
-    (void)unused;
-    Value *self = (Value *)object;
-    if (lt_lacks(self)) return NULL;
-    PyObject *dict = PyDict_New();
-    langtag_span rest = self->parts.extensions, found;
-    while (dict && langtag_next_extension(self->text.data, (size_t)self->text.len, &rest, &found))
-        if (add_extension(self, found, dict)) Py_CLEAR(dict);
-    return dict;
-}
-
 static PyObject *tag_kind(PyObject *object, void *unused) {
     (void)unused;
     return lt_lacks((Value *)object) ? NULL : PyLong_FromUnsignedLong(((Value *)object)->kind);
@@ -129,14 +64,10 @@ PyGetSetDef lt_tag_members[] = {
     {"_data", lt_value_data, NULL, NULL, NULL},
     {"_kind", tag_kind, NULL, NULL, NULL},
     {"language", tag_part, NULL, "The primary language with its extended languages, such as zh-yue.", (void *)0},
-    {"primary_language", tag_primary, NULL, "The primary language only, such as zh.", NULL},
-    {"extended_language", tag_extended, NULL, "The extended languages, such as ('yue',).", NULL},
     {"script", tag_part, NULL, "The script, such as Hant.", (void *)1},
     {"region", tag_part, NULL, "The region, such as HK or 419.", (void *)2},
-    {"variants", tag_variants, NULL, "The variants, such as ('rozaj', '1994').", NULL},
-    {"extensions", tag_extensions, NULL,
-     "The subtags of each extension by its lowercase singleton, such as {'u': ('co', 'pinyin')}. If a singleton is repeated,\n"
-     "the first one counts.", NULL},
+    {"_variants", tag_part, NULL, NULL, (void *)3},
+    {"_extensions", tag_part, NULL, NULL, (void *)4},
     {"private_use", tag_part, NULL, "The private-use part with its x, such as x-mine. For a private-use tag it is the whole text.", (void *)5},
     {"repeated_variant", tag_repeated, NULL,
      "The first variant that equals an earlier one, ignoring case. Such a tag is well-formed and not valid.", (void *)0},
@@ -177,6 +108,11 @@ PyMethodDef lt_tag_methods[] = {
      "locale_form($self, /)\n--\n\n"
      "Returns the canonical form of the tag as a Unicode locale identifier (UTS #35, part 1, Annex C), by CLDR_VERSION: ger-UK\n"
      "becomes de-GB, and zh-yue becomes yue. Returns None if there is none, such as for x-a."},
+    {"_parent", lt_parent, METH_NOARGS, NULL},
+    {"to_posix", lt_to_posix, METH_NOARGS,
+     "to_posix($self, /)\n--\n\n"
+     "Returns the POSIX locale name for the tag, or None if a name cannot say all of the tag: sr-Latn-RS becomes sr_RS@latin, and\n"
+     "zh-Hant-TW becomes zh_TW. A script that is likely anyway is left out. The codeset is yours, as in zh_TW.UTF-8."},
     {"folded", lt_folded, METH_NOARGS,
      "folded($self, /)\n--\n\n"
      "Returns the text in lowercase, which is the same for all equal tags. It is a key for stores that compare bytes, and for\n"

@@ -152,11 +152,15 @@ impl GrandfatheredLangTag {
         ensures same_tag { IfOk result (λ tag. IsGrandfatheredAt (index_of tag) bytes.now) }
         ensures given_back { IfErr result (λ same. same ≡ bytes.entry) }
 
+        // law: no text is at two indices of the table
         ensures one_index { (j k : ℕ) (t : List ℕ) → IsGrandfatheredAt j t → IsGrandfatheredAt k t → j ≡ k }
+        // law: each of the 26 is a tag
         ensures are_tags { (t : List ℕ) → IsGrandfathered t → IsTag t }
+        // law: kinds and grandfathered tags compare by the order of their declarations
         ensures by_index { TagsCompareByIndex }
         ensures cloned { (tag copy : GrandfatheredLangTag) → ⟦<GrandfatheredLangTag as Clone>⟧.is_clone tag copy → copy ≡ tag }
         ensures clone_succeeds { (tag : GrandfatheredLangTag) → ⟦<GrandfatheredLangTag as Clone>⟧.is_infallible tag }
+        // law: each of the 26 is in `GRANDFATHERED` at its index
         ensures listed { (tag : GrandfatheredLangTag) → slice_get GRANDFATHERED (index_of tag) ≡ Some tag }
     {
         match first_alike(&GRANDFATHERED, bytes) {

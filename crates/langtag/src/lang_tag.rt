@@ -97,8 +97,11 @@ impl<'a> LangTag<'a> {
         ensures same_text { IfOk result (λ tag. lang_tag_text tag ≡ text.now) }
         ensures given_back { IfErr result (λ error. error.0 ≡ text.entry) }
 
+        // law: no text is of two kinds
         ensures normal_not_private { (t : List ℕ) → IsNormal t → IsPrivate t → ⊥ }
+        // law: no text is of two kinds
         ensures normal_not_irregular { (t : List ℕ) → IsNormal t → IsIrregular t → ⊥ }
+        // law: no text is of two kinds
         ensures private_not_irregular { (t : List ℕ) → IsPrivate t → IsIrregular t → ⊥ }
     {
         let Some(found) = recognise_text(text) else {
@@ -222,12 +225,15 @@ impl<'a> LangTag<'a> {
     #[tactic(auto, using(langtag_scan::proofs::CaseOrder::bytes_ends_first, crate::proofs::OrderLaws::tag_ends_first, crate::proofs::KeptFound::alike_laws))]
     pub fn eq_str(&self, other: &str) -> bool
         ensures test { result ≡ are_alike (lang_tag_text self.now) other.now }
+        // law: equal texts, ignoring case, are of the same kind
         ensures same_kind { IsTrue result → AreOfOneKind (lang_tag_text self.now) other.now }
+        // law: equal texts, ignoring case, have equal parts at the same offsets
         ensures alike_parts { IsTrue result → EachRecord (lang_tag_text self.now) (λ r. IsSpelledAlike r other.now) }
 
         ensures compared { LangTagsCompareByCase }
         ensures cloned { (copy : LangTag) → ⟦<LangTag<'a> as Clone>⟧.is_clone self.now copy → copy ≡ self.now }
         ensures clone_succeeds { ⟦<LangTag<'a> as Clone>⟧.is_infallible self.now }
+        // law: a text is greater than every longer text that begins with it
         ensures ends_first { (t u : List ℕ) → IsTag u → EndsFirst t u → case_cmp t u ≡ Ordering.Greater }
     {
         self.text == Caseless(other)
@@ -246,6 +252,7 @@ impl<'a> LangTag<'a> {
     #[tactic(auto, using(crate::proofs::KeptFound::typed_kind))]
     pub fn kind(&self) -> Kind
         ensures kind { IsOfKind (lang_tag_text self.now) result }
+        // law: kinds and grandfathered tags compare by the order of their declarations
         ensures by_index { KindsCompareByIndex }
         ensures cloned { (kind copy : Kind) → ⟦<Kind as Clone>⟧.is_clone kind copy → copy ≡ kind }
         ensures clone_succeeds { (kind : Kind) → ⟦<Kind as Clone>⟧.is_infallible kind }

@@ -162,12 +162,16 @@ impl LangTagBuf {
     #[tactic(auto, using(crate::proofs::AlikeFound::ascii_found, crate::proofs::AlikeFound::found_alike, langtag_case::proofs::RecommendedLaws::alike_of_recommended, langtag_case::proofs::RecommendedLaws::alike_recommended, langtag_case::proofs::RecordLaw::spelled_in_case, crate::proofs::KeptFound::alike_kinds, langtag_scan::proofs::CaseLaw::alike_parts))]
     pub fn make_recommended_case(&mut self)
         ensures case { lang_tag_buf_text self.new ≡ recommended_text (lang_tag_buf_text self.old) }
+        // law: the `String` keeps its allocation
         ensures same_block { SameBlock (string_vec (lang_tag_buf_string self.old)) (string_vec (lang_tag_buf_string self.new)) }
         ensures record { EachRecord (lang_tag_buf_text self.old) (λ r. lang_tag_buf_text self.new ≡ spell (recommended_record r)) }
         ensures alike { Alike (lang_tag_buf_text self.old) (lang_tag_buf_text self.new) }
+        // law: equal texts, ignoring case, are of the same kind
         ensures same_kind { AreOfOneKind (lang_tag_buf_text self.old) (lang_tag_buf_text self.new) }
+        // law: equal texts, ignoring case, have equal parts at the same offsets
         ensures alike_parts { EachRecord (lang_tag_buf_text self.old) (λ r. IsSpelledAlike r (lang_tag_buf_text self.new)) }
 
+        // law: alike texts become the same text
         ensures one_key { (t u : List ℕ) → Alike t u → recommended_text t ≡ recommended_text u }
     {
         put_recommended_case(&mut self.text.0);
@@ -220,9 +224,12 @@ impl LangTagBuf {
     /// ```
     pub fn set_script(&mut self, alloc: Global, script: Option<Script<'_>>) -> Result<(), EditError>
         ensures set { OnOk result (SetsScript (option_map script_text script.entry) (lang_tag_buf_text self.old) (lang_tag_buf_text self.new)) }
+        // law: this error is returned if and only if the tag is not normal
         ensures not_normal { IsErrOf result EditError.NotNormal ↔ (IsNormal (lang_tag_buf_text self.old) → ⊥) }
+        // law: after an error the tag is as it was
         ensures unchanged { OnErr result (self.new ≡ self.old) }
         ensures comes_back { OnOk result (ComesBack (λ new old. with_script new old.script) (lang_tag_buf_text self.old) (lang_tag_buf_text self.new)) }
+        // law: removing a part of a normal tag is Ok
         ensures taken_out { IsNone script.entry → IsNormal (lang_tag_buf_text self.old) → IsOk result }
     {
         self.put(alloc, Part::Script(script))

@@ -31,7 +31,7 @@
 //! owned.as_str();                                   // "sl-Latn-IT-rozaj-x-mine"
 //! ```
 //!
-//! Each part has a borrowed and an owned type, such as [`Script`] and [`ScriptBuf`]. This crate exports all these
+//! Each part has a borrowed and an owned type, such as [`Script`] and `ScriptBuf`. This crate exports all these
 //! types, and also the parser over bytes, [`recognise`].
 #![tactic(auto)]
 

@@ -95,8 +95,11 @@ impl<'a> NormalLangTag<'a> {
         ensures same_text { IfOk result (λ tag. normal_lang_tag_text tag ≡ text.now) }
         ensures given_back { IfErr result (λ error. error.0 ≡ text.entry) }
 
+        // law: a text has at most one record
         ensures one_record { (r q : Record) → IsWellFormed r → IsWellFormed q → spell r ≡ spell q → r ≡ q }
+        // law: the parts, joined, are the text
         ensures joined_parts { (r : Record) → IsWellFormed r → join (parts r) ≡ spell r }
+        // law: where each part is in it
         ensures part_offsets { (r : Record) → PartsStandIn (spell r) r }
     {
         let Some(ends) = normal_ends(text) else {
@@ -189,11 +192,13 @@ impl<'a> NormalLangTag<'a> {
     #[tactic(auto, using(langtag_scan::proofs::CaseOrder::bytes_ends_first, crate::proofs::OrderLaws::normal_ends_first, crate::proofs::KeptFound::alike_laws))]
     pub fn eq_str(&self, other: &str) -> bool
         ensures test { result ≡ are_alike (normal_lang_tag_text self.now) other.now }
+        // law: equal texts, ignoring case, have equal parts at the same offsets
         ensures alike_parts { IsTrue result → EachRecord (normal_lang_tag_text self.now) (λ r. IsSpelledAlike r other.now) }
 
         ensures compared { NormalLangTagsCompareByCase }
         ensures cloned { (copy : NormalLangTag) → ⟦<NormalLangTag<'a> as Clone>⟧.is_clone self.now copy → copy ≡ self.now }
         ensures clone_succeeds { ⟦<NormalLangTag<'a> as Clone>⟧.is_infallible self.now }
+        // law: a text is greater than every longer text that begins with it
         ensures ends_first { (t u : List ℕ) → IsNormal u → EndsFirst t u → case_cmp t u ≡ Ordering.Greater }
     {
         self.text == Caseless(other)
@@ -384,6 +389,7 @@ impl<'a> NormalLangTag<'a> {
     #[tactic(auto, using(crate::proofs::RepeatLaws::repeat_laws, langtag_scan::proofs::SpelledTexts::offsets_kept))]
     pub fn repeated_variant(&self) -> Option<Variant<'a>>
         ensures repeated { EachRecord (normal_lang_tag_text self.now) (λ r. option_map variant_text result ≡ repeat are_alike r.variants) }
+        // law: `repeat` finds the first element that equals an earlier one
         ensures first { (variants : List (List ℕ)) → IsFirstRepeat are_alike variants (repeat are_alike variants) }
     {
         let index = self.repeated_variant_index()?;
@@ -401,6 +407,7 @@ impl<'a> NormalLangTag<'a> {
     #[tactic(auto, using(crate::proofs::RepeatLaws::repeat_laws, langtag_scan::proofs::SpelledTexts::offsets_kept))]
     pub fn repeated_variant_index(&self) -> Option<usize>
         ensures repeated { EachRecord (normal_lang_tag_text self.now) (λ r. result ≡ repeat_index are_alike r.variants) }
+        // law: `repeat` finds the first element that equals an earlier one
         ensures first { (variants : List (List ℕ)) → IsFirstRepeatAt are_alike variants (repeat_index are_alike variants) }
     {
         first_repeated_variant(self.variants())
@@ -421,6 +428,7 @@ impl<'a> NormalLangTag<'a> {
     pub fn repeated_singleton(&self) -> Option<Singleton>
         ensures repeated { EachRecord (normal_lang_tag_text self.now) (λ r.
             option_map singleton_byte result ≡ repeat are_alike_bytes (map (λ e. e.singleton) r.extensions)) }
+        // law: `repeat` finds the first element that equals an earlier one
         ensures first { (singletons : List ℕ) → IsFirstRepeat are_alike_bytes singletons (repeat are_alike_bytes singletons) }
     {
         let index = self.repeated_singleton_index()?;
@@ -439,6 +447,7 @@ impl<'a> NormalLangTag<'a> {
     pub fn repeated_singleton_index(&self) -> Option<usize>
         ensures repeated { EachRecord (normal_lang_tag_text self.now) (λ r.
             result ≡ repeat_index are_alike_bytes (map (λ e. e.singleton) r.extensions)) }
+        // law: `repeat` finds the first element that equals an earlier one
         ensures first { (singletons : List ℕ) → IsFirstRepeatAt are_alike_bytes singletons (repeat_index are_alike_bytes singletons) }
     {
         first_repeated_singleton(self.extensions())

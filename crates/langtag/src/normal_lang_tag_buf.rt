@@ -193,9 +193,11 @@ impl NormalLangTagBuf {
     /// ```
     pub fn make_recommended_case(&mut self)
         ensures case { normal_lang_tag_buf_text self.new ≡ recommended_text (normal_lang_tag_buf_text self.old) }
+        // law: the `String` keeps its allocation
         ensures same_block { SameBlock (string_vec (normal_lang_tag_buf_string self.old)) (string_vec (normal_lang_tag_buf_string self.new)) }
         ensures record { EachRecord (normal_lang_tag_buf_text self.old) (λ r. normal_lang_tag_buf_text self.new ≡ spell (recommended_record r)) }
         ensures alike { Alike (normal_lang_tag_buf_text self.old) (normal_lang_tag_buf_text self.new) }
+        // law: equal texts, ignoring case, have equal parts at the same offsets
         ensures alike_parts { EachRecord (normal_lang_tag_buf_text self.old) (λ r. IsSpelledAlike r (normal_lang_tag_buf_text self.new)) }
     {
         put_recommended_case(&mut self.text.0);
@@ -249,9 +251,12 @@ impl NormalLangTagBuf {
         script: Option<Script<'_>>,
     ) -> Result<(), AllocError>
         ensures set { OnOk result (SetsScript (option_map script_text script.entry) (normal_lang_tag_buf_text self.old) (normal_lang_tag_buf_text self.new)) }
+        // law: after an error the tag is as it was
         ensures unchanged { OnErr result (self.new ≡ self.old) }
         ensures comes_back { OnOk result (ComesBack (λ new old. with_script new old.script) (normal_lang_tag_buf_text self.old) (normal_lang_tag_buf_text self.new)) }
+        // law: removing a part of a normal tag is Ok
         ensures taken_out { IsNone script.entry → IsOk result }
+        // law: setting the old part again restores the old text
         ensures set_back { GivesBack (Option (List ℕ)) with_script (λ r. SetsScript r.script) }
     {
         self.put(alloc, Part::Script(script))

@@ -27,7 +27,7 @@ pub(crate) fn recognise_bytes(bytes: &[u8]) -> Option<Recognised>
     }
 }
 
-/// Returns what the recogniser finds in bytes, as langtag_scan returns it.
+/// Returns what the recogniser finds in bytes, as `langtag_scan` returns it.
 fn found_in(bytes: &[u8]) -> Option<Found>
     ensures { MatchOption result (IsTag bytes.now → ⊥) (λ found. IsFoundOf bytes.now (finding found)) }
 {

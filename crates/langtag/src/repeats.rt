@@ -19,12 +19,15 @@ use langtag_scan::into_smallcase;
 /// all variants before it.
 const FEW: usize = 143;
 
+/// The number of variants in a block of a longer list. Each variant takes nine bytes of stack, so a block takes 10 kB.
+const BLOCK: usize = 1152;
+
 /// Returns the index of the first of these variants that equals an earlier variant, ignoring case.
 pub(crate) fn first_repeated_variant(variants: Variants<'_>) -> Option<usize>
     ensures { result ≡ repeat_index are_alike (subtags (variants_text variants.entry)) }
 {
     if variants.as_str().len() > FEW {
-        return first_repeated_of_many(variants);
+        return first_repeated_of_many::<BLOCK>(variants);
     }
     first_repeated_of_few(variants)
 }

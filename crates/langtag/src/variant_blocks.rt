@@ -12,20 +12,17 @@ use langtag_place::{Variant, Variants, VariantsIter};
 use langtag_scan::folded_number;
 use std::mem;
 
-/// The number of variants in a block; the last block may have fewer. Each variant takes nine bytes of stack, so a block
-/// takes 10 kB.
-const BLOCK: usize = 1152;
-
-const _: () = prove!(BLOCK == 1152);
-
-/// Returns the index of the first of these variants that equals an earlier variant, ignoring case.
+/// Returns the index of the first of these variants that equals an earlier variant, ignoring case. A block has `BLOCK`
+/// variants; the last block may have fewer.
 ///
 /// All variants are read once for each block. A block stores the numbers of its variants in ascending order, and a flag
 /// for each number that says whether it has occurred. So a binary search finds each variant in few steps, whatever the
 /// order of the variants is.
 // This function is not inlined, so that callers with few variants do not use its stack.
 #[inline(never)]
-pub(crate) fn first_repeated_of_many(variants: Variants<'_>) -> Option<usize>
+pub(crate) fn first_repeated_of_many<const BLOCK: usize>(variants: Variants<'_>) -> Option<usize>
+    requires not_empty { 1 ≤ BLOCK }
+    requires small { BLOCK ≤ 65536 }
     ensures { result ≡ repeat_index are_alike (subtags (variants_text variants.entry)) }
 {
     let mut numbers = [0; BLOCK];
@@ -37,7 +34,7 @@ pub(crate) fn first_repeated_of_many(variants: Variants<'_>) -> Option<usize>
         let block = &mut numbers[..size];
         fill(block, &mut rest);
         block.sort_unstable();
-        let repeated = first_met_again(block, variants, start);
+        let repeated = first_met_again::<BLOCK>(block, variants, start);
         if repeated.is_some() {
             return repeated;
         }
@@ -62,7 +59,12 @@ fn fill(block: &mut [u64], rest: &mut VariantsIter<'_>)
 /// Returns the index of the first variant up to the end of a block that equals an earlier variant, ignoring case. The
 /// block has, in ascending order, the numbers of the variants from the index `start` on. No variant before `start`
 /// equals an earlier variant.
-fn first_met_again(block: &[u64], variants: Variants<'_>, start: usize) -> Option<usize>
+fn first_met_again<const BLOCK: usize>(
+    block: &[u64],
+    variants: Variants<'_>,
+    start: usize,
+) -> Option<usize>
+    requires small { BLOCK ≤ 65536 }
     requires room { length block.now ≤ BLOCK }
     requires within { start + length block.now ≤ length (subtags (variants_text variants)) }
     requires new { HasNoRepeatBefore start (subtags (variants_text variants)) }

@@ -13,6 +13,7 @@ pub fn tag_of(bytes: Vec<u8>) -> LangTagBuf
     let Ok(text) = String::from_utf8(bytes) else {
         unreachable!()
     };
+    // It is parsed, although it is known to be a tag: a tag also stores where its parts end.
     let Ok(tag) = LangTagBuf::new(text) else {
         unreachable!()
     };

@@ -7,6 +7,7 @@ use Rattle.std.specs.Option.{IfSome}
 use Rattle.langtag_range.specs.Element.{Element, items}
 use Rattle.langtag_range.specs.Wanted.{wanted_elements}
 use Rattle.langtag_choice.specs.Best.{IsChoice, IsMatchOf, Pair}
+use Rattle.langtag_choice.specs.Suitable.{AreSuitable}
 use Rattle.langtag_choice.specs.declared.best_match.BestMatch as choice
 use Rattle.langtag_span.specs.RangePlaces.{IsRangeAt, range_count}
 use Rattle.langtag_span.specs.Spans.{empty_at}
@@ -14,13 +15,18 @@ use Rattle.langtag_span.specs.TagsAt.{tags_at}
 use Rattle.langtag_span.specs.declared.span.Span.{Span}
 use Rattle.langtag_span.proofs.HeaderRanges.{length_wanted, placed}
 use Rattle.langtag_span.proofs.TagsAt.{are_tags_at}
-use Rattle.langtag_c.specs.Choice.{IsBest, IsMatchAt, no_match}
+use Rattle.langtag_c.specs.Choice.{AreBest, IsBest, IsMatchAt, no_match}
 use Rattle.langtag_c.specs.declared.best_match.BestMatch.{BestMatch}
 
 pub is_best :
     (elements : List Element) (text : List ℕ) (spans : List Span) (chosen : Option ℕ) (answer : ℕ) → IsChoice elements (tags_at text spans) chosen →
     answer ≡ unwrap_or chosen (length spans) → IsBest elements text spans answer
 is_best elements text spans chosen answer choice is = record { tags = tags_at text spans; are = are_tags_at text spans; chosen = chosen; choice = choice; same = is }
+
+pub are_best :
+    (elements : List Element) (text : List ℕ) (spans : List Span) (room : ℕ) (indices : List ℕ) → AreSuitable elements (tags_at text spans) room indices →
+    AreBest elements text spans room indices
+are_best elements text spans room indices suitable = record { tags = tags_at text spans; are = are_tags_at text spans; suitable = suitable }
 
 -- an index of a tag, or the number of the spans, is not above that number
 pub within_spans :

@@ -3,8 +3,10 @@ mod DateLaws
 mod KeywordTexts
 mod KindLaws
 mod LikelyForms
+mod ParentLaws
 mod ParseLaws
 mod PartSpanLaws
 mod RangeLaws
+mod SiteLaws
 mod StopLaws
 mod Suggested

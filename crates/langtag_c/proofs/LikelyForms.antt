@@ -1,7 +1,8 @@
 -- The forms of a tag, and the tag of a name, are not empty.
 use Rattle.std.proofs.Common.{◌≡◌, ◌↔◌, ℕ, ◌≤◌, List, length, Option, None, Some, unwrap_or, refl, sym, subst, arith}
-use Rattle.std.specs.Prelude.{IfSome}
+use Rattle.std.specs.Prelude.{IfSome, MatchOption}
 use Rattle.std.proofs.lemmas.Bool.Decides.{nat_tests}
+use Rattle.langtag_output.specs.Writes.{Writes}
 use Rattle.langtag_output.specs.WritesWhole.{WritesWhole}
 use Rattle.langtag_scan.specs.Tag.{IsTag}
 use Rattle.langtag_registry.proofs.CanonicalParts as canonical
@@ -10,9 +11,11 @@ use Rattle.langtag_likely.specs.Maximal.{IsMaximalForm, IsMinimalForm, maximal_r
 use Rattle.langtag_range.specs.Locale.{locale_place}
 use Rattle.langtag_range.specs.Wanted.{hyphened}
 use Rattle.langtag_likely.specs.Posix.{IsTagOfName, NamesTag, with_said}
+use Rattle.langtag_likely.specs.ToPosix.{IsPosixName}
 use Rattle.langtag.proofs.FormLaws.{form_is_tag}
 use Rattle.langtag_likely.proofs.GoodForms.{maximal_well_formed, minimal_well_formed}
 use Rattle.langtag_likely.proofs.PosixLaws.{said_well_formed}
+use Rattle.langtag_likely.proofs.PosixNameRead.{one_name, some_name}
 use Rattle.langtag_unicode.proofs.FormRecords.{form_well_formed}
 use Rattle.langtag_locale.proofs.LocaleRecords.{locale_tag}
 use Rattle.langtag_locale.proofs.WholeForms.{not_both, whole_of_record}
@@ -46,3 +49,19 @@ pub locale_none :
 locale_none bytes text before after None result same tag is written none = (λ _ _. subst (λ t. IsWholeForm t None) same (none refl), λ _. is)
 locale_none bytes text before after (Some len) result same tag is written none =
     grind (arith, nat_tests, some_locale text written.text written.is_so, not_both text written.text written.is_so)
+
+-- 0 bytes stand for no name
+pub posix_none :
+    (bytes text before after : List ℕ) (o : Option ℕ) (result : ℕ) → text ≡ bytes → result ≡ unwrap_or o 0 →
+    MatchOption o (IsPosixName text None) (λ len. Writes (λ name. IsPosixName text (Some name)) before after len) → (result ≡ 0) ↔ IsPosixName bytes None
+posix_none bytes text before after None result same is none = (λ _. subst (λ t. IsPosixName t None) same none, λ _. is)
+posix_none bytes text before after (Some len) result same is w = (
+  λ zero. absurd (let some = some_name text w.text w.is_so in omega (arith, some, w.whole, is, zero)),
+  λ none. let no : Some w.text ≡ None = one_name text (Some w.text) None w.is_so (subst (λ t. IsPosixName t None) (sym same) none) in absurd cc,
+)
+
+pub posix_some :
+    (tag before after : List ℕ) (o : Option ℕ) → MatchOption o (IsPosixName tag None) (λ len. Writes (λ name. IsPosixName tag (Some name)) before after len) →
+    1 ≤ unwrap_or o 0 → Writes (λ name. IsPosixName tag (Some name)) before after (unwrap_or o 0)
+posix_some tag before after None is some = absurd (omega (arith, some))
+posix_some tag before after (Some len) w some = w

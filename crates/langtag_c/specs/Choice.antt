@@ -3,6 +3,7 @@ use Rattle.std.specs.Prelude.{◌≡◌, ◌-◌, ◌^◌, ℕ, List, Option, Ma
 use Rattle.langtag_range.specs.Element.{Element}
 use Rattle.langtag_range.specs.Wanted.{wanted_elements}
 use Rattle.langtag_choice.specs.Best.{IsChoice, IsMatch}
+use Rattle.langtag_choice.specs.Suitable.{AreSuitable}
 use Rattle.langtag_choice.specs.declared.best_match.BestMatch as choice
 use Rattle.langtag_span.specs.RangePlaces.{IsRangeAt}
 use Rattle.langtag_span.specs.Spanned.{AreTagsAt}
@@ -31,3 +32,9 @@ pub record IsMatchAt (header text : List ℕ) (spans : List Span) (answer : ℕ)
   pub is : IsMatch (wanted_elements header) tags chosen
   pub same : MatchOption chosen ((answer ≡ length spans) × (found ≡ no_match header))
       (λ m. (answer ≡ m.index) × (found.distance ≡ m.distance) × IsRangeAt header m.place found.range)
+
+-- the indices are those of the suitable tags for these elements, best first, as far as there is room
+pub record AreBest (elements : List Element) (text : List ℕ) (spans : List Span) (room : ℕ) (indices : List ℕ) : Type 0 where
+  pub tags : List (Option (List ℕ))
+  pub are : AreTagsAt text spans tags
+  pub suitable : AreSuitable elements tags room indices

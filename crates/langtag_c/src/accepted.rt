@@ -29,7 +29,9 @@ pub extern "C" fn langtag_next_accepted(
     ensures bad_weight { result ≡ 3 → TakesBad bytes.now rest.old rest.new range.new Weight × (weight.new ≡ 0) }
     ensures nothing { result ≡ 0 → (rest.new ≡ rest.old) × (range.new ≡ range.old) × (weight.new ≡ weight.old) }
 
+    // law: what `AcceptLanguage::lenient` reads, item by item
     ensures lenient { spec.elements (items bytes.now) ≡ filter_map element (filled_items bytes.now) }
+    // law: what `AcceptLanguage::new` reads, item by item
     ensures strict { spec.are_good (items bytes.now) ≡ list_all (λ item. is_some (element item)) (filled_items bytes.now) }
 {
     let Some(item) = next_item(bytes, rest) else {

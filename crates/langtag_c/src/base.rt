@@ -12,7 +12,9 @@ use langtag_span::tag_of;
 #[tactic(auto, using(langtag_span::proofs::TagLengths::some_tag))]
 #[unsafe(no_mangle)]
 pub extern "C" fn langtag_base_len(bytes: &[u8]) -> usize
+    // law: the length of the text of `LangTag::base`
     ensures base { IsTag bytes.now → PartOf bytes.now (λ r. length (spell (base_record r))) (length bytes.now) result }
+    // law: 0 if and only if the bytes are not a tag
     ensures none { result ≡ 0 ↔ (IsTag bytes.now → ⊥) }
 {
     match tag_of(bytes) {

@@ -28,6 +28,8 @@ pub extern "C" fn langtag_match_for_header(
     tags: &[Span],
     found: &mut BestMatch,
 ) -> usize
+    // law: the index is that of the chosen tag; the range and the distance belong to the pair of range and tag that was
+    // chosen
     ensures found { IsMatchAt header.now bytes.now tags.now result found.new }
     ensures best { IsBest (wanted_elements header.now) bytes.now tags.now result }
     ensures within { result ≤ length tags.now }

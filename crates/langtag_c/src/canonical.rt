@@ -19,6 +19,7 @@ pub extern "C" fn langtag_canonical(bytes: &[u8], buffer: &mut [u8]) -> usize
     ensures canonical { IsTag bytes.now → Writes (IsCanonicalForm bytes.now) buffer.old buffer.new result }
     ensures no_tag { result ≡ 0 ↔ (IsTag bytes.now → ⊥) }
     ensures nothing { result ≡ 0 → buffer.new ≡ buffer.old }
+    // law: no form is longer than 2 len + 14 bytes (`canonical_bound`)
     ensures bounded { result ≤ canonical_bound (length bytes.now) }
 {
     match tag_of(bytes) {

@@ -20,6 +20,7 @@ use langtag_span::{Span, before_key, extension_subtags, next_key, value_of};
 /// If it returns `false`, `value` is unchanged.
 #[unsafe(no_mangle)]
 pub extern "C" fn langtag_keyword(bytes: &[u8], key: &[u8], value: &mut Span) -> bool
+    // law: the value that `keyword` returns, as a span of the tag
     ensures value { PartOf bytes.now (λ r. option_map join (spec.value_of spec.is_key key.now (spec.subtags_of 117 r))) None (answered result (span_text bytes.now value.new)) }
     ensures within { IsTrue result → IsWithin bytes.now value.new }
     ensures nothing { result ≡ false → value.new ≡ value.old }
@@ -44,9 +45,12 @@ pub extern "C" fn langtag_next_keyword(
     key: &mut Span,
     value: &mut Span,
 ) -> bool
+    // law: the next keyword after so many subtags
     ensures taken { IsTrue result → EachRecord bytes.now (λ r. keywords_from spec.is_key (spec.subtags_of 117 r) passed.old
         ≡ record { key = span_text bytes.now key.new; value = span_text bytes.now value.new } ∷ keywords_from spec.is_key (spec.subtags_of 117 r) passed.new) }
+    // law: only a normal tag has one
     ensures other { (IsNormal bytes.now → ⊥) → result ≡ false }
+    // law: there is none if and only if none is left
     ensures end { result ≡ false → EachRecord bytes.now (λ r. keywords_from spec.is_key (spec.subtags_of 117 r) passed.old ≡ []) }
     ensures within { IsTrue result → IsWithin bytes.now key.new × IsWithin bytes.now value.new }
     ensures nothing { result ≡ false → (passed.new ≡ passed.old) × (key.new ≡ key.old) × (value.new ≡ value.old) }

@@ -16,7 +16,7 @@ use langtag_span::tag_of;
 /// Returns 0 and writes nothing if the bytes are not a tag.
 #[tactic(auto, using(crate::proofs::LikelyForms::some_maximal))]
 #[unsafe(no_mangle)]
-pub extern "C" fn langtag_maximize(bytes: &[u8], buffer: &mut [u8]) -> usize
+pub extern "C" fn langtag_maximized(bytes: &[u8], buffer: &mut [u8]) -> usize
     ensures maximal { IsTag bytes.now → Writes (IsMaximalForm bytes.now) buffer.old buffer.new result }
     ensures no_tag { result ≡ 0 ↔ (IsTag bytes.now → ⊥) }
     ensures nothing { result ≡ 0 → buffer.new ≡ buffer.old }
@@ -34,7 +34,7 @@ pub extern "C" fn langtag_maximize(bytes: &[u8], buffer: &mut [u8]) -> usize
 /// Returns 0 and writes nothing if the bytes are not a tag.
 #[tactic(auto, using(crate::proofs::LikelyForms::some_minimal))]
 #[unsafe(no_mangle)]
-pub extern "C" fn langtag_minimize(bytes: &[u8], buffer: &mut [u8]) -> usize
+pub extern "C" fn langtag_minimized(bytes: &[u8], buffer: &mut [u8]) -> usize
     ensures minimal { IsTag bytes.now → Writes (IsMinimalForm bytes.now) buffer.old buffer.new result }
     ensures no_tag { result ≡ 0 ↔ (IsTag bytes.now → ⊥) }
     ensures nothing { result ≡ 0 → buffer.new ≡ buffer.old }

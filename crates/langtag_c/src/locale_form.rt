@@ -13,6 +13,7 @@ use langtag_span::tag_of;
 /// for `de-1996-u-co-phonebk`, `false` for `x-a` and `zh-yue`.
 #[unsafe(no_mangle)]
 pub extern "C" fn langtag_is_locale(bytes: &[u8]) -> bool
+    // law: true if and only if the tag is one of the Unicode locale identifiers (`is_locale_record`)
     ensures locale { PartOf bytes.now is_locale_record false result }
 {
     match tag_of(bytes) {
@@ -28,7 +29,9 @@ pub extern "C" fn langtag_is_locale(bytes: &[u8]) -> bool
 /// Returns 0 and writes nothing if the bytes are not a tag, or if the tag has no form.
 #[unsafe(no_mangle)]
 pub extern "C" fn langtag_locale_form(bytes: &[u8], buffer: &mut [u8]) -> usize
+    // law: the form that `locale_form` returns, if the buffer has room for it, and its length
     ensures form { 0 < result → WritesWhole (λ form. IsWholeForm bytes.now (Some form)) buffer.old buffer.new result }
+    // law: 0 if and only if there is none
     ensures none { result ≡ 0 ↔ (IsTag bytes.now → IsWholeForm bytes.now None) }
     ensures nothing { result ≡ 0 → buffer.new ≡ buffer.old }
 {

@@ -22,10 +22,13 @@ pub extern "C" fn langtag_tag_for_header(
     bad: &mut Span,
 ) -> u32
     ensures few { (result ≡ 0 → ⊥) → (2 ≤ result) × (result ≤ 3) }
+    // law: the header is refused if and only if an element is malformed
     ensures strict { result ≡ 0 ↔ IsTrue (are_good (items header.now)) }
+    // law: the tag that lookup finds
     ensures found { result ≡ 0 → IsLookedUp header.now bytes.now tags.now index.new × (bad.new ≡ empty_at (length header.now)) }
     ensures bad_range { result ≡ 2 → IsBadAt header.now bad.new Range }
     ensures bad_weight { result ≡ 3 → IsBadAt header.now bad.new Weight }
+    // law: a header that is refused has no tag
     ensures none { (result ≡ 0 → ⊥) → index.new ≡ length tags.now }
     ensures within { index.new ≤ length tags.now }
 {

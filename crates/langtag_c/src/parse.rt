@@ -101,9 +101,12 @@ pub extern "C" fn langtag_kind(bytes: &[u8]) -> u32
 pub extern "C" fn langtag_parse(bytes: &[u8], parts: &mut Parts) -> u32
     ensures kind { IsKind bytes.now result }
     ensures parts { EachRecord bytes.now (λ r. ArePartsOf bytes.now r parts.new) }
+    // law: where absent parts are
     ensures spans { EachRecord bytes.now (λ r. parts.new ≡ spans_at (ends_of r)) }
     ensures private_use { IsPrivate bytes.now → parts.new ≡ private_alone (length bytes.now) }
+    // law: irregular tags have no parts
     ensures other { (IsNormal bytes.now → ⊥) → (IsPrivate bytes.now → ⊥) → parts.new ≡ no_parts }
+    // law: no span reaches beyond the text
     ensures within { AreWithin bytes.now parts.new }
 {
     let Some(found) = found_of(bytes) else {

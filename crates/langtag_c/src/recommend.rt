@@ -17,7 +17,9 @@ pub extern "C" fn langtag_recommend(bytes: &mut [u8])
     ensures case { bytes.new ≡ recommended_text bytes.old }
 
     ensures alike { Alike bytes.old bytes.new }
+    // law: equal texts, ignoring case, are of the same kind
     ensures same_kind { AreOfOneKind bytes.old bytes.new }
+    // law: equal texts, ignoring case, have equal parts at the same offsets
     ensures alike_parts { EachRecord bytes.old (λ r. IsSpelledAlike r bytes.new) }
 {
     make_recommended_case(bytes);

@@ -14,7 +14,9 @@ use langtag_output::write_text;
 /// Returns 0 and writes nothing if there is no such code.
 #[unsafe(no_mangle)]
 pub extern "C" fn langtag_suggestion(fault: u32, subtag: &[u8], buffer: &mut [u8]) -> usize
+    // law: the code that `suggested_language` or `suggested_region` returns
     ensures suggestion { IfSome (suggested fault subtag.now) (λ code. Writes (λ new. new ≡ code) buffer.old buffer.new result) }
+    // law: 0, and nothing is written, if there is none
     ensures nothing { suggested fault subtag.now ≡ None → (result ≡ 0) × (buffer.new ≡ buffer.old) }
 {
     match suggested(fault, subtag) {

@@ -34,6 +34,7 @@ pub extern "C" fn langtag_next_extension(
 ) -> bool
     ensures some { IsTrue result ↔ HasBytes bytes.now rest.old }
     ensures taken { IsTrue result → TakesExtension bytes.now rest.old rest.new extension.new }
+    // law: the first extension of those that spell the span
     ensures extension { IsTrue result → (first : Extension) (others : List Extension) →
         SpellsExtensions (first ∷ others) (span_text bytes.now rest.old) →
         (span_text bytes.now extension.new ≡ extension_spelling first) × SpellsExtensions others (span_text bytes.now rest.new) }

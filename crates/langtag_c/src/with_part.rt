@@ -15,8 +15,10 @@ use langtag_span::{normal_tag_of, part_of};
 /// language cannot be removed.
 #[unsafe(no_mangle)]
 pub extern "C" fn langtag_with_part(tag: &[u8], part: u32, text: &[u8], buffer: &mut [u8]) -> usize
+    // law: the call does what the setters do
     ensures set { CanSet part text.now tag.now →
         IfSome (part_numbered part) (λ it. Writes (SetsNamedPart it text.now tag.now) buffer.old buffer.new result) }
+    // law: the call returns 0 if a setter returns an error
     ensures refused { result ≡ 0 ↔ (CanSet part text.now tag.now → ⊥) }
     ensures bounded { result ≤ length tag.now + length text.now + 1 }
     ensures nothing { result ≡ 0 → buffer.new ≡ buffer.old }

@@ -28,10 +28,13 @@ use crate::recommended_bytes::RecommendedBytes;
 pub fn make_recommended_case(text: &mut [u8])
     ensures case { text.new ≡ recommended_text text.old }
 
+    // law: the case of each subtag
     ensures each_subtag { (t subtag : List ℕ) (k : ℕ) → slice_get (segments t) k ≡ Some subtag →
         slice_get (segments (recommended_text t)) k ≡ Some (recommended_subtag (take k (segments t)) subtag) }
     ensures alike { (t : List ℕ) → Alike (recommended_text t) t }
+    // law: the case of each part
     ensures of_record { (r : Record) → IsWellFormed r → recommended_text (spell r) ≡ spell (recommended_record r) }
+    // law: doing it again changes nothing
     ensures twice { (t : List ℕ) → recommended_text (recommended_text t) ≡ recommended_text t }
     ensures one_key { (t u : List ℕ) → Alike t u → recommended_text t ≡ recommended_text u }
 {

@@ -20,7 +20,7 @@ use Rattle.langtag_likely.proofs.AlikeFields.{AlikeOptions, fields-right, alone_
 use Rattle.langtag.proofs.Alike.{AlikeFields, are_alike-left, are_alike-right}
 use Rattle.langtag_choice.specs.Distance.{by_language, distance_of_forms, is_among, language_distance, region_distance, script_distance, DistanceIgnoresCase, distance_of_texts}
 use Rattle.langtag_choice.specs.MatchingData.{language_rules}
-use Rattle.langtag_choice.specs.Nearness.{unlikely, unlikely_form}
+use Rattle.langtag_choice.specs.Nearness.{unlikely, unlikely_of, unlikely_form}
 use Rattle.langtag_choice.specs.Rules.{Rule, fits, distance_by}
 
 -- ---- the matching form
@@ -155,5 +155,5 @@ unlikely_form-alike : (f g : Fields) → AlikeFields f g → unlikely_form f ≡
 unlikely_form-alike f g same = grind (arith, nat_tests, are_alike-right, suffices-alike f g (without_region f) (without_region g) same (record { language = same.language; script = same.script; region = refl }))
 
 pub unlikely-alike : (a b : List ℕ) → Alike a b → unlikely a ≡ unlikely b
-unfolding unlikely
+unfolding unlikely unlikely_of
 unlikely-alike a b alike = by_options (λ f g. option_map_or unlikely_form f 2 ≡ option_map_or unlikely_form g 2) refl unlikely_form-alike _ _ (matching_form-alike a b alike)

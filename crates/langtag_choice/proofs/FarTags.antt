@@ -214,6 +214,9 @@ pub none_between : (d s : Fields) → are_alike d.language s.language ≡ true �
 unfolding language_distance
 none_between d s alike = rw alike refl
 
+pub none_between_forms : (r t : Option Fields) (d s : Fields) → HaveOneLanguage r t → r ≡ Some d → t ≡ Some s → 0 ≡ language_distance d s
+none_between_forms r t d s one r_is t_is = none_between d s (one d s r_is t_is)
+
 -- ---- what lookup keeps
 
 pub nothing_kept :

@@ -1,5 +1,5 @@
 -- What loops over ranges and over tags have found, and that it is the choice.
-use Rattle.std.proofs.Common.{◌≡◌, ℕ, true, List, get_or, Option, Some, None, option_map, ap, refl, sym, subst, ◌∙◌, ◌-◌, ◌==◌, ◌≤◌, false, ◌&&◌, ◌||◌, nat_lt, arith, Bool, [], ◌∷◌, ◌⊎◌, ◌+◌, ◌<◌, suc, length, below_more, slice_get}
+use Rattle.std.proofs.Common.{◌≡◌, ℕ, true, List, get_or, Option, Some, None, option_map, ap, refl, sym, subst, ◌∙◌, ◌-◌, ◌==◌, ◌≤◌, false, ◌&&◌, ◌||◌, nat_lt, arith, Bool, [], ◌∷◌, ◌⊎◌, ◌+◌, ◌<◌, suc, length, below_more, inl, inr, true≢false, slice_get}
 use Rattle.std.proofs.lemmas.Bool.Decides.{eqb_tells, nat_tests}
 use Rattle.std.proofs.lemmas.Bool.{and_parts, eqb-true, ltb-false, ltb-true, or_cases, cases_lt}
 use Rattle.std.proofs.lemmas.Grind.{common_steps}
@@ -10,10 +10,12 @@ use Rattle.langtag_range.specs.Element.{Element}
 use Rattle.langtag_range.specs.Listed.{basic_text}
 use Rattle.langtag_choice.specs.Best.{IsAtMost, IsChoice, IsMatchOf, Pair, rank, rank_of_pair, serves, reach, service, is_excluded, is_refused, longest}
 use Rattle.langtag_choice.specs.Distance.{distance_of_texts}
-use Rattle.langtag_choice.specs.Found.{IsBestFound, IsBestOf, IsFor, IsUnrefusedAt, rank_of, service_number, AreOpen, Covers, CoversOpen, CoversRanges, CoversTags, IsOldOrAt, IsOf, IsReal, IsNotAfter, Keeps, Takes, wish_element}
+use Rattle.langtag_choice.specs.Found.{IsBestFound, IsBestOf, IsFor, IsUnrefusedAt, rank_of, service_number, AreOpen, Covers, CoversOpen, CoversRanges, CoversTags, IsAt, IsOldOrAt, IsOf, IsOfKnown, IsReal, IsNotAfter, Keeps, Takes, TakesAt, wish_element}
+use Rattle.langtag_choice.specs.KnownTexts.{is_known, known_text}
 use Rattle.langtag_choice.specs.Nearness.{kept}
 use Rattle.langtag_choice.specs.declared.best_match.BestMatch.{BestMatch}
 use Rattle.langtag_choice.specs.declared.candidate.Candidate.{Candidate}
+use Rattle.langtag_choice.specs.declared.known_tag.KnownTag.{KnownTag}
 use Rattle.langtag_choice.specs.declared.wish.Wish.{Wish}
 
 -- ---- how ranks compare
@@ -47,24 +49,23 @@ module _ (elements : List Element) (tags : List (Option (List ℕ))) where
   -- a candidate that is open and at most all pairs is the choice
   pub least_chosen : (c : Candidate) → IsFor elements tags c → IsUnrefusedAt elements tags c.index → ((pair : Pair elements tags) → IsAtMost (rank_of c) (rank_of_pair elements tags pair)) → IsBestOf elements tags c
   least_chosen c for chosen least =
-      let same = for.there chosen.0 chosen.1 in
+      let at = for.there chosen.0 chosen.1 in
       record {
         pair = record {
           place = c.rank.place;
-          element = for.at.element;
-          wanted = for.at.wanted;
+          element = at.element;
+          wanted = at.wanted;
           index = c.index;
           tag = chosen.0;
           there = chosen.1;
-          served = subst (λ tag. serves for.at.element tag ≡ true) same for.at.served;
+          served = at.served;
           unrefused = chosen.2;
         };
         place = refl;
-        range = for.at.range;
+        range = at.range;
         index = refl;
-        tag = sym same;
-        least = λ other.
-            subst (λ ranks. IsAtMost ranks (rank_of_pair elements tags other)) (for.at.same_rank ∙ ap (rank c.rank.place for.at.element c.index) same) (least other);
+        tag = sym at.tag;
+        least = λ other. subst (λ ranks. IsAtMost ranks (rank_of_pair elements tags other)) at.same_rank (least other);
       }
 
   -- what was found has the index of the choice
@@ -98,6 +99,15 @@ unfolding is_refused
 none_refused elements tag none = let zero = longest_none is_excluded elements tag none in rw zero (grind (arith, nat_tests))
 
 -- ---- what was found
+
+-- a tag of a list is what is read at its index, and what was kept of it is true
+abbrev pub IsKnownAt : List (Option (List ℕ)) → ℕ → KnownTag → Type 0
+IsKnownAt tags index known = ForSome (get_or tags index None) (λ text. (known_text known ≡ text) × (is_known known ≡ true))
+
+pub known_there :
+    (tags : List (Option (List ℕ))) (index : ℕ) (known : KnownTag) → IsKnownAt tags index known → (tag : List ℕ) → slice_get tags index ≡ Some (Some tag) →
+    (known_text known ≡ tag) × (is_known known ≡ true)
+known_there tags index known at tag there = at tag (get_or_from_slice_get tags index (Some tag) None there)
 
 -- the text of a tag is the tag, where there is one
 pub text_at : (tags : List (Option (List ℕ))) (index : ℕ) (text : List ℕ) → ForSome (get_or tags index None) (λ found. text ≡ found) → (tag : List ℕ) → slice_get tags index ≡ Some (Some tag) → text ≡ tag
@@ -141,12 +151,41 @@ one_more_open elements tags index old new so_far keeps here =
 pub real_from :
     (elements : List Element) (tags : List (Option (List ℕ))) (tag : List ℕ) (index : ℕ) (old new : Option Candidate) → index < length tags → ((other : List ℕ) → slice_get tags index ≡ Some (Some other) → tag ≡ other) →
     IsReal elements tags old → IsOldOrAt elements tag index old new → IsReal elements tags new
-real_from elements tags tag index old new inside there real changed = grind (arith, nat_tests)
+real_from elements tags tag index old (Some c) inside there real (inr at) = record {
+  inside = subst (λ i. i < length tags) (sym at.index) inside;
+  there = λ other is.
+      subst (λ t. IsAt elements t c.index c) (there other (subst (λ i. slice_get tags i ≡ Some (Some other)) at.index is)) (subst (λ i. IsAt elements tag i c) (sym at.index) at);
+}
+real_from elements tags tag index old None inside there real (inr at) = absurd at
+real_from elements tags tag index old new inside there real (inl same) = subst (IsReal elements tags) (sym same) real
+
+at_of :
+    (elements : List Element) (wish : Wish) (text : List ℕ) (index : ℕ) (c : Candidate) → slice_get elements wish.place ≡ Some (wish_element wish) → IsOf wish text index c → IsAt elements text index c
+at_of elements wish text index c wanted of = grind arith
+
+-- an entry that was tried for a range
+pub real_from_known :
+    (elements : List Element) (tags : List (Option (List ℕ))) (wish : Wish) (known : KnownTag) (index : ℕ) (old new : Option Candidate) → index < length tags → IsKnownAt tags index known →
+    slice_get elements wish.place ≡ Some (wish_element wish) → IsReal elements tags old → (new ≡ old) ⊎ MatchOption new ⊥ (IsOfKnown wish known index) → IsReal elements tags new
+real_from_known elements tags wish known index old (Some c) inside at wanted real (inr of) =
+    record {
+      inside = subst (λ i. i < length tags) (sym of.0) inside;
+      there = λ tag there. known_at_index tag (subst (λ i. slice_get tags i ≡ Some (Some tag)) of.0 there);
+    }
+  where
+    known_at_index : (tag : List ℕ) → slice_get tags index ≡ Some (Some tag) → IsAt elements tag c.index c
+    known_at_index tag there =
+        let here = known_there tags index known at tag there in
+        subst (λ t. IsAt elements t c.index c) here.0 (subst (λ i. IsAt elements (known_text known) i c) (sym of.0) (at_of elements wish (known_text known) index c wanted (of.1 here.1)))
+real_from_known elements tags wish known index old None inside at wanted real (inr of) = absurd of
+real_from_known elements tags wish known index old new inside at wanted real (inl same) = subst (IsReal elements tags) (sym same) real
 
 pub from_of :
-    (elements : List Element) (wish : Wish) (tag : List ℕ) (index : ℕ) (old new : Option Candidate) → slice_get elements wish.place ≡ Some (wish_element wish) →
-    (new ≡ old) ⊎ MatchOption new ⊥ (IsOf wish tag index) → IsOldOrAt elements tag index old new
-from_of elements wish tag index old new wanted changed = grind (arith, nat_tests)
+    (elements : List Element) (wish : Wish) (known : KnownTag) (index : ℕ) (old new : Option Candidate) → is_known known ≡ true → slice_get elements wish.place ≡ Some (wish_element wish) →
+    (new ≡ old) ⊎ MatchOption new ⊥ (IsOfKnown wish known index) → IsOldOrAt elements (known_text known) index old new
+from_of elements wish known index old (Some c) is wanted (inr of) = inr (at_of elements wish (known_text known) index c wanted (of.1 is))
+from_of elements wish known index old None is wanted (inr of) = absurd of
+from_of elements wish known index old new is wanted (inl same) = inl same
 
 -- from one step to the next
 pub from_later :
@@ -159,12 +198,34 @@ pub open_at :
     (elements : List Element) (tags : List (Option (List ℕ))) (index : ℕ) (tag : List ℕ) → index < length tags → get_or tags index None ≡ Some tag → is_refused elements tag ≡ false → IsUnrefusedAt elements tags index
 open_at elements tags index tag inside at free = (tag, slice_get-get_or tags index None inside ∙ ap Some at, free)
 
-pub takes_covers :
-    (tags : List (Option (List ℕ))) (element : Element) (place : ℕ) (wish : Wish) (text : List ℕ) (index : ℕ) (old new : Option Candidate) → wish_element wish ≡ element → wish.place ≡ place →
-    ForSome (get_or tags index None) (λ found. text ≡ found) → Takes wish text index old new → (tag : List ℕ) → slice_get tags index ≡ Some (Some tag) → serves element tag ≡ true →
-    IsNotAfter new (rank place element index tag)
-takes_covers tags element place wish text index old new same_element same_place at takes tag there served =
-    grind (arith, nat_tests, text_at tags index text at tag there)
+-- an entry that is far is not taken
+pub far_takes :
+    (wish : Wish) (known : KnownTag) (index : ℕ) (found : Option Candidate) → (is_known known ≡ true → 50 ≤ distance_of_texts (basic_text wish.range.now) (known_text known)) →
+    (is_known known ≡ true → kept (basic_text wish.range.now) (known_text known) ≡ 0) → Takes wish known index found found
+far_takes wish known index found far none = record {
+  keeps = λ r is. is;
+  covers = λ is served. absurd (true≢false (sym served ∙ cannot_serve (wish_element wish) (known_text known) (far is) (none is)));
+  from = inl refl;
+}
+
+-- what is tried at an index is the entry there
+pub takes_at :
+    (tags : List (Option (List ℕ))) (wish : Wish) (known : KnownTag) (index : ℕ) (old new : Option Candidate) → index < length tags → IsKnownAt tags index known →
+    Takes wish known index old new → TakesAt wish tags index old new
+takes_at tags wish known index old new inside at takes = record {
+  keeps = takes.keeps;
+  covers = λ tag there served.
+      let here = known_there tags index known at tag there in
+      subst (λ t. IsNotAfter new (rank wish.place (wish_element wish) index t)) here.0 (takes.covers here.1 (subst (λ t. serves (wish_element wish) t ≡ true) (sym here.0) served));
+  real = λ elements wanted real. real_from_known elements tags wish known index old new inside at wanted real takes.from;
+}
+
+pub entry_covers :
+    (tags : List (Option (List ℕ))) (element : Element) (place : ℕ) (wish : Wish) (index : ℕ) (old new : Option Candidate) → wish_element wish ≡ element → wish.place ≡ place →
+    TakesAt wish tags index old new → (tag : List ℕ) → slice_get tags index ≡ Some (Some tag) → serves element tag ≡ true → IsNotAfter new (rank place element index tag)
+entry_covers tags element place wish index old new same_element same_place takes tag there served =
+    subst (λ e. IsNotAfter new (rank place e index tag)) same_element
+    (subst (λ p. IsNotAfter new (rank p (wish_element wish) index tag)) same_place (takes.covers tag there (subst (λ e. serves e tag ≡ true) (sym same_element) served)))
 
 -- ---- what is first of all
 

@@ -1,4 +1,4 @@
--- What the first letters of a tag show. Only contracts of private functions cite this page.
+-- What the first letters of a tag show.
 use Rattle.std.specs.Prelude.{◌≡◌, ℕ, ◌==◌, ◌||◌, Bool, true, false, not, List, [], ◌∷◌, length, Option, Some, None}
 use Rattle.std.specs.List.{after_first, before_first}
 use Rattle.std.specs.Option.{ForSome}

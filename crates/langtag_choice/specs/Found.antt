@@ -5,11 +5,13 @@ use Rattle.langtag_range.specs.Listed.{basic_text}
 use Rattle.langtag_choice.specs.Best.{IsAtMost, Pair, is_refused, may_serve, rank, rank_of_pair, reach, serves}
 use Rattle.langtag.specs.Fields.{Fields}
 use Rattle.langtag_likely.specs.Matching.{matching_form}
-use Rattle.langtag_choice.specs.Nearness.{kept, unlikely}
+use Rattle.langtag_choice.specs.KnownTexts.{is_known, known_text}
+use Rattle.langtag_choice.specs.Nearness.{kept, unlikely_of}
 use Rattle.langtag_likely.specs.Texts.{field_texts}
 use Rattle.langtag_choice.specs.declared.candidate.Candidate.{Candidate}
 use Rattle.langtag_choice.specs.declared.candidate.Service.{Service}
 use Rattle.langtag_choice.specs.declared.candidate.Service.TheVariants.{Near, Acceptable, LookUp}
+use Rattle.langtag_choice.specs.declared.known_tag.KnownTag.{KnownTag}
 use Rattle.langtag_choice.specs.declared.nearness.Nearness.{Nearness}
 use Rattle.langtag_choice.specs.declared.wish.Wish.{Wish}
 
@@ -25,7 +27,7 @@ service_number LookUp = 2
 abbrev pub rank_of : Candidate → List ℕ
 rank_of c =
     service_number c.rank.service ∷ c.rank.lack ∷ c.rank.place ∷ c.rank.distance ∷
-    (length (basic_text c.range.now) - kept (basic_text c.range.now) c.tag.now) ∷ unlikely c.tag.now ∷ c.index ∷ []
+    (length (basic_text c.range.now) - kept (basic_text c.range.now) c.tag.now) ∷ unlikely_of (option_map field_texts c.form) ∷ c.index ∷ []
 
 -- a candidate was found, and its rank is at most this one
 abbrev pub IsNotAfter : Option Candidate → List ℕ → Type 0
@@ -57,11 +59,15 @@ pub record IsOf (wish : Wish) (text : List ℕ) (there : ℕ) (c : Candidate) : 
   pub served : serves (wish_element wish) text ≡ true
   pub same_rank : rank_of c ≡ rank wish.place (wish_element wish) there text
 
--- `old` and `new` are the candidates before and after the text at an index was tried for a range
-pub record Takes (wish : Wish) (tag : List ℕ) (index : ℕ) (old new : Option Candidate) : Type 0 where
+-- the candidate is the entry at an index, and it is the tag there if what was kept of the tag is true
+abbrev pub IsOfKnown : Wish → KnownTag → ℕ → Candidate → Type 0
+IsOfKnown wish tag there c = (c.index ≡ there) × (is_known tag ≡ true → IsOf wish (known_text tag) there c)
+
+-- `old` and `new` are the candidates before and after the tag at an index was tried for a range
+pub record Takes (wish : Wish) (tag : KnownTag) (index : ℕ) (old new : Option Candidate) : Type 0 where
   pub keeps : Keeps old new
-  pub covers : serves (wish_element wish) tag ≡ true → IsNotAfter new (rank wish.place (wish_element wish) index tag)
-  pub from : (new ≡ old) ⊎ MatchOption new ⊥ (IsOf wish tag index)
+  pub covers : is_known tag ≡ true → serves (wish_element wish) (known_text tag) ≡ true → IsNotAfter new (rank wish.place (wish_element wish) index (known_text tag))
+  pub from : (new ≡ old) ⊎ MatchOption new ⊥ (IsOfKnown wish tag index)
 
 -- the candidate is the text at an index, for one of the ranges
 pub record IsAt (elements : List Element) (text : List ℕ) (there : ℕ) (c : Candidate) : Type 0 where
@@ -77,11 +83,10 @@ pub record IsAt (elements : List Element) (text : List ℕ) (there : ℕ) (c : C
 abbrev pub IsOldOrAt : List Element → List ℕ → ℕ → Option Candidate → Option Candidate → Type 0
 IsOldOrAt elements tag index old new = (new ≡ old) ⊎ MatchOption new ⊥ (IsAt elements tag index)
 
--- the candidate is an entry of the list for one of the ranges; the entry need not be a tag, and may be refused
+-- the candidate is an entry of the list; if it is a tag, it is that tag for one of the ranges, and may be refused
 pub record IsFor (elements : List Element) (tags : List (Option (List ℕ))) (c : Candidate) : Type 0 where
-  pub at : IsAt elements c.tag.now c.index c
   pub inside : c.index < length tags
-  pub there : (tag : List ℕ) → slice_get tags c.index ≡ Some (Some tag) → c.tag.now ≡ tag
+  pub there : (tag : List ℕ) → slice_get tags c.index ≡ Some (Some tag) → IsAt elements tag c.index c
 
 -- the entry at an index is a tag that is not refused
 abbrev pub IsUnrefusedAt : List Element → List (Option (List ℕ)) → ℕ → Type 0
@@ -90,6 +95,12 @@ IsUnrefusedAt elements tags index = (tag : List ℕ) × (slice_get tags index �
 -- the candidate, if there is one, serves one of the ranges
 abbrev pub IsReal : List Element → List (Option (List ℕ)) → Option Candidate → Type 0
 IsReal elements tags found = IfSome found (IsFor elements tags)
+
+-- `old` and `new` are the candidates before and after the entry at an index of a list was tried for a range
+pub record TakesAt (wish : Wish) (tags : List (Option (List ℕ))) (index : ℕ) (old new : Option Candidate) : Type 0 where
+  pub keeps : Keeps old new
+  pub covers : (tag : List ℕ) → slice_get tags index ≡ Some (Some tag) → serves (wish_element wish) tag ≡ true → IsNotAfter new (rank wish.place (wish_element wish) index tag)
+  pub real : (elements : List Element) → slice_get elements wish.place ≡ Some (wish_element wish) → IsReal elements tags old → IsReal elements tags new
 
 -- no pair with one of the first ranges has a lesser rank than the candidate
 abbrev pub Covers : List Element → List (Option (List ℕ)) → ℕ → Option Candidate → Type 0

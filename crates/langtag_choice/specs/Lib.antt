@@ -9,6 +9,9 @@ pub mod MatchingData
 pub mod NearLanguages
 pub mod Nearness
 pub mod Pairs
+pub mod Prepared
+pub mod Remaining
 pub mod Rules
 pub mod Sets
 pub mod Sites
+pub mod Suitable

@@ -1,5 +1,5 @@
 -- What decides among tags at the same distance from a range.
-use Rattle.std.specs.Prelude.{ℕ, Bool, ◌==◌, ◌&&◌, ◌||◌, not, if◌then◌else◌, List, codes, length, take, drop}
+use Rattle.std.specs.Prelude.{ℕ, Bool, ◌==◌, ◌&&◌, ◌||◌, not, if◌then◌else◌, List, codes, length, take, drop, Option}
 use Rattle.std.specs.Option.{option_map_or}
 use Rattle.langtag_scan.specs.Case.{are_alike}
 use Rattle.langtag_likely.specs.Likely.{without_region}
@@ -36,5 +36,9 @@ is_paradigm form = is_form (codes "en") (codes "GB") form || (is_form (codes "es
 abbrev pub unlikely_form : Fields → ℕ
 unlikely_form form = if suffices form (without_region form) then 0 else if is_paradigm form then 1 else 2
 
+-- how unlikely a form is, and 2 if there is none
+unfoldable pub unlikely_of : Option Fields → ℕ
+unlikely_of form = option_map_or unlikely_form form 2
+
 unfoldable pub unlikely : List ℕ → ℕ
-unlikely tag = option_map_or unlikely_form (matching_form tag) 2
+unlikely tag = unlikely_of (matching_form tag)

@@ -34,6 +34,7 @@ use langtag_match::{AcceptLanguage, LanguageRange};
 #[tactic(auto, using(crate::proofs::ChoiceLaws::header_case_ignored))]
 pub fn best_for_header(header: &[u8], tags: &[LangTag<'_>]) -> Option<usize>
     ensures choice { spec.IsChoice (wanted_elements header.now) (tag_texts tags.now) result }
+    // law: alike headers have the same result
     ensures header_case { laws.IgnoresHeaderCase header.now (tag_texts tags.now) result }
 {
     best_among(header, &Tags(tags))
@@ -91,6 +92,8 @@ pub fn best_for_ranges(ranges: &[LanguageRange<'_>], tags: &[LangTag<'_>]) -> Op
 /// found.map(|found| (found.index, found.range, found.distance)); // Some((1, &b"gsw"[..], 8))
 /// ```
 pub fn match_for_header<'a>(header: &'a [u8], tags: &[LangTag<'_>]) -> Option<BestMatch<'a>>
+    // law: the index is that of the chosen tag; the range and the distance belong to the pair of range and tag that was
+    // chosen
     ensures found { spec.IsMatch (wanted_elements header.now) (tag_texts tags.now) result }
     ensures choice { spec.IsChoice (wanted_elements header.now) (tag_texts tags.now) (option_map (λ found. found.index) result) }
     ensures cloned { (found copy : BestMatch) → ⟦<BestMatch<'a> as Clone>⟧.is_clone found copy → copy ≡ found }
@@ -177,9 +180,13 @@ fn match_of<'a>(found: Candidate<'a, '_>) -> BestMatch<'a>
 #[tactic(auto, using(crate::proofs::ChoiceLaws::only_choice, crate::proofs::ChoiceLaws::look_up_answered, crate::proofs::ChoiceLaws::case_ignored))]
 pub fn best_among<'a, R: RangeList<'a>, T: TagList>(ranges: R, tags: &T) -> Option<usize>
     ensures choice { spec.IsChoice (R.elements ranges) (T.texts tags.now) result }
+    // law: only one choice is possible
     ensures one { laws.IsOnlyChoice (R.elements ranges) (T.texts tags.now) result }
+    // law: some tag is chosen if lookup of a range finds a tag that is not refused
     ensures looked_up { laws.AnswersLookUp (R.elements ranges) (T.texts tags.now) result }
+    // law: the first tag that equals the first range of the greatest weight is chosen
     ensures equal { laws.AnswersEqual (R.elements ranges) (T.texts tags.now) result }
+    // law: the case of the letters of elements and tags changes nothing
     ensures case { laws.IgnoresCase (R.elements ranges) (T.texts tags.now) result }
 {
     best_index(ranges, tags)

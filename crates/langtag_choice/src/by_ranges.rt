@@ -9,7 +9,7 @@ ghost use Rattle.langtag_choice.specs.Best.{is_excluded};
 ghost use Rattle.langtag_choice.specs.Found.{Covers, CoversTags, IsReal, Keeps};
 
 use crate::candidate::Candidate;
-use crate::improve::{improve, limit};
+use crate::improve::{improve_entry, limit};
 use crate::range_list::RangeList;
 use crate::tag_list::TagList;
 use crate::wish::Wish;
@@ -56,6 +56,6 @@ fn improve_for_range<'a, 't, T: TagList>(
         return;
     };
     for index in 0..tags.count() {
-        improve(found, &wish, tags.known_at(index), index);
+        improve_entry(found, &wish, tags, index);
     }
 }

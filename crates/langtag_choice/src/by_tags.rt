@@ -5,12 +5,12 @@ ghost use Rattle.langtag_range.specs.Listed.{listed_element};
 ghost use Rattle.langtag_range.specs.Range.{is_language_range};
 ghost use Rattle.langtag_range.specs.Wanted.{hyphened};
 ghost use Rattle.langtag_choice.specs.Best.{is_refused, rank, serves};
-ghost use Rattle.langtag_choice.specs.KnownTexts.{known_text};
+ghost use Rattle.langtag_choice.specs.KnownTexts.{is_known, known_text};
 ghost use Rattle.langtag_choice.specs.Found.{AreOpen, CoversOpen, CoversRanges, IsOldOrAt, IsUnrefusedAt, IsReal, IsNotAfter, Keeps};
 
 use crate::candidate::Candidate;
 use crate::improve::{improve, limit};
-use crate::known_tag::KnownTag;
+use crate::known_tag::{KnownTag, known_at};
 use crate::range_list::RangeList;
 use crate::refused::is_refused;
 use crate::tag_list::TagList;
@@ -48,7 +48,7 @@ fn improve_at<'a, 't, R: RangeList<'a>, T: TagList>(
     ensures unrefused { AreOpen (R.elements ranges) (T.texts tags.now) found.old → AreOpen (R.elements ranges) (T.texts tags.now) found.new }
 {
     if is_open(ranges, tags, index) {
-        improve_for_tag(found, ranges, tags.known_at(index), index);
+        improve_for_tag(found, ranges, known_at(tags, index), index);
     }
 }
 
@@ -70,6 +70,7 @@ fn improve_for_tag<'a, 't, R: RangeList<'a>>(
     tag: KnownTag<'t>,
     index: usize,
 )
+    requires { IsTrue (is_known tag) }
     ensures keeps { Keeps found.old found.new }
     ensures covers { CoversRanges (R.elements ranges) (known_text tag.entry) index (length (R.elements ranges)) found.new }
     ensures from { IsOldOrAt (R.elements ranges) (known_text tag.entry) index found.old found.new }
@@ -84,6 +85,7 @@ fn improve_for_tag<'a, 't, R: RangeList<'a>>(
 }
 
 /// Replaces the candidate by the candidate with a tag and a range, if that is better.
+#[tactic(auto, using(crate::proofs::FoundLaws::from_of))]
 fn improve_for_pair<'a, 't>(
     found: &mut Option<Candidate<'a, 't>>,
     wanted: WantedRange<'a>,
@@ -92,6 +94,7 @@ fn improve_for_pair<'a, 't>(
     index: usize,
 )
     requires in_class { IsTrue (is_language_range (hyphened wanted.bytes.now)) }
+    requires known { IsTrue (is_known tag) }
     ensures keeps { Keeps found.old found.new }
     ensures covers { IsTrue (serves (listed_element wanted.entry) (known_text tag.entry)) → IsNotAfter found.new (rank place (listed_element wanted.entry) index (known_text tag.entry)) }
     ensures from { (elements : List Element) → slice_get elements place ≡ Some (listed_element wanted.entry) → IsOldOrAt elements (known_text tag.entry) index found.old found.new }

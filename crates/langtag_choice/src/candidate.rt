@@ -90,7 +90,6 @@ pub(crate) struct Candidate<'a, 't> {
     pub(crate) form: Option<TagFields<'t>>,
     pub(crate) index: usize,
     ghost in_class: { IsTrue (is_language_range (hyphened range.now)) },
-    ghost known: { option_map field_texts form ≡ matching_form tag.now },
 }
 
 impl Candidate<'_, '_> {
@@ -114,7 +113,6 @@ impl Candidate<'_, '_> {
 
     /// Returns whether this candidate is better than another of the same rank. It compares how much lookup removes
     /// from the range, then how likely the region is, and then the index.
-    #[tactic(auto, unfolding(crate::specs::Nearness::unlikely))]
     fn breaks_tie(&self, other: &Candidate<'_, '_>) -> bool
         ensures { result ≡ is_lt (slice_cmp nat_cmp (drop 4 (rank_of self.now)) (drop 4 (rank_of other.now))) }
     {

@@ -1,13 +1,15 @@
 //! Improving the candidate by one more tag.
-ghost use Rattle.std.specs.Prelude.{◌≡◌, ◌-◌, ◌<◌, ◌≤◌, ℕ, List, IsTrue, MatchOption, Some, false};
+ghost use Rattle.std.specs.Prelude.{◌≡◌, ◌-◌, ◌<◌, ◌≤◌, ℕ, List, IsTrue, MatchOption, Some, false, length};
+ghost use Rattle.std.specs.Option.{ForSome};
 ghost use Rattle.langtag_range.specs.Element.{Element};
 ghost use Rattle.langtag_choice.specs.Best as spec;
-ghost use Rattle.langtag_choice.specs.Found.{IsOf, IsNotAfter, Keeps, Takes, rank_of, service_number, wish_element};
-ghost use Rattle.langtag_choice.specs.KnownTexts.{known_text};
+ghost use Rattle.langtag_choice.specs.Found.{IsOf, IsNotAfter, Keeps, Takes, TakesAt, rank_of, service_number, wish_element};
+ghost use Rattle.langtag_choice.specs.KnownTexts.{is_known, known_text};
 
 use crate::candidate::{Candidate, Rank, Service};
-use crate::known_tag::KnownTag;
+use crate::known_tag::{KnownTag, known_at};
 use crate::nearness::measured;
+use crate::tag_list::TagList;
 use crate::wish::Wish;
 
 /// Returns the distance below which a tag may be better than the candidate, for a range with this `weight` and `place`.
@@ -44,22 +46,39 @@ fn lack(weight: u32) -> u32
 
 /// Replaces the candidate by the string at an index, if the string may serve a range and is better. It does not check
 /// that the string is a tag.
-#[tactic(auto, using(crate::proofs::FoundLaws::cannot_serve))]
 pub(crate) fn improve<'a, 't>(
     found: &mut Option<Candidate<'a, 't>>,
     wish: &Wish<'a>,
     tag: KnownTag<'t>,
     index: usize,
 )
-    ensures { Takes wish.now (known_text tag.entry) index found.old found.new }
+    ensures { Takes wish.now tag.entry index found.old found.new }
 {
     if !tag.is_far_from(wish) {
         improve_near(found, wish, tag, index);
     }
 }
 
+/// Does what [`improve`] does, for the entry at an index of a list.
+///
+/// The entry is read twice, so that what is not needed of an entry that is far stays out of memory.
+#[tactic(auto, using(crate::proofs::FoundLaws::takes_at))]
+pub(crate) fn improve_entry<'a, 't, T: TagList>(
+    found: &mut Option<Candidate<'a, 't>>,
+    wish: &Wish<'a>,
+    tags: &'t T,
+    index: usize,
+)
+    requires { index < length (T.texts tags.now) }
+    ensures { TakesAt wish.now (T.texts tags.now) index found.old found.new }
+{
+    if !known_at(tags, index).is_far_from(wish) {
+        improve_near(found, wish, known_at(tags, index), index);
+    }
+}
+
 /// Does what [`improve`] does, without testing the first letters. It is a separate function, so that this test can be
-/// inlined in the loops over tags.
+/// inlined in the loop over tags.
 #[inline(never)]
 fn improve_near<'a, 't>(
     found: &mut Option<Candidate<'a, 't>>,
@@ -67,7 +86,7 @@ fn improve_near<'a, 't>(
     tag: KnownTag<'t>,
     index: usize,
 )
-    ensures { Takes wish.now (known_text tag.entry) index found.old found.new }
+    ensures { Takes wish.now tag.entry index found.old found.new }
 {
     let limit = limit(found, wish.weight, wish.place);
     let Some(next) = as_candidate(limit, wish, tag, index) else {
@@ -91,14 +110,15 @@ fn is_first(next: &Candidate<'_, '_>, found: &Option<Candidate<'_, '_>>) -> bool
 
 /// Returns the string at an index as a candidate for a range, if the string may serve the range and is nearer than a
 /// limit.
-#[tactic(auto, unfolding(crate::specs::Best::rank, crate::specs::Best::serves))]
+#[tactic(auto, unfolding(crate::specs::Best::rank, crate::specs::Best::serves, crate::specs::Nearness::unlikely))]
 fn as_candidate<'a, 't>(
     limit: u8,
     wish: &Wish<'a>,
     tag: KnownTag<'t>,
     index: usize,
 ) -> Option<Candidate<'a, 't>>
-    ensures { MatchOption result (IsTrue (spec.serves (wish_element wish.now) (known_text tag.entry)) → limit ≤ spec.reach (wish_element wish.now).range (known_text tag.entry))
+    ensures index { ForSome result (λ c. c.index ≡ index) }
+    ensures candidate { IsTrue (is_known tag.entry) → MatchOption result (IsTrue (spec.serves (wish_element wish.now) (known_text tag.entry)) → limit ≤ spec.reach (wish_element wish.now).range (known_text tag.entry))
         (IsOf wish.now (known_text tag.entry) index) }
 {
     let near = measured(limit, wish, tag)?;

@@ -1,24 +1,26 @@
 //! A tag as the choice reads it.
-ghost use Rattle.std.specs.Prelude.{◌≡◌, option_map};
-ghost use Rattle.langtag_choice.specs.KnownTexts.{known_text};
+ghost use Rattle.std.specs.Prelude.{◌≡◌, ◌<◌, IsTrue, None, length, option_map, slice_index_or};
+ghost use Rattle.std.specs.Option.{ForSome};
+ghost use Rattle.langtag_choice.specs.KnownTexts.{is_known, known_text};
+ghost use Rattle.langtag_choice.specs.Prepared.{is_prepared_for};
 ghost use Rattle.langtag_likely.specs.Matching.{matching_form};
 ghost use Rattle.langtag_likely.specs.Texts.{field_texts};
 
-use crate::prepared_tag::PreparedTag;
+use crate::prepared_form::PreparedForm;
+use crate::tag_list::TagList;
 use crate::wish::Wish;
 use langtag_likely::{TagFields, matching_form};
 
-/// A tag as the choice reads it: a string, or a tag with what was computed of it before.
+/// A tag as the choice reads it: a string, or a string with what was kept of it. What was kept may be untrue of an entry
+/// of a list that is not a tag.
 #[derive(Clone, Copy)]
-pub enum KnownTag<'t> {
-    /// The string of a tag.
+pub(crate) enum KnownTag<'t> {
     Text(&'t [u8]),
-    /// A tag that was prepared.
-    Prepared(&'t PreparedTag<'t>),
+    Prepared(&'t [u8], &'t PreparedForm),
 }
 
 impl<'t> KnownTag<'t> {
-    ghost use Rattle.std.specs.Prelude.{◌≤◌, IsTrue};
+    ghost use Rattle.std.specs.Prelude.{◌≤◌};
     ghost use Rattle.langtag_choice.specs.Distance.{distance_of_texts};
     ghost use Rattle.langtag_choice.specs.Nearness.{kept};
     ghost use Rattle.langtag_range.specs.Listed.{basic_text};
@@ -29,28 +31,49 @@ impl<'t> KnownTag<'t> {
     {
         match self {
             KnownTag::Text(text) => text,
-            KnownTag::Prepared(tag) => tag.tag().as_bytes(),
+            KnownTag::Prepared(text, _) => text,
         }
     }
 
     /// Returns the matching form of the tag.
     pub(crate) fn form(self) -> Option<TagFields<'t>>
-        ensures { option_map field_texts result ≡ matching_form (known_text self.entry) }
+        ensures { IsTrue (is_known self.entry) → option_map field_texts result ≡ matching_form (known_text self.entry) }
     {
         match self {
             KnownTag::Text(text) => matching_form(text),
-            KnownTag::Prepared(tag) => tag.form(),
+            KnownTag::Prepared(text, prepared) => prepared_form(text, prepared),
         }
     }
 
     /// Returns whether the first letters of the tag show that it cannot serve a range.
     pub(crate) fn is_far_from(self, wish: &Wish<'_>) -> bool
-        ensures far { IsTrue result → 50 ≤ distance_of_texts (basic_text wish.now.range.now) (known_text self.entry) }
-        ensures kept { IsTrue result → kept (basic_text wish.now.range.now) (known_text self.entry) ≡ 0 }
+        ensures far { IsTrue (is_known self.entry) → IsTrue result → 50 ≤ distance_of_texts (basic_text wish.now.range.now) (known_text self.entry) }
+        ensures kept { IsTrue (is_known self.entry) → IsTrue result → kept (basic_text wish.now.range.now) (known_text self.entry) ≡ 0 }
     {
         match self {
             KnownTag::Text(text) => wish.is_far_from(text),
-            KnownTag::Prepared(tag) => tag.is_far_from(wish),
+            KnownTag::Prepared(_, prepared) => prepared.is_far_from(wish),
         }
+    }
+}
+
+/// Returns the matching form that was kept of a string, or else computes it.
+fn prepared_form<'t>(text: &'t [u8], prepared: &'t PreparedForm) -> Option<TagFields<'t>>
+    ensures { IsTrue (is_prepared_for text.now prepared.now) → option_map field_texts result ≡ matching_form text.now }
+{
+    match prepared.form() {
+        Some(form) => Some(form),
+        None => matching_form(text),
+    }
+}
+
+/// Returns the tag at an index of a list as the choice reads it.
+pub(crate) fn known_at<T: TagList>(tags: &T, index: usize) -> KnownTag<'_>
+    requires { index < length (T.texts tags.now) }
+    ensures { ForSome (slice_index_or (T.texts tags.now) index None) (λ text. (known_text result ≡ text) × IsTrue (is_known result)) }
+{
+    match tags.form_at(index) {
+        Some(prepared) => KnownTag::Prepared(tags.bytes_at(index), prepared),
+        None => KnownTag::Text(tags.bytes_at(index)),
     }
 }

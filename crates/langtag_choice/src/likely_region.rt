@@ -1,6 +1,6 @@
 //! How unlikely the region of a tag is.
 ghost use Rattle.std.specs.Prelude.{◌≡◌};
-ghost use Rattle.std.specs.Option.{option_map, option_map_or};
+ghost use Rattle.std.specs.Option.{option_map};
 ghost use Rattle.langtag_choice.specs.Nearness as spec;
 ghost use Rattle.langtag_likely.specs.Texts.{field_texts};
 
@@ -9,8 +9,9 @@ use langtag_scan::case_insensitive_eq;
 
 /// Returns 0 if the region of a matching form is the likely region for its language and script, 1 if the form is one of
 /// CLDR's paradigm locales, and 2 otherwise.
+#[tactic(auto, unfolding(crate::specs::Nearness::unlikely_of))]
 pub(crate) fn unlikely(form: Option<TagFields<'_>>) -> u32
-    ensures { result ≡ option_map_or spec.unlikely_form (option_map field_texts form.entry) 2 }
+    ensures { result ≡ spec.unlikely_of (option_map field_texts form.entry) }
 {
     match form {
         Some(form) => unlikely_form(form),

@@ -1,6 +1,6 @@
 //! The rules of language matching of Unicode's CLDR 48.2, in tables (the notice: likely/LICENSE-UNICODE). Written by likely/generate.py. Do not edit.
 
-/// The desired and the supported language of each rule, as one number, in rising order.
+/// The desired and the supported language of each rule, as one number, in ascending order.
 #[rattlefmt::skip]
 pub(crate) static LANGUAGE_RULE_KEYS: [u32; 321] = [
     0x000DB433, 0x000E01E9, 0x00100090, 0x00128090, 0x00138090, 0x00198095, 0x001A01E9, 0x001C81E9, 0x001E00D9,
@@ -64,13 +64,13 @@ pub(crate) static LANGUAGE_RULE_DISTANCES: [u8; 321] = [
     0x0A, 0x0A, 0x0A, 0x0A, 0x0A, 0x0A, 0x0A, 0x0A, 0x0A, 0x0A, 0x0A, 0x0A, 0x0A, 0x0A, 0x0A,
 ];
 
-/// The keys, in rising order, of the two-letter languages that are replaced.
+/// The keys, in ascending order, of the two-letter languages that are replaced.
 #[rattlefmt::skip]
 pub(crate) static SHORT_ALIAS_KEYS: [u16; 9] = [
     0x003C, 0x00F8, 0x0101, 0x010D, 0x011B, 0x0161, 0x01F6, 0x0214, 0x021F,
 ];
 
-/// The desired and the supported language of each rule, both with their scripts, as one number, in rising order.
+/// The desired and the supported language of each rule, both with their scripts, as one number, in ascending order.
 #[rattlefmt::skip]
 pub(crate) static SCRIPT_RULE_KEYS: [u64; 50] = [
     0x004E4A010120A401, 0x0058A40100580801, 0x0068A40103D23A01, 0x008418010120A401, 0x0084A40100841801,
@@ -93,33 +93,33 @@ pub(crate) static SCRIPT_RULE_DISTANCES: [u8; 50] = [
     0x05, 0x14, 0x0A, 0x14, 0x0A, 0x0A, 0x0A, 0x0A, 0x0A, 0x0A, 0x0A, 0x14, 0x14, 0x14,
 ];
 
-/// The keys, in rising order, of the regions that are wholly in maghreb.
+/// The keys, in ascending order, of the regions that are wholly in maghreb.
 #[rattlefmt::skip]
 pub(crate) static MAGHREB_INSIDE: [u32; 6] = [
     0x0000647A, 0x00006568, 0x00006C79, 0x00006D61, 0x00006D72, 0x0000746E,
 ];
 
-/// The keys, in rising order, of the regions that are partly in maghreb.
+/// The keys, in ascending order, of the regions that are partly in maghreb.
 #[rattlefmt::skip]
 pub(crate) static MAGHREB_PARTLY: [u32; 6] = [
     0x0000756E, 0x00303031, 0x00303032, 0x00303131, 0x00303135, 0x00323032,
 ];
 
-/// The keys, in rising order, of the regions that are wholly in enUS.
+/// The keys, in ascending order, of the regions that are wholly in enUS.
 #[rattlefmt::skip]
 pub(crate) static EN_US_INSIDE: [u32; 10] = [
     0x00006173, 0x00006361, 0x00006775, 0x00006D68, 0x00006D70, 0x00007068, 0x00007072, 0x0000756D, 0x00007573,
     0x00007669,
 ];
 
-/// The keys, in rising order, of the regions that are partly in enUS.
+/// The keys, in ascending order, of the regions that are partly in enUS.
 #[rattlefmt::skip]
 pub(crate) static EN_US_PARTLY: [u32; 12] = [
     0x0000756E, 0x00303031, 0x00303033, 0x00303039, 0x00303139, 0x00303231, 0x00303239, 0x00303335, 0x00303537,
     0x00303631, 0x00313432, 0x00343139,
 ];
 
-/// The keys, in rising order, of the regions that are wholly in americas.
+/// The keys, in ascending order, of the regions that are wholly in americas.
 #[rattlefmt::skip]
 pub(crate) static AMERICAS_INSIDE: [u32; 64] = [
     0x00006167, 0x00006169, 0x00006172, 0x00006177, 0x00006262, 0x0000626C, 0x0000626D, 0x0000626F, 0x00006271,
@@ -132,19 +132,19 @@ pub(crate) static AMERICAS_INSIDE: [u32; 64] = [
     0x00343139,
 ];
 
-/// The keys, in rising order, of the regions that are partly in americas.
+/// The keys, in ascending order, of the regions that are partly in americas.
 #[rattlefmt::skip]
 pub(crate) static AMERICAS_PARTLY: [u32; 2] = [
     0x0000756E, 0x00303031,
 ];
 
-/// The keys, in rising order, of the regions that are wholly in cnsar.
+/// The keys, in ascending order, of the regions that are wholly in cnsar.
 #[rattlefmt::skip]
 pub(crate) static CNSAR_INSIDE: [u32; 2] = [
     0x0000686B, 0x00006D6F,
 ];
 
-/// The keys, in rising order, of the regions that are partly in cnsar.
+/// The keys, in ascending order, of the regions that are partly in cnsar.
 #[rattlefmt::skip]
 pub(crate) static CNSAR_PARTLY: [u32; 3] = [
     0x00303031, 0x00303330, 0x00313432,

@@ -8,14 +8,14 @@ ghost use Rattle.langtag_choice.specs.Best.{may_serve, reach};
 ghost use Rattle.langtag_choice.specs.Distance.{distance_of_texts, fields_distance, formless_distance, language_distance};
 ghost use Rattle.langtag_choice.specs.Found.{IsNear, IsNearer};
 ghost use Rattle.langtag.specs.Fields.{Fields};
-ghost use Rattle.langtag.specs.Text.{lang_tag_text};
-ghost use Rattle.langtag_choice.specs.KnownTexts.{known_text};
+ghost use Rattle.langtag_choice.specs.KnownTexts.{is_known, known_text};
 ghost use Rattle.langtag_likely.specs.Matching.{completed, matching_form};
 ghost use Rattle.langtag_choice.specs.Nearness as spec;
+ghost use Rattle.langtag_choice.specs.Prepared.{is_prepared_for};
 ghost use Rattle.langtag_likely.specs.Texts.{field_texts};
 
 use crate::known_tag::KnownTag;
-use crate::prepared_tag::PreparedTag;
+use crate::prepared_form::PreparedForm;
 use crate::rule_distance::language_distance;
 use crate::tag_distance::places_distance;
 use crate::wish::Wish;
@@ -33,7 +33,7 @@ pub(crate) struct Nearness<'t> {
 /// if only lookup finds the tag.
 #[tactic(auto, unfolding(crate::specs::Best::reach))]
 pub(crate) fn measured<'t>(limit: u8, wish: &Wish<'_>, tag: KnownTag<'t>) -> Option<Nearness<'t>>
-    ensures { MatchOption result (IsTrue (may_serve (basic_text wish.now.range.now) (known_text tag.entry)) → limit ≤ reach (basic_text wish.now.range.now) (known_text tag.entry))
+    ensures { IsTrue (is_known tag.entry) → MatchOption result (IsTrue (may_serve (basic_text wish.now.range.now) (known_text tag.entry)) → limit ≤ reach (basic_text wish.now.range.now) (known_text tag.entry))
         (IsNear (basic_text wish.now.range.now) (known_text tag.entry)) }
 {
     if let Some(near) = nearer_than(limit.min(50), wish, tag) {
@@ -50,12 +50,12 @@ pub(crate) fn measured<'t>(limit: u8, wish: &Wish<'_>, tag: KnownTag<'t>) -> Opt
 
 /// Returns how near a tag is to a range (UTS #35, Language Matching), if it is nearer than a limit.
 fn nearer_than<'t>(limit: u8, wish: &Wish<'_>, tag: KnownTag<'t>) -> Option<Nearness<'t>>
-    ensures { MatchOption result (limit ≤ distance_of_texts (basic_text wish.now.range.now) (known_text tag.entry))
+    ensures { IsTrue (is_known tag.entry) → MatchOption result (limit ≤ distance_of_texts (basic_text wish.now.range.now) (known_text tag.entry))
         (IsNearer limit (distance_of_texts (basic_text wish.now.range.now) (known_text tag.entry)) (matching_form (known_text tag.entry))) }
 {
     match tag {
         KnownTag::Text(text) => nearer_text(limit, wish, text),
-        KnownTag::Prepared(tag) => nearer_prepared(limit, wish, tag),
+        KnownTag::Prepared(text, prepared) => nearer_prepared(limit, wish, text, prepared),
     }
 }
 
@@ -73,16 +73,22 @@ fn nearer_text<'t>(limit: u8, wish: &Wish<'_>, tag: &'t [u8]) -> Option<Nearness
 
 /// Returns how near a prepared tag is to a range, if it is nearer than a limit.
 #[tactic(auto, unfolding(crate::specs::Distance::distance_of_texts))]
-fn nearer_prepared<'t>(limit: u8, wish: &Wish<'_>, tag: &'t PreparedTag<'t>) -> Option<Nearness<'t>>
-    ensures { MatchOption result (limit ≤ distance_of_texts (basic_text wish.now.range.now) (lang_tag_text tag.now.tag))
-        (IsNearer limit (distance_of_texts (basic_text wish.now.range.now) (lang_tag_text tag.now.tag)) (matching_form (lang_tag_text tag.now.tag))) }
+fn nearer_prepared<'t>(
+    limit: u8,
+    wish: &Wish<'_>,
+    tag: &'t [u8],
+    prepared: &'t PreparedForm,
+) -> Option<Nearness<'t>>
+    ensures { IsTrue (is_prepared_for tag.now prepared.now) → MatchOption result (limit ≤ distance_of_texts (basic_text wish.now.range.now) tag.now)
+        (IsNearer limit (distance_of_texts (basic_text wish.now.range.now) tag.now) (matching_form tag.now)) }
 {
-    match (wish.form, tag.form()) {
-        (Some(desired), Some(form)) if tag.has_language_of(wish) => nearer_places(
-            limit, 0, desired, form,
-        ),
-        (Some(desired), Some(form)) => nearer_form(limit, desired, form),
-        _ => equal_text(limit, wish.range, tag.tag().as_bytes()),
+    let Some(form) = prepared.form() else {
+        return nearer_text(limit, wish, tag);
+    };
+    match wish.form {
+        Some(desired) if prepared.has_language_of(wish) => nearer_places(limit, 0, desired, form),
+        Some(desired) => nearer_form(limit, desired, form),
+        None => equal_text(limit, wish.range, tag),
     }
 }
 
@@ -123,9 +129,8 @@ fn nearer_places<'t>(
     desired: TagFields<'_>,
     form: TagFields<'t>,
 ) -> Option<Nearness<'t>>
-    requires distance { language ≡ language_distance (field_texts desired) (field_texts form) }
-    requires most { language ≤ 80 }
-    ensures { MatchOption result (limit ≤ fields_distance (field_texts desired.entry) (field_texts form.entry))
+    requires { language ≤ 80 }
+    ensures { language ≡ language_distance (field_texts desired.entry) (field_texts form.entry) → MatchOption result (limit ≤ fields_distance (field_texts desired.entry) (field_texts form.entry))
         (IsNearer limit (fields_distance (field_texts desired.entry) (field_texts form.entry)) (Some (field_texts form.entry))) }
 {
     let distance = language + places_distance(desired, form);

@@ -2,7 +2,7 @@
 ghost use Rattle.std.specs.Prelude.{◌≡◌, ◌<◌, ◌≤◌, ◌*◌, ◌^◌, ℕ, IsTrue, Some, length, slice_index};
 ghost use Rattle.std.specs.Option.{ForSome, option_map};
 ghost use Rattle.langtag_choice.specs.FirstLetters.{first_two};
-ghost use Rattle.langtag_choice.specs.NearLanguages.{AreFar, HasRuleKeys, form_number};
+ghost use Rattle.langtag_choice.specs.NearLanguages.{AreFar, HasRuleKeys, form_number, is_among_numbers};
 ghost use Rattle.langtag_likely.specs.Texts.{field_texts};
 ghost use Rattle.langtag_range.specs.Listed.{basic_text};
 ghost use Rattle.langtag_tables.specs.Numbers.{climbs_from};
@@ -47,8 +47,15 @@ impl RangeLanguage {
         requires { other < 32768 }
         ensures { IsTrue result → AreFar self.now.number other }
     {
-        other != self.number && !self.keys.contains(&(self.number * 32768 + other))
+        other != self.number && !has_key(self.keys, self.number * 32768 + other)
     }
+}
+
+/// Returns whether a key is among a few keys. For so few, `contains` takes longer.
+fn has_key(keys: &[u32], key: u32) -> bool
+    ensures { result ≡ is_among_numbers keys.now key }
+{
+    keys.iter().any(|own| *own == key)
 }
 
 /// Returns the keys of the rules from a number on, as far as 32,768 numbers go.

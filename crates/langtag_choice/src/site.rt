@@ -9,7 +9,7 @@ ghost use Rattle.langtag_range.specs.Wanted.{wanted_elements};
 
 use crate::best::{best_among, match_among};
 use crate::best_match::BestMatch;
-use crate::known_tag::KnownTag;
+use crate::prepared_form::PreparedForm;
 use crate::prepared_tag::PreparedTag;
 use crate::range_list::RangeList;
 use crate::tag_list::TagList;
@@ -100,7 +100,7 @@ impl TagList for Site<'_, '_> {
         self.tags[index].tag().as_bytes()
     }
 
-    fn known_at(&self, index: usize) -> KnownTag<'_> {
-        KnownTag::Prepared(&self.tags[index])
+    fn form_at(&self, index: usize) -> Option<&PreparedForm> {
+        Some(self.tags[index].form())
     }
 }

@@ -1,11 +1,11 @@
 //! The lists of tags from which one can be chosen.
-ghost use Rattle.std.specs.Prelude.{◌≡◌, ◌<◌, ℕ, List, Option, None, length, slice_index_or};
+ghost use Rattle.std.specs.Prelude.{◌≡◌, ◌<◌, ℕ, IsTrue, List, Option, None, length, slice_index_or};
 ghost use Rattle.std.specs.Option.{ForSome, option_map};
 ghost use Rattle.langtag.specs.Text.{lang_tag_text};
-ghost use Rattle.langtag_choice.specs.KnownTexts.{known_text};
 ghost use Rattle.langtag_choice.specs.ListTexts.{tag_texts};
+ghost use Rattle.langtag_choice.specs.Prepared.{is_prepared_for};
 
-use crate::known_tag::KnownTag;
+use crate::prepared_form::PreparedForm;
 use langtag::LangTag;
 
 /// A list of tags with an index for each. An entry that is not a tag is allowed, but never chosen.
@@ -49,12 +49,13 @@ pub trait TagList {
         requires { index < length (texts self.now) }
         ensures { ForSome (slice_index_or (texts self.now) index None) (λ text. result.now ≡ text) };
 
-    /// Returns the tag at an index as the choice reads it. Override this only for prepared tags.
-    fn known_at(&self, index: usize) -> KnownTag<'_>
-        requires { index < length (texts self.now) }
-        ensures { ForSome (slice_index_or (texts self.now) index None) (λ text. known_text result ≡ text) }
+    /// Returns what was prepared of the tag at an index, or `None`. If the entry is not a tag, this may be untrue of it.
+    /// Override this only for prepared tags.
+    fn form_at(&self, _index: usize) -> Option<&PreparedForm>
+        requires { _index < length (texts self.now) }
+        ensures { ForSome result (λ form. ForSome (slice_index_or (texts self.now) _index None) (λ text. IsTrue (is_prepared_for text form.now))) }
     {
-        KnownTag::Text(self.bytes_at(index))
+        None
     }
 }
 

@@ -82,7 +82,7 @@ impl<'a> Wish<'a> {
         ensures kept { IsTrue result → (tag : List ℕ) → first_two tag ≡ Some letters → kept (basic_text self.now.range.now) tag ≡ 0 }
     {
         match self.language {
-            Some(own) => letters != own.letters && own.is_far(number),
+            Some(own) => own.is_far(number) && letters != own.letters,
             None => false,
         }
     }

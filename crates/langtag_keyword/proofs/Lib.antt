@@ -7,6 +7,8 @@ pub mod Each
 pub mod ExtensionForms
 pub mod ExtensionsPut
 pub mod Found
+pub mod KeyOrder
+pub mod KeySetLaws
 pub mod KeywordBlocks
 pub mod KeywordEdits
 pub mod KeywordLaws

@@ -84,7 +84,7 @@ turned s t = by_tests (are_alike t (fold_text s)) (are_alike s t) refl refl
     by_tests false true one other =
         sym one ∙ (are_alike-decides t (fold_text s)).1 (sym ((are_alike-decides s t).0 other) ∙ sym (fold_text-twice s))
 
-among-alike : (s : List ℕ) (ss : List (List ℕ)) → among (fold_text s) ss ≡ list_any (are_alike s) ss
+pub among-alike : (s : List ℕ) (ss : List (List ℕ)) → among (fold_text s) ss ≡ list_any (are_alike s) ss
 among-alike s [] = refl
 among-alike s (t ∷ ts) = ap (λ b. b || among (fold_text s) ts) (turned s t) ∙ ap (λ b. are_alike s t || b) (among-alike s ts)
 

@@ -7,7 +7,7 @@ use Rattle.langtag_scan.specs.Subtags.{join}
 use Rattle.langtag_keyword.specs.Keywords.{before_key, is_new_key, keywords_after, each_once_after}
 
 -- those before the next subtag and this one are those before the one after it
-take-turn : (all : List (List ℕ)) (n : ℕ) (s : List ℕ) (rest : List (List ℕ)) → drop n all ≡ s ∷ rest → take n all ++ s ∷ [] ≡ take (n + 1) all
+pub take-turn : (all : List (List ℕ)) (n : ℕ) (s : List ℕ) (rest : List (List ℕ)) → drop n all ≡ s ∷ rest → take n all ++ s ∷ [] ≡ take (n + 1) all
 take-turn [] zero s rest left = absurd cc
 take-turn [] (suc n) s rest left = absurd cc
 take-turn (x ∷ all) zero s rest left = let same : x ≡ s = cc in ap (λ y. y ∷ []) (sym same)

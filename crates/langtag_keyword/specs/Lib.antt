@@ -7,4 +7,6 @@ pub mod Form
 pub mod Keys
 pub mod Keywords
 pub mod Least
+pub mod KeyNumbers
+pub mod KeySets
 pub mod Transform

@@ -1,7 +1,7 @@
 //! The language of a tag: its primary subtag and its extended subtags (RFC 5646 sections 2.2.1 and 2.2.2).
 //!
 //! `zh-min-nan` is a [`Language`]. Its [`PrimaryLanguage`] is `zh`, and its [`LanguageExtension`] is `min-nan`, with
-//! the [`ExtendedLangTag`]s `min` and `nan`. Each type has an owned form, such as [`LanguageBuf`].
+//! the [`ExtendedLangTag`]s `min` and `nan`. Each type has an owned form, such as `LanguageBuf`.
 //!
 //! ```rust
 //! use langtag_language::Language;

@@ -10,6 +10,8 @@ pub mod GoodForms
 pub mod KeyNumbers
 pub mod LanguageBits
 pub mod PosixLaws
+pub mod PosixNameLaws
+pub mod PosixNameRead
 pub mod PosixVariantLaws
 pub mod PutLaws
 pub mod RowLaws

@@ -8,6 +8,7 @@ pub mod MaximalLaws
 pub mod Modifiers
 pub mod Numbers
 pub mod Posix
+pub mod PosixNames
 pub mod Ranges
 pub mod RightToLeft
 pub mod Rows
@@ -15,3 +16,4 @@ pub mod Scripts
 pub mod Suggestion
 pub mod TextFields
 pub mod Texts
+pub mod ToPosix

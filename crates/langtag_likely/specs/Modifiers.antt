@@ -1,5 +1,5 @@
 -- What the modifiers of locale names mean, as glibc, KDE and GNOME use them.
-use Rattle.std.specs.Prelude.{ℕ, Bool, true, false, ◌&&◌, ◌||◌, List, [], ◌∷◌, Option, None, Some, codes, is_some, if◌then◌else◌}
+use Rattle.std.specs.Prelude.{ℕ, Bool, true, false, ◌&&◌, ◌||◌, List, [], ◌∷◌, Option, None, Some, codes, find, is_some, unwrap_or, if◌then◌else◌}
 use Rattle.std.specs.List.{list_any}
 use Rattle.langtag_scan.specs.Case.{are_alike}
 use Rattle.langtag_scan.specs.Class.{is_script}
@@ -40,3 +40,19 @@ is_empty (b ∷ text) = false
 -- whether the modifier is empty, names a script or a variant, or is not about the language
 unfoldable pub is_known : List ℕ → Bool
 is_known modifier = is_empty modifier || (is_some (modifier_script modifier) || (is_some (modifier_variant modifier) || says_nothing modifier))
+
+-- ---- the modifier for a script and variants
+
+-- the modifiers that are written, in the order in which they are tried; the empty text means that there is no modifier
+abbrev pub modifiers : List (List ℕ)
+modifiers =
+    [] ∷ codes "latin" ∷ codes "cyrillic" ∷ codes "devanagari" ∷ codes "ijekavian" ∷ codes "ijekavianlatin" ∷ codes "tarask" ∷ codes "valencia" ∷ []
+
+-- whether a modifier names this script and these variants, ignoring case; the empty text means no script or no variants
+abbrev pub names : List ℕ → List ℕ → List ℕ → Bool
+names script variants modifier =
+    are_alike (unwrap_or (modifier_script modifier) []) script && are_alike (unwrap_or (modifier_variant modifier) []) variants
+
+-- the first modifier that names a script and variants
+unfoldable pub modifier_for : List ℕ → List ℕ → Option (List ℕ)
+modifier_for script variants = find (names script variants) modifiers

@@ -1,4 +1,4 @@
--- The numbers that stand for fields in the tables. Only contracts of private functions cite this page.
+-- The numbers that stand for fields in the tables.
 use Rattle.std.specs.Prelude.{ℕ, suc, ◌+◌, ◌*◌, ◌==◌, List, [], ◌∷◌, length, map, take, slice_index_or, Option, None, Some, if◌then◌else◌}
 use Rattle.std.specs.Option.{option_map, option_map_or}
 use Rattle.langtag_scan.specs.Case.{folded_number}

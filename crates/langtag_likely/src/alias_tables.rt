@@ -1,6 +1,6 @@
 //! The deprecated languages and regions of Unicode's CLDR 48.2, in tables (the notice: likely/LICENSE-UNICODE). Written by likely/generate.py. Do not edit.
 
-/// The keys of the languages that are replaced, in rising order: each key is the number whose base-26 digits are the letters.
+/// The keys of the languages that are replaced, in ascending order: each key is the number whose base-26 digits are the letters.
 #[rattlefmt::skip]
 pub(crate) static ALIAS_KEYS: [u16; 435] = [
     0x003C, 0x00F8, 0x0101, 0x010D, 0x011B, 0x0161, 0x01F6, 0x0214, 0x021F, 0x02CB, 0x02D0, 0x02E3, 0x031C, 0x0352,
@@ -162,7 +162,7 @@ pub(crate) static ALIAS_REGIONS: [u8; 435] = [
     0x00, 0x00, 0x00,
 ];
 
-/// The keys of the regions that are replaced, in rising order: each key is the number whose base-256 digits are the lowercase bytes.
+/// The keys of the regions that are replaced, in ascending order: each key is the number whose base-256 digits are the lowercase bytes.
 #[rattlefmt::skip]
 pub(crate) static REGION_ALIAS_KEYS: [u32; 335] = [
     0x0000616E, 0x00006275, 0x00006373, 0x00006374, 0x00006464, 0x00006479, 0x00006671, 0x00006678, 0x00006876,
@@ -248,7 +248,7 @@ pub(crate) static REGION_ALIAS_NAMES: [[u8; 4]; 335] = [
     *b"XZ\0\0", *b"ZZ\0\0",
 ];
 
-/// The keys, in rising order, of the regions that another region replaces, including codes of three digits.
+/// The keys, in ascending order, of the regions that another region replaces, including codes of three digits.
 #[rattlefmt::skip]
 pub(crate) static REPLACEMENT_KEYS: [u32; 317] = [
     0x00006275, 0x00006374, 0x00006464, 0x00006479, 0x00006678, 0x00006876, 0x00006A74, 0x00006D69, 0x00006E68,

@@ -33,10 +33,15 @@ use std::alloc::{AllocError, Global};
 /// ```
 pub fn maximized(alloc: Global, tag: LangTag<'_>) -> Result<LangTagBuf, AllocError>
     ensures maximal { IfOk result (λ form. IsMaximalForm (lang_tag_text tag.entry) (lang_tag_buf_text form)) }
+    // law: a tag has only one maximal and only one minimal form
     ensures one { IfOk result (λ form. IsOnlyForm maximal_record (lang_tag_text tag.entry) (lang_tag_buf_text form)) }
+    // law: doing it again changes nothing
     ensures settled { IfOk result (λ form. IsMaximalForm (lang_tag_buf_text form) (lang_tag_buf_text form)) }
+    // law: alike tags have alike forms
     ensures alike { IfOk result (λ form. IsAlikeForm IsMaximalForm (lang_tag_text tag.entry) (lang_tag_buf_text form)) }
+    // law: each undoes the other, ignoring case for the maximal form
     ensures undoes { IfOk result (λ form. UndoesMinimal (lang_tag_text tag.entry) (lang_tag_buf_text form)) }
+    // law: everything but language, script and region stays
     ensures others { IfOk result (λ form. KeepsOthers (lang_tag_text tag.entry) (lang_tag_buf_text form)) }
 {
     Ok(tag_of(maximal_bytes(alloc, tag)?))
@@ -57,17 +62,23 @@ pub fn maximized(alloc: Global, tag: LangTag<'_>) -> Result<LangTagBuf, AllocErr
 /// ```
 pub fn minimized(alloc: Global, tag: LangTag<'_>) -> Result<LangTagBuf, AllocError>
     ensures minimal { IfOk result (λ form. IsMinimalForm (lang_tag_text tag.entry) (lang_tag_buf_text form)) }
+    // law: a tag has only one maximal and only one minimal form
     ensures one { IfOk result (λ form. IsOnlyForm minimal_record (lang_tag_text tag.entry) (lang_tag_buf_text form)) }
+    // law: doing it again changes nothing
     ensures settled { IfOk result (λ form. IsMinimalForm (lang_tag_buf_text form) (lang_tag_buf_text form)) }
+    // law: alike tags have alike forms
     ensures alike { IfOk result (λ form. IsAlikeForm IsMinimalForm (lang_tag_text tag.entry) (lang_tag_buf_text form)) }
+    // law: each undoes the other, ignoring case for the maximal form
     ensures undoes { IfOk result (λ form. UndoesMaximal (lang_tag_text tag.entry) (lang_tag_buf_text form)) }
+    // law: minimal forms are alike if and only if maximal forms are
     ensures tells { IfOk result (λ form. TellsAsMaximal (lang_tag_text tag.entry) (lang_tag_buf_text form)) }
+    // law: everything but language, script and region stays
     ensures others { IfOk result (λ form. KeepsOthers (lang_tag_text tag.entry) (lang_tag_buf_text form)) }
 {
     Ok(tag_of(minimal_bytes(alloc, tag)?))
 }
 
-/// Writes a tag with its likely subtags to a buffer, as [`maximized`] returns it, and returns its length in bytes. If
+/// Writes a tag with its likely subtags to a buffer, as `maximized` returns it, and returns its length in bytes. If
 /// the buffer is too short, it stays unchanged, and the length says how long a buffer must be. It does not allocate.
 ///
 /// ```
@@ -87,7 +98,7 @@ pub fn write_maximized(tag: LangTag<'_>, buffer: &mut [u8]) -> usize
     write_changed(normal, add_likely_subtags(TagFields::of(normal)), buffer)
 }
 
-/// Writes a tag without its likely subtags to a buffer, as [`minimized`] returns it, and returns its length in bytes.
+/// Writes a tag without its likely subtags to a buffer, as `minimized` returns it, and returns its length in bytes.
 /// If the buffer is too short, it stays unchanged. It does not allocate.
 ///
 /// ```

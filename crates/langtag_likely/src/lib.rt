@@ -1,6 +1,6 @@
 //! Likely subtags (UTS #35, part 1, section 'Likely Subtags') from Unicode's CLDR. They are the most likely script and
 //! region of a language, which can be added to a tag or removed from it. The crate also finds the writing direction of
-//! a tag, and the tags for POSIX locale names.
+//! a tag, the tags for POSIX locale names, and the names for tags.
 //!
 //! ```
 //! use langtag::LangTag;
@@ -18,11 +18,14 @@ mod fields;
 mod forms;
 mod keys;
 mod likely;
+mod locale_name;
 mod matching;
 mod modifiers;
 mod names;
 mod posix;
 mod posix_error;
+mod posix_name;
+mod posix_parts;
 mod posix_variant;
 mod put;
 mod read_text;
@@ -34,6 +37,7 @@ mod text_fields;
 
 pub use direction::is_right_to_left;
 pub use forms::{maximized, minimized, write_maximized, write_minimized};
+pub use locale_name::{to_posix, write_to_posix};
 pub use modifiers::unknown_modifier;
 pub use posix::{from_posix, write_from_posix};
 pub use posix_error::PosixError;

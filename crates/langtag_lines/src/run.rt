@@ -36,12 +36,14 @@ pub fn answer_lines<A: Answerer, R: Read, W: Write>(
 ) -> Result<(), RunError>
     ensures report { HasRun A.is_answer result (R.remaining input.old) (R.remaining input.new) (W.contents output.old) (W.contents output.new) }
 
-    // The definitions are unambiguous: an input can be split into lines in only one way, a line has only one answer,
-    // and an input has only one report.
+    // law: the input is split into lines
     ensures cut { (i : List ℕ) → IsCutInto i (complete_lines i) (rest_of i) }
+    // law: an input is split into lines in only one way
     ensures one_cut { (i : List ℕ) (lines others : List (List ℕ)) (rest other : List ℕ) →
         IsCutInto i lines rest → IsCutInto i others other → (lines ≡ others) × (rest ≡ other) }
+    // law: a line has only one answer
     ensures one_answer { (line text other : List ℕ) → A.is_answer line text → A.is_answer line other → text ≡ other }
+    // law: an input has only one report
     ensures one_report { (lines : List (List ℕ)) (texts others : List ℕ) →
         AreAnswersBy A.is_answer lines texts → AreAnswersBy A.is_answer lines others → texts ≡ others }
 {

@@ -1,5 +1,5 @@
 -- The forms of variants: those of which none is left out, in order.
-use Rattle.std.proofs.Common.{◌≡◌, ℕ, ◌<◌, Bool, true, false, ◌&&◌, List, [], ◌∷◌, ◌++◌, length, Option, Some, refl, ap, ◌∙◌, arith}
+use Rattle.std.proofs.Common.{◌≡◌, ℕ, Bool, true, false, ◌&&◌, List, [], ◌∷◌, ◌++◌, Option, Some, refl, ap, ◌∙◌, arith}
 use Rattle.std.proofs.lemmas.Bool.{false≢true}
 use Rattle.std.specs.List.{AllByRecursion, list_all}
 use Rattle.std.proofs.lemmas.Bool.Decides.{nat_tests}
@@ -67,13 +67,3 @@ variant_fits language variants v is = variants_fit _ (variant_good language vari
 
 pub forms_fit : (language : List ℕ) (variants vs : List (List ℕ)) → AreVariants vs → AllByRecursion IsSubtag (forms language variants vs)
 forms_fit language variants vs are = variants_fit _ (forms_good language variants vs are)
-
--- ---- a form that is not empty
-
-pub one-form : (form : List ℕ) → 0 < length form → one_flat (subtag_of form) ≡ form ∷ []
-one-form [] some = absurd (omega (arith, some))
-one-form (b ∷ form) some = refl
-
-pub no-form : (form : List ℕ) → length form ≡ 0 → one_flat (subtag_of form) ≡ []
-no-form [] none = refl
-no-form (b ∷ form) none = absurd (omega (arith, none))

@@ -47,8 +47,12 @@ const SPARE: usize = 32;
 /// locale_form(alloc, LangTag::new("x-a")?)?.is_none(); // true
 /// ```
 pub fn locale_form(alloc: Global, tag: LangTag<'_>) -> Result<Option<LangTagBuf>, AllocError>
+    // law: the form of a Unicode locale identifier. Any other tag has that of its Preferred-Value, or of the tag from its
+    // extended language on, or `None`
     ensures form { IfOk result (λ form. spec.IsWholeForm (lang_tag_text tag.entry) (option_map lang_tag_buf_text form)) }
+    // law: the form is a Unicode locale identifier, and its own form
     ensures settled { IfOk result (λ form. IfSome form (λ form. spec.IsOwnForm (lang_tag_buf_text form))) }
+    // law: alike tags have the same form
     ensures any_case { IfOk result (λ form. spec.IsFormInAnyCase (lang_tag_text tag.entry) (option_map lang_tag_buf_text form)) }
 {
     let Some(locale) = locale_for(tag) else {
@@ -88,9 +92,8 @@ fn counted_form_bytes(alloc: Global, tag: NormalLangTag<'_>) -> Result<Vec<u8>, 
 ///
 /// The language, the script, the region and the variants are replaced by CLDR's aliases, in the tag and in the language
 /// of `t`. Variants are put in alphabetical order, and extensions in the order of their singletons. `u` and the fields of
-/// `t` get the form of [`extensions_form`](langtag_unicode::extensions_form). The script is in titlecase, the region in uppercase,
-/// and everything else in lowercase. Other extensions and private use stay, except for their case: `en-x-true` is its
-/// own form.
+/// `t` get the form of `extensions_form`. The script is in titlecase, the region in uppercase, and everything else in
+/// lowercase. Other extensions and private use stay, except for their case: `en-x-true` is its own form.
 ///
 /// Norwegian Sign Language, `sgn-NO`, becomes `nsl`, as in IANA's registry. CLDR has `nsi` there, which is Nigerian.
 ///
@@ -114,7 +117,9 @@ fn counted_form_bytes(alloc: Global, tag: NormalLangTag<'_>) -> Result<Vec<u8>, 
 /// write_locale_form(LangTag::new("x-a")?, &mut buffer); // None
 /// ```
 pub fn write_locale_form(tag: LangTag<'_>, buffer: &mut [u8]) -> Option<usize>
+    // law: the form that `locale_form` returns, if the buffer has room for it, and its length
     ensures form { IfSome result (λ len. WritesWhole (λ form. spec.IsWholeForm (lang_tag_text tag.entry) (Some form)) buffer.old buffer.new len) }
+    // law: `None` if and only if there is none
     ensures none { result ≡ None → spec.IsWholeForm (lang_tag_text tag.entry) None }
     ensures unchanged { result ≡ None → buffer.new ≡ buffer.old }
 {

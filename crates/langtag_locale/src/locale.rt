@@ -34,6 +34,7 @@ use langtag_keyword::{Keys, is_of, is_transform, is_unicode_key, is_unicode_lang
 /// is_locale(LangTag::new("de-u-c1-abc")?); // false
 /// ```
 pub fn is_locale(tag: LangTag<'_>) -> bool
+    // law: true if and only if the tag is one of the Unicode locale identifiers (`is_locale_record`)
     ensures locale { PartOf (lang_tag_text tag.entry) spec.is_locale_record false result }
 {
     match tag.as_normal() {

@@ -47,8 +47,10 @@ impl<'a> AcceptLanguage<'a> {
         header: &'a str,
     ) -> Result<AcceptLanguage<'a>, AcceptLanguageError<'a>>
         ensures accepted { IfOk result (λ accepted. spec.AreAccepted header.now (accept_language_ranges accepted)) }
+        // law: the header itself, where its first malformed element is, and which part of it is malformed
         ensures refused { IfErr result (spec.Refuses header.entry) }
 
+        // law: a header has one list of ranges and weights
         ensures one_reading { spec.HasOneReading header.now }
     {
         let read = elements(alloc, header)?;
@@ -152,6 +154,7 @@ pub fn tag_for_header<'h, 't>(
 ) -> Result<LangTag<'t>, AcceptLanguageError<'h>>
     ensures chosen { IfOk result (λ tag. (ordered : List WeightedRange) × spec.AreAccepted header.now ordered
         × (tag ≡ choice tags.now default.entry (spec.range_texts ordered))) }
+    // law: the header itself, where its first malformed element is, and which part of it is malformed
     ensures refused { IfErr result (spec.Refuses header.entry) }
 {
     let accepted = AcceptLanguage::new(alloc, header)?;

@@ -37,6 +37,7 @@ pub fn filter_basic<'a, 't>(
     ensures list { filtered_left result ≡ spec.filtered test_basic ranges.now tags.now }
     ensures few { length (filtered_left result) < 2 ^ 64 }
 
+    // law: a permutation of the tags that some range matches
     ensures found_once { spec.AreFoundOnce test_basic ranges.now tags.now (filtered_left result) }
     ensures cloned { (walk copy : Filtered) → ⟦<Filtered<'a, 't> as Clone>⟧.is_clone walk copy → filtered_left copy ≡ filtered_left walk }
     ensures clone_succeeds { (walk : Filtered) → ⟦<Filtered<'a, 't> as Clone>⟧.is_infallible walk }
@@ -62,6 +63,7 @@ pub fn filter_extended<'a, 't>(
     ensures list { filtered_left result ≡ spec.filtered test_extended ranges.now tags.now }
     ensures few { length (filtered_left result) < 2 ^ 64 }
 
+    // law: a permutation of the tags that some range matches
     ensures found_once { spec.AreFoundOnce test_extended ranges.now tags.now (filtered_left result) }
 {
     Filtered::new(FilterRule::Extended, ranges, tags)

@@ -132,6 +132,7 @@ impl<'a> LanguageRange<'a> {
     /// ```
     pub fn matches_basic(&self, tag: &LangTag<'_>) -> bool
         ensures matches { IsTrue result ↔ MatchesBasic (language_range_text self.now) (lang_tag_text tag.now) }
+        // law: the statement of RFC 4647 as a computed test
         ensures test { result ≡ test_basic (language_range_text self.now) (lang_tag_text tag.now) }
     {
         matches_basic(self.as_str(), tag.as_str())
@@ -150,6 +151,7 @@ impl<'a> LanguageRange<'a> {
     /// ```
     pub fn matches_extended(&self, tag: &LangTag<'_>) -> bool
         ensures matches { IsTrue result ↔ MatchesExtended (language_range_text self.now) (lang_tag_text tag.now) }
+        // law: the statement of RFC 4647 as a computed test
         ensures test { result ≡ test_extended (language_range_text self.now) (lang_tag_text tag.now) }
     {
         matches_extended(self.as_str(), tag.as_str())

@@ -1,7 +1,6 @@
 -- A text without its last subtag.
 use Rattle.std.proofs.Common.{◌≡◌, ℕ, Bool, true, false, cond, ◌==◌, ◌&&◌, is_none, flat_map, suc, ◌+◌, ◌-◌, List, [], ◌∷◌, ◌++◌, length, take, take_at, Option, None, Some, append_assoc, append-nil, length-append, ap, sym, ◌∙◌, arith, subst, inl, slice_get, zero, refl}
 use Rattle.std.specs.List.{AllByRecursion}
-use Rattle.std.specs.Option.{option_map, option_map_or}
 use Rattle.std.proofs.lemmas.Bool.{and_parts}
 use Rattle.std.proofs.lemmas.Bool.Decides.{nat_tests}
 use Rattle.std.proofs.lemmas.Grind.{common_steps}
@@ -17,7 +16,7 @@ use Rattle.langtag_language.specs.Language.{EachLanguageSpelling, SpellsLanguage
 use Rattle.langtag_place.specs.Variants.{SpellsVariants}
 use Rattle.langtag.specs.Fields.{Fields}
 use Rattle.langtag.specs.Edit.{with_region, with_script}
-use Rattle.langtag_parent.specs.Parent.{IsParent, is_base, is_empty, is_likely_script, likely_of, other_script, parent_in_script, parent_of, parent_of_region, parent_of_script, plain_parent, unless_alike, usual_parent, without_last_variant}
+use Rattle.langtag_parent.specs.Parent.{IsParent, is_base, is_empty, is_likely_script, likely_of, other_script, parent_of, parent_of_region, parent_of_script, plain_parent, unless_alike, usual_parent, without_last_variant}
 use Rattle.langtag_parent.specs.Plain.{IsLonger, IsPlain}
 
 -- ---- a join without its last subtag
@@ -87,26 +86,33 @@ spelled_tag : (r : Record) → IsWellFormed r → IsTag (spell r)
 unfolding IsTag IsNormal
 spelled_tag r well = inl (r, (well, refl))
 
+pub region_well : (r : Record) → IsWellFormed r → IsWellFormed (with_region r None)
+region_well r well = grind (arith, common_steps)
+
 pub region_tag : (r : Record) → IsWellFormed r → IsTag (spell (with_region r None))
-region_tag r well = spelled_tag (with_region r None) (grind (arith, common_steps))
+region_tag r well = spelled_tag (with_region r None) (region_well r well)
+
+pub script_well : (r : Record) → IsWellFormed r → IsWellFormed (with_script r None)
+script_well r well = grind (arith, common_steps)
 
 pub script_tag : (r : Record) → IsWellFormed r → IsTag (spell (with_script r None))
-script_tag r well = spelled_tag (with_script r None) (grind (arith, common_steps))
+script_tag r well = spelled_tag (with_script r None) (script_well r well)
+
+pub variant_well : (r : Record) → IsWellFormed r → IsWellFormed (without_last_variant r)
+variant_well r well = record {
+  primary = well.primary;
+  extended = well.extended;
+  few = well.few;
+  short = well.short;
+  script = well.script;
+  region = well.region;
+  variants = all_taken _ (length r.variants - 1) r.variants well.variants;
+  extensions = well.extensions;
+  private_use = well.private_use;
+}
 
 pub variant_tag : (r : Record) → IsWellFormed r → IsTag (spell (without_last_variant r))
-variant_tag r well =
-    let kept = all_taken _ (length r.variants - 1) r.variants well.variants in
-    spelled_tag (without_last_variant r) (record {
-      primary = well.primary;
-      extended = well.extended;
-      few = well.few;
-      short = well.short;
-      script = well.script;
-      region = well.region;
-      variants = kept;
-      extensions = well.extensions;
-      private_use = well.private_use;
-    })
+variant_tag r well = spelled_tag (without_last_variant r) (variant_well r well)
 
 -- ---- what the code cuts off
 
@@ -168,15 +174,15 @@ whole-length r =
 pub base_told : (r : Record) → ((ends_of r).variants == (ends_of r).whole) ≡ is_base r
 base_told r = ap (λ w. length (join (to_variants r)) == w) (whole-length r) ∙ plus-told _ _ ∙ count-told r.extensions r.private_use
 
-empty-nil : {A : Type 0} (list : List A) → is_empty list ≡ true → list ≡ []
+pub empty-nil : {A : Type 0} (list : List A) → is_empty list ≡ true → list ≡ []
 empty-nil [] is = refl
 empty-nil (a ∷ list) is = absurd cc
 
-none-is : {A : Type 0} (o : Option A) → is_none o ≡ true → o ≡ None
+pub none-is : {A : Type 0} (o : Option A) → is_none o ≡ true → o ≡ None
 none-is None is = refl
 none-is (Some a) is = absurd cc
 
-base_parts : (r : Record) → is_base r ≡ true → (r.extensions ≡ []) × (r.private_use ≡ None)
+pub base_parts : (r : Record) → is_base r ≡ true → (r.extensions ≡ []) × (r.private_use ≡ None)
 base_parts r is = let k = and_parts (is_empty r.extensions) (is_none r.private_use) is in (empty-nil r.extensions k.0, none-is r.private_use k.1)
 
 -- ---- variants
@@ -246,20 +252,6 @@ pub scripted_region_parent :
     (text region shorter : List ℕ) (r : Record) → Spells r text → IsPlain r → r.region ≡ Some region → is_none r.script ≡ false →
     shorter ≡ take (length text - (length region + 1)) text → Some shorter ≡ parent_of_region r region
 scripted_region_parent text region shorter r spells plain is some made = rw some (ap Some (without_region text region shorter r spells plain is made))
-
-pub other_region_parent :
-    (region language : List ℕ) (parent : Option (List ℕ)) (r : Record) → IsWellFormed r → is_none r.script ≡ true → language ≡ language_part r →
-    EachLanguageSpelling language (λ primary extended. Some parent ≡ option_map (parent_in_script primary region) (unless_alike (likely_of primary extended region) (likely_of primary extended []))) →
-    parent ≡ parent_of_region r region
-other_region_parent region language parent r well none language_is is =
-    let so = is r.primary r.extended (language_spelled r language well language_is) in
-    rw none (by_option (unless_alike (likely_of r.primary r.extended region) (likely_of r.primary r.extended [])) so)
-  where
-    by_option :
-        (o : Option Fields) → Some parent ≡ option_map (parent_in_script r.primary region) o →
-        parent ≡ option_map_or (parent_in_script r.primary region) o (Some (spell (with_region r None)))
-    by_option None is = absurd cc
-    by_option (Some here) is = cc
 
 -- ---- the usual parent
 

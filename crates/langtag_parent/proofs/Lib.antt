@@ -1,3 +1,6 @@
 pub mod Cuts
 pub mod OtherScript
 pub mod ListedTags
+mod ListedParents
+mod ParentSteps
+mod ChainEnds

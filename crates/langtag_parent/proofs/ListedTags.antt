@@ -33,7 +33,7 @@ of_subtags (primary ∷ place ∷ []) = cond (is_script place) (simple primary (
 of_subtags (primary ∷ script ∷ region ∷ []) = simple primary (Some script) (Some region)
 of_subtags _ = simple [] None None
 
-abbrev record_of : List ℕ → Record
+abbrev pub record_of : List ℕ → Record
 record_of text = of_subtags (subtags text)
 
 abbrev pub is_simple : List ℕ → Bool
@@ -44,22 +44,23 @@ is_simple text =
 if_some_from_test : (test : List ℕ → Bool) (o : Option (List ℕ)) → option_map_or test o true ≡ true → IfSome o (λ s. IsTrue (test s))
 if_some_from_test test o h = grind (arith, common_steps)
 
-record IsPlain (r : Record) : Type 0 where
-  extended : r.extended ≡ []
-  variants : r.variants ≡ []
-  extensions : r.extensions ≡ []
-  private_use : r.private_use ≡ None
+-- a record of a language, a script and a region
+pub record IsSimple (r : Record) : Type 0 where
+  pub extended : r.extended ≡ []
+  pub variants : r.variants ≡ []
+  pub extensions : r.extensions ≡ []
+  pub private_use : r.private_use ≡ None
 
-plain_record : (text : List ℕ) → IsPlain (record_of text)
-plain_record text = grind (arith, common_steps)
+pub simple_record : (text : List ℕ) → IsSimple (record_of text)
+simple_record text = grind (arith, common_steps)
 
 well_formed :
-    (r : Record) → IsPlain r → IsTrue (is_primary r.primary) → IsTrue (option_map_or is_script r.script true) →
+    (r : Record) → IsSimple r → IsTrue (is_primary r.primary) → IsTrue (option_map_or is_script r.script true) →
     IsTrue (option_map_or is_region r.region true) → IsWellFormed r
 well_formed r plain p s g = grind (arith, common_steps, if_some_from_test is_script r.script s, if_some_from_test is_region r.region g)
 
-simple_spelled : (text : List ℕ) → is_simple text ≡ true → Spells (record_of text) text
-simple_spelled text h = grind (arith, common_steps, and_parts, well_formed, plain_record text, bytes_decides (spell (record_of text)) text)
+pub simple_spelled : (text : List ℕ) → is_simple text ≡ true → Spells (record_of text) text
+simple_spelled text h = grind (arith, common_steps, and_parts, well_formed, simple_record text, bytes_decides (spell (record_of text)) text)
 
 pub simple_tag : (text : List ℕ) → is_simple text ≡ true → IsTag text
 unfolding IsTag IsNormal

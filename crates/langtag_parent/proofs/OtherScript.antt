@@ -27,7 +27,7 @@ use Rattle.langtag_parent.proofs.ListedTags.{is_simple, simple_tag}
 abbrev pub scripted : List (List ℕ)
 scripted = map (λ tag. tag.now) SCRIPTED_LANGUAGES
 
-abbrev is_there : List ℕ → Bool
+abbrev pub is_there : List ℕ → Bool
 is_there [] = false
 is_there (b ∷ text) = true
 
@@ -54,13 +54,13 @@ all_listed = refl
 
 -- ---- the row that was found
 
-record Found (holds : Likely → Bool) (key to : Fields) : Type 0 where
-  row : Likely
-  here : row.to ≡ to
-  alike : are_alike_fields row.from key ≡ true
-  holds_of_it : holds row ≡ true
+pub record Found (holds : Likely → Bool) (key to : Fields) : Type 0 where
+  pub row : Likely
+  pub here : row.to ≡ to
+  pub alike : are_alike_fields row.from key ≡ true
+  pub holds_of_it : holds row ≡ true
 
-found : (rows : List Likely) (holds : Likely → Bool) (key to : Fields) → list_all holds rows ≡ true → likely_for rows key ≡ Some to → Found holds key to
+pub found : (rows : List Likely) (holds : Likely → Bool) (key to : Fields) → list_all holds rows ≡ true → likely_for rows key ≡ Some to → Found holds key to
 found [] holds key to all is = absurd cc
 found (row ∷ rows) holds key to all is =
     let k = and_parts (holds row) (list_all holds rows) all in
@@ -68,18 +68,18 @@ found (row ∷ rows) holds key to all is =
     (λ same. let it : Some row.to ≡ Some to = sym (rw same refl) ∙ is in let here : row.to ≡ to = cc in record { row = row; here = here; alike = same; holds_of_it = k.0 })
     (λ other. found rows holds key to k.1 (sym (rw other refl) ∙ is))
 
-abbrev in_region : List ℕ → List ℕ → Fields
+abbrev pub in_region : List ℕ → List ℕ → Fields
 in_region p region = record { language = p; script = []; region = region }
 
 pub record Stands (p : List ℕ) (here : Fields) : Type 0 where
   pub language : are_alike here.language p ≡ true
   pub stands : stands here ≡ true
 
-there-long : (text : List ℕ) → 0 < length text → is_there text ≡ true
+pub there-long : (text : List ℕ) → 0 < length text → is_there text ≡ true
 there-long [] some = absurd (omega (arith, some))
 there-long (b ∷ text) some = refl
 
-there-none : (text : List ℕ) → length text ≡ 0 → is_there text ≡ false
+pub there-none : (text : List ℕ) → length text ≡ 0 → is_there text ≡ false
 there-none [] none = refl
 there-none (b ∷ text) none = absurd (omega (arith, none))
 
@@ -170,7 +170,7 @@ lone : (p : List ℕ) (es : List (List ℕ)) (language : List ℕ) → SpellsLan
 lone p [] language spells none = sym spells.joined
 lone p (e ∷ es) language spells none = absurd cc
 
-region_two : (s : List ℕ) → is_region s ≡ true → 2 ≤ length s
+pub region_two : (s : List ℕ) → is_region s ≡ true → 2 ≤ length s
 unfolding is_region
 region_two s h = grind (arith, nat_tests)
 

@@ -1,5 +1,6 @@
 pub mod Chain
 pub mod Parent
+pub mod ParentLaws
 pub mod ParentLocales
 pub mod Plain
 pub mod Rows

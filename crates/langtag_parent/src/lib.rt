@@ -11,6 +11,7 @@
 //! ```
 #![tactic(auto)]
 
+mod laws;
 mod likely_script;
 mod locales;
 mod parents;

@@ -1,7 +1,7 @@
 //! The private use part of a tag (RFC 5646 section 2.2.7), which may also be a tag of its own.
 //!
 //! `x-a-x-b` is a [`PrivateUse`] with the [`PrivateUseSubtag`]s `a`, `x` and `b`. Both types have an owned form, such
-//! as [`PrivateUseBuf`].
+//! as `PrivateUseBuf`.
 //!
 //! ```rust
 //! use langtag_private::PrivateUse;

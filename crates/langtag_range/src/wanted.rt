@@ -43,9 +43,7 @@ pub struct WantedRanges<'a> {
 /// In a range, `_` is read as `-`, and everything from the first `.`, `@` or `_#` on is dropped, as in `zh_TW_#Hant`.
 /// If the rest is not a range, the element is skipped. Parameters other than `q` are ignored. A weight that is not a
 /// number, or is above 1, counts as 1. A weight may have a decimal comma: `fr;q=0,8` has the weight 800. In contrast,
-/// [`AcceptLanguage`] follows RFC 9110 strictly.
-///
-/// [`AcceptLanguage`]: langtag_match::AcceptLanguage
+/// `AcceptLanguage` follows RFC 9110 strictly.
 ///
 /// ```
 /// use langtag_match::wanted_ranges;
@@ -57,6 +55,7 @@ pub struct WantedRanges<'a> {
 #[tactic(auto, using(crate::proofs::AlikeHeaders::alike_headers, crate::proofs::WantedTexts::few_wanted))]
 pub fn wanted_ranges<'a>(header: &'a [u8]) -> WantedRanges<'a>
     ensures list { spec.wanted_left result ≡ spec.wanted_elements header.now }
+    // law: alike headers have alike elements
     ensures case { spec.ElementsIgnoreCase header.now (spec.wanted_left result) }
     ensures few { length (spec.wanted_left result) < 2 ^ 64 }
     ensures cloned { (wanted copy : WantedRange) → ⟦<WantedRange<'a> as Clone>⟧.is_clone wanted copy → copy ≡ wanted }

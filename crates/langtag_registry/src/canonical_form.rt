@@ -50,10 +50,15 @@ const LONGEST_PREFERRED: usize = 14;
 pub fn canonical(alloc: Global, tag: LangTag<'_>) -> Result<LangTagBuf, AllocError>
     ensures canonical { IfOk result (λ form. IsCanonicalForm (lang_tag_text tag.entry) (lang_tag_buf_text form)) }
 
+    // law: a tag has only one canonical form
     ensures one { IfOk result (λ form. IsOnlyCanonicalForm (lang_tag_text tag.entry) (lang_tag_buf_text form)) }
+    // law: doing it again changes nothing
     ensures settled { IfOk result (λ form. IsCanonicalForm (lang_tag_buf_text form) (lang_tag_buf_text form)) }
+    // law: alike tags have alike forms
     ensures alike { IfOk result (λ form. IsAlikeCanonicalForm (lang_tag_text tag.entry) (lang_tag_buf_text form)) }
+    // law: when the form of a valid tag is valid
     ensures valid { IfOk result (λ form. IsValidForm (lang_tag_text tag.entry) (lang_tag_buf_text form)) }
+    // law: of valid tags only `zh-min` keeps an extended language
     ensures no_extlang { IfOk result (λ form. HasNoExtlang (lang_tag_text tag.entry) (lang_tag_buf_text form)) }
 {
     form_as_tag(alloc, tag)
@@ -77,7 +82,7 @@ pub fn is_canonical(tag: LangTag<'_>) -> bool
     matches!(form_of(tag), Form::Same)
 }
 
-/// Writes the canonical form of a tag to a buffer, as [`canonical`] returns it, and returns its length in bytes. If
+/// Writes the canonical form of a tag to a buffer, as `canonical` returns it, and returns its length in bytes. If
 /// the buffer is too short, it stays unchanged, and the length says how long a buffer must be. A buffer of
 /// [`canonical_bound`] bytes is always long enough. It does not allocate.
 ///
@@ -92,6 +97,7 @@ pub fn is_canonical(tag: LangTag<'_>) -> bool
 #[tactic(auto, using(crate::proofs::FormLengths::form_bounded))]
 pub fn write_canonical(tag: LangTag<'_>, buffer: &mut [u8]) -> usize
     ensures canonical { Writes (IsCanonicalForm (lang_tag_text tag.entry)) buffer.old buffer.new result }
+    // law: no form is longer than 2 len + 14 bytes (`canonical_bound`)
     ensures bounded { result ≤ form.canonical_bound (length (lang_tag_text tag.entry)) }
 {
     match form_of(tag) {

@@ -67,7 +67,7 @@ pub(crate) static LANGUAGE_BITS: [u64; 286] = [
     0x0000000000000000,
 ];
 
-/// The keys of the extlangs, in rising order: each key is the number whose base-256 digits are the lowercase bytes.
+/// The keys of the extlangs, in ascending order: each key is the number whose base-256 digits are the lowercase bytes.
 #[rattlefmt::skip]
 pub(crate) static EXTLANG_KEYS: [u64; 256] = [
     0x61616F, 0x616268, 0x616276, 0x61636D, 0x616371, 0x616377, 0x616378, 0x616379, 0x616466, 0x616473, 0x616562,
@@ -96,7 +96,7 @@ pub(crate) static EXTLANG_KEYS: [u64; 256] = [
     0x7A6D69, 0x7A736C, 0x7A736D,
 ];
 
-/// The keys of the scripts, in rising order: each key is the number whose base-256 digits are the lowercase bytes.
+/// The keys of the scripts, in ascending order: each key is the number whose base-256 digits are the lowercase bytes.
 #[rattlefmt::skip]
 pub(crate) static SCRIPT_KEYS: [u64; 274] = [
     0x61646C6D, 0x6166616B, 0x61676862, 0x61686F6D, 0x61726162, 0x6172616E, 0x61726D69, 0x61726D6E, 0x61767374,
@@ -132,7 +132,7 @@ pub(crate) static SCRIPT_KEYS: [u64; 274] = [
     0x7A73796D, 0x7A787878, 0x7A797979, 0x7A7A7A7A,
 ];
 
-/// The keys of the regions, in rising order: each key is the number whose base-256 digits are the lowercase bytes.
+/// The keys of the regions, in ascending order: each key is the number whose base-256 digits are the lowercase bytes.
 #[rattlefmt::skip]
 pub(crate) static REGION_KEYS: [u64; 343] = [
     0x6161, 0x6163, 0x6164, 0x6165, 0x6166, 0x6167, 0x6169, 0x616C, 0x616D, 0x616E, 0x616F, 0x6171, 0x6172, 0x6173,
@@ -163,7 +163,7 @@ pub(crate) static REGION_KEYS: [u64; 343] = [
     0x343139,
 ];
 
-/// The keys of the variants, in rising order: each key is the number whose base-256 digits are the lowercase bytes.
+/// The keys of the variants, in ascending order: each key is the number whose base-256 digits are the lowercase bytes.
 #[rattlefmt::skip]
 pub(crate) static VARIANT_KEYS: [u64; 134] = [
     0x31393031, 0x31393934, 0x31393936, 0x616C756B75, 0x6261726C61, 0x6263696176, 0x6269736B65, 0x626C61736C,
@@ -190,7 +190,7 @@ pub(crate) static VARIANT_KEYS: [u64; 134] = [
     0x7669656E6E657365, 0x7669766172617570, 0x7761646567696C65, 0x7873697374656D6F,
 ];
 
-/// The keys of the deprecated languages, in rising order: each key is the number whose base-256 digits are the lowercase bytes.
+/// The keys of the deprecated languages, in ascending order: each key is the number whose base-256 digits are the lowercase bytes.
 #[rattlefmt::skip]
 pub(crate) static DEPRECATED_LANGUAGE_KEYS: [u64; 228] = [
     0x696E, 0x6977, 0x6A69, 0x6A77, 0x6D6F, 0x61616D, 0x616470, 0x616770, 0x616973, 0x616A70, 0x616A74, 0x616F68,
@@ -216,25 +216,25 @@ pub(crate) static DEPRECATED_LANGUAGE_KEYS: [u64; 228] = [
     0x796E68, 0x796F73, 0x797269, 0x797575, 0x7A6972, 0x7A6B62, 0x7A7561,
 ];
 
-/// The keys of the deprecated extlangs, in rising order: each key is the number whose base-256 digits are the lowercase bytes.
+/// The keys of the deprecated extlangs, in ascending order: each key is the number whose base-256 digits are the lowercase bytes.
 #[rattlefmt::skip]
 pub(crate) static DEPRECATED_EXTLANG_KEYS: [u64; 5] = [
     0x616A70, 0x62627A, 0x6C7367, 0x727369, 0x796473,
 ];
 
-/// The keys of the deprecated regions, in rising order: each key is the number whose base-256 digits are the lowercase bytes.
+/// The keys of the deprecated regions, in ascending order: each key is the number whose base-256 digits are the lowercase bytes.
 #[rattlefmt::skip]
 pub(crate) static DEPRECATED_REGION_KEYS: [u64; 11] = [
     0x616E, 0x6275, 0x6373, 0x6464, 0x6678, 0x6E74, 0x7375, 0x7470, 0x7964, 0x7975, 0x7A72,
 ];
 
-/// The keys of the deprecated variants, in rising order: each key is the number whose base-256 digits are the lowercase bytes.
+/// The keys of the deprecated variants, in ascending order: each key is the number whose base-256 digits are the lowercase bytes.
 #[rattlefmt::skip]
 pub(crate) static DEPRECATED_VARIANT_KEYS: [u64; 5] = [
     0x6865706C6F63, 0x61726576656C61, 0x617265766D6461, 0x6C61756B696B61, 0x76616964696B61,
 ];
 
-/// The keys of the languages with a Preferred-Value, in rising order: each key is the number whose base-256 digits are the lowercase bytes.
+/// The keys of the languages with a Preferred-Value, in ascending order: each key is the number whose base-256 digits are the lowercase bytes.
 #[rattlefmt::skip]
 pub(crate) static PREFERRED_LANGUAGE_KEYS: [u64; 108] = [
     0x696E, 0x6977, 0x6A69, 0x6A77, 0x6D6F, 0x61616D, 0x616470, 0x616A70, 0x616A74, 0x617364, 0x617565, 0x617978,
@@ -261,7 +261,7 @@ pub(crate) static PREFERRED_LANGUAGE_VALUES: [&str; 108] = [
     "acn", "waw", "dmw", "zko", "rki", "lrr", "mtm", "zom", "yug", "scv", "kjh",
 ];
 
-/// The keys of the languages with a Suppress-Script, in rising order: each key is the number whose base-256 digits are the lowercase bytes.
+/// The keys of the languages with a Suppress-Script, in ascending order: each key is the number whose base-256 digits are the lowercase bytes.
 #[rattlefmt::skip]
 pub(crate) static SUPPRESS_SCRIPT_KEYS: [u64; 134] = [
     0x6162, 0x6166, 0x616D, 0x6172, 0x6173, 0x6179, 0x6265, 0x6267, 0x626E, 0x6273, 0x6361, 0x6368, 0x6373, 0x6379,
@@ -291,7 +291,7 @@ pub(crate) static SUPPRESS_SCRIPT_VALUES: [&str; 134] = [
     "Nkoo", "Latn", "Latn", "Latn", "Latn", "Latn", "Latn", "Blis",
 ];
 
-/// The keys of the languages with a Macrolanguage, in rising order: each key is the number whose base-256 digits are the lowercase bytes.
+/// The keys of the languages with a Macrolanguage, in ascending order: each key is the number whose base-256 digits are the lowercase bytes.
 #[rattlefmt::skip]
 pub(crate) static MACROLANGUAGE_KEYS: [u64; 453] = [
     0x6273, 0x6872, 0x6964, 0x696E, 0x6E62, 0x6E6E, 0x7372, 0x7477, 0x616165, 0x61616F, 0x616174, 0x616268,
@@ -370,7 +370,7 @@ pub(crate) static MACROLANGUAGE_VALUES: [&str; 453] = [
     "zap", "zap", "zap", "zap", "zap", "zap", "za", "za", "za", "za", "za",
 ];
 
-/// The keys of the extlangs with a Prefix, in rising order: each key is the number whose base-256 digits are the lowercase bytes.
+/// The keys of the extlangs with a Prefix, in ascending order: each key is the number whose base-256 digits are the lowercase bytes.
 #[rattlefmt::skip]
 pub(crate) static EXTLANG_PREFIX_KEYS: [u64; 256] = [
     0x61616F, 0x616268, 0x616276, 0x61636D, 0x616371, 0x616377, 0x616378, 0x616379, 0x616466, 0x616473, 0x616562,
@@ -420,7 +420,7 @@ pub(crate) static EXTLANG_PREFIX_VALUES: [&str; 256] = [
     "sgn", "sgn", "zh", "sgn", "ms", "ms", "sgn", "ms",
 ];
 
-/// The keys of the regions with a Preferred-Value, in rising order: each key is the number whose base-256 digits are the lowercase bytes.
+/// The keys of the regions with a Preferred-Value, in ascending order: each key is the number whose base-256 digits are the lowercase bytes.
 #[rattlefmt::skip]
 pub(crate) static PREFERRED_REGION_KEYS: [u64; 6] = [
     0x6275, 0x6464, 0x6678, 0x7470, 0x7964, 0x7A72,
@@ -432,7 +432,7 @@ pub(crate) static PREFERRED_REGION_VALUES: [&str; 6] = [
     "MM", "DE", "FR", "TL", "YE", "CD",
 ];
 
-/// The keys of the variants with a Preferred-Value, in rising order: each key is the number whose base-256 digits are the lowercase bytes.
+/// The keys of the variants with a Preferred-Value, in ascending order: each key is the number whose base-256 digits are the lowercase bytes.
 #[rattlefmt::skip]
 pub(crate) static PREFERRED_VARIANT_KEYS: [u64; 1] = [
     0x6865706C6F63,
@@ -444,7 +444,7 @@ pub(crate) static PREFERRED_VARIANT_VALUES: [&str; 1] = [
     "alalc97",
 ];
 
-/// The keys of the whole tags with a Preferred-Value, in rising order: each key is the number whose base-256 digits are the last eight bytes of a tag, in lowercase.
+/// The keys of the whole tags with a Preferred-Value, in ascending order: each key is the number whose base-256 digits are the last eight bytes of a tag, in lowercase.
 #[rattlefmt::skip]
 pub(crate) static PREFERRED_TAG_KEYS: [u64; 46] = [
     0x692D616D69, 0x692D626E6E, 0x692D68616B, 0x692D6C7578, 0x692D70776E, 0x692D74616F, 0x692D746179, 0x692D747375,

@@ -71,7 +71,9 @@ pub fn validate<'a>(tag: LangTag<'a>) -> Result<(), InvalidSubtag<'a>>
 #[tactic(auto, using(langtag::proofs::KeptFound::found_kept, crate::proofs::ValidLaws::valid_of_other, crate::proofs::ValidLaws::valid_of_none, crate::proofs::ValidLaws::valid_grandfathered))]
 pub fn fault_at<'a>(tag: LangTag<'a>) -> Option<(InvalidSubtag<'a>, usize)>
     ensures valid { IsNone result ↔ IsValid (lang_tag_text tag.entry) }
+    // law: the first fault
     ensures first { IfSome result (λ fault. EachRecord (lang_tag_text tag.entry) (λ r. slice_get (faults r) 0 ≡ Some (told fault.0))) }
+    // law: the index of the variant or extension of the first fault
     ensures index { IfSome result (λ fault. EachRecord (lang_tag_text tag.entry) (λ r. fault_index r (told fault.0) ≡ Some fault.1)) }
 {
     let normal = tag.as_normal()?;

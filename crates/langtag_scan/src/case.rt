@@ -49,6 +49,7 @@ pub fn case_insensitive_eq(a: &[u8], b: &[u8]) -> bool
 /// ```
 pub fn case_insensitive_cmp(a: &[u8], b: &[u8]) -> Ordering
     ensures order { result ≡ case_cmp a.now b.now }
+    // law: a text is greater than every longer text that begins with it
     ensures ends_first { EndsFirst a.now b.now → result ≡ Ordering.Greater }
 {
     for (x, y) in a.iter().zip(b) {

@@ -34,6 +34,7 @@ impl Found {
     pub fn is_normal(&self) -> bool
         ensures normal { result ≡ is_normal (finding self.now) }
 
+        // law: exactly one of the three kinds was found, and there are ends if and only if the text is a normal tag
         ensures one_kind { IsOfOneKind (finding self.now) }
     {
         matches!(self.finding, Finding::Normal(_))

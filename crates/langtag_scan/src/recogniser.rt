@@ -30,17 +30,24 @@ pub fn recognise<S: ByteSource>(source: &mut S) -> Option<Found>
     requires { S.reads source.old ≤ 2 ^ 126 }
     ensures found { MatchOption result (IsTag (S.bytes source.old) → ⊥) (λ found. IsFoundOf (S.bytes source.old) (finding found)) }
     ensures bytes { S.bytes source.new ≡ S.bytes source.old }
+    // law: the number of further reads is the stop, and no byte beyond it is read
     ensures reads { (n : ℕ) × IsStop (S.bytes source.old) n ×
         (S.reads source.new ≡ S.reads source.old + n) × (S.reach source.new ≡ max (S.reach source.old) n) }
 
     // Laws of the definitions. A tag has only one kind, an irregular tag only one index, and a string only one length
     // at which the recogniser stops. A string is viable if and only if the padded text is a tag or the string is a
     // prefix of an irregular tag.
+    // law: no text is of two kinds
     ensures normal_not_private { (t : List ℕ) → IsNormal t → IsPrivate t → ⊥ }
+    // law: no text is of two kinds
     ensures normal_not_irregular { (t : List ℕ) → IsNormal t → IsIrregular t → ⊥ }
+    // law: no text is of two kinds
     ensures private_not_irregular { (t : List ℕ) → IsPrivate t → IsIrregular t → ⊥ }
+    // law: no text is at two indices of the table
     ensures one_index { (j k : ℕ) (t : List ℕ) → IsIrregularAt j t → IsIrregularAt k t → j ≡ k }
+    // law: a text has one stop
     ensures one_stop { (t : List ℕ) (n m : ℕ) → IsStop t n → IsStop t m → n ≡ m }
+    // law: which prefixes begin a tag
     ensures viable { (p : List ℕ) → IsViable p ↔ (IsTag (fill p) ⊎ IsIrregularPrefix p) }
 {
     read(source).ok()
@@ -105,10 +112,12 @@ pub fn recognise_normal<S: ByteSource>(source: &mut S) -> Option<Found>
     ensures found { MatchOption result (IsNormal (S.bytes source.old) → ⊥) (λ found.
         IsTrue (is_normal (finding found)) × IsFoundOf (S.bytes source.old) (finding found)) }
     ensures bytes { S.bytes source.new ≡ S.bytes source.old }
+    // law: the number of further reads is the stop, and no byte beyond it is read
     ensures reads { (n : ℕ) × IsStop (S.bytes source.old) n ×
         (S.reads source.new ≡ S.reads source.old + n) × (S.reach source.new ≡ max (S.reach source.old) n) }
 
     // A law of the definitions: a string has at most one record.
+    // law: a text has at most one record
     ensures one_record { (r q : Record) → IsWellFormed r → IsWellFormed q → spell r ≡ spell q → r ≡ q }
 {
     recognise(source).filter(|found| found.is_normal())

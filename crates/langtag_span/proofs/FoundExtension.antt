@@ -1,6 +1,5 @@
 -- The first extension of a singleton, by where it stands in a tag.
 use Rattle.std.proofs.Common.{◌≡◌, ℕ, slice_index, slice_index_or, ◌+◌, ◌-◌, ◌<◌, ◌≤◌, true, false, List, [], ◌∷◌, length, take, drop, map, find, Option, None, Some, Bor, refl, ap, sym, subst, ◌∙◌, arith}
-use Rattle.std.specs.List.{AllByRecursion}
 use Rattle.std.specs.Option.{option_map, option_map_or}
 use Rattle.std.proofs.lemmas.List.{drop-drop, drop-take}
 use Rattle.std.proofs.lemmas.Bool.{cases_lt}
@@ -15,7 +14,7 @@ use Rattle.langtag_scan.specs.Subtags.{is_hyphen, subtags}
 use Rattle.langtag_scan.specs.Tag.{IsNormal}
 use Rattle.langtag_scan.specs.declared.ends.Ends.{Ends}
 use Rattle.langtag_scan.proofs.SpelledTexts.{ends_ordered, ends_whole}
-use Rattle.langtag_scan.proofs.SubtagFacts.{IsSubtag, of_extension_subtag}
+use Rattle.langtag_scan.proofs.SubtagFacts.{of_extension_subtag}
 use Rattle.langtag_scan.proofs.SubtagLists.{each_subtag}
 use Rattle.langtag_extension.specs.Decided.{opens_alike}
 use Rattle.langtag_extension.specs.ExtensionTexts.{IsFirstExtension, extension_texts}
@@ -29,7 +28,7 @@ use Rattle.langtag_span.specs.Spans.{HasBytes, IsWithin, end_of, span_between, s
 use Rattle.langtag_span.specs.declared.span.Span.{Span}
 use Rattle.langtag_span.proofs.ExtensionSpans.{extension-taken, length-span, span-first}
 use Rattle.langtag_span.proofs.SpanLaws.{between_text}
-use Rattle.langtag_span.proofs.SubtagSpans.{AllSome, length-spanned}
+use Rattle.langtag_span.proofs.SubtagSpans.{AreSubtags, length-spanned}
 
 -- ---- all extensions of a tag
 
@@ -77,14 +76,10 @@ extension-step text before after taken part len (e ∷ es, spells) has is first 
       first = (e, record { member = spells.members.0; joined = sym cut.0 });
     }
 
--- an extension has a singleton and a hyphen, and then subtags that are not empty
-all-some : (ss : List (List ℕ)) → AllByRecursion IsSubtag ss → AllSome ss
-all-some [] fits = tt
-all-some (s ∷ ss) fits = (fits.0.some, all-some ss fits.1)
-
-pub after-singleton : (text : List ℕ) → IsExtension text → AllSome (subtags (drop 2 text)) × (2 ≤ length text)
+-- an extension has a singleton and a hyphen, and then subtags
+pub after-singleton : (text : List ℕ) → IsExtension text → AreSubtags (subtags (drop 2 text)) × (2 ≤ length text)
 after-singleton text (e, spelled) = (
-  subst AllSome (sym (subtags-after_singleton e text spelled)) (all-some e.subtags (each_subtag is_extension_subtag of_extension_subtag e.subtags spelled.member.subtags)),
+  subst AreSubtags (sym (subtags-after_singleton e text spelled)) (each_subtag is_extension_subtag of_extension_subtag e.subtags spelled.member.subtags),
   by_subtags e.subtags refl,
 )
   where

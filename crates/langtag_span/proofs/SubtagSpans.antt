@@ -1,28 +1,29 @@
 -- The subtags of a span, one after another.
-use Rattle.std.proofs.Common.{◌≡◌, ℕ, ◌+◌, ◌-◌, ◌<◌, ◌≤◌, Bool, false, List, [], ◌∷◌, ◌++◌, length, take, drop, slice_index, refl, ap, sym, ◌∙◌, arith}
-use Rattle.std.specs.List.{AllByRecursion, list_any}
+use Rattle.std.proofs.Common.{◌≡◌, ℕ, nat_lt, ◌+◌, ◌-◌, ◌<◌, ◌≤◌, Bool, true, false, List, [], ◌∷◌, ◌++◌, length, take, drop, slice_index, refl, ap, sym, ◌∙◌, arith}
+use Rattle.std.specs.List.{AllByRecursion}
 use Rattle.std.proofs.lemmas.Bool.{cases_lt}
 use Rattle.std.proofs.lemmas.Grind.{common_steps}
 use Rattle.std.proofs.lemmas.List.{at_drop_more, drop-drop, take-append-drop, take-take, take_all, drop_all, length-take, length-drop}
 use Rattle.std.proofs.lemmas.List.Splits.{slice_split_at, slice_split_none}
 use Rattle.std.proofs.lemmas.Bool.Decides.{nat_tests}
 use Rattle.langtag_scan.specs.Subtags.{is_hyphen, IsHyphenFree, NoHyphenWithin, join, segments, subtags}
+use Rattle.langtag_scan.proofs.SubtagFacts.{IsSubtag}
 use Rattle.langtag_scan.proofs.SubtagLists.{length-subtags, subtags-segments}
 use Rattle.langtag_keyword.specs.Keys.{length_with_hyphens}
-use Rattle.langtag_keyword.specs.Keywords.{before_key}
+use Rattle.langtag_keyword.specs.Keywords.{before_key, is_new_key, keywords_after}
 use Rattle.langtag_keyword.proofs.SubtagTexts.{length-before_key, take-before_key}
-use Rattle.langtag_span.specs.Keywords.{HasSubtags, subtags_in}
+use Rattle.langtag_keyword.proofs.WalkSteps.{keywords-other}
+use Rattle.langtag_span.specs.Keywords.{HasSubtags, keywords_from, subtags_in}
 use Rattle.langtag_span.specs.Spans.{HasBytes, IsWithin, end_of, span_between, span_text}
 use Rattle.langtag_span.specs.declared.span.Span.{Span}
 use Rattle.langtag_span.proofs.ExtensionSpans.{length-span, span-rest}
 
--- no subtag is empty
-abbrev pub AllSome : List (List ℕ) → Type 0
-AllSome ss = AllByRecursion (λ s. 1 ≤ length s) ss
+abbrev pub AreSubtags : List (List ℕ) → Type 0
+AreSubtags ss = AllByRecursion IsSubtag ss
 
 -- after a hyphen there is another subtag
-after-hyphen : (first text : List ℕ) → AllSome (first ∷ segments text) → segments text ≡ subtags text
-after-hyphen first text some = grind (arith, nat_tests)
+after-hyphen : (first text : List ℕ) → AreSubtags (first ∷ segments text) → segments text ≡ subtags text
+after-hyphen first text fits = grind (arith, nat_tests, IsSubtag)
 
 module _ (text : List ℕ) (len : ℕ) (within : len ≤ length text) (free : NoHyphenWithin text 0 len) where
   kept : IsHyphenFree (take len text)
@@ -38,7 +39,7 @@ module _ (text : List ℕ) (len : ℕ) (within : len ≤ length text) (free : No
   last past = ap segments (sym (take_all len text past)) ∙ slice_split_none is_hyphen (take len text) kept
 
   -- the first subtag, and those after its hyphen
-  pub subtags-cut : 0 < length text → (len < length text → slice_index text len ≡ 45) → AllSome (subtags text) → subtags text ≡ take len text ∷ subtags (drop (len + 1) text)
+  pub subtags-cut : 0 < length text → (len < length text → slice_index text len ≡ 45) → AreSubtags (subtags text) → subtags text ≡ take len text ∷ subtags (drop (len + 1) text)
   subtags-cut some hyphen all = grind (arith, nat_tests, cases_lt, subtags-segments, cut, after-hyphen, drop_all, last)
 
 -- ---- the same of spans
@@ -73,13 +74,22 @@ length-spanned text span within = grind (arith, nat_tests, size, length-take (en
 pub length-subtags_in : (text : List ℕ) (span : Span) → IsWithin text span → length (subtags_in text span) ≤ length text + 1
 length-subtags_in text span within = omega (arith, length-subtags (span_text text span), (length-spanned text span within).0)
 
-pub any-passed :
-    (test : List ℕ → Bool) (n : ℕ) (s : List ℕ) (ss : List (List ℕ)) → 0 < n → test s ≡ false → list_any test (take (n - 1) ss) ≡ list_any test (take n (s ∷ ss))
-any-passed test n s ss some other = grind (arith, nat_tests)
-
 -- what is left after one more
 pub drop-next : (all : List (List ℕ)) (n : ℕ) (s : List ℕ) (ss : List (List ℕ)) → drop n all ≡ s ∷ ss → ss ≡ drop (n + 1) all
 drop-next all n s ss left = sym (ap (drop 1) left) ∙ drop-drop 1 n all
+
+-- a subtag that is no new key changes nothing of the keywords after `old` subtags
+pub keywords-step :
+    (opens : List ℕ → Bool) (all : List (List ℕ)) (n passed old : ℕ) (s : List ℕ) (rest : List (List ℕ)) → drop n all ≡ s ∷ rest → passed ≡ old →
+    (passed ≤ n → is_new_key opens (take n all) s ≡ false) → (passed ≤ n → keywords_after opens (take n all) (s ∷ rest) ≡ keywords_from opens all old) →
+    passed ≤ n + 1 → keywords_after opens (take (n + 1) all) rest ≡ keywords_from opens all old
+keywords-step opens all n passed old s rest left kept closed same more = by_test (nat_lt n passed) refl
+  where
+    by_test : (b : Bool) → nat_lt n passed ≡ b → keywords_after opens (take (n + 1) all) rest ≡ keywords_from opens all old
+    by_test true over =
+        let is : n + 1 ≡ old = grind (arith, nat_tests) in
+        ap (keywords_after opens (take (n + 1) all)) (drop-next all n s rest left) ∙ ap (keywords_from opens all) is
+    by_test false under = let few : passed ≤ n = grind (arith, nat_tests) in sym (keywords-other opens all n s rest left (closed few)) ∙ same few
 
 -- ---- those before a key
 

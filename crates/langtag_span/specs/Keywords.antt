@@ -1,8 +1,9 @@
 -- The keywords of `u` and the fields of `t` (RFC 6067 section 2.1, RFC 6497 section 2.2) that are left after a walk has
 -- passed some subtags.
-use Rattle.std.specs.Prelude.{◌≤◌, ℕ, Bool, List, drop, length, take}
+use Rattle.std.specs.Prelude.{ℕ, Bool, List, drop, take}
 use Rattle.std.specs.List.{AllByRecursion}
 use Rattle.langtag_scan.specs.Subtags.{subtags}
+use Rattle.langtag_scan.proofs.SubtagFacts.{IsSubtag}
 use Rattle.langtag_keyword.specs.Keywords.{Keyword, keywords_after}
 use Rattle.langtag_span.specs.Spans.{IsWithin, span_text}
 use Rattle.langtag_span.specs.declared.span.Span.{Span}
@@ -15,7 +16,7 @@ subtags_in text span = subtags (span_text text span)
 abbrev pub keywords_from : (List ℕ → Bool) → List (List ℕ) → ℕ → List Keyword
 keywords_from opens subtags passed = keywords_after opens (take passed subtags) (drop passed subtags)
 
--- the span is within the text, and none of its subtags is empty
+-- the span is within the text, and its subtags have one to eight letters and digits
 pub record HasSubtags (text : List ℕ) (span : Span) : Type 0 where
   pub within : IsWithin text span
-  pub some : AllByRecursion (λ s. 1 ≤ length s) (subtags_in text span)
+  pub some : AllByRecursion IsSubtag (subtags_in text span)

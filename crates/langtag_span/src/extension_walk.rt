@@ -17,7 +17,7 @@ ghost use Rattle.langtag_span.specs.Spans.{IsWithin, span_text};
 use crate::span::Span;
 use crate::tag::normal_tag_of;
 use langtag_extension::first_extension_end;
-use langtag_keyword::Keys;
+use langtag_keyword::{KeySet, Keys};
 use langtag_scan::{case_insensitive_eq, into_smallcase, segment_end};
 
 /// Where a key and its value are.
@@ -111,50 +111,6 @@ pub fn value_of(bytes: &[u8], subtags: Span, keys: Keys, key: &[u8]) -> Option<S
     None
 }
 
-/// Returns whether a subtag equals one of the first `count` subtags, ignoring case.
-fn is_among_first(bytes: &[u8], subtags: Span, count: usize, subtag: &[u8]) -> bool
-    requires { HasSubtags bytes.now subtags }
-    ensures { result ≡ list_any (are_alike subtag.now) (take count (subtags_in bytes.now subtags)) }
-{
-    let mut rest = subtags;
-    let mut left = count;
-    while let Some((_, other)) = take_subtag(bytes, &mut rest) {
-        if left == 0 {
-            return false;
-        }
-        if case_insensitive_eq(subtag, other) {
-            return true;
-        }
-        left -= 1;
-    }
-    false
-}
-
-/// Returns the rest of the subtags after the first `count`.
-fn after_first(bytes: &[u8], subtags: Span, count: usize) -> Span
-    requires { HasSubtags bytes.now subtags }
-    ensures left { subtags_in bytes.now result ≡ drop count (subtags_in bytes.now subtags) }
-    ensures some { HasSubtags bytes.now result }
-{
-    let mut rest = subtags;
-    let mut left = count;
-    while left > 0 {
-        if take_subtag(bytes, &mut rest).is_none() {
-            return rest;
-        }
-        left -= 1;
-    }
-    rest
-}
-
-/// Returns whether a subtag is a key that equals none of the first `count` subtags, ignoring case.
-fn is_new_key(bytes: &[u8], subtags: Span, keys: Keys, count: usize, subtag: &[u8]) -> bool
-    requires { HasSubtags bytes.now subtags }
-    ensures { result ≡ spec.is_new_key (opens_keyword keys) (take count (subtags_in bytes.now subtags)) subtag.now }
-{
-    keys.has(subtag) && !is_among_first(bytes, subtags, count, subtag)
-}
-
 /// Returns the first key after the first `passed` subtags that equals no subtag before it, with its value. `passed`
 /// then counts the subtags up to and including that key.
 pub fn next_key(bytes: &[u8], subtags: Span, keys: Keys, passed: &mut usize) -> Option<KeyPlace>
@@ -165,10 +121,12 @@ pub fn next_key(bytes: &[u8], subtags: Span, keys: Keys, passed: &mut usize) -> 
     ensures none { result ≡ None → keywords_from (opens_keyword keys) (subtags_in bytes.now subtags) passed.old ≡ [] }
     ensures nothing { result ≡ None → passed.new ≡ passed.old }
 {
-    let mut rest = after_first(bytes, subtags, *passed);
-    let mut count = *passed;
+    let mut rest = subtags;
+    let mut met = KeySet::new();
+    let mut count = 0;
     while let Some((key, subtag)) = take_subtag(bytes, &mut rest) {
-        if is_new_key(bytes, subtags, keys, count, subtag) {
+        let is_new = met.insert(subtag);
+        if count >= *passed && keys.has(subtag) && is_new {
             *passed = count + 1;
             let value = before_key(bytes, rest, keys);
             return Some(KeyPlace { key, value });

@@ -369,10 +369,12 @@ fn each_outcome_is_said(rt: HostRuntime) {
     for (outcome, words, status, shown) in OUTCOMES {
         let mut errors = Sheet::new(all(words), Fault::None, &owed);
         let is_said = conclude(outcome, &mut errors) == ExitCode::from(status);
-        expect_true(&rt, is_said && errors.has_all(), words.len());
+        let is_exact = errors.has_all() && !errors.is_past_end;
+        expect_true(&rt, is_said && is_exact, words.len());
         let mut interrupted = Sheet::new(all(words), INTERRUPTED, &owed);
         let is_said = conclude(outcome, &mut interrupted) == ExitCode::from(status);
-        expect_true(&rt, is_said && interrupted.has_all(), words.len());
+        let is_exact = interrupted.has_all() && !interrupted.is_past_end;
+        expect_true(&rt, is_said && is_exact, words.len());
         let mut full = Sheet::new(all(b""), Fault::None, &owed);
         let is_said = conclude(outcome, &mut full) == ExitCode::from(status);
         expect_true(&rt, is_said, words.len());

@@ -14,8 +14,8 @@ pub(crate) enum Fault {
     Flush,
 }
 
-/// A writer that accepts exactly the expected answers. A write of any other byte fails, and a write past the end writes
-/// nothing.
+/// A writer that accepts exactly the expected answers. A write of any other byte fails and accepts nothing, and a write
+/// past the end writes nothing.
 #[derive(Clone, Copy)]
 pub(crate) struct Sheet<'a> {
     wanted: Text<'a>,
@@ -24,6 +24,8 @@ pub(crate) struct Sheet<'a> {
     last: u8,
     pub(crate) writes: u64,
     pub(crate) flushes: u64,
+    /// Whether a write had more bytes than were expected.
+    pub(crate) is_past_end: bool,
 }
 
 impl<'a> Sheet<'a> {
@@ -35,6 +37,7 @@ impl<'a> Sheet<'a> {
             last: b'\n',
             writes: 0,
             flushes: 0,
+            is_past_end: false,
         }
     }
 
@@ -57,11 +60,14 @@ impl Write for Sheet<'_> {
         {
             return Err(io::Error::from(kind));
         }
-        let wanted = self.wanted.next_bytes(buf.len());
+        let mut rest = self.wanted;
+        let wanted = rest.next_bytes(buf.len());
         let n = wanted.len();
         if n > buf.len() || &buf[..n] != wanted {
             return Err(io::Error::from(ErrorKind::InvalidData));
         }
+        self.wanted = rest;
+        self.is_past_end |= n < buf.len() && self.has_all();
         if let Some(last) = wanted.last() {
             self.last = *last;
         }

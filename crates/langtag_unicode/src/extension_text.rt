@@ -1,7 +1,8 @@
 //! The subtags of an extension of a tag, as one string.
-ghost use Rattle.std.specs.Prelude.{[]};
+ghost use Rattle.std.specs.Prelude.{[], IsTrue};
 ghost use Rattle.langtag.specs.Part.{PartOf};
 ghost use Rattle.langtag.specs.Text.{lang_tag_text};
+ghost use Rattle.langtag_extension.specs.Decided.{are_extension_subtags};
 ghost use Rattle.langtag_extension.specs.Text.{singleton_byte};
 ghost use Rattle.langtag_keyword.specs.Keywords as spec;
 ghost use Rattle.langtag_scan.specs.Subtags.{subtags};
@@ -11,7 +12,8 @@ use langtag::{LangTag, Singleton};
 /// Returns the subtags of the first extension with a singleton, joined by hyphens, or the empty string if there is no
 /// such extension.
 pub(crate) fn extension_text<'a>(tag: LangTag<'a>, singleton: Singleton) -> &'a str
-    ensures { PartOf (lang_tag_text tag.entry) (spec.subtags_of (singleton_byte singleton)) [] (subtags result.now) }
+    ensures subtags { PartOf (lang_tag_text tag.entry) (spec.subtags_of (singleton_byte singleton)) [] (subtags result.now) }
+    ensures in_class { IsTrue (are_extension_subtags (subtags result.now)) }
 {
     match tag.extensions().get(singleton) {
         Some(extension) => &extension.as_str()[2..],
@@ -21,7 +23,8 @@ pub(crate) fn extension_text<'a>(tag: LangTag<'a>, singleton: Singleton) -> &'a 
 
 /// Returns the subtags of the first extension `u` of a tag, joined by hyphens.
 pub(crate) fn unicode_text<'a>(tag: LangTag<'a>) -> &'a str
-    ensures { PartOf (lang_tag_text tag.entry) (spec.subtags_of 117) [] (subtags result.now) }
+    ensures subtags { PartOf (lang_tag_text tag.entry) (spec.subtags_of 117) [] (subtags result.now) }
+    ensures in_class { IsTrue (are_extension_subtags (subtags result.now)) }
 {
     match Singleton::new(b'u') {
         Ok(singleton) => extension_text(tag, singleton),

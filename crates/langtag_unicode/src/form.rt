@@ -45,8 +45,11 @@ const SPARE: usize = 32;
 /// ```
 pub fn extensions_form(alloc: Global, tag: LangTag<'_>) -> Result<LangTagBuf, AllocError>
     ensures form { IfOk result (λ form. IsExtensionsForm (lang_tag_text tag.entry) (lang_tag_buf_text form)) }
+    // law: a tag has only one such form
     ensures one { IfOk result (λ form. IsOnlyForm spec.extensions_record (lang_tag_text tag.entry) (lang_tag_buf_text form)) }
+    // law: doing it again changes nothing
     ensures settled { IfOk result (λ form. IsExtensionsForm (lang_tag_buf_text form) (lang_tag_buf_text form)) }
+    // law: alike tags have alike forms
     ensures alike { IfOk result (λ form. IsAlikeForm IsExtensionsForm (lang_tag_text tag.entry) (lang_tag_buf_text form)) }
 {
     Ok(tag_of(form_bytes(alloc, tag)?))
@@ -74,7 +77,7 @@ fn counted_form_bytes(alloc: Global, tag: LangTag<'_>) -> Result<Vec<u8>, AllocE
     Ok(bytes)
 }
 
-/// Writes a tag with its extensions `u` and `t` in canonical form to a buffer, as [`extensions_form`] returns it, and
+/// Writes a tag with its extensions `u` and `t` in canonical form to a buffer, as `extensions_form` returns it, and
 /// returns its length in bytes. If the buffer is too short, its bytes are not specified, and the length says how long a
 /// buffer must be. It does not allocate.
 ///
@@ -87,6 +90,7 @@ fn counted_form_bytes(alloc: Global, tag: LangTag<'_>) -> Result<Vec<u8>, AllocE
 /// buffer.get(..length); // Some(&b"de-u-kn"[..])
 /// ```
 pub fn write_extensions_form(tag: LangTag<'_>, buffer: &mut [u8]) -> usize
+    // law: the form that `extensions_form` returns, if the buffer has room for it, and its length
     ensures form { WritesWhole (IsExtensionsForm (lang_tag_text tag.entry)) buffer.old buffer.new result }
 {
     match tag.as_normal() {

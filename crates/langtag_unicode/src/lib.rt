@@ -18,6 +18,7 @@ mod keywords_iter;
 mod laws;
 mod owned_keywords;
 mod set_keyword_error;
+mod transform_extension;
 mod transformation;
 mod unicode_extension;
 
@@ -28,5 +29,6 @@ pub use keywords_iter::KeywordsIter;
 pub use langtag_keyword::{Keys, KeywordError};
 pub use owned_keywords::{remove_keyword, set_keyword};
 pub use set_keyword_error::SetKeywordError;
-pub use transformation::{Transformation, transform};
+pub use transform_extension::transform;
+pub use transformation::Transformation;
 pub use unicode_extension::{KeyValue, attributes, keyword, keywords};

@@ -44,8 +44,10 @@ pub fn set_keyword(
     ensures refused { (error : KeywordError) → spec.keyword_error key.now (subtags value.now) ≡ Some error → IsErrOf result (SetKeywordError.Keyword error) }
     ensures not_normal { spec.keyword_error key.now (subtags value.now) ≡ None
         → IsErrOf result (SetKeywordError.Keyword KeywordError.NotNormal) ↔ (IsNormal (lang_tag_buf_text tag.old) → ⊥) }
+    // law: an allowed keyword of a normal tag is refused only if allocation fails
     ensures memory { spec.keyword_error key.now (subtags value.now) ≡ None → IsNormal (lang_tag_buf_text tag.old)
         → IsOkUnless result (SetKeywordError.Memory alloc_error) }
+    // law: after an error the tag is as it was
     ensures unchanged { OnErr result (tag.new ≡ tag.old) }
 
     ensures cloned { (error copy : SetKeywordError) → ⟦<SetKeywordError as Clone>⟧.is_clone error copy → copy ≡ error }
@@ -81,8 +83,10 @@ pub fn remove_keyword(tag: &mut LangTagBuf, alloc: Global, key: &str) -> Result<
     ensures refused { (error : KeywordError) → spec.keyword_error key.now [] ≡ Some error → IsErrOf result (SetKeywordError.Keyword error) }
     ensures not_normal { spec.keyword_error key.now [] ≡ None
         → IsErrOf result (SetKeywordError.Keyword KeywordError.NotNormal) ↔ (IsNormal (lang_tag_buf_text tag.old) → ⊥) }
+    // law: an allowed keyword of a normal tag is refused only if allocation fails
     ensures memory { spec.keyword_error key.now [] ≡ None → IsNormal (lang_tag_buf_text tag.old)
         → IsOkUnless result (SetKeywordError.Memory alloc_error) }
+    // law: after an error the tag is as it was
     ensures unchanged { OnErr result (tag.new ≡ tag.old) }
 {
     if let Some(error) = keyword_error(key, "") {

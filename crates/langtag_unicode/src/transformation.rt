@@ -1,18 +1,13 @@
-//! The extension `t` of a tag, which says how a string was transformed.
-ghost use Rattle.std.specs.Prelude.{◌≡◌, ℕ, List, None, IsTrue};
+//! The parts of the extension `t`.
+ghost use Rattle.std.specs.Prelude.{◌≡◌, ℕ, List, IsTrue};
 ghost use Rattle.std.specs.Option.{option_map};
-ghost use Rattle.langtag.specs.Part.{PartOf};
-ghost use Rattle.langtag.specs.Text.{lang_tag_text};
-ghost use Rattle.langtag_extension.specs.Spelling.{find_extension};
+ghost use Rattle.langtag_extension.specs.Decided.{are_extension_subtags};
 ghost use Rattle.langtag_scan.specs.Case.{Alike};
-ghost use Rattle.langtag_scan.specs.Subtags.{join};
+ghost use Rattle.langtag_scan.specs.Subtags.{join, subtags};
 ghost use Rattle.langtag_keyword.specs.Keywords as keywords;
-ghost use Rattle.langtag_unicode.specs.Text.{keywords_left, transformation_subtags};
 ghost use Rattle.langtag_keyword.specs.Transform as spec;
 
-use crate::extension_text::extension_text;
 use crate::keywords_iter::KeywordsIter;
-use langtag::{LangTag, Singleton};
 use langtag_keyword::{Keys, before_key, nonempty, value_in};
 
 /// The extension `t` of a tag (RFC 6497 section 2.2): the language of the string before it was transformed, and how it
@@ -31,29 +26,20 @@ use langtag_keyword::{Keys, before_key, nonempty, value_in};
 #[derive(Clone, Copy, Debug, Drop)]
 pub struct Transformation<'a> {
     text: &'a str,
-}
-
-/// Returns the first extension `t` of a tag (RFC 6497 section 2.2), or `None` if there is none.
-///
-/// ```
-/// use langtag::LangTag;
-/// use langtag_unicode::transform;
-///
-/// let found = transform(LangTag::new("und-t-ja-latn-m0-hepburn")?);
-/// found.and_then(|it| it.language()); // Some("ja-latn")
-/// ```
-pub fn transform<'a>(tag: LangTag<'a>) -> Option<Transformation<'a>>
-    ensures first { PartOf (lang_tag_text tag.entry) (λ r. option_map (λ e. e.subtags) (find_extension 116 r.extensions)) None (option_map transformation_subtags result) }
-
-    ensures cloned { (transformation copy : Transformation) → ⟦<Transformation<'a> as Clone>⟧.is_clone transformation copy → copy ≡ transformation }
-    ensures clone_succeeds { (transformation : Transformation) → ⟦<Transformation<'a> as Clone>⟧.is_infallible transformation }
-{
-    let singleton = Singleton::new(b't').ok()?;
-    let text = nonempty(extension_text(tag, singleton))?;
-    Some(Transformation { text })
+    ghost in_class: { IsTrue (are_extension_subtags (subtags text.now)) },
 }
 
 impl<'a> Transformation<'a> {
+    ghost use Rattle.langtag_unicode.specs.Text.{keywords_left, transformation_subtags};
+
+    /// Returns the extension with these subtags.
+    pub(crate) fn new(text: &'a str) -> Self
+        requires { IsTrue (are_extension_subtags (subtags text.now)) }
+        ensures { result.text.now ≡ text.now }
+    {
+        Transformation { text }
+    }
+
     /// Returns the language of the source text, as a slice of the tag. It need not be a tag: for `und-t-abcd-efgh-ijkl`
     /// it is `abcd-efgh-ijkl`.
     ///
@@ -86,6 +72,7 @@ impl<'a> Transformation<'a> {
     #[tactic(auto, using(crate::proofs::WalkLaws::keyword_laws))]
     pub fn field(&self, key: &str) -> Option<&'a str>
         ensures value { option_map (λ text. text.now) result ≡ option_map join (keywords.value_of spec.is_field_key key.now (transformation_subtags self.now)) }
+        // law: the case of a key changes nothing
         ensures any_case { (k l : List ℕ) (subtags : List (List ℕ)) → Alike k l → keywords.value_of spec.is_field_key k subtags ≡ keywords.value_of spec.is_field_key l subtags }
     {
         value_in(self.text, Keys::Transform, key.as_bytes())
@@ -104,6 +91,7 @@ impl<'a> Transformation<'a> {
     #[tactic(auto, using(crate::proofs::WalkLaws::keyword_laws))]
     pub fn fields(&self) -> KeywordsIter<'a>
         ensures list { keywords_left result ≡ keywords.keywords_of spec.is_field_key (transformation_subtags self.now) }
+        // law: the value of a listed key is the one that `keyword`, or `field`, returns
         ensures listed { (k : List ℕ) (subtags : List (List ℕ)) → IsTrue (spec.is_field_key k)
             → keywords.value_among k (keywords.keywords_of spec.is_field_key subtags) ≡ option_map join (keywords.value_of spec.is_field_key k subtags) }
     {

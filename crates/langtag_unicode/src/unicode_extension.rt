@@ -50,15 +50,14 @@ pub struct KeyValue<'a> {
 pub fn keyword<'a>(tag: LangTag<'a>, key: &str) -> Option<&'a str>
     ensures value { PartOf (lang_tag_text tag.entry) (λ r. option_map join (spec.value_of spec.is_key key.now (spec.subtags_of 117 r))) None (option_map (λ v. v.now) result) }
 
+    // law: the case of a key changes nothing
     ensures any_case { (k l : List ℕ) (subtags : List (List ℕ)) → Alike k l → spec.value_of spec.is_key k subtags ≡ spec.value_of spec.is_key l subtags }
 {
     value_in(unicode_text(tag), Keys::Unicode, key.as_bytes())
 }
 
 /// Returns an iterator over the keywords of the extension `u` (RFC 6067 section 2.1), in the order of the tag. Each
-/// key is returned once, with its first value.
-///
-/// Each key is compared with the subtags before it, so the total time is quadratic in the number of subtags.
+/// key is returned once, with its first value. The total time is linear.
 ///
 /// ```
 /// use langtag::LangTag;
@@ -71,6 +70,7 @@ pub fn keyword<'a>(tag: LangTag<'a>, key: &str) -> Option<&'a str>
 /// ```
 pub fn keywords<'a>(tag: LangTag<'a>) -> KeywordsIter<'a>
     ensures list { PartOf (lang_tag_text tag.entry) (λ r. spec.keywords_of spec.is_key (spec.subtags_of 117 r)) [] (keywords_left result) }
+    // law: the value of a listed key is the one that `keyword`, or `field`, returns
     ensures listed { (k : List ℕ) (subtags : List (List ℕ)) → IsTrue (spec.is_key k)
         → spec.value_among k (spec.keywords_of spec.is_key subtags) ≡ option_map join (spec.value_of spec.is_key k subtags) }
 

@@ -15,6 +15,7 @@
 use crate::calls;
 use crate::calls::best_match::BestMatch;
 use crate::calls::parse::Parts;
+use crate::calls::prepare::PreparedTag;
 use crate::calls::repeats::Repeated;
 use crate::spans::Span;
 use core::mem::zeroed;
@@ -29,7 +30,7 @@ unsafe fn lent<'a, T>(start: *const T, len: usize) -> &'a [T] {
 }
 
 /// Returns the slice at a pointer, for writing.
-unsafe fn taken<'a>(start: *mut u8, len: usize) -> &'a mut [u8] {
+unsafe fn taken<'a, T>(start: *mut T, len: usize) -> &'a mut [T] {
     if len == 0 {
         return &mut [];
     }
@@ -55,13 +56,13 @@ pub unsafe extern "C" fn langtag_base_len(bytes: *const u8, len: usize) -> usize
 }
 
 #[no_mangle]
-pub unsafe extern "C" fn langtag_viable(bytes: *const u8, len: usize) -> usize {
-    calls::viable::langtag_viable(lent(bytes, len))
+pub unsafe extern "C" fn langtag_viable_len(bytes: *const u8, len: usize) -> usize {
+    calls::viable::langtag_viable_len(lent(bytes, len))
 }
 
 #[no_mangle]
-pub unsafe extern "C" fn langtag_stop(bytes: *const u8, len: usize) -> usize {
-    calls::viable::langtag_stop(lent(bytes, len))
+pub unsafe extern "C" fn langtag_stop_len(bytes: *const u8, len: usize) -> usize {
+    calls::viable::langtag_stop_len(lent(bytes, len))
 }
 
 #[no_mangle]
@@ -248,13 +249,18 @@ pub unsafe extern "C" fn langtag_registry_date() -> u32 {
 }
 
 #[no_mangle]
-pub unsafe extern "C" fn langtag_maximize(bytes: *const u8, len: usize, buffer: *mut u8, buffer_len: usize) -> usize {
-    calls::likely::langtag_maximize(lent(bytes, len), taken(buffer, buffer_len))
+pub unsafe extern "C" fn langtag_maximized(bytes: *const u8, len: usize, buffer: *mut u8, buffer_len: usize) -> usize {
+    calls::likely::langtag_maximized(lent(bytes, len), taken(buffer, buffer_len))
 }
 
 #[no_mangle]
-pub unsafe extern "C" fn langtag_minimize(bytes: *const u8, len: usize, buffer: *mut u8, buffer_len: usize) -> usize {
-    calls::likely::langtag_minimize(lent(bytes, len), taken(buffer, buffer_len))
+pub unsafe extern "C" fn langtag_minimized(bytes: *const u8, len: usize, buffer: *mut u8, buffer_len: usize) -> usize {
+    calls::likely::langtag_minimized(lent(bytes, len), taken(buffer, buffer_len))
+}
+
+#[no_mangle]
+pub unsafe extern "C" fn langtag_parent(bytes: *const u8, len: usize, buffer: *mut u8, buffer_len: usize) -> usize {
+    calls::parent::langtag_parent(lent(bytes, len), taken(buffer, buffer_len))
 }
 
 #[no_mangle]
@@ -286,8 +292,46 @@ pub unsafe extern "C" fn langtag_best_for_ranges(text: *const u8, text_len: usiz
 }
 
 #[no_mangle]
+pub unsafe extern "C" fn langtag_suitable_for_header(header: *const u8, header_len: usize, bytes: *const u8, len: usize, tags: *const Span, tags_len: usize, found: *mut usize, found_len: usize) -> usize {
+    calls::suitable::langtag_suitable_for_header(lent(header, header_len), lent(bytes, len), lent(tags, tags_len), taken(found, found_len))
+}
+
+#[no_mangle]
+pub unsafe extern "C" fn langtag_suitable_for_ranges(text: *const u8, text_len: usize, ranges: *const Span, ranges_len: usize, bytes: *const u8, len: usize, tags: *const Span, tags_len: usize, found: *mut usize, found_len: usize) -> usize {
+    calls::suitable::langtag_suitable_for_ranges(lent(text, text_len), lent(ranges, ranges_len), lent(bytes, len), lent(tags, tags_len), taken(found, found_len))
+}
+
+#[no_mangle]
+pub unsafe extern "C" fn langtag_prepare(bytes: *const u8, len: usize, tag: *mut PreparedTag) {
+    calls::prepare::langtag_prepare(lent(bytes, len), &mut *tag);
+}
+
+#[no_mangle]
+pub unsafe extern "C" fn langtag_site_best_for_header(header: *const u8, header_len: usize, bytes: *const u8, len: usize, tags: *const PreparedTag, tags_len: usize) -> usize {
+    calls::site::langtag_site_best_for_header(lent(header, header_len), lent(bytes, len), lent(tags, tags_len))
+}
+
+#[no_mangle]
+pub unsafe extern "C" fn langtag_site_match_for_header(header: *const u8, header_len: usize, bytes: *const u8, len: usize, tags: *const PreparedTag, tags_len: usize, found: *mut BestMatch) -> usize {
+    let mut new_found: BestMatch = zeroed();
+    let answer = calls::site::langtag_site_match_for_header(lent(header, header_len), lent(bytes, len), lent(tags, tags_len), &mut new_found);
+    found.write(new_found);
+    answer
+}
+
+#[no_mangle]
+pub unsafe extern "C" fn langtag_site_best_for_ranges(text: *const u8, text_len: usize, ranges: *const Span, ranges_len: usize, bytes: *const u8, len: usize, tags: *const PreparedTag, tags_len: usize) -> usize {
+    calls::site::langtag_site_best_for_ranges(lent(text, text_len), lent(ranges, ranges_len), lent(bytes, len), lent(tags, tags_len))
+}
+
+#[no_mangle]
 pub unsafe extern "C" fn langtag_from_posix(name: *const u8, name_len: usize, buffer: *mut u8, buffer_len: usize) -> usize {
     calls::posix::langtag_from_posix(lent(name, name_len), taken(buffer, buffer_len))
+}
+
+#[no_mangle]
+pub unsafe extern "C" fn langtag_to_posix(bytes: *const u8, len: usize, buffer: *mut u8, buffer_len: usize) -> usize {
+    calls::posix::langtag_to_posix(lent(bytes, len), taken(buffer, buffer_len))
 }
 
 #[no_mangle]

@@ -87,6 +87,25 @@ pub fn posix(name: Option<&str>) -> String {
     }
 }
 
+/// Returns the name for a tag. The tag that the name gives must be the tag again, except for a likely script.
+pub fn posix_name(text: Option<&str>) -> String {
+    let Some(Ok(tag)) = text.map(LangTag::new) else {
+        return "-".into();
+    };
+    let Some(name) = to_posix(tag) else {
+        let mut buffer = [b'~'; 4];
+        assert_eq!(write_to_posix(tag, &mut buffer), Ok(None));
+        assert_eq!(buffer, [b'~'; 4]);
+        return "-".into();
+    };
+    check_buffer(&name, |buffer| {
+        length(write_to_posix(tag, buffer).map(Option::unwrap))
+    });
+    let back = from_posix(&name).unwrap();
+    assert!(back == tag || maximized(&back) == maximized(tag), "{name}");
+    name
+}
+
 pub fn unknown(name: &[u8]) -> String {
     match unknown_modifier(name) {
         Some(modifier) => escaped(modifier),
@@ -168,4 +187,36 @@ pub fn best_ranges(ranges: &str, tags: &str) -> String {
         assert_eq!(found, best_for_ranges(&texts, tags));
         found
     })
+}
+
+/// Returns the tags at the indices, which a site must return, too.
+fn all_shown(found: &[usize], tags: &[LangTag<'_>], of_site: &[&LangTag<'_>]) -> String {
+    let texts: Vec<&str> = found.iter().map(|index| tags[*index].as_str()).collect();
+    assert!(of_site
+        .iter()
+        .map(|tag| tag.as_str())
+        .eq(texts.iter().copied()));
+    if texts.is_empty() {
+        return "-".into();
+    }
+    texts.join(" ")
+}
+
+/// Returns the suitable tags. An array that is too short must get the first of them.
+pub fn suitable(header: &[u8], tags: &str) -> String {
+    let tags = tags_of(tags);
+    let found = suitable_for_header(header, &tags);
+    for room in 0..=tags.len() {
+        let mut some = vec![usize::MAX; room];
+        let count = write_suitable(header, &tags, &mut some).len();
+        assert_eq!(some[..count], found[..room.min(found.len())]);
+        assert!(some[count..].iter().all(|index| *index == usize::MAX));
+    }
+    all_shown(&found, &tags, &Site::new(&tags).suitable_for_header(header))
+}
+
+pub fn suitable_ranges(ranges: &str, tags: &str) -> String {
+    let (texts, tags): (Vec<&str>, _) = (ranges.split_whitespace().collect(), tags_of(tags));
+    let found = suitable_for_ranges(&texts, &tags);
+    all_shown(&found, &tags, &Site::new(&tags).suitable_for_ranges(&texts))
 }

@@ -3,6 +3,8 @@
 mod edits;
 mod likely;
 mod matching;
+#[cfg(feature = "names")]
+mod names;
 mod reader;
 mod registry;
 mod tags;
@@ -13,7 +15,7 @@ mod walks;
 use reader::{ask, Row};
 
 /// The calls that the C library answers.
-const OF_C: [&str; 15] = [
+const OF_C: [&str; 16] = [
     "tag",
     "grandfathered",
     "viable",
@@ -29,6 +31,7 @@ const OF_C: [&str; 15] = [
     "distance",
     "right-to-left",
     "posix",
+    "posix-name",
 ];
 
 fn answer(row: &Row) -> String {
@@ -70,12 +73,19 @@ fn answer(row: &Row) -> String {
         "distance" => likely::far(row.text(0), row.text(1)),
         "right-to-left" => likely::direction(row.text(0)),
         "posix" => likely::posix(row.text(0)),
+        "posix-name" => likely::posix_name(row.text(0)),
         "unknown-modifier" => likely::unknown(&row.arguments[0]),
         "parents" => likely::chain(row.text(0)),
+        #[cfg(feature = "names")]
+        "describe" => names::in_english(row.text(0)),
+        #[cfg(feature = "names")]
+        "autonym" => names::own(row.text(0)),
         "best" => likely::best(&row.arguments[0], row.str(1)),
         "best-match" => likely::best_match(&row.arguments[0], row.str(1)),
         "best-accepted" => likely::best_accepted(row.str(0), row.str(1)),
         "best-ranges" => likely::best_ranges(row.str(0), row.str(1)),
+        "suitable" => likely::suitable(&row.arguments[0], row.str(1)),
+        "suitable-ranges" => likely::suitable_ranges(row.str(0), row.str(1)),
         "keyword" => unicode::value(row.str(0), row.str(1)),
         "keywords" => unicode::pairs(row.str(0)),
         "attributes" => unicode::distinct(row.str(0)),
@@ -113,10 +123,11 @@ files! {
     forms: "likely.txt", 250, ["maximized", "minimized"];
     distances: "distance.txt", 140, ["distance"];
     directions: "direction.txt", 325, ["right-to-left"];
-    names: "posix.txt", 150, ["posix", "unknown-modifier"];
+    names: "posix.txt", 230, ["posix", "posix-name", "unknown-modifier"];
     parents: "parents.txt", 335, ["parents"];
     choices: "choices.txt", 285, ["best", "best-match"];
     preferences: "lists.txt", 15, ["best-accepted", "best-ranges"];
+    suitable: "suitable.txt", 32, ["suitable", "suitable-ranges"];
     lengths: "lengths.txt", 180, ["base", "tag", "scan", "recommended", "validity", "suggestion", "canonical", "grandfathered", "viable", "refused",
         "range", "maximized", "minimized", "right-to-left", "posix", "unknown-modifier", "match", "order", "distance", "header", "ranges",
         "best", "best-match", "best-accepted", "best-ranges", "edit", "keyword", "keywords", "attributes", "transform", "extensions-form",
@@ -127,6 +138,9 @@ files! {
     cases: "cldr.txt", 1774, ["cldr-version", "locale-form"];
     keywords: "unicode.txt", 500, ["keyword", "keywords", "attributes", "transform"];
 }
+
+#[cfg(feature = "names")]
+files! { display_names: "names.txt", 430, ["describe", "autonym"]; }
 
 #[test]
 fn as_c_answers() {

@@ -13,7 +13,7 @@ use crate::spans::tag_of;
 ///
 /// Returns 0 and writes nothing if the bytes are not a tag.
 #[inline]
-pub fn langtag_maximize(bytes: &[u8], buffer: &mut [u8]) -> usize {
+pub fn langtag_maximized(bytes: &[u8], buffer: &mut [u8]) -> usize {
     match tag_of(bytes) {
         Some(tag) => write_maximized(tag, buffer),
         None => 0,
@@ -26,7 +26,7 @@ pub fn langtag_maximize(bytes: &[u8], buffer: &mut [u8]) -> usize {
 ///
 /// Returns 0 and writes nothing if the bytes are not a tag.
 #[inline]
-pub fn langtag_minimize(bytes: &[u8], buffer: &mut [u8]) -> usize {
+pub fn langtag_minimized(bytes: &[u8], buffer: &mut [u8]) -> usize {
     match tag_of(bytes) {
         Some(tag) => write_minimized(tag, buffer),
         None => 0,

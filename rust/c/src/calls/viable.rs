@@ -10,7 +10,7 @@ use crate::erased::scan::viable_len;
 ///
 /// [RFC 5646 section 2.1]: https://www.rfc-editor.org/rfc/rfc5646#section-2.1
 #[inline]
-pub fn langtag_viable(bytes: &[u8]) -> usize {
+pub fn langtag_viable_len(bytes: &[u8]) -> usize {
     viable_len(bytes)
 }
 
@@ -18,6 +18,6 @@ pub fn langtag_viable(bytes: &[u8]) -> usize {
 /// if there is none: 3 for `zh_Hant` and `zh-`. A program that reads the string byte by byte can
 /// stop after this prefix.
 #[inline]
-pub fn langtag_stop(bytes: &[u8]) -> usize {
+pub fn langtag_stop_len(bytes: &[u8]) -> usize {
     bytes.len().min(viable_len(bytes) + 1)
 }

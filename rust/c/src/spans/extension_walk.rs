@@ -3,7 +3,7 @@
 //! Where the subtags of an extension are in a tag (RFC 5646 section 2.2.6).
 
 use crate::erased::extension::first_extension_end;
-use crate::erased::keyword::Keys;
+use crate::erased::keyword::{KeySet, Keys};
 use crate::erased::scan::{case_insensitive_eq, into_smallcase, segment_end};
 use crate::spans::span::Span;
 use crate::spans::tag::normal_tag_of;
@@ -76,48 +76,15 @@ pub fn value_of(bytes: &[u8], subtags: Span, keys: Keys, key: &[u8]) -> Option<S
     None
 }
 
-/// Returns whether a subtag equals one of the first `count` subtags, ignoring case.
-fn is_among_first(bytes: &[u8], subtags: Span, count: usize, subtag: &[u8]) -> bool {
-    let mut rest = subtags;
-    let mut left = count;
-    while let Some((_, other)) = take_subtag(bytes, &mut rest) {
-        if left == 0 {
-            return false;
-        }
-        if case_insensitive_eq(subtag, other) {
-            return true;
-        }
-        left -= 1;
-    }
-    false
-}
-
-/// Returns the rest of the subtags after the first `count`.
-fn after_first(bytes: &[u8], subtags: Span, count: usize) -> Span {
-    let mut rest = subtags;
-    let mut left = count;
-    while left > 0 {
-        if take_subtag(bytes, &mut rest).is_none() {
-            return rest;
-        }
-        left -= 1;
-    }
-    rest
-}
-
-/// Returns whether a subtag is a key that equals none of the first `count` subtags, ignoring case.
-#[inline]
-fn is_new_key(bytes: &[u8], subtags: Span, keys: Keys, count: usize, subtag: &[u8]) -> bool {
-    keys.has(subtag) && !is_among_first(bytes, subtags, count, subtag)
-}
-
 /// Returns the first key after the first `passed` subtags that equals no subtag before it, with its
 /// value. `passed` then counts the subtags up to and including that key.
 pub fn next_key(bytes: &[u8], subtags: Span, keys: Keys, passed: &mut usize) -> Option<KeyPlace> {
-    let mut rest = after_first(bytes, subtags, *passed);
-    let mut count = *passed;
+    let mut rest = subtags;
+    let mut met = KeySet::new();
+    let mut count = 0;
     while let Some((key, subtag)) = take_subtag(bytes, &mut rest) {
-        if is_new_key(bytes, subtags, keys, count, subtag) {
+        let is_new = met.insert(subtag);
+        if count >= *passed && keys.has(subtag) && is_new {
             *passed = count + 1;
             let value = before_key(bytes, rest, keys);
             return Some(KeyPlace { key, value });

@@ -84,14 +84,14 @@ impl<'a> Asked<'a> {
         match self.command {
             Command::Show => Ok(show(tag, self.options)),
             Command::Check => check(tag, self.options),
-            Command::Maximize => Ok(self.form(tag, try_maximized(tag)?)),
-            Command::Minimize => Ok(self.form(tag, try_minimized(tag)?)),
+            Command::Maximize => Ok(self.form(tag, &try_maximized(tag)?)),
+            Command::Minimize => Ok(self.form(tag, &try_minimized(tag)?)),
             Command::Match => Ok(self.matched(tag)),
-            _ => Ok(self.form(tag, try_canonical(tag)?)),
+            _ => Ok(self.form(tag, &try_canonical(tag)?)),
         }
     }
 
-    fn form(&self, tag: LangTag<'_>, form: LangTagBuf) -> Answer {
+    fn form(&self, tag: LangTag<'_>, form: &LangTagBuf) -> Answer {
         Answer::of(tag.as_bytes(), &[form.as_str()], self.options, "")
     }
 
@@ -110,9 +110,12 @@ impl<'a> Asked<'a> {
     }
 
     fn matched(&self, tag: LangTag<'_>) -> Answer {
-        let is_matched = self.range.is_some_and(|range| match self.options.basic {
-            true => range.matches_basic(tag),
-            false => range.matches_extended(tag),
+        let is_matched = self.range.is_some_and(|range| {
+            if self.options.basic {
+                range.matches_basic(tag)
+            } else {
+                range.matches_extended(tag)
+            }
         });
         let columns = if is_matched { "yes" } else { "no" };
         let line = match (self.options.tsv, is_matched) {
@@ -195,14 +198,15 @@ fn check(tag: LangTag<'_>, options: &Options) -> Result<Answer, Failure> {
         return Ok(Answer::of(tag.as_bytes(), columns, options, " "));
     };
     let (what, subtag) = fault_of(&invalid);
-    let answer = match options.tsv {
-        true => Answer::of(
+    let answer = if options.tsv {
+        Answer::of(
             tag.as_bytes(),
             &["invalid", what, &subtag, &form],
             options,
             "",
-        ),
-        false => Answer::of(
+        )
+    } else {
+        Answer::of(
             tag.as_bytes(),
             &[
                 "invalid",
@@ -211,7 +215,7 @@ fn check(tag: LangTag<'_>, options: &Options) -> Result<Answer, Failure> {
             ],
             options,
             " ",
-        ),
+        )
     };
     Ok(answer.because(pointer::invalid(tag, &invalid)))
 }
@@ -260,7 +264,7 @@ pub fn best(options: &Options, texts: &[Vec<u8>]) -> Result<Answer, Failure> {
 /// Returns the answer of `distance` to a line of two tags.
 pub fn distance_in(line: &[u8], options: &Options) -> Answer {
     let mut words = line
-        .split(|byte| byte.is_ascii_whitespace())
+        .split(u8::is_ascii_whitespace)
         .filter(|word| !word.is_empty());
     match (words.next(), words.next(), words.next()) {
         (Some(desired), Some(supported), None) => distance_of(desired, supported, options),

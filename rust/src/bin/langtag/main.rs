@@ -47,8 +47,8 @@ fn said(words: &options::Words) -> ExitCode {
     }
 }
 
-/// Answers the texts, and returns whether the answers are good: all of them or, for `match`, at
-/// least one.
+/// Answers the given strings, and returns whether the answers are good: all of them or, for `match`,
+/// at least one.
 fn run(options: &Options) -> Result<bool, Failure> {
     let stdout = io::stdout().lock();
     let mut output = BufWriter::new(stdout);
@@ -64,7 +64,7 @@ fn run(options: &Options) -> Result<bool, Failure> {
     Ok(good)
 }
 
-/// Answers each text by itself.
+/// Answers each string by itself.
 fn each(options: &Options, command: Command, output: &mut impl Write) -> Result<bool, Failure> {
     let asked = Asked::new(command, options)?;
     let (mut all, mut some) = (true, false);
@@ -77,7 +77,7 @@ fn each(options: &Options, command: Command, output: &mut impl Write) -> Result<
     Ok(if command == Command::Match { some } else { all })
 }
 
-/// Gives one answer for all texts together.
+/// Gives one answer for all strings together.
 fn one(
     options: &Options,
     answer: fn(&Options, &[Vec<u8>]) -> Result<Answer, Failure>,
@@ -93,7 +93,7 @@ fn one(
     Ok(answer.good)
 }
 
-/// Gives the answer for two arguments, or for the two texts of each line.
+/// Gives the answer for two arguments, or for the two strings of each line.
 fn pairs(options: &Options, output: &mut impl Write) -> Result<bool, Failure> {
     if let [desired, supported] = &options.texts[..] {
         let answer = answers::distance_of(desired, supported, options);

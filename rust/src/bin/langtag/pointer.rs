@@ -38,7 +38,7 @@ pub fn invalid(tag: LangTag<'_>, invalid: &InvalidSubtag<'_>) -> String {
 }
 
 /// Returns the first singleton that repeats an earlier singleton, as a slice of the tag.
-fn repeated_singleton<'a>(tag: LangTag<'a>) -> &'a str {
+fn repeated_singleton(tag: LangTag<'_>) -> &str {
     let index = tag
         .as_normal()
         .and_then(|tag| tag.repeated_singleton_index());

@@ -39,6 +39,7 @@ impl<'a> InRecommendedCase<'a> {
 }
 
 impl fmt::Display for InRecommendedCase<'_> {
+    #[inline]
     fn fmt(&self, f: &mut fmt::Formatter<'_>) -> fmt::Result {
         let bytes = self.text.as_bytes();
         if is_in_recommended_case(bytes) {

@@ -32,6 +32,7 @@ impl Piece {
 
     /// Returns the piece at the start of `text`, which is the rest of a longer string after a
     /// hyphen. No subtag before that hyphen may have a single byte.
+    #[inline]
     pub(crate) fn later(text: &[u8]) -> Piece {
         match segment_end(text, 0) {
             1 => Piece {

@@ -34,6 +34,7 @@ impl<'a> RecommendedBytes<'a> {
 impl<'a> Iterator for RecommendedBytes<'a> {
     type Item = u8;
 
+    #[inline]
     fn next(&mut self) -> Option<u8> {
         let Some((&byte, piece)) = self.piece.split_first() else {
             let (&hyphen, text) = self.rest.split_first()?;

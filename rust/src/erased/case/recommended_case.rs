@@ -31,6 +31,7 @@ pub fn make_recommended_case(text: &mut [u8]) {
 }
 
 /// Puts a lowercase text into its recommended case, piece by piece.
+#[inline]
 fn capitalise_pieces(text: &mut [u8]) {
     let mut end = Piece::first(text).len;
     while end < text.len() {

@@ -4,7 +4,7 @@
 //! higher weight.
 
 use crate::erased::choice::candidate::Candidate;
-use crate::erased::choice::improve::{improve, limit};
+use crate::erased::choice::improve::{improve_entry, limit};
 use crate::erased::choice::range_list::RangeList;
 use crate::erased::choice::tag_list::TagList;
 use crate::erased::choice::wish::Wish;
@@ -43,6 +43,6 @@ fn improve_for_range<'a, 't, T: TagList>(
         return;
     };
     for index in 0..tags.count() {
-        improve(found, &wish, tags.known_at(index), index);
+        improve_entry(found, &wish, tags, index);
     }
 }

@@ -5,7 +5,7 @@
 
 use crate::erased::choice::candidate::Candidate;
 use crate::erased::choice::improve::{improve, limit};
-use crate::erased::choice::known_tag::KnownTag;
+use crate::erased::choice::known_tag::{known_at, KnownTag};
 use crate::erased::choice::range_list::RangeList;
 use crate::erased::choice::refused::is_refused;
 use crate::erased::choice::tag_list::TagList;
@@ -35,7 +35,7 @@ fn improve_at<'a, 't, R: RangeList<'a>, T: TagList>(
     index: usize,
 ) {
     if is_open(ranges, tags, index) {
-        improve_for_tag(found, ranges, tags.known_at(index), index);
+        improve_for_tag(found, ranges, known_at(tags, index), index);
     }
 }
 

@@ -3,8 +3,9 @@
 //! Improving the candidate by one more tag.
 
 use crate::erased::choice::candidate::{Candidate, Rank, Service};
-use crate::erased::choice::known_tag::KnownTag;
+use crate::erased::choice::known_tag::{known_at, KnownTag};
 use crate::erased::choice::nearness::measured;
+use crate::erased::choice::tag_list::TagList;
 use crate::erased::choice::wish::Wish;
 
 /// Returns the distance below which a tag may be better than the candidate, for a range with this
@@ -49,8 +50,23 @@ pub(crate) fn improve<'a, 't>(
     }
 }
 
+/// Does what [`improve`] does, for the entry at an index of a list.
+///
+/// The entry is read twice, so that what is not needed of an entry that is far stays out of memory.
+#[inline]
+pub(crate) fn improve_entry<'a, 't, T: TagList>(
+    found: &mut Option<Candidate<'a, 't>>,
+    wish: &Wish<'a>,
+    tags: &'t T,
+    index: usize,
+) {
+    if !known_at(tags, index).is_far_from(wish) {
+        improve_near(found, wish, known_at(tags, index), index);
+    }
+}
+
 /// Does what [`improve`] does, without testing the first letters. It is a separate function, so
-/// that this test can be inlined in the loops over tags.
+/// that this test can be inlined in the loop over tags.
 #[inline(never)]
 fn improve_near<'a, 't>(
     found: &mut Option<Candidate<'a, 't>>,

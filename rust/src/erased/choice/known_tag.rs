@@ -2,17 +2,17 @@
 
 //! A tag as the choice reads it.
 
-use crate::erased::choice::prepared_tag::PreparedTag;
+use crate::erased::choice::prepared_form::PreparedForm;
+use crate::erased::choice::tag_list::TagList;
 use crate::erased::choice::wish::Wish;
 use crate::erased::likely::{matching_form, TagFields};
 
-/// A tag as the choice reads it: a string, or a tag with what was computed of it before.
+/// A tag as the choice reads it: a string, or a string with what was kept of it. What was kept may
+/// be untrue of an entry of a list that is not a tag.
 #[derive(Clone, Copy)]
-pub enum KnownTag<'t> {
-    /// The string of a tag.
+pub(crate) enum KnownTag<'t> {
     Text(&'t [u8]),
-    /// A tag that was prepared.
-    Prepared(&'t PreparedTag<'t>),
+    Prepared(&'t [u8], &'t PreparedForm),
 }
 
 impl<'t> KnownTag<'t> {
@@ -21,7 +21,7 @@ impl<'t> KnownTag<'t> {
     pub(crate) fn bytes(self) -> &'t [u8] {
         match self {
             KnownTag::Text(text) => text,
-            KnownTag::Prepared(tag) => tag.tag().as_bytes(),
+            KnownTag::Prepared(text, _) => text,
         }
     }
 
@@ -30,7 +30,7 @@ impl<'t> KnownTag<'t> {
     pub(crate) fn form(self) -> Option<TagFields<'t>> {
         match self {
             KnownTag::Text(text) => matching_form(text),
-            KnownTag::Prepared(tag) => tag.form(),
+            KnownTag::Prepared(text, prepared) => prepared_form(text, prepared),
         }
     }
 
@@ -39,7 +39,24 @@ impl<'t> KnownTag<'t> {
     pub(crate) fn is_far_from(self, wish: &Wish<'_>) -> bool {
         match self {
             KnownTag::Text(text) => wish.is_far_from(text),
-            KnownTag::Prepared(tag) => tag.is_far_from(wish),
+            KnownTag::Prepared(_, prepared) => prepared.is_far_from(wish),
         }
+    }
+}
+
+/// Returns the matching form that was kept of a string, or else computes it.
+#[inline]
+fn prepared_form<'t>(text: &'t [u8], prepared: &'t PreparedForm) -> Option<TagFields<'t>> {
+    match prepared.form() {
+        Some(form) => Some(form),
+        None => matching_form(text),
+    }
+}
+
+/// Returns the tag at an index of a list as the choice reads it.
+pub(crate) fn known_at<T: TagList>(tags: &T, index: usize) -> KnownTag<'_> {
+    match tags.form_at(index) {
+        Some(prepared) => KnownTag::Prepared(tags.bytes_at(index), prepared),
+        None => KnownTag::Text(tags.bytes_at(index)),
     }
 }

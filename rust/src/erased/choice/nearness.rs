@@ -3,7 +3,7 @@
 //! How near a tag is to a range.
 
 use crate::erased::choice::known_tag::KnownTag;
-use crate::erased::choice::prepared_tag::PreparedTag;
+use crate::erased::choice::prepared_form::PreparedForm;
 use crate::erased::choice::rule_distance::language_distance;
 use crate::erased::choice::tag_distance::places_distance;
 use crate::erased::choice::wish::Wish;
@@ -38,7 +38,7 @@ pub(crate) fn measured<'t>(limit: u8, wish: &Wish<'_>, tag: KnownTag<'t>) -> Opt
 fn nearer_than<'t>(limit: u8, wish: &Wish<'_>, tag: KnownTag<'t>) -> Option<Nearness<'t>> {
     match tag {
         KnownTag::Text(text) => nearer_text(limit, wish, text),
-        KnownTag::Prepared(tag) => nearer_prepared(limit, wish, tag),
+        KnownTag::Prepared(text, prepared) => nearer_prepared(limit, wish, text, prepared),
     }
 }
 
@@ -54,14 +54,16 @@ fn nearer_text<'t>(limit: u8, wish: &Wish<'_>, tag: &'t [u8]) -> Option<Nearness
 fn nearer_prepared<'t>(
     limit: u8,
     wish: &Wish<'_>,
-    tag: &'t PreparedTag<'t>,
+    tag: &'t [u8],
+    prepared: &'t PreparedForm,
 ) -> Option<Nearness<'t>> {
-    match (wish.form, tag.form()) {
-        (Some(desired), Some(form)) if tag.has_language_of(wish) => {
-            nearer_places(limit, 0, desired, form)
-        }
-        (Some(desired), Some(form)) => nearer_form(limit, desired, form),
-        _ => equal_text(limit, wish.range, tag.tag().as_bytes()),
+    let Some(form) = prepared.form() else {
+        return nearer_text(limit, wish, tag);
+    };
+    match wish.form {
+        Some(desired) if prepared.has_language_of(wish) => nearer_places(limit, 0, desired, form),
+        Some(desired) => nearer_form(limit, desired, form),
+        None => equal_text(limit, wish.range, tag),
     }
 }
 

@@ -36,8 +36,14 @@ impl RangeLanguage {
     /// Returns whether another language, given by its number, is neither this language nor near it.
     #[inline]
     pub(crate) fn is_far(&self, other: u32) -> bool {
-        other != self.number && !self.keys.contains(&(self.number * 32768 + other))
+        other != self.number && !has_key(self.keys, self.number * 32768 + other)
     }
+}
+
+/// Returns whether a key is among a few keys. For so few, `contains` takes longer.
+#[inline]
+fn has_key(keys: &[u32], key: u32) -> bool {
+    keys.iter().any(|own| *own == key)
 }
 
 /// Returns the keys of the rules from a number on, as far as 32,768 numbers go.

@@ -4,7 +4,7 @@
 
 use crate::erased::choice::best::{best_among, match_among};
 use crate::erased::choice::best_match::BestMatch;
-use crate::erased::choice::known_tag::KnownTag;
+use crate::erased::choice::prepared_form::PreparedForm;
 use crate::erased::choice::prepared_tag::PreparedTag;
 use crate::erased::choice::range_list::RangeList;
 use crate::erased::choice::tag_list::TagList;
@@ -100,7 +100,7 @@ impl TagList for Site<'_, '_> {
     }
 
     #[inline]
-    fn known_at(&self, index: usize) -> KnownTag<'_> {
-        KnownTag::Prepared(&self.tags[index])
+    fn form_at(&self, index: usize) -> Option<&PreparedForm> {
+        Some(self.tags[index].form())
     }
 }

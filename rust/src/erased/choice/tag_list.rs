@@ -2,7 +2,7 @@
 
 //! The lists of tags from which one can be chosen.
 
-use crate::erased::choice::known_tag::KnownTag;
+use crate::erased::choice::prepared_form::PreparedForm;
 use crate::erased::tag::LangTag;
 
 /// A list of tags with an index for each. An entry that is not a tag is allowed, but never chosen.
@@ -40,10 +40,11 @@ pub trait TagList {
     /// returned.
     fn bytes_at(&self, index: usize) -> &[u8];
 
-    /// Returns the tag at an index as the choice reads it. Override this only for prepared tags.
+    /// Returns what was prepared of the tag at an index, or `None`. If the entry is not a tag, this
+    /// may be untrue of it. Override this only for prepared tags.
     #[inline]
-    fn known_at(&self, index: usize) -> KnownTag<'_> {
-        KnownTag::Text(self.bytes_at(index))
+    fn form_at(&self, _index: usize) -> Option<&PreparedForm> {
+        None
     }
 }
 

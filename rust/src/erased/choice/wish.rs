@@ -56,7 +56,7 @@ impl<'a> Wish<'a> {
     #[inline]
     pub(crate) fn is_far_from_language(&self, letters: (u8, u8), number: u32) -> bool {
         match self.language {
-            Some(own) => letters != own.letters && own.is_far(number),
+            Some(own) => own.is_far(number) && letters != own.letters,
             None => false,
         }
     }

@@ -313,6 +313,7 @@ impl fmt::Display for ExtensionBuf {
 
 /// Returns whether the string is a singleton and at least one subtag of an extension, joined by
 /// hyphens.
+#[inline]
 pub(crate) fn is_extension(text: &str) -> bool {
     let mut subtags = Subtags::new(text);
     let opened = subtags

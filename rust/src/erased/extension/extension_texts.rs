@@ -36,6 +36,7 @@ impl<'a> Iterator for ExtensionTexts<'a> {
 
 /// Returns the string of the first extension, and the string of the other extensions if there are
 /// any, without the hyphen in between.
+#[inline]
 fn split_extension<'a>(text: &'a str) -> (&'a str, Option<&'a str>) {
     let end = first_extension_end(text.as_bytes());
     if end == text.len() {
@@ -47,6 +48,7 @@ fn split_extension<'a>(text: &'a str) -> (&'a str, Option<&'a str>) {
 /// Returns where the first extension of a string ends: at the first hyphen that is followed by a
 /// subtag of one byte, or at the end of the string. The first subtag, which is the singleton, does
 /// not end the extension.
+#[inline]
 #[must_use]
 pub fn first_extension_end(text: &[u8]) -> usize {
     let mut end = segment_end(text, 0);

@@ -86,6 +86,7 @@ impl Singleton {
     /// assert!(Singleton::from_string("u").is_ok());
     /// assert_eq!(Singleton::from_string("uu"), Err(InvalidSingleton("uu")));
     /// ```
+    #[inline]
     pub fn from_string(str: &str) -> Result<Self, InvalidSingleton<&str>> {
         if let [c] = str.as_bytes() {
             if let Ok(singleton) = Singleton::new(*c) {
@@ -124,6 +125,7 @@ impl TryFrom<u8> for Singleton {
 impl TryFrom<char> for Singleton {
     type Error = InvalidSingleton<char>;
 
+    #[inline]
     fn try_from(c: char) -> Result<Self, InvalidSingleton<char>> {
         if !c.is_ascii() {
             return Err(InvalidSingleton(c));

@@ -217,6 +217,7 @@ impl<'a> Language<'a> {
     }
 
     /// Returns the primary subtag, and the extension if there is one.
+    #[inline]
     fn split(&self) -> (PrimaryLanguage<'a>, Option<LanguageExtension<'a>>) {
         let text = self.as_str();
         let end = segment_end(text.as_bytes(), 0);
@@ -231,6 +232,7 @@ impl<'a> Language<'a> {
 
 /// Returns whether the string is a language: a primary subtag, and at most three extended subtags,
 /// which only a primary subtag of two or three letters may have.
+#[inline]
 fn is_language(text: &str) -> bool {
     let mut subtags = Subtags::new(text);
     let Some(primary) = subtags.next() else {

@@ -5,7 +5,7 @@
 //!
 //! `zh-min-nan` is a [`Language`]. Its [`PrimaryLanguage`] is `zh`, and its [`LanguageExtension`]
 //! is `min-nan`, with the [`ExtendedLangTag`]s `min` and `nan`. Each type has an owned form, such
-//! as [`LanguageBuf`].
+//! as `LanguageBuf`.
 //!
 //! ```rust
 //! # fn main() -> Result<(), Box<dyn std::error::Error>> {

@@ -65,7 +65,7 @@ pub fn minimized(tag: LangTag<'_>) -> Result<LangTagBuf, AllocError> {
     Ok(tag_of(minimal_bytes(tag)?))
 }
 
-/// Writes a tag with its likely subtags to a buffer, as [`maximized`] returns it, and returns its
+/// Writes a tag with its likely subtags to a buffer, as `maximized` returns it, and returns its
 /// length in bytes. If the buffer is too short, it stays unchanged, and the length says how long a
 /// buffer must be. It does not allocate.
 ///
@@ -87,8 +87,8 @@ pub fn write_maximized(tag: LangTag<'_>, buffer: &mut [u8]) -> usize {
     write_changed(normal, add_likely_subtags(TagFields::of(normal)), buffer)
 }
 
-/// Writes a tag without its likely subtags to a buffer, as [`minimized`] returns it, and returns
-/// its length in bytes. If the buffer is too short, it stays unchanged. It does not allocate.
+/// Writes a tag without its likely subtags to a buffer, as `minimized` returns it, and returns its
+/// length in bytes. If the buffer is too short, it stays unchanged. It does not allocate.
 ///
 /// ```
 /// # fn main() -> Result<(), Box<dyn std::error::Error>> {

@@ -2,7 +2,8 @@
 
 //! Likely subtags (UTS #35, part 1, section 'Likely Subtags') from Unicode's CLDR. They are the
 //! most likely script and region of a language, which can be added to a tag or removed from it. The
-//! crate also finds the writing direction of a tag, and the tags for POSIX locale names.
+//! crate also finds the writing direction of a tag, the tags for POSIX locale names, and the names
+//! for tags.
 //!
 //! ```
 //! # fn main() -> Result<(), Box<dyn std::error::Error>> {
@@ -22,11 +23,14 @@ mod fields;
 mod forms;
 mod keys;
 mod likely;
+mod locale_name;
 mod matching;
 mod modifiers;
 mod names;
 mod posix;
 mod posix_error;
+mod posix_name;
+mod posix_parts;
 mod posix_variant;
 mod put;
 mod read_text;
@@ -41,6 +45,9 @@ pub use direction::is_right_to_left;
 #[cfg(feature = "alloc")]
 pub use forms::{maximized, minimized};
 pub use forms::{write_maximized, write_minimized};
+#[cfg(feature = "alloc")]
+pub use locale_name::to_posix;
+pub use locale_name::write_to_posix;
 pub use modifiers::unknown_modifier;
 #[cfg(feature = "alloc")]
 pub use posix::from_posix;

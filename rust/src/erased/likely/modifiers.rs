@@ -7,7 +7,7 @@ use crate::erased::place::Script;
 use crate::erased::scan::{is_script, split_at_byte};
 use crate::erased::tag::case_insensitive_eq;
 
-/// Returns the modifier of a locale name if [`write_from_posix`] and [`from_posix`] drop it because
+/// Returns the modifier of a locale name if [`write_from_posix`] and `from_posix` drop it because
 /// they do not know it: `b"foo"` for `de_DE@foo`.
 ///
 /// Returns `None` if there is no modifier, if the modifier names a script or a variant, or if it is
@@ -21,7 +21,6 @@ use crate::erased::tag::case_insensitive_eq;
 /// ```
 ///
 /// [`write_from_posix`]: crate::likely::write_from_posix
-/// [`from_posix`]: crate::likely::from_posix
 #[inline]
 #[must_use]
 pub fn unknown_modifier(name: &[u8]) -> Option<&[u8]> {
@@ -116,4 +115,41 @@ fn says_nothing(modifier: &[u8]) -> bool {
         || case_insensitive_eq(b"cjknarrow", modifier)
         || case_insensitive_eq(b"quot", modifier)
         || case_insensitive_eq(b"boldquot", modifier)
+}
+
+/// The modifiers that are written, in the order in which they are tried. The empty string means
+/// that there is none.
+const MODIFIERS: [&str; 8] = [
+    "",
+    "latin",
+    "cyrillic",
+    "devanagari",
+    "ijekavian",
+    "ijekavianlatin",
+    "tarask",
+    "valencia",
+];
+
+/// Returns the first modifier that names a script and variants, ignoring case. The empty string
+/// means no script or no variants, and an empty modifier names neither.
+pub(crate) fn modifier_for(script: &[u8], variants: &[u8]) -> Option<&'static [u8]> {
+    let mut modifiers: &[&'static str] = &MODIFIERS;
+    while let [modifier, others @ ..] = modifiers {
+        if names(modifier.as_bytes(), script, variants) {
+            return Some(modifier.as_bytes());
+        }
+        modifiers = others;
+    }
+    None
+}
+
+/// Returns whether a modifier names a script and variants.
+fn names(modifier: &[u8], script: &[u8], variants: &[u8]) -> bool {
+    let named_script = match modifier_script(modifier) {
+        Some(script) => script.as_bytes(),
+        None => b"",
+    };
+    let named_variants = modifier_variant(modifier).unwrap_or("");
+    case_insensitive_eq(named_script, script)
+        && case_insensitive_eq(named_variants.as_bytes(), variants)
 }

@@ -78,8 +78,8 @@ fn bytes_of(name: &[u8]) -> Result<Option<Vec<u8>>, AllocError> {
     Ok(Some(bytes))
 }
 
-/// Writes the tag for a POSIX locale name to a buffer, as [`from_posix`] returns it, and returns
-/// its length in bytes, or `None` if the name has no tag. If the buffer is too short, it stays
+/// Writes the tag for a POSIX locale name to a buffer, as `from_posix` returns it, and returns its
+/// length in bytes, or `None` if the name has no tag. If the buffer is too short, it stays
 /// unchanged, and the length says how long a buffer must be. It does not allocate.
 ///
 /// ```

@@ -6,8 +6,8 @@
 /// The version of Unicode's CLDR in this crate.
 pub const CLDR_VERSION: &str = "48.2";
 
-/// The keys of the scripts, in rising order: each key is the number whose base-256 digits are the
-/// lowercase bytes.
+/// The keys of the scripts, in ascending order: each key is the number whose base-256 digits are
+/// the lowercase bytes.
 #[rustfmt::skip]
 pub(crate) static SCRIPT_KEYS: [u32; 179] = [
     0x61646C6D, 0x61676862, 0x61686F6D, 0x61726162, 0x61726D69, 0x61726D6E, 0x61767374, 0x62616C69, 0x62616D75,
@@ -54,8 +54,8 @@ pub(crate) static SCRIPT_NAMES: [[u8; 4]; 179] = [
     *b"Yezi", *b"Yiii", *b"Zanb",
 ];
 
-/// The keys of the regions, in rising order: each key is the number whose base-256 digits are the
-/// lowercase bytes.
+/// The keys of the regions, in ascending order: each key is the number whose base-256 digits are
+/// the lowercase bytes.
 #[rustfmt::skip]
 pub(crate) static REGION_KEYS: [u32; 235] = [
     0x00006164, 0x00006165, 0x00006166, 0x00006167, 0x0000616C, 0x0000616D, 0x0000616F, 0x00006172, 0x00006173,
@@ -1053,8 +1053,8 @@ pub(crate) static LANGUAGE_REGIONS: [u8; 7201] = [
     0x2C,
 ];
 
-/// The left sides that are not only a language, in rising order: language, script and region as one
-/// number.
+/// The left sides that are not only a language, in ascending order: language, script and region as
+/// one number.
 #[rustfmt::skip]
 pub(crate) static OTHER_KEYS: [u32; 581] = [
     0x00000001, 0x00000002, 0x00000003, 0x00000004, 0x00000006, 0x00000007, 0x00000008, 0x00000009, 0x0000000A,

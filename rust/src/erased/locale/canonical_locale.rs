@@ -80,10 +80,9 @@ fn counted_form_bytes(tag: NormalLangTag<'_>) -> Result<Vec<u8>, AllocError> {
 ///
 /// The language, the script, the region and the variants are replaced by CLDR's aliases, in the tag
 /// and in the language of `t`. Variants are put in alphabetical order, and extensions in the order
-/// of their singletons. `u` and the fields of `t` get the form of
-/// [`extensions_form`](crate::unicode::extensions_form). The script is in titlecase, the region in
-/// uppercase, and everything else in lowercase. Other extensions and private use stay, except for
-/// their case: `en-x-true` is its own form.
+/// of their singletons. `u` and the fields of `t` get the form of `extensions_form`. The script is
+/// in titlecase, the region in uppercase, and everything else in lowercase. Other extensions and
+/// private use stay, except for their case: `en-x-true` is its own form.
 ///
 /// Norwegian Sign Language, `sgn-NO`, becomes `nsl`, as in IANA's registry. CLDR has `nsi` there,
 /// which is Nigerian.

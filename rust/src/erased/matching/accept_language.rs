@@ -79,6 +79,7 @@ impl<'a> AcceptLanguage<'a> {
     }
 
     /// Leaves out the elements of weight 0, and sorts the other elements by descending weight.
+    #[inline]
     fn by_weight(elements: Vec<WeightedRange<'a>>) -> Result<AcceptLanguage<'a>, AllocError> {
         let mut ranges = elements;
         ranges.retain(|weighted| weighted.weight > 0);
@@ -172,6 +173,7 @@ pub fn tag_for_header<'h, 't>(
 
 /// Returns the elements of a header, in order.
 #[cfg(feature = "alloc")]
+#[inline]
 fn elements(header: &str) -> Result<Vec<WeightedRange<'_>>, AcceptLanguageError<'_>> {
     let mut elements = Vec::new();
     for (index, item) in header.split(',').enumerate() {
@@ -196,6 +198,7 @@ fn elements(header: &str) -> Result<Vec<WeightedRange<'_>>, AcceptLanguageError<
 
 /// Returns the elements of a header, in order, and skips malformed elements.
 #[cfg(feature = "alloc")]
+#[inline]
 fn good_elements(header: &str) -> Result<Vec<WeightedRange<'_>>, AllocError> {
     let mut elements = Vec::new();
     for item in header.split(',') {

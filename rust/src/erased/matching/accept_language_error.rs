@@ -64,6 +64,7 @@ pub enum AcceptLanguageError<'a> {
 
 #[cfg(feature = "alloc")]
 impl fmt::Display for AcceptLanguageError<'_> {
+    #[inline]
     fn fmt(&self, f: &mut fmt::Formatter<'_>) -> fmt::Result {
         match self {
             AcceptLanguageError::BadElement { index, part, .. } => {

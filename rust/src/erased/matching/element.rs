@@ -46,6 +46,7 @@ pub struct Element<'a> {
 /// ```
 ///
 /// [RFC 9110 section 12.5.4]: https://www.rfc-editor.org/rfc/rfc9110#section-12.5.4
+#[inline]
 pub fn element_at(item: &[u8]) -> Result<Element<'_>, ElementPart> {
     let end = len_before(item, b';');
     let before = &item[..end];
@@ -61,6 +62,7 @@ pub fn element_at(item: &[u8]) -> Result<Element<'_>, ElementPart> {
 }
 
 /// Returns the weight after the first `;`, or 1000 if there is no `;`.
+#[inline]
 fn weight_after(item: &[u8], semicolon: usize) -> Option<u32> {
     if semicolon == item.len() {
         return Some(1000);
@@ -71,6 +73,7 @@ fn weight_after(item: &[u8], semicolon: usize) -> Option<u32> {
 }
 
 /// Returns the bytes as a basic language range, or `None` if they are not a basic language range.
+#[inline]
 fn basic_range(bytes: &[u8]) -> Option<LanguageRange<'_>> {
     let text = core::str::from_utf8(bytes).ok()?;
     if !is_basic_range(text) {

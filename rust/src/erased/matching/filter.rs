@@ -107,6 +107,7 @@ impl<'a, 't> Filtered<'a, 't> {
 impl<'a, 't> Iterator for Filtered<'a, 't> {
     type Item = LangTag<'t>;
 
+    #[inline]
     fn next(&mut self) -> Option<LangTag<'t>> {
         let Some((range_index, tag_index)) = next_place(
             self.rule,
@@ -126,6 +127,7 @@ impl<'a, 't> Iterator for Filtered<'a, 't> {
 
 /// Returns the index of the next range that finds a tag, and the index of that tag. The search
 /// starts at the given range and tag.
+#[inline]
 fn next_place(
     rule: FilterRule,
     ranges: &[LanguageRange<'_>],

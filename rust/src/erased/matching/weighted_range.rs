@@ -18,11 +18,9 @@ use crate::erased::matching::language_range::LanguageRange;
 /// ```
 #[derive(Clone, Copy, Debug, PartialEq, Eq, Hash)]
 pub struct WeightedRange<'a> {
-    /// The range, in the case of the header. In
-    /// [`AcceptLanguage::ranges`](crate::matching::AcceptLanguage::ranges) it is a basic range.
+    /// The range, in the case of the header. In `AcceptLanguage::ranges` it is a basic range.
     pub range: LanguageRange<'a>,
-    /// The weight in thousandths. In
-    /// [`AcceptLanguage::ranges`](crate::matching::AcceptLanguage::ranges) it is from 1 to 1000,
-    /// because ranges of weight 0 are left out.
+    /// The weight in thousandths. In `AcceptLanguage::ranges` it is from 1 to 1000, because ranges
+    /// of weight 0 are left out.
     pub weight: u32,
 }

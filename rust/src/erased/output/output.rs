@@ -34,6 +34,7 @@ impl<'a> Output<'a> {
     }
 
     /// Appends bytes. The length stays at `usize::MAX` if the string has more bytes than that.
+    #[inline]
     pub fn push(&mut self, bytes: &[u8]) {
         let end = self.len.saturating_add(bytes.len());
         if end <= self.buffer.len() {

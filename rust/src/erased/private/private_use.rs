@@ -177,6 +177,7 @@ impl<'a> PrivateUse<'a> {
 }
 
 /// Returns whether the string is `x` or `X` and at least one private use subtag, joined by hyphens.
+#[inline]
 fn is_private_use(text: &str) -> bool {
     let mut subtags = Subtags::new(text);
     let marked = subtags

@@ -14,6 +14,7 @@ pub fn matches_basic(range: &str, tag: &str) -> bool {
 
 /// Returns whether a tag equals a range, or begins with the range followed by a hyphen. Case is
 /// ignored.
+#[inline]
 fn begins_with(tag: &[u8], range: &[u8]) -> bool {
     if range.len() > tag.len() || !case_insensitive_eq(range, &tag[..range.len()]) {
         return false;

@@ -3,6 +3,7 @@
 //! The basic range for an extended range (RFC 4647 section 3.2).
 
 /// Returns whether a tag equals a range, ignoring case and each `-*`.
+#[inline]
 #[must_use]
 pub fn is_range(tag: &[u8], range: &[u8]) -> bool {
     let mut tag = tag;

@@ -6,6 +6,7 @@ use crate::erased::scan::{case_insensitive_eq, Subtags};
 
 /// Returns whether the first subtag of a range matches the first subtag of a tag, and the other
 /// subtags of the range occur among the other subtags of the tag.
+#[inline]
 #[must_use]
 pub fn matches_extended(range: &str, tag: &str) -> bool {
     let mut wanted = Subtags::new(range);
@@ -36,6 +37,7 @@ fn stand_among(wanted: Subtags<'_>, mut subtags: Subtags<'_>) -> bool {
 
 /// Reads subtags until one equals `wanted`, ignoring case, and then returns `true`. Returns `false`
 /// if it reads another single-character subtag first, or if no subtags are left.
+#[inline]
 fn pass(subtags: &mut Subtags<'_>, wanted: &str) -> bool {
     while let Some(subtag) = subtags.next() {
         if case_insensitive_eq(wanted.as_bytes(), subtag.as_bytes()) {

@@ -6,6 +6,7 @@ use crate::erased::scan::segment_start;
 
 /// Returns the length of a range without its last subtag, and then without any single-character
 /// subtags at its end. Returns `None` if nothing is left.
+#[inline]
 #[must_use]
 pub fn shortened_len(range: &[u8]) -> Option<usize> {
     let mut left = range;

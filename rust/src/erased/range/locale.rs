@@ -15,6 +15,7 @@ use crate::erased::scan::{split_at_byte, split_at_either};
 /// assert_eq!(locale_place(b"zh_TW_#Hant"), b"zh_TW");
 /// assert_eq!(locale_place(b"de@euro"), b"de");
 /// ```
+#[inline]
 #[must_use]
 pub fn locale_place(name: &[u8]) -> &[u8] {
     let (front, _codeset) = split_at_either(name, b'.', b'@');

@@ -5,6 +5,7 @@
 use crate::erased::scan::{are_letters, is_private_subtag, Subtags};
 
 /// Returns whether a string is a language range, basic or extended.
+#[inline]
 #[must_use]
 pub fn is_language_range(text: &str) -> bool {
     let mut subtags = Subtags::new(text);
@@ -15,6 +16,7 @@ pub fn is_language_range(text: &str) -> bool {
 }
 
 /// Returns whether a string is a basic language range.
+#[inline]
 #[must_use]
 pub fn is_basic_range(text: &str) -> bool {
     if text == "*" {

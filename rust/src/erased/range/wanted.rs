@@ -41,10 +41,8 @@ pub struct WantedRanges<'a> {
 /// In a range, `_` is read as `-`, and everything from the first `.`, `@` or `_#` on is dropped, as
 /// in `zh_TW_#Hant`. If the rest is not a range, the element is skipped. Parameters other than `q`
 /// are ignored. A weight that is not a number, or is above 1, counts as 1. A weight may have a
-/// decimal comma: `fr;q=0,8` has the weight 800. In contrast, [`AcceptLanguage`] follows RFC 9110
+/// decimal comma: `fr;q=0,8` has the weight 800. In contrast, `AcceptLanguage` follows RFC 9110
 /// strictly.
-///
-/// [`AcceptLanguage`]: crate::matching::AcceptLanguage
 ///
 /// ```
 /// use langtag::matching::wanted_ranges;
@@ -83,6 +81,7 @@ impl<'a> Iterator for WantedRanges<'a> {
 /// let found = split_wanted(b"de,en");
 /// assert_eq!(found.map(|(first, rest)| (first.bytes, rest)), Some((&b"de"[..], &b"en"[..])));
 /// ```
+#[inline]
 #[must_use]
 pub fn split_wanted(header: &[u8]) -> Option<(WantedRange<'_>, &[u8])> {
     let mut left = header;

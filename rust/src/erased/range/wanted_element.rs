@@ -11,6 +11,7 @@ use crate::erased::scan::{first_place, is_private_subtag, split_at_byte, split_a
 
 /// Returns the range of an item of a header, with its weight. `behind` is what follows the comma
 /// after the item.
+#[inline]
 pub(crate) fn wanted_at<'a>(item: &'a [u8], behind: &[u8]) -> Option<WantedRange<'a>> {
     let (before, parameters) = split_at_byte(item, b';');
     let bytes = locale_place(trimmed(before));
@@ -48,6 +49,7 @@ pub fn is_separator(byte: u8) -> bool {
 }
 
 /// Returns the weight of the first parameter named `q`, or 1000 if there is none.
+#[inline]
 fn wanted_weight(parameters: &[u8], behind: &[u8]) -> u32 {
     let mut left = parameters;
     while !left.is_empty() {
@@ -61,6 +63,7 @@ fn wanted_weight(parameters: &[u8], behind: &[u8]) -> u32 {
 }
 
 /// Returns the value of a parameter named `q`.
+#[inline]
 fn q_value(parameter: &[u8]) -> Option<&[u8]> {
     let Some(equals) = first_place(parameter, b'=') else {
         return None;
@@ -78,6 +81,7 @@ fn is_q_name(name: &[u8]) -> bool {
 
 /// Returns the weight of a value. If the value has no point, the digits at the start of `behind`,
 /// which is the string after the next comma, are its fraction.
+#[inline]
 fn value_weight(value: &[u8], behind: &[u8]) -> u32 {
     let (whole, fraction) = split_at_byte(value, b'.');
     if whole.len() < value.len() {
@@ -100,6 +104,7 @@ fn digits_behind(text: &[u8]) -> &[u8] {
 
 /// Returns the weight of a number, given the strings before and after its decimal mark. It is 1000
 /// if the strings are not a number, or if the number is above 1.
+#[inline]
 fn number_weight(whole: &[u8], fraction: &[u8]) -> u32 {
     if !is_number(whole, fraction) || !are_zeros(whole) {
         return 1000;

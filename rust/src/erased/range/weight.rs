@@ -22,6 +22,7 @@ pub fn weight_of(text: &[u8]) -> Option<u32> {
 }
 
 /// Returns whether a string is a number from 0 to 1 with up to three decimal places.
+#[inline]
 fn is_qvalue(text: &[u8]) -> bool {
     match text {
         [b'0', fraction @ ..] => is_fraction(fraction, b'9'),
@@ -32,6 +33,7 @@ fn is_qvalue(text: &[u8]) -> bool {
 
 /// Returns whether a string is empty, or is a point and up to three digits, each at most
 /// `greatest`.
+#[inline]
 fn is_fraction(text: &[u8], greatest: u8) -> bool {
     match text {
         [] => true,

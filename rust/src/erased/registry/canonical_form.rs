@@ -77,7 +77,7 @@ pub fn is_canonical(tag: LangTag<'_>) -> bool {
     matches!(form_of(tag), Form::Same)
 }
 
-/// Writes the canonical form of a tag to a buffer, as [`canonical`] returns it, and returns its
+/// Writes the canonical form of a tag to a buffer, as `canonical` returns it, and returns its
 /// length in bytes. If the buffer is too short, it stays unchanged, and the length says how long a
 /// buffer must be. A buffer of [`canonical_bound`] bytes is always long enough. It does not
 /// allocate.

@@ -52,6 +52,7 @@ pub fn case_insensitive_eq(a: &[u8], b: &[u8]) -> bool {
 /// ```
 ///
 /// [RFC 5646 section 2.1.1]: https://www.rfc-editor.org/rfc/rfc5646#section-2.1.1
+#[inline]
 #[must_use]
 pub fn case_insensitive_cmp(a: &[u8], b: &[u8]) -> Ordering {
     for (x, y) in a.iter().zip(b) {

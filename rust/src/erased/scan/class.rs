@@ -113,6 +113,7 @@ pub fn is_region(bytes: &[u8]) -> bool {
 /// assert!(is_variant(b"1694"));
 /// assert!(!is_variant(b"Latn"));
 /// ```
+#[inline]
 #[must_use]
 pub fn is_variant(bytes: &[u8]) -> bool {
     (bytes.len() >= 5 && bytes.len() <= 8 && are_alphanumeric(bytes))

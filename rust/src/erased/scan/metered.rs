@@ -77,6 +77,7 @@ impl<'a> ByteSource for Metered<'a> {
         self.reach
     }
 
+    #[inline]
     fn byte(&mut self, index: usize) -> u8 {
         self.reads += 1;
         if self.reach <= index {

@@ -82,6 +82,7 @@ impl<'a> DoubleEndedIterator for Subtags<'a> {
 
 /// Returns the string before the first hyphen and the string after it. If there is no hyphen,
 /// returns the whole string and `None`.
+#[inline]
 fn split_first<'a>(text: &'a str) -> (&'a str, Option<&'a str>) {
     let end = segment_end(text.as_bytes(), 0);
     if end == text.len() {
@@ -92,6 +93,7 @@ fn split_first<'a>(text: &'a str) -> (&'a str, Option<&'a str>) {
 
 /// Returns the string before the last hyphen and the string after it. If there is no hyphen,
 /// returns `None` and the whole text.
+#[inline]
 fn split_last<'a>(text: &'a str) -> (Option<&'a str>, &'a str) {
     let start = segment_start(text.as_bytes(), text.len());
     if start == 0 {

@@ -12,6 +12,7 @@ use crate::erased::scan::into_smallcase;
 /// The string has to be two or three ASCII letters.
 ///
 /// [RFC 5646 section 2.2.1]: https://www.rfc-editor.org/rfc/rfc5646#section-2.2.1
+#[inline]
 #[must_use]
 pub fn letter_number(bytes: &[u8]) -> usize {
     let number = place(bytes[0]) * 26 + place(bytes[1]);

@@ -13,6 +13,7 @@ use alloc::string::String;
 /// Sets or removes a part in the string of a normal tag whose parts end at these offsets. Returns
 /// where the parts of the new string end, without parsing it.
 #[cfg(feature = "alloc")]
+#[inline]
 pub(crate) fn set_part(text: &mut String, ends: Ends, part: Part<'_>) -> Result<Ends, AllocError> {
     let new = part.replacement(&ends);
     let len = new.hyphen.len() + new.part.len();
@@ -25,6 +26,7 @@ pub(crate) fn set_part(text: &mut String, ends: Ends, part: Part<'_>) -> Result<
 /// If there are new bytes, the new string is complete before the old string is dropped. If there
 /// are none, the old bytes are removed in place, without allocating.
 #[cfg(feature = "alloc")]
+#[inline]
 fn replace(text: &mut String, new: Replacement<'_>) -> Result<(), AllocError> {
     if new.hyphen.is_empty() && new.part.is_empty() {
         return text.try_replace_range(new.start..new.end, "");
@@ -36,6 +38,7 @@ fn replace(text: &mut String, new: Replacement<'_>) -> Result<(), AllocError> {
 /// Returns a new string in which these bytes are replaced. It allocates once, exactly the length of
 /// the new string.
 #[cfg(feature = "alloc")]
+#[inline]
 fn join(text: &str, new: Replacement<'_>) -> Result<String, AllocError> {
     let len = new.start + new.hyphen.len() + new.part.len() + (text.len() - new.end);
     let mut whole = try_string_with_capacity(len)?;

@@ -167,6 +167,7 @@ impl GrandfatheredLangTag {
     }
 
     /// Returns the primary language subtag of a regular tag. An irregular tag has none.
+    #[inline]
     fn primary(&self) -> Option<&'static str> {
         match self {
             GrandfatheredLangTag::ArtLojban => Some("art"),
@@ -203,6 +204,7 @@ impl GrandfatheredLangTag {
     ///
     /// assert_eq!(GrandfatheredLangTag::SgnBeFr.as_str(), "sgn-BE-FR");
     /// ```
+    #[inline]
     #[must_use]
     pub fn as_str(&self) -> &'static str {
         match self {

@@ -107,6 +107,7 @@ impl<'a> LangTag<'a> {
     /// # Ok(())
     /// # }
     /// ```
+    #[inline]
     pub fn from_bytes(bytes: &'a [u8]) -> Result<LangTag<'a>, InvalidLangTag<&'a [u8]>> {
         let Some(found) = recognise_bytes(bytes) else {
             return Err(InvalidLangTag(bytes));
@@ -246,6 +247,7 @@ impl<'a> LangTag<'a> {
     /// # Ok(())
     /// # }
     /// ```
+    #[inline]
     #[must_use]
     pub fn as_typed(&self) -> TypedLangTag<'a> {
         match self.found {

@@ -330,6 +330,7 @@ impl LangTagBuf {
 #[cfg(feature = "alloc")]
 impl LangTagBuf {
     /// Sets a part of a normal tag, or removes it.
+    #[inline]
     fn put(&mut self, part: Part<'_>) -> Result<(), EditError> {
         let Some(ends) = self.found.ends() else {
             return Err(EditError::NotNormal);

@@ -29,6 +29,7 @@ pub(crate) fn length_with_hyphen(part: &str) -> usize {
 
 impl Lengths {
     /// Returns the lengths of parts that end at these offsets.
+    #[inline]
     pub(crate) fn of(ends: Ends) -> Lengths {
         Lengths {
             language: ends.language,
@@ -41,6 +42,7 @@ impl Lengths {
     }
 
     /// Returns these lengths with another length for one part.
+    #[inline]
     pub(crate) fn with(self, part: &Part<'_>, len: usize) -> Lengths {
         match part {
             Part::Language(_) => Lengths {
@@ -71,6 +73,7 @@ impl Lengths {
     }
 
     /// Returns where parts of these lengths end.
+    #[inline]
     pub(crate) fn ends(self) -> Ends {
         let script = self.language + self.script;
         let region = script + self.region;

@@ -40,7 +40,7 @@
 //! # }
 //! ```
 //!
-//! Each part has a borrowed and an owned type, such as [`Script`] and [`ScriptBuf`]. This crate
+//! Each part has a borrowed and an owned type, such as [`Script`] and `ScriptBuf`. This crate
 //! exports all these types, and also the parser over bytes, [`recognise`].
 
 mod edit;

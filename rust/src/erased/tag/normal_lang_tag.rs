@@ -345,6 +345,7 @@ impl<'a> NormalLangTag<'a> {
     /// # Ok(())
     /// # }
     /// ```
+    #[inline]
     #[must_use]
     pub fn base(&self) -> NormalLangTag<'a> {
         let whole = self.ends.variants;

@@ -90,6 +90,7 @@ impl NormalLangTagBuf {
     /// # Ok(())
     /// # }
     /// ```
+    #[inline]
     pub fn try_from_parts(
         language: Language<'_>,
         script: Option<Script<'_>>,

@@ -94,6 +94,7 @@ pub fn put_part<'a>(tag: NormalLangTag<'_>, part: Part<'a>) -> Replacement<'a> {
 /// Writes the string of a normal tag, changed as [`put_part`] says, to a buffer, and returns the
 /// length of the string in bytes. If the buffer is too short, it stays unchanged, and the length
 /// says how much room is needed. The function does not allocate.
+#[inline]
 pub fn write_part<'a>(tag: NormalLangTag<'a>, part: Part<'a>, buffer: &mut [u8]) -> usize {
     let text = tag.as_str().as_bytes();
     let new = put_part(tag, part);
@@ -111,6 +112,7 @@ impl<'a> Part<'a> {
     ///
     /// assert_eq!(Part::Script(Script::new("Latn").ok()).as_str(), "Latn");
     /// ```
+    #[inline]
     #[must_use]
     pub fn as_str(&self) -> &'a str {
         match self {
@@ -125,6 +127,7 @@ impl<'a> Part<'a> {
     }
 
     /// Returns the change of a string whose parts end at these offsets.
+    #[inline]
     pub(crate) fn replacement(&self, ends: &Ends) -> Replacement<'a> {
         let part = self.as_str();
         let (start, end) = self.place(ends);
@@ -137,6 +140,7 @@ impl<'a> Part<'a> {
     }
 
     /// Returns where the previous part ends, and where this part ends.
+    #[inline]
     fn place(&self, ends: &Ends) -> (usize, usize) {
         match self {
             Part::Language(_) => (0, ends.language),

@@ -22,7 +22,7 @@ pub(crate) fn recognise_bytes(bytes: &[u8]) -> Option<Recognised> {
     }
 }
 
-/// Returns what the recogniser finds in bytes, as langtag_scan returns it.
+/// Returns what the recogniser finds in bytes, as `langtag_scan` returns it.
 #[inline]
 fn found_in(bytes: &[u8]) -> Option<Found> {
     recognise(&mut Metered::of_bytes(bytes))

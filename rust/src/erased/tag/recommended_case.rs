@@ -9,6 +9,7 @@ use core::mem;
 
 /// Changes an ASCII text to its recommended case, in place.
 #[cfg(feature = "alloc")]
+#[inline]
 pub(crate) fn put_recommended_case(text: &mut String) {
     let empty = String::new();
     let mut bytes = mem::replace(text, empty).into_bytes();

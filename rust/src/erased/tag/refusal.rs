@@ -73,6 +73,7 @@ impl Refusal {
     /// assert_eq!(Refusal::of(b"zh-").map(|it| (it.kind, it.offset)), Some((RefusalKind::End, 3)));
     /// assert_eq!(Refusal::of(b"zh-Hant"), None);
     /// ```
+    #[inline]
     #[must_use]
     pub fn of(bytes: &[u8]) -> Option<Refusal> {
         if is_tag(bytes) {
@@ -128,6 +129,7 @@ fn is_open(bytes: &[u8]) -> bool {
 }
 
 /// Returns where the first wrong subtag of bytes that are not a tag ends.
+#[inline]
 fn refused_end(bytes: &[u8], viable: usize) -> usize {
     let end = segment_end(bytes, viable);
     // The bytes before `end` are a tag that no further subtag may follow, so the next subtag is wrong.

@@ -12,11 +12,15 @@ use crate::erased::tag::variant_blocks::first_repeated_of_many;
 /// variant is compared with all variants before it.
 const FEW: usize = 143;
 
+/// The number of variants in a block of a longer list. Each variant takes nine bytes of stack, so a
+/// block takes 10 kB.
+const BLOCK: usize = 1152;
+
 /// Returns the index of the first of these variants that equals an earlier variant, ignoring case.
 #[inline]
 pub(crate) fn first_repeated_variant(variants: Variants<'_>) -> Option<usize> {
     if variants.as_str().len() > FEW {
-        return first_repeated_of_many(variants);
+        return first_repeated_of_many::<BLOCK>(variants);
     }
     first_repeated_of_few(variants)
 }
@@ -59,6 +63,7 @@ pub fn is_among_first(variants: Variants<'_>, count: usize, variant: Variant<'_>
 
 /// Returns the index of the first of these extensions whose singleton equals the singleton of an
 /// earlier extension, ignoring case.
+#[inline]
 pub(crate) fn first_repeated_singleton(extensions: Extensions<'_>) -> Option<usize> {
     let mut seen = [false; 128];
     for (index, extension) in extensions.iter().enumerate() {

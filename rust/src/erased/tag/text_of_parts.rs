@@ -10,6 +10,7 @@ use alloc::string::String;
 /// Returns a new string that consists of a language, a script and a region, joined by hyphens. It
 /// first allocates `room` bytes. An empty script or region is left out.
 #[cfg(feature = "alloc")]
+#[inline]
 pub(crate) fn join_parts(
     room: usize,
     language: &str,

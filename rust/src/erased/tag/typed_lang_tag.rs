@@ -47,6 +47,7 @@ impl<'a> TypedLangTag<'a> {
     /// # Ok(())
     /// # }
     /// ```
+    #[inline]
     #[must_use]
     pub fn language(&self) -> Option<Language<'a>> {
         match self {
@@ -67,6 +68,7 @@ impl<'a> TypedLangTag<'a> {
     /// # Ok(())
     /// # }
     /// ```
+    #[inline]
     #[must_use]
     pub fn kind(&self) -> Kind {
         match self {

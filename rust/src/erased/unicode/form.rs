@@ -75,9 +75,9 @@ fn counted_form_bytes(tag: LangTag<'_>) -> Result<Vec<u8>, AllocError> {
     Ok(bytes)
 }
 
-/// Writes a tag with its extensions `u` and `t` in canonical form to a buffer, as
-/// [`extensions_form`] returns it, and returns its length in bytes. If the buffer is too short, its
-/// bytes are not specified, and the length says how long a buffer must be. It does not allocate.
+/// Writes a tag with its extensions `u` and `t` in canonical form to a buffer, as `extensions_form`
+/// returns it, and returns its length in bytes. If the buffer is too short, its bytes are not
+/// specified, and the length says how long a buffer must be. It does not allocate.
 ///
 /// ```
 /// # fn main() -> Result<(), Box<dyn std::error::Error>> {

@@ -2,7 +2,7 @@
 
 //! An iterator over the keywords of a tag.
 
-use crate::erased::keyword::{before_key, is_earlier_subtag, nonempty, split_first, Keys};
+use crate::erased::keyword::{before_key, nonempty, split_first, KeySet, Keys};
 use crate::erased::unicode::unicode_extension::KeyValue;
 
 /// An iterator over the keywords of the extension `u`, or the fields of the extension `t`, in the
@@ -21,9 +21,8 @@ use crate::erased::unicode::unicode_extension::KeyValue;
 /// ```
 #[derive(Debug, Clone)]
 pub struct KeywordsIter<'a> {
-    text: &'a str,
     keys: Keys,
-    passed: usize,
+    met: KeySet,
     rest: Option<&'a str>,
 }
 
@@ -32,17 +31,10 @@ impl<'a> KeywordsIter<'a> {
     #[inline]
     pub(crate) fn new(text: &'a str, keys: Keys) -> Self {
         KeywordsIter {
-            text,
             keys,
-            passed: 0,
+            met: KeySet::new(),
             rest: nonempty(text),
         }
-    }
-
-    /// Returns whether the next subtag is a key that equals no subtag before it.
-    #[inline]
-    fn is_new_key(&self, subtag: &str) -> bool {
-        self.keys.has(subtag.as_bytes()) && !is_earlier_subtag(self.text, self.passed, subtag)
     }
 }
 
@@ -52,10 +44,9 @@ impl<'a> Iterator for KeywordsIter<'a> {
     fn next(&mut self) -> Option<KeyValue<'a>> {
         while let Some(text) = self.rest {
             let (key, rest) = split_first(text);
-            let is_new = self.is_new_key(key);
+            let is_new = self.met.insert(key.as_bytes());
             self.rest = rest;
-            self.passed += 1;
-            if is_new {
+            if self.keys.has(key.as_bytes()) && is_new {
                 let value = before_key(rest, self.keys);
                 return Some(KeyValue { key, value });
             }

@@ -27,6 +27,7 @@ mod keyword_setters;
 mod keywords_iter;
 mod owned_keywords;
 mod set_keyword_error;
+mod transform_extension;
 mod transformation;
 mod unicode_extension;
 
@@ -44,5 +45,6 @@ pub use keywords_iter::KeywordsIter;
 pub use owned_keywords::{remove_keyword, set_keyword};
 #[cfg(feature = "alloc")]
 pub use set_keyword_error::SetKeywordError;
-pub use transformation::{transform, Transformation};
+pub use transform_extension::transform;
+pub use transformation::Transformation;
 pub use unicode_extension::{attributes, keyword, keywords, KeyValue};

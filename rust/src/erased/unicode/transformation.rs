@@ -1,10 +1,8 @@
 // Made by rust/erase from crates/langtag_unicode/src/transformation.rt. Change that file, not this one.
 
-//! The extension `t` of a tag, which says how a string was transformed.
+//! The parts of the extension `t`.
 
 use crate::erased::keyword::{before_key, nonempty, value_in, Keys};
-use crate::erased::tag::{LangTag, Singleton};
-use crate::erased::unicode::extension_text::extension_text;
 use crate::erased::unicode::keywords_iter::KeywordsIter;
 
 /// The extension `t` of a tag ([RFC 6497 section 2.2]): the language of the string before it was
@@ -30,29 +28,13 @@ pub struct Transformation<'a> {
     text: &'a str,
 }
 
-/// Returns the first extension `t` of a tag ([RFC 6497 section 2.2]), or `None` if there is none.
-///
-/// ```
-/// # fn main() -> Result<(), Box<dyn std::error::Error>> {
-/// use langtag::LangTag;
-/// use langtag::unicode::transform;
-///
-/// let found = transform(LangTag::new("und-t-ja-latn-m0-hepburn")?);
-/// assert_eq!(found.and_then(|it| it.language()), Some("ja-latn"));
-/// # Ok(())
-/// # }
-/// ```
-///
-/// [RFC 6497 section 2.2]: https://www.rfc-editor.org/rfc/rfc6497#section-2.2
-#[inline]
-#[must_use]
-pub fn transform<'a>(tag: LangTag<'a>) -> Option<Transformation<'a>> {
-    let singleton = Singleton::new(b't').ok()?;
-    let text = nonempty(extension_text(tag, singleton))?;
-    Some(Transformation { text })
-}
-
 impl<'a> Transformation<'a> {
+    /// Returns the extension with these subtags.
+    #[inline]
+    pub(crate) fn new(text: &'a str) -> Self {
+        Transformation { text }
+    }
+
     /// Returns the language of the source text, as a slice of the tag. It need not be a tag: for
     /// `und-t-abcd-efgh-ijkl` it is `abcd-efgh-ijkl`.
     ///

@@ -1,9 +1,8 @@
-use Rattle.std.proofs.Common.{false, ◌&&◌, ◌==◌, [], ◌∷◌, ◌++◌, length, take, map, arith, refl, sym, ap, subst, ◌∙◌, rules}
+use Rattle.std.proofs.Common.{false, ◌&&◌, ◌==◌, [], ◌∷◌, ◌++◌, length, take, map, arith, sym, ap, subst, ◌∙◌, rules}
 use Rattle.std.specs.List.{list_any}
-use Rattle.std.proofs.lemmas.List.{get_or-replicate}
+use Rattle.std.proofs.lemmas.List.{get_or-replicate, length-replicate}
 use Rattle.langtag_scan.specs.Subtags.{subtags}
 use Rattle.langtag_place.specs.Text.{variant_text, variants_text}
-use Rattle.langtag.specs.declared.variant_blocks.TheConstants.{BLOCK}
 use Rattle.langtag_scan.specs.Case.{folded_number}
 use Rattle.langtag.specs.VariantBlocks.{AreMet}
 use Rattle.langtag.proofs.VariantBlockLaws.{numbers-more, new-here, met-again, repeat-at, HasNoRepeatBefore-more}
@@ -11,21 +10,21 @@ use Rattle.langtag.proofs.RepeatLaws.{IsAt-drop}
 use Rattle.langtag.proofs.variant_blocks.first_met_again.Goals as goal
 
 pub loop-index-init : goal.loop-index-init
-loop-index-init c =
+loop-index-init g c =
     let room = c.requires.room in
     record {
       can_next = tt;
       is_finite = tt;
       counter = search rules;
       within = omega arith;
-      flags = refl;
-      met = λ place first. let inside = first.0 in get_or-replicate BLOCK place false false (omega (arith, room, inside));
+      flags = length-replicate g.row.BLOCK false;
+      met = λ place first. let inside = first.0 in get_or-replicate g.row.BLOCK place false false (omega (arith, room, inside));
       new = λ i below. absurd (omega arith);
       left = sym c.iter-variant-items.ensures.list;
     }
 
 pub returns-then-meet : goal.returns-then-meet
-returns-then-meet c =
+returns-then-meet g c =
     let all = subtags (variants_text c.args.variants) in
     let index = c.loop-index.index in
     let text = variant_text c.in-Some.variant in
@@ -38,7 +37,7 @@ returns-then-meet c =
     (met-again all index text c.args.block.now c.args.variants.in_class c.in-Some.variant.in_class again))
 
 pub loop-index-preserved : goal.loop-index-preserved
-loop-index-preserved c =
+loop-index-preserved g c =
     let all = subtags (variants_text c.args.variants) in
     let index = c.loop-index.index in
     let text = variant_text c.in-Some.variant in

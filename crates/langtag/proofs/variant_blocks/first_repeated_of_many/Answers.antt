@@ -7,10 +7,10 @@ use Rattle.langtag.proofs.VariantBlockLaws.{repeat-past}
 use Rattle.langtag.proofs.variant_blocks.first_repeated_of_many.Goals as goal
 
 pub first_met_again-repeated-requires-clause-rises : goal.first_met_again-repeated-requires-clause-rises
-first_met_again-repeated-requires-clause-rises c = IsNonDecreasingBy-from_sort (λ x. x) c.sort_unstable.new.self c.sort_unstable.ensures.sorted
+first_met_again-repeated-requires-clause-rises g c = IsNonDecreasingBy-from_sort (λ x. x) c.sort_unstable.new.self c.sort_unstable.ensures.sorted
 
 pub returns : goal.returns
-returns c =
+returns g c =
     let all = subtags (variants_text c.args.variants) in
     let counted = count_from_yields_List c.iter.result c.count-count.result c.count-count.ensures.ran (YieldsList-from_first variant_text variants_left all c.iter.ensures.list) in
     let within = c.loop-start.invariant.within in

@@ -6,7 +6,7 @@ use Rattle.langtag.proofs.variant_blocks.first_repeated_of_many.Given as goal
 
 -- no variant before the start of the block is a repeat, and the walk has the others
 abbrev pub invariant-loop-start : goal.invariant-loop-start
-invariant-loop-start l =
+invariant-loop-start g l =
     let all = subtags (variants_text l.fn.variants) in
     record {
       within : l.start ≤ l.count;
@@ -15,4 +15,4 @@ invariant-loop-start l =
     }
 
 abbrev pub decreases-loop-start : goal.decreases-loop-start
-decreases-loop-start l = l.count - l.start
+decreases-loop-start g l = l.count - l.start

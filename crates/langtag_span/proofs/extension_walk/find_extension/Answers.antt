@@ -3,7 +3,7 @@ use Rattle.std.proofs.lemmas.Bool.Decides.{nat_tests}
 use Rattle.langtag_extension.specs.ExtensionTexts.{extension_texts}
 use Rattle.langtag_span.specs.Spans.{end_of, span_text}
 use Rattle.langtag_span.proofs.FoundExtension.{after-singleton, extension-step, no-bytes, opens-not, opens-so, subtags-first, subtags-none, taken-some, taken-text, without-singleton}
-use Rattle.langtag_span.proofs.SubtagSpans.{AllSome}
+use Rattle.langtag_span.proofs.SubtagSpans.{AreSubtags}
 use Rattle.langtag_scan.specs.Subtags.{subtags}
 use Rattle.langtag_span.proofs.extension_walk.find_extension.Goals as goal
 
@@ -38,7 +38,7 @@ returns-then-into_smallcase-clause-some c =
     let is = ap (span_text text) c.without_singleton.ensures ∙ without-singleton text c.take_first-extension.result some.1 in
     record {
       within = omega (arith, ap end_of c.without_singleton.ensures, some.0, some.1);
-      some = subst (λ t. AllSome (subtags t)) (sym is) (after-singleton _ step.first).0;
+      some = subst (λ t. AreSubtags (subtags t)) (sym is) (after-singleton _ step.first).0;
     }
 
 pub loop-part-preserved : goal.loop-part-preserved

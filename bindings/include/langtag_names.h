@@ -1,0 +1,162 @@
+/*
+ * Names of tags from Unicode's CLDR, for the wrappers of the C library: langtag_names.hpp, PostgreSQL and SQLite. The functions do not
+ * allocate. They are not proved: tests compare them with the other languages.
+ *
+ * Each function takes a tag in canonical form and in the recommended case, so call langtag_canonical and langtag_recommend first.
+ */
+#ifndef LANGTAG_NAMES_H
+#define LANGTAG_NAMES_H
+
+#include "langtag.h"
+#include "langtag_names_data.h"
+#include <string.h>
+
+/* A string that is written to a buffer. Bytes that do not fit are counted. */
+typedef struct langtag_name {
+    char *buffer;
+    size_t room, len;
+} langtag_name;
+
+static inline void langtag_name_put(langtag_name *to, const char *bytes, size_t len) {
+    for (size_t k = 0; k < len; k++, to->len++)
+        if (to->len < to->room) to->buffer[to->len] = bytes[k];
+}
+
+/* Returns the name in the row of a subtag or tag, or NULL if there is no row. The rows are in the order of their keys. */
+static inline const char *langtag_name_in(const char *const *rows, size_t count, const char *key, size_t len) {
+    while (count > 0) {
+        const char *row = rows[count / 2];
+        const int order = strncmp(row, key, len);
+        if (order == 0 && row[len] == ' ') return row + len + 1;
+        if (order < 0) rows += count / 2 + 1, count -= count / 2 + 1;
+        else count /= 2;
+    }
+    return NULL;
+}
+
+static inline const char *langtag_english_name(const char *key, size_t len) {
+    return langtag_name_in(langtag_english_names, sizeof langtag_english_names / sizeof *langtag_english_names, key, len);
+}
+
+static inline const char *langtag_own_name(const char *key, size_t len) {
+    return langtag_name_in(langtag_own_names, sizeof langtag_own_names / sizeof *langtag_own_names, key, len);
+}
+
+/* Adds a part to the list in parentheses. Parentheses inside are written as brackets. */
+static inline void langtag_name_detail(langtag_name *to, bool *is_first, const char *bytes, size_t len) {
+    langtag_name_put(to, *is_first ? " (" : ", ", 2);
+    *is_first = false;
+    for (size_t k = 0; k < len; k++) langtag_name_put(to, bytes[k] == '(' ? "[" : bytes[k] == ')' ? "]" : bytes + k, 1);
+}
+
+/* Adds the English name of a subtag, or the subtag if it has no name. */
+static inline void langtag_name_subtag(langtag_name *to, bool *is_first, const char *bytes, langtag_span subtag) {
+    const char *name = langtag_english_name(bytes + subtag.start, subtag.len);
+    if (subtag.len == 0) return;
+    langtag_name_detail(to, is_first, name ? name : bytes + subtag.start, name ? strlen(name) : subtag.len);
+}
+
+/* Compares two subtags of a string in alphabetical order. Equal subtags are in the order in which they stand. */
+static inline int langtag_name_order(const char *bytes, langtag_span a, langtag_span b) {
+    const int order = memcmp(bytes + a.start, bytes + b.start, a.len < b.len ? a.len : b.len);
+    if (order != 0) return order;
+    if (a.len != b.len) return a.len < b.len ? -1 : 1;
+    return a.start < b.start ? -1 : a.start > b.start;
+}
+
+/* Adds the variants in alphabetical order. Each pass finds the next one, so the time is quadratic in their number. */
+static inline void langtag_name_variants(langtag_name *to, bool *is_first, const char *form, size_t len, langtag_span variants) {
+    langtag_span last = {0, 0}, next, variant;
+    do {
+        langtag_span rest = variants;
+        next.len = 0;
+        while (langtag_next_subtag(form, len, &rest, &variant)) {
+            const bool is_later = last.len == 0 || langtag_name_order(form, last, variant) < 0;
+            if (is_later && (next.len == 0 || langtag_name_order(form, variant, next) < 0)) next = variant;
+        }
+        langtag_name_subtag(to, is_first, form, next);
+        last = next;
+    } while (next.len > 0);
+}
+
+/* Adds each extension as it stands, but only the first with the same singleton. */
+static inline void langtag_name_extensions(langtag_name *to, bool *is_first, const char *form, size_t len, langtag_span extensions) {
+    langtag_span rest = extensions, extension;
+    char last = 0;
+    while (langtag_next_extension(form, len, &rest, &extension)) {
+        if (form[extension.start] != last) langtag_name_detail(to, is_first, form + extension.start, extension.len);
+        last = form[extension.start];
+    }
+}
+
+/*
+ * Writes an English name of a tag, and returns its length: "Portuguese (Brazil)" for pt-BR. As with snprintf, the result may be greater
+ * than `buffer_len`. The name is then cut off. A string that is not a tag, a private-use tag and an irregular tag are written as they are.
+ */
+static inline size_t langtag_name_describe(const char *form, size_t len, char *buffer, size_t buffer_len) {
+    langtag_name to = {buffer, buffer_len, 0};
+    langtag_parts parts;
+    bool is_first = true;
+    if (langtag_parse(form, len, &parts) != LANGTAG_NORMAL) {
+        langtag_name_put(&to, form, len);
+        return to.len;
+    }
+    const char *language = langtag_english_name(form, parts.language.len);
+    langtag_name_put(&to, language ? language : form, language ? strlen(language) : parts.language.len);
+    langtag_name_subtag(&to, &is_first, form, parts.script);
+    langtag_name_subtag(&to, &is_first, form, parts.region);
+    langtag_name_variants(&to, &is_first, form, len, parts.variants);
+    langtag_name_extensions(&to, &is_first, form, len, parts.extensions);
+    if (parts.private_use.len > 0) langtag_name_detail(&to, &is_first, form + parts.private_use.start, parts.private_use.len);
+    if (!is_first) langtag_name_put(&to, ")", 1);
+    return to.len;
+}
+
+/* The likely subtags of a tag without variants have at most as many bytes. */
+enum { LANGTAG_NAME_ROOM = 64 };
+
+/* Writes the likely script of a language, with its script and region if it has them, and returns the length of the script. */
+static inline size_t langtag_name_script(const char *short_tag, size_t len, char script[4]) {
+    char likely[LANGTAG_NAME_ROOM];
+    langtag_parts parts;
+    const size_t likely_len = langtag_maximized(short_tag, len, likely, sizeof likely);
+    if (likely_len == 0 || likely_len > sizeof likely) return 0;
+    langtag_parse(likely, likely_len, &parts);
+    memcpy(script, likely + parts.script.start, parts.script.len);
+    return parts.script.len;
+}
+
+/* Appends a hyphen and a part to a key, which has room for the longest key with a name. Returns the new length of the key. */
+static inline size_t langtag_name_key(char *key, size_t len, const char *part, size_t part_len) {
+    if (part_len == 0) return len;
+    if (len + 1 + part_len > LANGTAG_NAME_ROOM) return LANGTAG_NAME_ROOM; /* no name has a key of this length */
+    key[len] = '-';
+    memcpy(key + len + 1, part, part_len);
+    return len + 1 + part_len;
+}
+
+/*
+ * Returns the name of the tag's language in the language itself: "Deutsch" for de-DE. Returns NULL if CLDR has none in the tag's script.
+ * The name is that of the longest beginning of the tag that has one.
+ */
+static inline const char *langtag_name_autonym(const char *form, size_t len) {
+    char key[LANGTAG_NAME_ROOM], likely[4], usual[4];
+    langtag_parts parts;
+    if (langtag_parse(form, len, &parts) != LANGTAG_NORMAL) return NULL;
+    const size_t language_len = parts.language.len;
+    const size_t short_len = parts.region.len > 0 ? parts.region.start + parts.region.len : parts.script.len > 0 ? parts.script.start + parts.script.len : language_len;
+    const size_t likely_len = langtag_name_script(form, short_len, likely), usual_len = langtag_name_script(form, language_len, usual);
+    const bool is_usual = likely_len == 0 || (likely_len == usual_len && memcmp(likely, usual, likely_len) == 0);
+    memcpy(key, form, language_len);
+    const size_t written_len = parts.script.len > 0 ? langtag_name_key(key, language_len, form + parts.script.start, parts.script.len)
+                                                    : langtag_name_key(key, language_len, likely, is_usual ? 0 : likely_len);
+    const size_t region_len = langtag_name_key(key, written_len, form + parts.region.start, parts.region.len);
+    const size_t lens[] = {langtag_name_key(key, region_len, form + parts.variants.start, parts.variants.len), region_len, written_len, is_usual ? language_len : 0};
+    for (size_t k = 0; k < sizeof lens / sizeof *lens; k++) {
+        const char *name = lens[k] > 0 && lens[k] < LANGTAG_NAME_ROOM ? langtag_own_name(key, lens[k]) : NULL;
+        if (name) return name;
+    }
+    return NULL;
+}
+
+#endif

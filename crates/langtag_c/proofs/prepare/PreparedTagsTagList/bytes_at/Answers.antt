@@ -1,0 +1,11 @@
+use Rattle.std.proofs.Common.{sym, subst, ◌∙◌, ◌<◌}
+use Rattle.langtag_c.proofs.SiteLaws.{current_count, current_entry, entry_bytes, no_entry}
+use Rattle.std.proofs.Common.{get_or}
+use Rattle.langtag_c.proofs.prepare.PreparedTagsTagList.bytes_at.Goals as goal
+
+pub returns : goal.returns
+returns c = λ tag there.
+    let text = c.args.self.now.text.now in
+    let tags = c.args.self.now.tags.now in
+    let inside = subst (λ n. c.args.index < n) (current_count text tags) c.requires in
+    entry_bytes text (get_or tags c.args.index no_entry) c.bytes_in.result.now tag c.bytes_in.ensures (sym (current_entry text tags c.args.index no_entry inside) ∙ there)

@@ -1,0 +1,6 @@
+use Rattle.langtag_c.proofs.SiteLaws.{prepared_current}
+use Rattle.langtag_c.proofs.prepare.langtag_prepare.Goals as goal
+
+pub returns-clause-prepared : goal.returns-clause-prepared
+returns-clause-prepared c =
+    prepared_current c.args.bytes.now (record { tag = c.args.tag.now.tag; form = c.of-tag.result }) c.bytes_in.result.now c.bytes_in.ensures c.of-tag.ensures.prepared

@@ -1,0 +1,13 @@
+use Rattle.std.proofs.Common.{rules}
+use Rattle.langtag_span.specs.Spanned.{ranges_at}
+use Rattle.langtag_c.proofs.SiteLaws.{site_best, site_current, site_within}
+use Rattle.langtag_c.proofs.site.langtag_site_best_for_ranges.Goals as goal
+
+pub returns-clause-best : goal.returns-clause-best
+returns-clause-best c = site_best (ranges_at c.args.text.now c.args.ranges.now) c.args.bytes.now c.args.tags.now c.best_among.result _ c.best_among.ensures.choice (search rules)
+
+pub returns-clause-current : goal.returns-clause-current
+returns-clause-current c = site_current (ranges_at c.args.text.now c.args.ranges.now) c.args.bytes.now c.args.tags.now c.best_among.result _ c.best_among.ensures.choice (search rules)
+
+pub returns-clause-within : goal.returns-clause-within
+returns-clause-within c = let within = site_within (ranges_at c.args.text.now c.args.ranges.now) c.args.bytes.now c.args.tags.now c.best_among.result c.best_among.ensures.choice in search (rules, within)

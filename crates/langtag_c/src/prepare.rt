@@ -1,0 +1,72 @@
+//! Tags that are prepared for many choices.
+ghost use Rattle.std.specs.Prelude.{◌≡◌, IsTrue, option_map};
+ghost use Rattle.langtag.specs.Text.{lang_tag_text};
+ghost use Rattle.langtag_c.specs.Site.{current_tag_at, current_tags_at, is_current};
+
+use langtag::LangTag;
+use langtag_choice::{PreparedForm, TagList};
+use langtag_span::{Span, bytes_in, tag_in};
+
+/// A tag of a site, with what the choice computes of it.
+#[repr(C)]
+#[derive(Clone, Copy)]
+pub struct PreparedTag {
+    /// The span of the tag in the string of the site.
+    pub tag: Span,
+    /// What `langtag_prepare` writes.
+    pub form: PreparedForm,
+}
+
+/// Computes what a choice needs of a tag: of its span in the string, which the caller sets. A span that is not a tag, or
+/// reaches beyond the string, is never chosen.
+#[unsafe(no_mangle)]
+pub extern "C" fn langtag_prepare(bytes: &[u8], tag: &mut PreparedTag)
+    ensures same_span { tag.new.tag ≡ tag.old.tag }
+    ensures prepared { IsTrue (is_current bytes.now tag.new) }
+{
+    tag.form = PreparedForm::of(bytes_in(bytes, tag.tag));
+}
+
+impl PreparedTag {
+    /// Returns the tag, or `None` if the span is not a tag, or if this was not prepared for it.
+    fn current_in<'a>(&self, text: &'a [u8]) -> Option<LangTag<'a>>
+        ensures { option_map lang_tag_text result ≡ current_tag_at text.now self.now }
+    {
+        let Some(tag) = tag_in(text, self.tag) else {
+            return None;
+        };
+        if self.form.is_for(tag.as_bytes()) {
+            Some(tag)
+        } else {
+            None
+        }
+    }
+}
+
+/// A string, and tags in it that were prepared. A tag is left out if it was not prepared for its span in this string.
+#[derive(Clone, Copy)]
+pub(crate) struct PreparedTags<'a> {
+    pub(crate) text: &'a [u8],
+    pub(crate) tags: &'a [PreparedTag],
+}
+
+#[tactic(auto, using(crate::proofs::SiteLaws::current_count))]
+impl TagList for PreparedTags<'_> {
+    ghost texts = { λ site. current_tags_at site.text.now site.tags.now };
+
+    fn count(&self) -> usize {
+        self.tags.len()
+    }
+
+    fn tag_at(&self, index: usize) -> Option<LangTag<'_>> {
+        self.tags[index].current_in(self.text)
+    }
+
+    fn bytes_at(&self, index: usize) -> &[u8] {
+        bytes_in(self.text, self.tags[index].tag)
+    }
+
+    fn form_at(&self, index: usize) -> Option<&PreparedForm> {
+        Some(&self.tags[index].form)
+    }
+}

@@ -1,0 +1,81 @@
+//! The best of tags that are prepared once.
+ghost use Rattle.std.specs.Prelude.{◌≤◌, length};
+ghost use Rattle.langtag_range.specs.Wanted.{wanted_elements};
+ghost use Rattle.langtag_span.specs.Spanned.{ranges_at};
+ghost use Rattle.langtag_c.specs.Choice.{IsBest, IsMatchAt};
+ghost use Rattle.langtag_c.specs.Site.{ArePrepared, IsCurrentAt, spans_of};
+
+use crate::best_match::BestMatch;
+use crate::prepare::{PreparedTag, PreparedTags};
+use crate::spanned_ranges::SpannedRanges;
+use langtag_choice::{best_among, match_among};
+use langtag_span::{Span, range_at};
+
+/// Returns the index of the best tag for an Accept-Language header, as `langtag_best_for_header` does, among tags that
+/// `langtag_prepare` prepared. A tag that was not prepared for its span in this string is skipped.
+#[unsafe(no_mangle)]
+pub extern "C" fn langtag_site_best_for_header(
+    header: &[u8],
+    bytes: &[u8],
+    tags: &[PreparedTag],
+) -> usize
+    ensures best { ArePrepared bytes.now tags.now → IsBest (wanted_elements header.now) bytes.now (spans_of tags.now) result }
+    ensures current { IsCurrentAt bytes.now tags.now result }
+    ensures within { result ≤ length tags.now }
+{
+    let site = PreparedTags { text: bytes, tags };
+    best_among(header, &site).unwrap_or(tags.len())
+}
+
+/// Returns the index of the best tag for a list of language ranges, as `langtag_best_for_ranges` does, among tags that
+/// `langtag_prepare` prepared. A tag that was not prepared for its span in this string is skipped.
+#[unsafe(no_mangle)]
+pub extern "C" fn langtag_site_best_for_ranges(
+    text: &[u8],
+    ranges: &[Span],
+    bytes: &[u8],
+    tags: &[PreparedTag],
+) -> usize
+    ensures best { ArePrepared bytes.now tags.now → IsBest (ranges_at text.now ranges.now) bytes.now (spans_of tags.now) result }
+    ensures current { IsCurrentAt bytes.now tags.now result }
+    ensures within { result ≤ length tags.now }
+{
+    let wanted = SpannedRanges {
+        text,
+        spans: ranges,
+    };
+    let site = PreparedTags { text: bytes, tags };
+    best_among(wanted, &site).unwrap_or(tags.len())
+}
+
+/// Returns the index of the best tag for an Accept-Language header with the range that it serves and its distance, as
+/// `langtag_match_for_header` does, among tags that `langtag_prepare` prepared. `found` is always written.
+#[unsafe(no_mangle)]
+pub extern "C" fn langtag_site_match_for_header(
+    header: &[u8],
+    bytes: &[u8],
+    tags: &[PreparedTag],
+    found: &mut BestMatch,
+) -> usize
+    ensures found { ArePrepared bytes.now tags.now → IsMatchAt header.now bytes.now (spans_of tags.now) result found.new }
+    ensures current { IsCurrentAt bytes.now tags.now result }
+    ensures within { result ≤ length tags.now }
+{
+    let site = PreparedTags { text: bytes, tags };
+    let end = Span {
+        start: header.len(),
+        len: 0,
+    };
+    let Some(chosen) = match_among(header, &site) else {
+        *found = BestMatch {
+            range: end,
+            distance: u32::MAX,
+        };
+        return tags.len();
+    };
+    *found = BestMatch {
+        range: range_at(header, chosen.place).unwrap_or(end),
+        distance: u32::from(chosen.distance),
+    };
+    chosen.index
+}

@@ -1,0 +1,188 @@
+-- The keys that a walk has met, and the keywords that are left to it.
+use Rattle.std.proofs.lemmas.Grind.{common_steps}
+use Rattle.std.proofs.Common.{◌≡◌, cond, ◌≢◌, ℕ, ◌*◌, ◌%◌, ◌^◌, ◌<◌, Bool, true, false, eqb, ◌==◌, ◌&&◌, ◌||◌, not, List, [], ◌∷◌, ◌++◌, bit_or, length, replicate, set, slice_index_or, append-nil, append_assoc, drop, IsTrue, eqb-true, refl, ap, sym, subst, ◌∙◌, arith, w64}
+use Rattle.std.specs.Int.{bit_at}
+use Rattle.std.specs.List.{AllByRecursion, filter, list_any}
+use Rattle.std.proofs.lemmas.Bool.{and_parts}
+use Rattle.std.proofs.lemmas.Bool.Decides.{eqb_tells, nat_tests}
+use Rattle.std.proofs.lemmas.List.{get_or-replicate, get_or-set_other, get_or-set_same, length-set}
+use Rattle.std.proofs.lemmas.List.Folds.{list_any-append}
+use Rattle.std.proofs.lemmas.Nat.Bits.{bit_at-zero, bit_at_set_other, bit_at_set_same}
+use Rattle.langtag_scan.specs.Case.{are_alike, fold_byte}
+use Rattle.langtag_scan.specs.Class.{are_alphanumeric, is_alphanumeric, is_digit, is_extension_subtag, is_letter}
+use Rattle.langtag_scan.specs.Subtags.{subtags}
+use Rattle.langtag_extension.specs.Decided.{are_extension_subtags}
+use Rattle.langtag_extension.specs.Spelling.{IsExtension}
+use Rattle.langtag_scan.proofs.SubtagFacts.{IsSubtag, of_extension_subtag}
+use Rattle.langtag_keyword.specs.Keys.{opens_keyword}
+use Rattle.langtag_keyword.specs.Keywords.{is_new_key, keywords_after, keywords_of}
+use Rattle.langtag_keyword.specs.KeyNumbers.{AreKeys, with_keys}
+use Rattle.langtag_keyword.specs.KeySets.{HasKeys, has_key, keywords_beyond, place_of, with_key}
+use Rattle.langtag_keyword.specs.declared.keys.Keys.{Keys}
+use Rattle.langtag_keyword.specs.declared.keys.Keys.TheVariants.{Unicode, Transform}
+use Rattle.langtag_keyword.proofs.SubtagTexts.{subtags-after_singleton}
+
+-- ---- places
+
+pub place-within : (b : ℕ) → is_alphanumeric b ≡ true → place_of b < 36
+unfolding is_letter is_digit fold_byte
+place-within b is = grind (arith, nat_tests)
+
+place-tells : (a b : ℕ) → is_alphanumeric a ≡ true → is_alphanumeric b ≡ true → (place_of a == place_of b) ≡ eqb (fold_byte a) (fold_byte b)
+unfolding is_letter is_digit fold_byte
+place-tells a b is_a is_b = grind (arith, nat_tests)
+
+-- ---- one key more
+
+-- a bit of a row is set
+abbrev with-bit : List ℕ → ℕ → ℕ → List ℕ
+with-bit rows row place = set rows row (bit_or (slice_index_or rows row 0) (1 * 2 ^ place % 2 ^ 64))
+
+abbrev has-bit : List ℕ → ℕ → ℕ → Bool
+has-bit rows row place = bit_at (slice_index_or rows row 0) place == 1
+
+bit-again : (rows : List ℕ) (row place : ℕ) → row < length rows → place < 64 → has-bit (with-bit rows row place) row place ≡ true
+bit-again rows row place within fits =
+    ap (λ n. bit_at n place == 1) (get_or-set_same rows row (bit_or (slice_index_or rows row 0) (1 * 2 ^ place % 2 ^ 64)) 0 within)
+    ∙ ap (λ n. n == 1) (bit_at_set_same w64 (slice_index_or rows row 0) place fits)
+
+bit-beside : (rows : List ℕ) (row place other : ℕ) → row < length rows → place < 64 → other ≢ place → has-bit (with-bit rows row place) row other ≡ has-bit rows row other
+bit-beside rows row place other within fits apart =
+    ap (λ n. bit_at n other == 1) (get_or-set_same rows row (bit_or (slice_index_or rows row 0) (1 * 2 ^ place % 2 ^ 64)) 0 within)
+    ∙ ap (λ n. n == 1) (bit_at_set_other w64 (slice_index_or rows row 0) place fits other apart)
+
+row-beside : (rows : List ℕ) (row place other n : ℕ) → other ≢ row → has-bit (with-bit rows row place) other n ≡ has-bit rows other n
+row-beside rows row place other n apart = ap (λ m. bit_at m n == 1) (get_or-set_other rows row other (bit_or (slice_index_or rows row 0) (1 * 2 ^ place % 2 ^ 64)) 0 apart)
+
+bit-more :
+    (rows : List ℕ) (row place r p : ℕ) → row < length rows → place < 64 →
+    has-bit (with-bit rows row place) r p ≡ (has-bit rows r p || ((r == row) && (p == place)))
+bit-more rows row place r p within fits = grind (arith, nat_tests, eqb_tells r row, eqb_tells p place, bit-again rows row place within fits, bit-beside rows row place p within fits, row-beside rows row place r p)
+
+with-true : (a b c : Bool) → (a || (b && c)) ≡ (a || (b && (c && true)))
+with-true true b c = refl
+with-true false true true = refl
+with-true false true false = refl
+with-true false false c = refl
+
+key-more :
+    (rows : List ℕ) (a b c d : ℕ) → length rows ≡ 36 → is_alphanumeric a ≡ true → is_alphanumeric b ≡ true → is_alphanumeric c ≡ true → is_alphanumeric d ≡ true →
+    has_key (with_key rows (c ∷ d ∷ [])) (a ∷ b ∷ []) ≡ (has_key rows (a ∷ b ∷ []) || are_alike (a ∷ b ∷ []) (c ∷ d ∷ []))
+key-more rows a b c d size is_a is_b is_c is_d =
+    let more = bit-more rows (place_of c) (place_of d) (place_of a) (place_of b) (omega (arith, size, place-within c is_c)) (omega (arith, place-within d is_d)) in
+    more ∙ rw (place-tells a c is_a is_c, place-tells b d is_b is_d) (with-true (has-bit rows (place_of a) (place_of b)) (eqb (fold_byte a) (fold_byte c)) (eqb (fold_byte b) (fold_byte d)))
+
+rows-more : (rows s : List ℕ) → length (with_key rows s) ≡ length rows
+rows-more rows [] = refl
+rows-more rows (a ∷ []) = refl
+rows-more rows (a ∷ b ∷ []) = length-set rows (place_of a) (bit_or (slice_index_or rows (place_of a) 0) (1 * 2 ^ place_of b % 2 ^ 64))
+rows-more rows (a ∷ b ∷ c ∷ s) = refl
+
+pub met-more : (rows : List ℕ) (before : List (List ℕ)) (s : List ℕ) → IsSubtag s → HasKeys rows before → HasKeys (with_key rows s) (before ++ s ∷ [])
+met-more rows before s fits met = record { rows = rows-more rows s ∙ met.rows; same = λ key is two. by_length key s is fits two ∙ ap (λ b. b || are_alike key s) (met.same key is two) ∙ sym (after key) }
+  where
+    by_length : (key s : List ℕ) → IsSubtag key → IsSubtag s → length key ≡ 2 → has_key (with_key rows s) key ≡ (has_key rows key || are_alike key s)
+    by_length (a ∷ b ∷ []) [] is none two = absurd (omega (arith, none.some))
+    by_length (a ∷ b ∷ []) (c ∷ []) is one two = grind (arith, common_steps)
+    by_length (a ∷ b ∷ []) (c ∷ d ∷ []) is same two =
+        let k = and_parts (is_alphanumeric a) (are_alphanumeric (b ∷ [])) is.alphanumeric in
+        let l = and_parts (is_alphanumeric b) (are_alphanumeric []) k.1 in
+        let m = and_parts (is_alphanumeric c) (are_alphanumeric (d ∷ [])) same.alphanumeric in
+        let n = and_parts (is_alphanumeric d) (are_alphanumeric []) m.1 in
+        key-more rows a b c d met.rows k.0 l.0 m.0 n.0
+    by_length (a ∷ b ∷ []) (c ∷ d ∷ e ∷ s) is longer two = grind (arith, common_steps)
+    by_length [] s is fits two = absurd (omega (arith, two))
+    by_length (a ∷ []) s is fits two = absurd (omega (arith, two))
+    by_length (a ∷ b ∷ c ∷ key) s is fits two = absurd (omega (arith, two))
+
+    after : (key : List ℕ) → list_any (are_alike key) (before ++ s ∷ []) ≡ (list_any (are_alike key) before || are_alike key s)
+    after key = list_any-append (are_alike key) before (s ∷ []) ∙ grind (arith, common_steps)
+
+-- a new set has no key
+pub met-none : (rows : List ℕ) → rows ≡ replicate 36 0 → HasKeys rows []
+met-none rows is = record { rows = ap length is; same = λ key fits two. none key fits two }
+  where
+    none : (key : List ℕ) → IsSubtag key → length key ≡ 2 → has_key rows key ≡ false
+    none (a ∷ b ∷ []) fits two =
+        let k = and_parts (is_alphanumeric a) (are_alphanumeric (b ∷ [])) fits.alphanumeric in
+        ap (λ rs. bit_at (slice_index_or rs (place_of a) 0) (place_of b) == 1) is
+        ∙ ap (λ n. bit_at n (place_of b) == 1) (get_or-replicate 36 (place_of a) 0 0 (place-within a k.0))
+        ∙ ap (λ n. n == 1) (bit_at-zero (place_of b))
+    none [] fits two = absurd (omega (arith, two))
+    none (a ∷ []) fits two = absurd (omega (arith, two))
+    none (a ∷ b ∷ c ∷ key) fits two = absurd (omega (arith, two))
+
+-- ---- the keywords that are left
+
+-- every key has two characters
+abbrev OpensKeys : (List ℕ → Bool) → Type 0
+OpensKeys opens = (s : List ℕ) → opens s ≡ true → length s ≡ 2
+
+module _ (opens : List ℕ → Bool) (two : OpensKeys opens) where
+  pub new-met : (rows : List ℕ) (before : List (List ℕ)) (s : List ℕ) → IsSubtag s → HasKeys rows before → (opens s && not (has_key rows s)) ≡ (opens s && not (list_any (are_alike s) before))
+  new-met rows before s fits met = by_key (opens s) refl
+    where
+      by_key : (b : Bool) → opens s ≡ b → (b && not (has_key rows s)) ≡ (b && not (list_any (are_alike s) before))
+      by_key true is = ap not (met.same s fits (two s is))
+      by_key false is = refl
+
+  pub unmet-after : (rows : List ℕ) (before ss : List (List ℕ)) → AllByRecursion IsSubtag ss → HasKeys rows before → keywords_beyond opens rows ss ≡ keywords_after opens before ss
+  unmet-after rows before [] fits met = refl
+  unmet-after rows before (s ∷ ss) fits met =
+      rw (new-met rows before s fits.0 met, unmet-after (with_key rows s) (before ++ s ∷ []) ss fits.1 (met-more rows before s fits.0 met)) refl
+
+key-two : (keys : Keys) → OpensKeys (opens_keyword keys)
+key-two Unicode s is = eqb-true (length s) 2 is
+key-two Transform [] is = absurd cc
+key-two Transform (a ∷ []) is = absurd cc
+key-two Transform (a ∷ b ∷ []) is = refl
+key-two Transform (a ∷ b ∷ c ∷ s) is = absurd cc
+
+-- the members of an extension are subtags
+pub each-fits : (ss : List (List ℕ)) → IsTrue (are_extension_subtags ss) → AllByRecursion IsSubtag ss
+each-fits [] h = tt
+each-fits (s ∷ ss) h = let k = and_parts (is_extension_subtag s) (are_extension_subtags ss) h in (of_extension_subtag s k.0, each-fits ss k.1)
+
+-- a set without keys leaves all keywords
+pub unmet-all :
+    (keys : Keys) (rows : List ℕ) (ss : List (List ℕ)) → rows ≡ replicate 36 0 → IsTrue (are_extension_subtags ss) →
+    keywords_beyond (opens_keyword keys) rows ss ≡ keywords_of (opens_keyword keys) ss
+unmet-all keys rows ss new fits = unmet-after (opens_keyword keys) (key-two keys) rows [] ss (each-fits ss fits) (met-none rows new)
+
+-- a key is new if the set has not met it
+pub is_new-met :
+    (keys : Keys) (rows : List ℕ) (before : List (List ℕ)) (s : List ℕ) → IsSubtag s → HasKeys rows before →
+    (opens_keyword keys s && not (has_key rows s)) ≡ is_new_key (opens_keyword keys) before s
+is_new-met keys = new-met (opens_keyword keys) (key-two keys)
+
+-- the subtags of an extension without its singleton are in their class
+pub after-singleton-fits : (text : List ℕ) → IsExtension text → IsTrue (are_extension_subtags (subtags (drop 2 text)))
+after-singleton-fits text (e, spells) = subst (λ ss. IsTrue (are_extension_subtags ss)) (sym (subtags-after_singleton e text spells)) (all e.subtags spells.member.subtags)
+  where
+    all : (ss : List (List ℕ)) → AllByRecursion (λ s. IsTrue (is_extension_subtag s)) ss → IsTrue (are_extension_subtags ss)
+    all [] h = refl
+    all (s ∷ ss) h = rw (h.0, all ss h.1) refl
+
+-- ---- the keys of an extension
+
+module _ (keys : Keys) where
+  pub are-keys : (ss : List (List ℕ)) → AllByRecursion IsSubtag ss → AreKeys (filter (opens_keyword keys) ss)
+  are-keys [] fits = tt
+  are-keys (s ∷ ss) fits = by_key (opens_keyword keys s) refl (are-keys ss fits.1)
+    where
+      by_key : (b : Bool) → opens_keyword keys s ≡ b → AreKeys (filter (opens_keyword keys) ss) → AreKeys (cond b (s ∷ filter (opens_keyword keys) ss) (filter (opens_keyword keys) ss))
+      by_key true is others = ((fits.0, key-two keys s is), others)
+      by_key false is others = others
+
+  keys-from : (rows : List ℕ) (before ks : List (List ℕ)) → AreKeys ks → HasKeys rows before → HasKeys (with_keys rows ks) (before ++ ks)
+  keys-from rows before [] are has = subst (HasKeys rows) (sym (append-nil before)) has
+  keys-from rows before (k ∷ ks) are has =
+      subst (HasKeys (with_keys (with_key rows k) ks)) (append_assoc before (k ∷ []) ks) (keys-from (with_key rows k) (before ++ k ∷ []) ks are.1 (met-more rows before k are.0.0 has))
+
+  pub keys-among :
+      (rows : List ℕ) (ss : List (List ℕ)) → rows ≡ with_keys (replicate 36 0) (filter (opens_keyword keys) ss) → AllByRecursion IsSubtag ss →
+      HasKeys rows (filter (opens_keyword keys) ss)
+  keys-among rows ss is fits =
+      subst (λ rs. HasKeys rs (filter (opens_keyword keys) ss)) (sym is) (keys-from (replicate 36 0) [] (filter (opens_keyword keys) ss) (are-keys ss fits) (met-none (replicate 36 0) refl))
+
+pub ruleset keywords_left = (unmet-all)

@@ -1,0 +1,273 @@
+-- CLDR's rows, by computation: a parent is written in the script of its tag.
+use Rattle.std.proofs.Common.{◌≡◌, ℕ, ◌<◌, true, false, Bool, List, [], ◌∷◌, length, map, codes, Option, None, Some, refl, sym, ap, ◌∙◌, subst, arith, ◌&&◌, ◌||◌, not, option_map, unwrap_or}
+use Rattle.std.specs.List.{list_all, list_any}
+use Rattle.std.specs.Option.{option_map_or}
+use Rattle.std.specs.Str.{bytes_eq}
+use Rattle.std.specs.Cmp.Lexicographic.{bytes_decides}
+use Rattle.std.proofs.lemmas.Bool.{and_parts}
+use Rattle.langtag_scan.specs.AlikeRecords.{AlikeRecords, fold_record}
+use Rattle.langtag_scan.specs.Case.{Alike, are_alike, fold_byte, fold_text}
+use Rattle.langtag_scan.specs.CaseLaws.{are_alike-decides}
+use Rattle.langtag_scan.specs.Class.{is_letter, is_digit, is_primary, is_script, is_region}
+use Rattle.langtag_scan.specs.Record.{Record, Spells}
+use Rattle.langtag_scan.proofs.CaseLaw.{alike_parts}
+use Rattle.langtag_scan.proofs.NormalTexts.{spelled_once}
+use Rattle.langtag.specs.Fields.{Fields}
+use Rattle.langtag.proofs.Alike.{AlikeFields, alike_is, alike_length}
+use Rattle.langtag_likely.specs.Likely.{Likely, likely_for, or_else}
+use Rattle.langtag_likely.specs.LikelySubtags.{language_rows, other_rows, likely_subtags}
+use Rattle.langtag_likely.proofs.AddedTwice.{either_way}
+use Rattle.langtag_likely.proofs.AlikeFields.{likely_for-alike}
+use Rattle.langtag_likely.proofs.RowLaws.{all_other, either}
+use Rattle.langtag_parent.specs.Parent.{is_empty, likely_of, unless_alike}
+use Rattle.langtag_parent.specs.ParentLaws.{IsListed, IsWrittenAs, script_of}
+use Rattle.langtag_parent.specs.ParentLocales.{parent_locales}
+use Rattle.langtag_parent.specs.Rows.{Row, row_for}
+use Rattle.langtag_parent.proofs.Cuts.{empty-nil}
+use Rattle.langtag_parent.proofs.ListedTags.{is_simple, record_of, simple_spelled}
+use Rattle.langtag_parent.proofs.OtherScript.{found, in_region, is_there, there-long, there-none}
+
+-- ---- the languages of the rows, which are written in the same script in each region
+
+abbrev pub latin : List ℕ
+latin = codes "Latn"
+
+abbrev latin_languages : List (List ℕ)
+latin_languages = codes "en" ∷ codes "es" ∷ codes "fr" ∷ codes "ht" ∷ codes "nb" ∷ codes "nn" ∷ codes "no" ∷ codes "pt" ∷ []
+
+abbrev pub is_one : List ℕ → Bool
+is_one language = list_any (λ one. are_alike one language) latin_languages
+
+-- no row of these languages has a region and no script
+abbrev is_elsewhere : Likely → Bool
+is_elsewhere row = is_there row.from.script || (not (is_there row.from.region) || not (is_one row.from.language))
+
+all_elsewhere : list_all is_elsewhere other_rows ≡ true
+unfolding other_rows fold_byte
+all_elsewhere = refl
+
+any-right : (a b : List ℕ) (list : List (List ℕ)) → Alike a b → list_any (λ one. are_alike one a) list ≡ list_any (λ one. are_alike one b) list
+any-right a b list alike = ap (λ t. list_any (λ one. bytes_eq (map fold_byte one) t) list) alike
+
+region_none : (p region : List ℕ) → is_one p ≡ true → 0 < length region → likely_for other_rows (in_region p region) ≡ None
+region_none p region one there = by_option (likely_for other_rows (in_region p region)) refl
+  where
+    by_option : (o : Option Fields) → likely_for other_rows (in_region p region) ≡ o → o ≡ None
+    by_option None is = refl
+    by_option (Some to) is =
+        let it = found other_rows is_elsewhere (in_region p region) to all_elsewhere is in
+        let first = and_parts (are_alike it.row.from.language p) (are_alike it.row.from.script [] && are_alike it.row.from.region region) it.alike in
+        let second = and_parts (are_alike it.row.from.script []) (are_alike it.row.from.region region) first.1 in
+        let none = alike_length it.row.from.script [] second.0 in
+        let wide = alike_length it.row.from.region region second.1 in
+        let language : is_one it.row.from.language ≡ true = any-right it.row.from.language p latin_languages (alike_is it.row.from.language p first.0) ∙ one in
+        let never : false ≡ true =
+        sym (rw (there-none it.row.from.script none, there-long it.row.from.region (omega (arith, wide, there)), language) refl) ∙ it.holds_of_it in
+        absurd cc
+
+-- ---- records that are written in a script
+
+-- a record is written in a script
+pub record IsIn (r : Record) (script : List ℕ) : Type 0 where
+  pub own : List ℕ
+  pub is : script_of r ≡ Some own
+  pub alike : Alike own script
+
+abbrev is_latin_row : Option Fields → Bool
+is_latin_row None = false
+is_latin_row (Some f) = are_alike f.script latin
+
+abbrev alone : List ℕ → Fields
+alone p = record { language = p; script = []; region = [] }
+
+all_latin : list_all (λ language. is_latin_row (likely_for language_rows (alone language))) latin_languages ≡ true
+unfolding language_rows fold_byte
+all_latin = refl
+
+latin_at :
+    (p : List ℕ) (list : List (List ℕ)) → list_all (λ language. is_latin_row (likely_for language_rows (alone language))) list ≡ true →
+    list_any (λ one. are_alike one p) list ≡ true → is_latin_row (likely_for language_rows (alone p)) ≡ true
+latin_at p [] all any = absurd cc
+latin_at p (language ∷ list) all any =
+    let k = and_parts (is_latin_row (likely_for language_rows (alone language))) (list_all (λ language. is_latin_row (likely_for language_rows (alone language))) list) all in
+    either_way (are_alike language p)
+    (λ same. let alike : AlikeFields (alone language) (alone p) = record { language = alike_is language p same; script = refl; region = refl } in
+    sym (ap is_latin_row (likely_for-alike language_rows (alone language) (alone p) alike)) ∙ k.0)
+    (λ other. latin_at p list k.1 (sym (rw other refl) ∙ any))
+
+or_latin : (o other : Option Fields) → is_latin_row o ≡ true → is_latin_row (or_else o other) ≡ true
+or_latin None other h = absurd cc
+or_latin (Some f) other h = h
+
+latin_alone : (p : List ℕ) → is_one p ≡ true → is_latin_row (likely_for likely_subtags (alone p)) ≡ true
+latin_alone p one =
+    ap is_latin_row (either (alone p)) ∙ or_latin (likely_for language_rows (alone p)) (likely_for other_rows (alone p)) (latin_at p latin_languages all_latin one)
+
+or_same : (o : Option Fields) → or_else o (or_else o (or_else o o)) ≡ o
+or_same None = refl
+or_same (Some f) = refl
+
+or_alone : (none o : Option Fields) → none ≡ None → or_else none (or_else o (or_else none o)) ≡ o
+or_alone None None h = refl
+or_alone None (Some f) h = refl
+or_alone (Some g) o h = absurd cc
+
+pub likely_alone : (p region : List ℕ) → is_one p ≡ true → likely_of p [] region ≡ likely_for likely_subtags (alone p)
+likely_alone p [] one = or_same (likely_for likely_subtags (alone p))
+likely_alone p (b ∷ region) one =
+    let there : 0 < length (b ∷ region) = omega arith in
+    let none = sym (all_other (in_region p (b ∷ region)) (λ _ none. omega (arith, none))) ∙ region_none p (b ∷ region) one there in
+    or_alone (likely_for likely_subtags (in_region p (b ∷ region))) (likely_for likely_subtags (alone p)) none
+
+-- these languages are written in no other script
+pub no_other_script : (p region : List ℕ) → is_one p ≡ true → unless_alike (likely_of p [] region) (likely_of p [] []) ≡ None
+no_other_script p region one = rw (likely_alone p region one, likely_alone p [] one) (by_option (likely_for likely_subtags (alone p)))
+  where
+    by_option : (o : Option Fields) → unless_alike o o ≡ None
+    by_option None = refl
+    by_option (Some f) = grind (arith, are_alike-decides)
+
+-- ---- records that are written in Latin letters
+
+abbrev pub is_latin : Record → Bool
+is_latin r = option_map_or (λ script. are_alike script latin) r.script (is_empty r.extended && is_one r.primary)
+
+some_latin : (o : Option Fields) → is_latin_row o ≡ true → (own : List ℕ) × (option_map (λ f. f.script) o ≡ Some own) × Alike own latin
+some_latin None h = absurd cc
+some_latin (Some f) h = (f.script, refl, alike_is f.script latin h)
+
+pub latin_in : (r : Record) → is_latin r ≡ true → IsIn r latin
+latin_in r h = by_option r.script refl h
+  where
+    by_option : (o : Option (List ℕ)) → r.script ≡ o → option_map_or (λ script. are_alike script latin) o (is_empty r.extended && is_one r.primary) ≡ true → IsIn r latin
+    by_option (Some script) is h = record { own = script; is = rw is refl; alike = alike_is script latin h }
+    by_option None is h =
+        let k = and_parts (is_empty r.extended) (is_one r.primary) h in
+        let (own, own_is, alike) = some_latin (likely_for likely_subtags (alone r.primary)) (latin_alone r.primary k.1) in
+        let likely : likely_of r.primary r.extended (unwrap_or r.region []) ≡ likely_for likely_subtags (alone r.primary) =
+        ap (λ es. likely_of r.primary es (unwrap_or r.region [])) (empty-nil r.extended k.0) ∙ likely_alone r.primary (unwrap_or r.region []) k.1 in
+        record { own = own; is = rw is (ap (option_map (λ f. f.script)) likely ∙ own_is); alike = alike }
+
+pub both_in : (r q : Record) (script : List ℕ) → IsIn r script → IsIn q script → IsWrittenAs r q
+both_in r q script first second = rw (first.is, second.is) (first.alike ∙ sym second.alike)
+
+-- ---- records with a script
+
+abbrev are_both : Option (List ℕ) → Option (List ℕ) → Bool
+are_both first second = option_map_or (λ own. option_map_or (are_alike own) second false) first false
+
+both_written : (r q : Record) → are_both r.script q.script ≡ true → IsWrittenAs r q
+both_written r q h = by_options r.script q.script refl refl h
+  where
+    by_options : (o u : Option (List ℕ)) → r.script ≡ o → q.script ≡ u → are_both o u ≡ true → IsWrittenAs r q
+    by_options None u is other h = absurd cc
+    by_options (Some own) None is other h = absurd cc
+    by_options (Some own) (Some script) is other h = rw (is, other) (alike_is own script h)
+
+-- ---- the rows
+
+-- each parent once
+abbrev pub parents : List (List ℕ)
+parents =
+    codes "en-001" ∷ codes "en-150" ∷ codes "en-IN" ∷ codes "es-419" ∷ codes "fr-HT" ∷ codes "no" ∷ codes "pt-PT" ∷ codes "zh-Hant-HK" ∷ []
+
+abbrev in_one_script : Record → Record → Bool
+in_one_script r q = (is_latin r && is_latin q) || are_both r.script q.script
+
+abbrev is_lawful : Row → Bool
+is_lawful row =
+    not (is_there row.parent)
+    || (list_any (bytes_eq row.parent) parents && (is_simple row.tag && (is_simple row.parent && in_one_script (record_of row.tag) (record_of row.parent))))
+
+all_lawful : list_all is_lawful parent_locales ≡ true
+unfolding parent_locales fold_byte is_primary is_script is_region is_letter is_digit
+all_lawful = refl
+
+record RowOf (holds : Row → Bool) (text parent : List ℕ) : Type 0 where
+  row : Row
+  is : row.parent ≡ parent
+  alike : Alike row.tag text
+  holds_of_it : holds row ≡ true
+
+row_of : (holds : Row → Bool) (rows : List Row) (text parent : List ℕ) → list_all holds rows ≡ true → row_for rows text ≡ Some parent → RowOf holds text parent
+unfolding row_for
+row_of holds [] text parent all is = absurd cc
+row_of holds (row ∷ rows) text parent all is =
+    let k = and_parts (holds row) (list_all holds rows) all in
+    either_way (are_alike row.tag text)
+    (λ same. let it : Some row.parent ≡ Some parent = sym (rw same refl) ∙ is in
+    record { row = row; is = cc; alike = alike_is row.tag text same; holds_of_it = k.0 })
+    (λ other. row_of holds rows text parent k.1 (sym (rw other refl) ∙ is))
+
+some_listed : (rows : List Row) (text parent : List ℕ) → row_for rows text ≡ Some parent → list_any (λ row. bytes_eq row.parent parent) rows ≡ true
+unfolding row_for
+some_listed [] text parent is = absurd cc
+some_listed (row ∷ rows) text parent is =
+    either_way (are_alike row.tag text)
+    (λ same. let it : Some row.parent ≡ Some parent = sym (rw same refl) ∙ is in let here : row.parent ≡ parent = cc in grind (arith, bytes_decides row.parent parent))
+    (λ other. let later = some_listed rows text parent (sym (rw other refl) ∙ is) in grind arith)
+
+-- ---- another case changes nothing
+
+latin_folded : Record → Bool
+latin_folded f = option_map_or (λ script. bytes_eq script (fold_text latin)) f.script (is_empty f.extended && list_any (λ one. bytes_eq (fold_text one) f.primary) latin_languages)
+
+empty-map : (es : List (List ℕ)) → is_empty (map fold_text es) ≡ is_empty es
+empty-map [] = refl
+empty-map (e ∷ es) = refl
+
+unfolding_latin : (r : Record) → latin_folded (fold_record r) ≡ is_latin r
+unfolding latin_folded
+unfolding_latin r = by_option r.script
+  where
+    by_option :
+        (o : Option (List ℕ)) →
+        option_map_or (λ script. bytes_eq script (fold_text latin)) (option_map fold_text o) (is_empty (map fold_text r.extended) && is_one r.primary)
+        ≡ option_map_or (λ script. are_alike script latin) o (is_empty r.extended && is_one r.primary)
+    by_option None = ap (λ b. b && is_one r.primary) (empty-map r.extended)
+    by_option (Some script) = refl
+
+latin-alike : (r q : Record) → AlikeRecords r q → is_latin r ≡ is_latin q
+latin-alike r q same = sym (unfolding_latin r) ∙ ap latin_folded same ∙ unfolding_latin q
+
+both-alike : (first second script : Option (List ℕ)) → option_map fold_text first ≡ option_map fold_text second → are_both first script ≡ are_both second script
+both-alike None None script same = refl
+both-alike None (Some b) script same = absurd cc
+both-alike (Some a) None script same = absurd cc
+both-alike (Some a) (Some b) script same = let alike : Alike a b = cc in ap (λ t. option_map_or (λ s. bytes_eq t (fold_text s)) script false) alike
+
+-- ---- a parent that CLDR states
+
+pub record ListedParent (r : Record) (parent : List ℕ) : Type 0 where
+  pub listed : IsListed parent
+  pub known : list_any (bytes_eq parent) parents ≡ true
+  pub simple : is_simple parent ≡ true
+  pub written : IsWrittenAs r (record_of parent)
+
+in_script : (r tagged q : Record) → AlikeRecords tagged r → in_one_script tagged q ≡ true → IsWrittenAs r q
+in_script r tagged q same h =
+    either_way (is_latin tagged && is_latin q)
+    (λ both. let k = and_parts (is_latin tagged) (is_latin q) both in
+    both_in r q latin (latin_in r (sym (latin-alike tagged r same) ∙ k.0)) (latin_in q k.1))
+    (λ other. let both : are_both tagged.script q.script ≡ true = sym (rw other refl) ∙ h in
+    both_written r q (sym (both-alike tagged.script r.script q.script (ap (λ f. f.script) same)) ∙ both))
+
+pub listed_parent :
+    (r : Record) (text parent : List ℕ) → Spells r text → 0 < length parent → row_for parent_locales text ≡ Some parent → ListedParent r parent
+listed_parent r text parent spells some is =
+    let it = row_of is_lawful parent_locales text parent all_lawful is in
+    let there : is_there it.row.parent ≡ true = ap is_there it.is ∙ there-long parent some in
+    let lawful : is_lawful it.row ≡ true = it.holds_of_it in
+    let rest = list_any (bytes_eq it.row.parent) parents && (is_simple it.row.tag && (is_simple it.row.parent && in_one_script (record_of it.row.tag) (record_of it.row.parent))) in
+    let all : rest ≡ true = sym (ap (λ b. not b || rest) there) ∙ lawful in
+    let k = and_parts (list_any (bytes_eq it.row.parent) parents) (is_simple it.row.tag && (is_simple it.row.parent && in_one_script (record_of it.row.tag) (record_of it.row.parent))) all in
+    let m = and_parts (is_simple it.row.tag) (is_simple it.row.parent && in_one_script (record_of it.row.tag) (record_of it.row.parent)) k.1 in
+    let n = and_parts (is_simple it.row.parent) (in_one_script (record_of it.row.tag) (record_of it.row.parent)) m.1 in
+    let (other, other_spells, same, _) = alike_parts it.row.tag text it.alike (record_of it.row.tag) (simple_spelled it.row.tag m.0) in
+    let one : other ≡ r = spelled_once other r other_spells.0 spells.0 (other_spells.1 ∙ sym spells.1) in
+    record {
+      listed = some_listed parent_locales text parent is;
+      known = sym (ap (λ t. list_any (bytes_eq t) parents) it.is) ∙ k.0;
+      simple = sym (ap is_simple it.is) ∙ n.0;
+      written = subst (λ t. IsWrittenAs r (record_of t)) it.is (in_script r (record_of it.row.tag) (record_of it.row.parent) (subst (AlikeRecords (record_of it.row.tag)) one same) n.1);
+    }

@@ -1,0 +1,68 @@
+// Made by rust/erase from crates/langtag_c/src/prepare.rt. Change that file, not this one.
+
+//! Tags that are prepared for many choices.
+
+use crate::erased::choice::{PreparedForm, TagList};
+use crate::erased::tag::LangTag;
+use crate::spans::{bytes_in, tag_in, Span};
+
+/// A tag of a site, with what the choice computes of it.
+#[repr(C)]
+#[derive(Clone, Copy)]
+pub struct PreparedTag {
+    /// The span of the tag in the string of the site.
+    pub tag: Span,
+    /// What `langtag_prepare` writes.
+    pub form: PreparedForm,
+}
+
+/// Computes what a choice needs of a tag: of its span in the string, which the caller sets. A span
+/// that is not a tag, or reaches beyond the string, is never chosen.
+#[inline]
+pub fn langtag_prepare(bytes: &[u8], tag: &mut PreparedTag) {
+    tag.form = PreparedForm::of(bytes_in(bytes, tag.tag));
+}
+
+impl PreparedTag {
+    /// Returns the tag, or `None` if the span is not a tag, or if this was not prepared for it.
+    fn current_in<'a>(&self, text: &'a [u8]) -> Option<LangTag<'a>> {
+        let Some(tag) = tag_in(text, self.tag) else {
+            return None;
+        };
+        if self.form.is_for(tag.as_bytes()) {
+            Some(tag)
+        } else {
+            None
+        }
+    }
+}
+
+/// A string, and tags in it that were prepared. A tag is left out if it was not prepared for its
+/// span in this string.
+#[derive(Clone, Copy)]
+pub(crate) struct PreparedTags<'a> {
+    pub(crate) text: &'a [u8],
+    pub(crate) tags: &'a [PreparedTag],
+}
+
+impl TagList for PreparedTags<'_> {
+    #[inline]
+    fn count(&self) -> usize {
+        self.tags.len()
+    }
+
+    #[inline]
+    fn tag_at(&self, index: usize) -> Option<LangTag<'_>> {
+        self.tags[index].current_in(self.text)
+    }
+
+    #[inline]
+    fn bytes_at(&self, index: usize) -> &[u8] {
+        bytes_in(self.text, self.tags[index].tag)
+    }
+
+    #[inline]
+    fn form_at(&self, index: usize) -> Option<&PreparedForm> {
+        Some(&self.tags[index].form)
+    }
+}

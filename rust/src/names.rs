@@ -1,0 +1,153 @@
+//! Names of tags in English, and of languages in themselves, from Unicode's CLDR. The feature `names`
+//! adds this module and its tables, which take 60 kB.
+//!
+//! ```
+//! use langtag::names::{autonym, describe};
+//! use langtag::LangTag;
+//!
+//! assert_eq!(describe(LangTag::new("pt-BR")?), "Portuguese (Brazil)");
+//! assert_eq!(autonym(LangTag::new("pt-BR")?), Some("português"));
+//! # Ok::<(), Box<dyn std::error::Error>>(())
+//! ```
+//!
+//! Unlike most of the crate, this module is written by hand, and not proved. Tests compare it with the
+//! other languages.
+mod data;
+
+use alloc::string::String;
+use alloc::vec::Vec;
+
+use crate::likely::maximized;
+use crate::registry::canonical;
+use crate::{LangTag, NormalLangTag, Script};
+
+/// Returns an English name of a tag, made of CLDR's names for the subtags of its canonical form.
+///
+/// A subtag for which CLDR has no name is shown as it is, and so are extensions and private use. The
+/// variants are in alphabetical order.
+///
+/// ```
+/// use langtag::names::describe;
+/// use langtag::LangTag;
+///
+/// assert_eq!(describe(LangTag::new("zh-yue-HK")?), "Cantonese (Hong Kong SAR China)");
+/// assert_eq!(describe(LangTag::new("de-CH-u-co-phonebk")?), "German (Switzerland, u-co-phonebk)");
+/// assert_eq!(describe(LangTag::new("x-a")?), "x-a");
+/// # Ok::<(), Box<dyn std::error::Error>>(())
+/// ```
+#[must_use]
+pub fn describe<'a>(tag: impl Into<LangTag<'a>>) -> String {
+    let mut form = canonical(tag);
+    form.make_recommended_case();
+    let Some(tag) = form.as_lang_tag().as_normal() else {
+        return form.as_str().into();
+    };
+    let mut name = String::from(english_name(tag.language().as_str()));
+    let inside = details(tag).join(", ");
+    if !inside.is_empty() {
+        name.push_str(" (");
+        name.extend(inside.chars().map(bracketed));
+        name.push(')');
+    }
+    name
+}
+
+/// Returns the names of the subtags after the language. Extensions and private use stay strings.
+fn details(tag: NormalLangTag<'_>) -> Vec<&str> {
+    let mut found = Vec::new();
+    found.extend(tag.script().map(|script| english_name(script.as_str())));
+    found.extend(tag.region().map(|region| english_name(region.as_str())));
+    let mut variants: Vec<_> = tag
+        .variants()
+        .iter()
+        .map(|variant| variant.as_str())
+        .collect();
+    variants.sort_unstable();
+    found.extend(variants.into_iter().map(english_name));
+    let mut singletons = Vec::new();
+    for extension in tag.extensions().iter() {
+        // A repeated singleton makes the tag invalid, and only the first counts.
+        if !singletons.contains(&extension.singleton()) {
+            singletons.push(extension.singleton());
+            found.push(extension.as_str());
+        }
+    }
+    found.extend(tag.private_use().map(|private| private.as_str()));
+    found
+}
+
+/// Returns the English name of a subtag, or the subtag if CLDR has none.
+fn english_name(subtag: &str) -> &str {
+    name_in(&data::ENGLISH_NAMES, subtag).unwrap_or(subtag)
+}
+
+/// Returns a character as it is written inside parentheses.
+fn bracketed(character: char) -> char {
+    match character {
+        '(' => '[',
+        ')' => ']',
+        other => other,
+    }
+}
+
+fn name_in(rows: &[(&str, &'static str)], key: &str) -> Option<&'static str> {
+    let at = rows.binary_search_by(|row| row.0.cmp(key)).ok()?;
+    Some(rows[at].1)
+}
+
+/// Returns the name of a tag's language in the language itself, from CLDR, or `None` if CLDR has none.
+///
+/// If CLDR has a name for the language in the tag's script or region, it returns that name. The script
+/// is the tag's own, or the likely script of the language in the region. If there is no name in that
+/// script, it returns `None`.
+///
+/// ```
+/// use langtag::names::autonym;
+/// use langtag::LangTag;
+///
+/// assert_eq!(autonym(LangTag::new("de-DE")?), Some("Deutsch"));
+/// assert_eq!(autonym(LangTag::new("zh-TW")?), Some("繁體中文"));
+/// assert_eq!(autonym(LangTag::new("tlh")?), None);
+/// # Ok::<(), Box<dyn std::error::Error>>(())
+/// ```
+#[must_use]
+pub fn autonym<'a>(tag: impl Into<LangTag<'a>>) -> Option<&'static str> {
+    let mut form = canonical(tag);
+    form.make_recommended_case();
+    let tag = form.as_lang_tag().as_normal()?;
+    let language = tag.language().as_str();
+    let likely = likely_script(tag.base().as_str());
+    let is_usual = likely.is_none() || likely == likely_script(language);
+    let script = tag.script().map(|script| String::from(script.as_str()));
+    let mut key = String::from(language);
+    push(&mut key, script.or(likely.filter(|_| !is_usual)).as_deref());
+    let written = key.len();
+    push(&mut key, tag.region().map(|region| region.as_str()));
+    let in_region = key.len();
+    push(
+        &mut key,
+        Some(tag.variants().as_str()).filter(|variants| !variants.is_empty()),
+    );
+    let lengths = [key.len(), in_region, written];
+    let names = lengths
+        .iter()
+        .map(|&len| &key[..len])
+        .chain(is_usual.then_some(language));
+    names
+        .into_iter()
+        .find_map(|key| name_in(&data::OWN_NAMES, key))
+}
+
+fn push(key: &mut String, subtag: Option<&str>) {
+    if let Some(subtag) = subtag {
+        key.push('-');
+        key.push_str(subtag);
+    }
+}
+
+/// Returns the script of a tag with its likely subtags.
+fn likely_script(tag: &str) -> Option<String> {
+    let tag = maximized(LangTag::new(tag).ok()?);
+    tag.script()
+        .map(|script: Script<'_>| script.as_str().into())
+}
