@@ -392,7 +392,7 @@ def long_text(numbers: random.Random) -> bytes:
 
 def questions_of(numbers: random.Random) -> Rows:
     one, other = (numbers.choice([long_text, random_text])(numbers) for _ in "ab")
-    for call in ("tag", "validity", "suggestion", "canonical", "refused", "maximized", "minimized", "right-to-left", "posix"):
+    for call in ("tag", "validity", "suggestion", "canonical", "refused", "maximized", "minimized", "right-to-left", "posix", "posix-name"):
         yield call, shown(one)
     yield "distance", shown(one), shown(numbers.choice([other, one.swapcase()]))
 
