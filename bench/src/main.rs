@@ -359,15 +359,15 @@ fn write_some(tags: &[&str], count: usize) -> std::io::Result<()> {
 fn write_variants(count: usize, order: &str) -> std::io::Result<()> {
     let mut variants: Vec<usize> = (0..count).collect();
     match order {
-        "rising" => {}
-        "falling" => variants.reverse(),
+        "ascending" => {}
+        "descending" => variants.reverse(),
         "mixed" => {
             let mut numbers = Numbers(1);
             for index in (1..count).rev() {
                 variants.swap(index, numbers.next(index + 1));
             }
         }
-        _ => panic!("ORDER is rising, falling or mixed"),
+        _ => panic!("ORDER is ascending, descending or mixed"),
     }
     let mut out = std::io::BufWriter::new(std::io::stdout());
     out.write_all(b"de")?;

@@ -24,7 +24,7 @@ use Rattle.langtag_keyword.proofs.AlphabetLaws.{Rise, before-tie, rise-in_alphab
 use Rattle.langtag_keyword.proofs.AlphabetTwice.{AreLower, lower-in_alphabet}
 use Rattle.langtag_keyword.proofs.Each.{each-alphabet}
 use Rattle.langtag_keyword.proofs.KeySetLaws.{place-within}
-use Rattle.langtag_keyword.proofs.RisingTexts.{among, among-alphabet, each-among, under-each}
+use Rattle.langtag_keyword.proofs.AscendingTexts.{among, among-alphabet, each-among, under-each}
 use Rattle.langtag_keyword.proofs.VariantLengths.{among-alike}
 
 -- ---- characters and their places

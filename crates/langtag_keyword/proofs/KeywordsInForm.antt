@@ -14,7 +14,7 @@ use Rattle.langtag_keyword.specs.Keywords.{before_key, value_of}
 use Rattle.langtag_keyword.proofs.AlphabetLaws.{Rise, rise-in_alphabet}
 use Rattle.langtag_keyword.proofs.AlphabetTwice.{AreLower, lower-in_alphabet}
 use Rattle.langtag_keyword.proofs.KeywordBlocks.{block, blocks}
-use Rattle.langtag_keyword.proofs.RisingTexts.{among, among-alphabet, before-apart, each-among, not-among, same-risen, under-each}
+use Rattle.langtag_keyword.proofs.AscendingTexts.{among, among-alphabet, before-apart, each-among, not-among, same-risen, under-each}
 
 pub flat-same : (f g : List ℕ → List (List ℕ)) (keys : List (List ℕ)) → AllByRecursion (λ k. f k ≡ g k) keys → flat_map f keys ≡ flat_map g keys
 flat-same f g [] same = refl

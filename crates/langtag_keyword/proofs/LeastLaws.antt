@@ -5,27 +5,27 @@ use Rattle.std.specs.List.{filter}
 use Rattle.std.specs.List.Sorted.{IsNonDecreasing}
 use Rattle.std.proofs.lemmas.Bool.Decides.{nat_tests}
 use Rattle.std.proofs.lemmas.List.Folds.{list_any_at, list_any-append}
-use Rattle.langtag_keyword.specs.Least.{HoldsLeast, IsOffered, Least, RisesFrom, has, is_within, rising_after}
+use Rattle.langtag_keyword.specs.Least.{HoldsLeast, IsOffered, Least, AscendsFrom, has, is_within, ascending_after}
 
 -- ---- numbers that rise
 
-pub low-rise : (l n : ℕ) (ns : List ℕ) → RisesFrom l ns → n ≤ l → has n ns ≡ false
+pub low-rise : (l n : ℕ) (ns : List ℕ) → AscendsFrom l ns → n ≤ l → has n ns ≡ false
 low-rise l n [] rise below = refl
 low-rise l n (m ∷ ms) rise below = grind (arith, nat_tests, low-rise m n ms rise.1)
 
-rise-weaker : (l m : ℕ) (ns : List ℕ) → l ≤ m → RisesFrom m ns → RisesFrom l ns
+rise-weaker : (l m : ℕ) (ns : List ℕ) → l ≤ m → AscendsFrom m ns → AscendsFrom l ns
 rise-weaker l m [] below rise = tt
 rise-weaker l m (n ∷ ns) below rise = (omega (arith, below, rise.0), rise.1)
 
 -- numbers that rise are known by which numbers are among them
-pub same-rise : (l : ℕ) (xs ys : List ℕ) → RisesFrom l xs → RisesFrom l ys → ((n : ℕ) → has n xs ≡ has n ys) → xs ≡ ys
+pub same-rise : (l : ℕ) (xs ys : List ℕ) → AscendsFrom l xs → AscendsFrom l ys → ((n : ℕ) → has n xs ≡ has n ys) → xs ≡ ys
 same-rise l [] [] rx ry same = refl
 same-rise l [] (y ∷ ys) rx ry same = absurd (grind (arith, nat_tests, same y))
 same-rise l (x ∷ xs) [] rx ry same = absurd (grind (arith, nat_tests, same x))
 same-rise l (x ∷ xs) (y ∷ ys) rx ry same =
     let one : x ≡ y = grind (arith, nat_tests, same x, same y, low-rise y x ys ry.1, low-rise x y xs rx.1) in
     let rest : (n : ℕ) → has n xs ≡ has n ys = λ n. grind (arith, nat_tests, same n, low-rise x x xs rx.1, low-rise y y ys ry.1) in
-    ap (λ z. z ∷ xs) one ∙ ap (λ zs. y ∷ zs) (same-rise y xs ys (subst (λ z. RisesFrom z xs) one rx.1) ry.1 rest)
+    ap (λ z. z ∷ xs) one ∙ ap (λ zs. y ∷ zs) (same-rise y xs ys (subst (λ z. AscendsFrom z xs) one rx.1) ry.1 rest)
 
 -- ---- those that pass a test
 
@@ -33,22 +33,22 @@ pub has-filter : (p : ℕ → Bool) (n : ℕ) (ns : List ℕ) → has n (filter 
 has-filter p n [] = grind arith
 has-filter p n (m ∷ ms) = grind (arith, nat_tests, has-filter p n ms)
 
-rise-filter : (p : ℕ → Bool) (l : ℕ) (ns : List ℕ) → RisesFrom l ns → RisesFrom l (filter p ns)
+rise-filter : (p : ℕ → Bool) (l : ℕ) (ns : List ℕ) → AscendsFrom l ns → AscendsFrom l (filter p ns)
 rise-filter p l [] rise = tt
 rise-filter p l (n ∷ ns) rise = by_test (p n) (rise-filter p n ns rise.1)
   where
-    by_test : (b : Bool) → RisesFrom n (filter p ns) → RisesFrom l (cond b (n ∷ filter p ns) (filter p ns))
+    by_test : (b : Bool) → AscendsFrom n (filter p ns) → AscendsFrom l (cond b (n ∷ filter p ns) (filter p ns))
     by_test true later = (rise.0, later)
     by_test false later = rise-weaker l n (filter p ns) (omega (arith, rise.0)) later
 
-rise-within : (last limit l : ℕ) (ns : List ℕ) → RisesFrom l ns → RisesFrom last (filter (is_within last limit) ns)
+rise-within : (last limit l : ℕ) (ns : List ℕ) → AscendsFrom l ns → AscendsFrom last (filter (is_within last limit) ns)
 rise-within last limit l [] rise = tt
 rise-within last limit l (n ∷ ns) rise =
     by_test (is_within last limit n) refl (rise-filter (is_within last limit) n ns rise.1) (rise-within last limit n ns rise.1)
   where
     by_test :
-        (b : Bool) → is_within last limit n ≡ b → RisesFrom n (filter (is_within last limit) ns) → RisesFrom last (filter (is_within last limit) ns) →
-        RisesFrom last (cond b (n ∷ filter (is_within last limit) ns) (filter (is_within last limit) ns))
+        (b : Bool) → is_within last limit n ≡ b → AscendsFrom n (filter (is_within last limit) ns) → AscendsFrom last (filter (is_within last limit) ns) →
+        AscendsFrom last (cond b (n ∷ filter (is_within last limit) ns) (filter (is_within last limit) ns))
     by_test true is above later = (grind (arith, nat_tests), above)
     by_test false is above later = later
 
@@ -57,19 +57,19 @@ rise-within last limit l (n ∷ ns) rise =
 abbrev pub above : ℕ → List ℕ → List ℕ
 above last ns = filter (ltb last) ns
 
-pub above-all : (last l : ℕ) (ns : List ℕ) → last ≤ l → RisesFrom l ns → above last ns ≡ ns
+pub above-all : (last l : ℕ) (ns : List ℕ) → last ≤ l → AscendsFrom l ns → above last ns ≡ ns
 above-all last l [] below rise = refl
 above-all last l (n ∷ ns) below rise =
     let inside : ltb last n ≡ true = grind (arith, nat_tests, rise.0) in
     ap (λ b. cond b (n ∷ above last ns) (above last ns)) inside ∙ ap (λ ms. n ∷ ms) (above-all last n ns (omega (arith, below, rise.0)) rise.1)
 
-none-within : (last limit l : ℕ) (ns : List ℕ) → limit ≤ l → RisesFrom l ns → filter (is_within last limit) ns ≡ []
+none-within : (last limit l : ℕ) (ns : List ℕ) → limit ≤ l → AscendsFrom l ns → filter (is_within last limit) ns ≡ []
 none-within last limit l [] below rise = refl
 none-within last limit l (n ∷ ns) below rise =
     let outside : is_within last limit n ≡ false = grind (arith, nat_tests, rise.0) in
     ap (λ b. cond b (n ∷ filter (is_within last limit) ns) (filter (is_within last limit) ns)) outside ∙ none-within last limit n ns (omega (arith, below, rise.0)) rise.1
 
-pub above-split : (last limit l : ℕ) (ns : List ℕ) → last ≤ limit → RisesFrom l ns → above last ns ≡ filter (is_within last limit) ns ++ above limit ns
+pub above-split : (last limit l : ℕ) (ns : List ℕ) → last ≤ limit → AscendsFrom l ns → above last ns ≡ filter (is_within last limit) ns ++ above limit ns
 above-split last limit l [] order rise = refl
 above-split last limit l (n ∷ ns) order rise =
     by_tests (ltb last n) (leb n limit) (ltb limit n) refl refl refl (above-split last limit n ns order rise.1)
@@ -132,27 +132,27 @@ has-take n (suc k) l (m ∷ ms) up inside =
 
 -- ---- each once
 
-pub rise-rising : (last : ℕ) (ns : List ℕ) → RisesFrom last (rising_after last ns)
-rise-rising last [] = tt
-rise-rising last (n ∷ ns) = by_test (ltb last n) refl (rise-rising n ns) (rise-rising last ns)
+pub rise-ascending : (last : ℕ) (ns : List ℕ) → AscendsFrom last (ascending_after last ns)
+rise-ascending last [] = tt
+rise-ascending last (n ∷ ns) = by_test (ltb last n) refl (rise-ascending n ns) (rise-ascending last ns)
   where
     by_test :
-        (b : Bool) → ltb last n ≡ b → RisesFrom n (rising_after n ns) → RisesFrom last (rising_after last ns) →
-        RisesFrom last (cond b (n ∷ rising_after n ns) (rising_after last ns))
+        (b : Bool) → ltb last n ≡ b → AscendsFrom n (ascending_after n ns) → AscendsFrom last (ascending_after last ns) →
+        AscendsFrom last (cond b (n ∷ ascending_after n ns) (ascending_after last ns))
     by_test true is next same = (grind (arith, nat_tests), next)
     by_test false is next same = same
 
-has-rising : (last n l : ℕ) (ns : List ℕ) → NeverFalls l ns → has n (rising_after last ns) ≡ (ltb last n && has n ns)
-has-rising last n l [] up = grind arith
-has-rising last n l (m ∷ ms) up = grind (arith, nat_tests, has-rising m n m ms up.1, has-rising last n m ms up.1, low-sorted m n ms up.1)
+has-ascending : (last n l : ℕ) (ns : List ℕ) → NeverFalls l ns → has n (ascending_after last ns) ≡ (ltb last n && has n ns)
+has-ascending last n l [] up = grind arith
+has-ascending last n l (m ∷ ms) up = grind (arith, nat_tests, has-ascending m n m ms up.1, has-ascending last n m ms up.1, low-sorted m n ms up.1)
 
 -- the numbers that are kept, in order, are those of all numbers that are within the limits
 pub kept-within :
-    (least : Least) (all ns : List ℕ) → RisesFrom 0 all → HoldsLeast least all → NeverFalls 0 ns → ((n : ℕ) → has n ns ≡ has n least.kept) →
-    rising_after least.last ns ≡ filter (is_within least.last least.limit) all
+    (least : Least) (all ns : List ℕ) → AscendsFrom 0 all → HoldsLeast least all → NeverFalls 0 ns → ((n : ℕ) → has n ns ≡ has n least.kept) →
+    ascending_after least.last ns ≡ filter (is_within least.last least.limit) all
 kept-within least all ns rise holds up same =
-    same-rise least.last _ _ (rise-rising least.last ns) (rise-within least.last least.limit 0 all rise)
-    (λ n. has-rising least.last n 0 ns up ∙ ap (λ b. ltb least.last n && b) (same n ∙ holds.same n) ∙ twice (ltb least.last n) (leb n least.limit) (has n all)
+    same-rise least.last _ _ (rise-ascending least.last ns) (rise-within least.last least.limit 0 all rise)
+    (λ n. has-ascending least.last n 0 ns up ∙ ap (λ b. ltb least.last n && b) (same n ∙ holds.same n) ∙ twice (ltb least.last n) (leb n least.limit) (has n all)
     ∙ sym (has-filter (is_within least.last least.limit) n all))
   where
     twice : (a b c : Bool) → (a && ((a && b) && c)) ≡ ((a && b) && c)

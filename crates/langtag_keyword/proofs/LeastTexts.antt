@@ -19,7 +19,7 @@ use Rattle.langtag_scan.proofs.SubtagFacts.{IsSubtag}
 use Rattle.langtag_scan.specs.Case.{fold_byte, fold_text, folded_number}
 use Rattle.langtag_scan.specs.Class.{are_alphanumeric, is_alphanumeric, is_digit, is_letter}
 use Rattle.langtag_keyword.specs.Form.{in_alphabet, is_before, put_among}
-use Rattle.langtag_keyword.specs.Least.{HoldsLeast, IsOffered, Least, RisesFrom, has, is_within, left_number, number_text, order_number, rising_after}
+use Rattle.langtag_keyword.specs.Least.{HoldsLeast, IsOffered, Least, AscendsFrom, has, is_within, left_number, number_text, order_number, ascending_after}
 use Rattle.langtag_keyword.proofs.AlphabetLaws.{Rise, Under, before-tie, rise-in_alphabet}
 use Rattle.langtag_keyword.proofs.Each.{each-put}
 use Rattle.langtag_keyword.proofs.LeastLaws.{AllUpTo, above, above-all, above-none, above-split}
@@ -187,7 +187,7 @@ abbrev pub numbers : List (List ℕ) → List ℕ
 numbers ss = map (left_number 8) ss
 
 rises-after :
-    (s : List ℕ) (ss : List (List ℕ)) → HasNumber s → AllByRecursion HasNumber ss → Under s ss → Rise ss → RisesFrom (left_number 8 s) (numbers ss)
+    (s : List ℕ) (ss : List (List ℕ)) → HasNumber s → AllByRecursion HasNumber ss → Under s ss → Rise ss → AscendsFrom (left_number 8 s) (numbers ss)
 rises-after s [] one all under rise = tt
 rises-after s (t ∷ ts) one all under rise =
     (left-before 8 s t one.short all.0.short one.bytes all.0.bytes under, rises-after t ts all.0 all.1 rise.0 rise.1)
@@ -196,11 +196,11 @@ number-some : (s : List ℕ) → HasNumber s → 0 < left_number 8 s
 number-some [] number = absurd (omega (arith, number.some))
 number-some (b ∷ s) number = left-some 7 b s number.bytes.0.some
 
-rise-numbers : (ss : List (List ℕ)) → AllByRecursion HasNumber ss → Rise ss → RisesFrom 0 (numbers ss)
+rise-numbers : (ss : List (List ℕ)) → AllByRecursion HasNumber ss → Rise ss → AscendsFrom 0 (numbers ss)
 rise-numbers [] all rise = tt
 rise-numbers (s ∷ ss) all rise = (number-some s all.0, rises-after s ss all.0 all.1 rise.0 rise.1)
 
-pub rise-in_order : (ss : List (List ℕ)) → AllByRecursion IsSubtag ss → RisesFrom 0 (numbers (in_alphabet ss))
+pub rise-in_order : (ss : List (List ℕ)) → AllByRecursion IsSubtag ss → AscendsFrom 0 (numbers (in_alphabet ss))
 rise-in_order ss all = rise-numbers (in_alphabet ss) (each-number ss all) (rise-in_alphabet ss)
 
 has-put : (n : ℕ) (x : List ℕ) (ss : List (List ℕ)) → has n (numbers (put_among x ss)) ≡ ((left_number 8 x == n) || has n (numbers ss))
@@ -273,30 +273,30 @@ pushes-within ss last limit old middle new all order these those =
 -- the number at an index is greater than the last one
 pub risen :
     (ns : List ℕ) (k last next : ℕ) (out middle after new : Output) → k < length ns → last < get_or ns k 0 → next ≡ get_or ns k 0 → after ≡ middle →
-    Pushes (number_text (get_or ns k 0) ∷ []) out middle → Pushes (map number_text (rising_after next (drop (k + 1) ns))) after new →
-    Pushes (map number_text (rising_after last (drop k ns))) out new
+    Pushes (number_text (get_or ns k 0) ∷ []) out middle → Pushes (map number_text (ascending_after next (drop (k + 1) ns))) after new →
+    Pushes (map number_text (ascending_after last (drop k ns))) out new
 risen ns k last next out middle after new inside over is same one these =
     let n = get_or ns k 0 in
     let test : ltb last n ≡ true = grind (arith, nat_tests) in
-    pushes_same (number_text n ∷ map number_text (rising_after n (drop (k + 1) ns))) _ out new
-    (sym (at_drop_more (λ ms. map number_text (rising_after last ms)) ns k 0 inside
-    ∙ ap (λ b. map number_text (cond b (n ∷ rising_after n (drop (k + 1) ns)) (rising_after last (drop (k + 1) ns)))) test))
-    (pushes_next (number_text n) (number_text n) (map number_text (rising_after n (drop (k + 1) ns))) out middle new refl one
-    (subst (λ o. Pushes (map number_text (rising_after n (drop (k + 1) ns))) o new) same
-    (subst (λ m. Pushes (map number_text (rising_after m (drop (k + 1) ns))) after new) is these)))
+    pushes_same (number_text n ∷ map number_text (ascending_after n (drop (k + 1) ns))) _ out new
+    (sym (at_drop_more (λ ms. map number_text (ascending_after last ms)) ns k 0 inside
+    ∙ ap (λ b. map number_text (cond b (n ∷ ascending_after n (drop (k + 1) ns)) (ascending_after last (drop (k + 1) ns)))) test))
+    (pushes_next (number_text n) (number_text n) (map number_text (ascending_after n (drop (k + 1) ns))) out middle new refl one
+    (subst (λ o. Pushes (map number_text (ascending_after n (drop (k + 1) ns))) o new) same
+    (subst (λ m. Pushes (map number_text (ascending_after m (drop (k + 1) ns))) after new) is these)))
 
 -- it is not
 pub passed :
     (ns : List ℕ) (k last next : ℕ) (out after new : Output) → k < length ns → get_or ns k 0 ≤ last → next ≡ last → after ≡ out →
-    Pushes (map number_text (rising_after next (drop (k + 1) ns))) after new → Pushes (map number_text (rising_after last (drop k ns))) out new
+    Pushes (map number_text (ascending_after next (drop (k + 1) ns))) after new → Pushes (map number_text (ascending_after last (drop k ns))) out new
 passed ns k last next out after new inside under is same these =
     let n = get_or ns k 0 in
     let test : ltb last n ≡ false = grind (arith, nat_tests) in
-    pushes_same (map number_text (rising_after last (drop (k + 1) ns))) _ out new
-    (sym (at_drop_more (λ ms. map number_text (rising_after last ms)) ns k 0 inside
-    ∙ ap (λ b. map number_text (cond b (n ∷ rising_after n (drop (k + 1) ns)) (rising_after last (drop (k + 1) ns)))) test))
-    (subst (λ o. Pushes (map number_text (rising_after last (drop (k + 1) ns))) o new) same
-    (subst (λ m. Pushes (map number_text (rising_after m (drop (k + 1) ns))) after new) is these))
+    pushes_same (map number_text (ascending_after last (drop (k + 1) ns))) _ out new
+    (sym (at_drop_more (λ ms. map number_text (ascending_after last ms)) ns k 0 inside
+    ∙ ap (λ b. map number_text (cond b (n ∷ ascending_after n (drop (k + 1) ns)) (ascending_after last (drop (k + 1) ns)))) test))
+    (subst (λ o. Pushes (map number_text (ascending_after last (drop (k + 1) ns))) o new) same
+    (subst (λ m. Pushes (map number_text (ascending_after m (drop (k + 1) ns))) after new) is these))
 
 -- ---- digits that are put
 

@@ -16,7 +16,7 @@ pub mod KeywordTwice
 pub mod KeywordsInForm
 pub mod LeastLaws
 pub mod LeastTexts
-pub mod RisingTexts
+pub mod AscendingTexts
 pub mod SubtagTexts
 pub mod VariantLengths
 pub mod WalkSteps

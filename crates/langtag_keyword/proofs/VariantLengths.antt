@@ -18,7 +18,7 @@ use Rattle.langtag_keyword.specs.Keys.{length_with_hyphens}
 use Rattle.langtag_keyword.proofs.AlphabetLaws.{Rise, before-tie, rise-in_alphabet}
 use Rattle.langtag_keyword.proofs.AlphabetTwice.{AreLower, lower-in_alphabet}
 use Rattle.langtag_keyword.proofs.LeastTexts.{HasNumber, each-number}
-use Rattle.langtag_keyword.proofs.RisingTexts.{among, among-alphabet, before-apart, not-among, under-each}
+use Rattle.langtag_keyword.proofs.AscendingTexts.{among, among-alphabet, before-apart, not-among, under-each}
 use Rattle.langtag_keyword.proofs.SubtagTexts.{length-more}
 
 -- ---- the length of a text

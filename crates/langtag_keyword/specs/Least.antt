@@ -46,11 +46,11 @@ pub record IsOffered (more : List ℕ) (old new : Least) : Type 0 where
   pub holds : (offered : List ℕ) → HoldsLeast old offered → HoldsLeast new (offered ++ more)
 
 -- each number that is greater than `last` and than the numbers before it
-abbrev pub rising_after : ℕ → List ℕ → List ℕ
-rising_after last [] = []
-rising_after last (n ∷ ns) = if ltb last n then n ∷ rising_after n ns else rising_after last ns
+abbrev pub ascending_after : ℕ → List ℕ → List ℕ
+ascending_after last [] = []
+ascending_after last (n ∷ ns) = if ltb last n then n ∷ ascending_after n ns else ascending_after last ns
 
 -- each number is greater than the one before it, and the first is greater than `last`
-abbrev pub RisesFrom : ℕ → List ℕ → Type 0
-RisesFrom last [] = Unit
-RisesFrom last (n ∷ ns) = (last < n) × RisesFrom n ns
+abbrev pub AscendsFrom : ℕ → List ℕ → Type 0
+AscendsFrom last [] = Unit
+AscendsFrom last (n ∷ ns) = (last < n) × AscendsFrom n ns

@@ -66,7 +66,7 @@ fn push_many(out: &mut Output<'_>, rest: Option<&str>)
     }
 }
 
-/// Offers the numbers of subtags.
+/// Offers the number of each subtag to `least`.
 fn offer_each(least: &mut LeastNumbers, rest: Option<&str>)
     requires { AllByRecursion IsSubtag (segments_left rest) }
     ensures { IsOffered (map order_number (segments_left rest.entry)) least.old least.new }

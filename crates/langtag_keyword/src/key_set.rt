@@ -15,7 +15,7 @@ const CHARACTERS: usize = 36;
 /// The number of keys.
 const KEYS: usize = CHARACTERS * CHARACTERS;
 
-/// A set of keys, ignoring case. For each first character it has a number, with a bit for each second character.
+/// A set of keys, which ignores case. It stores a `u64` for each first character, with a bit for each second character.
 #[derive(Clone, Copy, Debug, Drop)]
 pub struct KeySet {
     seconds: [u64; CHARACTERS],
@@ -31,7 +31,7 @@ impl KeySet {
         }
     }
 
-    /// Adds a subtag if it has two characters. Returns `true` if it was not in the set, which has no other subtags.
+    /// Adds a subtag if it is a key, which has two characters. Returns `false` only if the set already contains it.
     pub fn insert(&mut self, subtag: &[u8]) -> bool
         requires { IsSubtag subtag.now }
         ensures new { result ≡ not (spec.has_key self.old.seconds subtag.now) }
@@ -47,7 +47,8 @@ impl KeySet {
         is_new
     }
 
-    /// Returns the first key, in alphabetical order, that comes after `last`, or the first of all. It is in lowercase.
+    /// Returns the first key in alphabetical order after `last`, or the first of all keys if `last` is `None`. It is in
+    /// lowercase.
     pub(crate) fn first_after(&self, last: Option<[u8; 2]>) -> Option<[u8; 2]>
         requires { IfSome last numbers.IsLowerKey }
         ensures first { (keys : List (List ℕ)) → spec.HasKeys self.now.seconds keys → numbers.AreKeys keys → result ≡ first_after last (in_alphabet keys) }
@@ -63,7 +64,7 @@ impl KeySet {
         ])
     }
 
-    /// Returns the first number from `start` on whose key is in the set, or the number of all keys.
+    /// Returns the first number from `start` on whose key is in the set, or `KEYS` if there is none.
     fn first_number(&self, start: usize) -> usize
         requires { start ≤ 1296 }
         ensures { numbers.IsFirstNumber self.now.seconds start result }
@@ -80,7 +81,7 @@ impl KeySet {
     }
 }
 
-/// Returns the number after that of a key, or 0.
+/// Returns the number of a key plus 1, or 0 if there is no key.
 fn number_after(key: Option<[u8; 2]>) -> usize
     requires { IfSome key numbers.IsLowerKey }
     ensures number { result ≡ numbers.number_after key }
@@ -93,7 +94,8 @@ fn number_after(key: Option<[u8; 2]>) -> usize
     place_of(first) * CHARACTERS + place_of(second) + 1
 }
 
-/// Returns the number after one that is not in the set: the next, or the first with the next character if no bit is left.
+/// Returns the next number to look up, given a number whose key is not in the set. If no bit is left, this is the first
+/// number with the next first character.
 fn after(number: usize, left: u64) -> usize
     requires { number < 1296 }
     ensures { result ≡ numbers.after number left }
@@ -104,7 +106,7 @@ fn after(number: usize, left: u64) -> usize
     number + 1
 }
 
-/// Returns the character at a place, in lowercase.
+/// Returns the character of a place in `0..CHARACTERS`, in lowercase.
 fn character_at(place: usize) -> u8
     requires { place < 36 }
     ensures { result ≡ numbers.character_at place }
@@ -116,7 +118,7 @@ fn character_at(place: usize) -> u8
     b'a' - 10 + place
 }
 
-/// Returns the place of a digit, 0 to 9, or of a letter, 10 to 35, ignoring case.
+/// Returns the place of a character: 0 to 9 for a digit, and 10 to 35 for a letter, ignoring case.
 fn place_of(byte: u8) -> usize
     requires { is_alphanumeric byte ≡ true }
     ensures place { result ≡ spec.place_of byte }

@@ -3,7 +3,7 @@ ghost use Rattle.std.specs.Prelude.{◌≡◌, ◌<◌, ℕ, List, [], ◌∷◌
 ghost use Rattle.langtag_output.specs.Output.{Pushes};
 ghost use Rattle.langtag_scan.proofs.SubtagFacts.{IsSubtag};
 ghost use Rattle.langtag_keyword.specs.Least as spec;
-ghost use Rattle.langtag_keyword.specs.Least.{HoldsLeast, IsOffered, Least, RisesFrom};
+ghost use Rattle.langtag_keyword.specs.Least.{HoldsLeast, IsOffered, Least, AscendsFrom};
 
 use langtag_output::Output;
 use langtag_scan::folded_number;
@@ -63,14 +63,14 @@ impl LeastNumbers {
     /// Returns whether such numbers may have been left out.
     pub fn push_to(&mut self, out: &mut Output<'_>) -> bool
         ensures same_buffer { out.new.buffer.ghost_name ≡ out.old.buffer.ghost_name }
-        ensures pushed { (all : List ℕ) → RisesFrom 0 all → HoldsLeast self.old all
+        ensures pushed { (all : List ℕ) → AscendsFrom 0 all → HoldsLeast self.old all
             → Pushes (map spec.number_text (filter (spec.is_within self.old.last self.old.limit) all)) out.old out.new }
         ensures next { self.new.last ≡ self.old.limit }
         ensures empty { result ≡ true → HoldsLeast self.new [] }
         ensures more { result ≡ ltb self.old.limit 18446744073709551615 }
     {
         self.numbers[..self.count].sort_unstable();
-        push_rising(out, &self.numbers[..self.count], self.last);
+        push_ascending(out, &self.numbers[..self.count], self.last);
         self.last = self.limit;
         self.limit = u64::MAX;
         self.count = 0;
@@ -88,9 +88,9 @@ pub fn order_number(subtag: &[u8]) -> u64
 }
 
 /// Appends the subtag of each number that is greater than `last` and than the numbers before it.
-fn push_rising(out: &mut Output<'_>, numbers: &[u64], last: u64)
+fn push_ascending(out: &mut Output<'_>, numbers: &[u64], last: u64)
     ensures same_buffer { out.new.buffer.ghost_name ≡ out.old.buffer.ghost_name }
-    ensures pushed { Pushes (map spec.number_text (spec.rising_after last numbers.now)) out.old out.new }
+    ensures pushed { Pushes (map spec.number_text (spec.ascending_after last numbers.now)) out.old out.new }
 {
     let mut last = last;
     for number in numbers {

@@ -11,7 +11,7 @@ use Rattle.langtag_scan.specs.Case.{are_alike, fold_text}
 use Rattle.langtag_keyword.specs.Form.{in_alphabet}
 use Rattle.langtag_keyword.proofs.AlphabetLaws.{Rise, rise-in_alphabet}
 use Rattle.langtag_keyword.proofs.AlphabetTwice.{lower-in_alphabet}
-use Rattle.langtag_keyword.proofs.RisingTexts.{after-apart, under-each}
+use Rattle.langtag_keyword.proofs.AscendingTexts.{after-apart, under-each}
 
 module _ {A : Type 0} (alike : A → A → Bool) where
   -- no element is alike one before it

@@ -20,7 +20,7 @@ use Rattle.langtag_keyword.specs.Form.{in_alphabet, keys_in_order, put_among, un
 use Rattle.langtag_keyword.specs.Keywords.{before_key, is_key, value_of}
 use Rattle.langtag_keyword.proofs.Each.{each-alphabet}
 use Rattle.langtag_unicode.proofs.FormRecords.{Good, good-value, types-unicode}
-use Rattle.langtag_keyword.proofs.RisingTexts.{KeySplit, among, among-put, key-split, lower-put, same-risen}
+use Rattle.langtag_keyword.proofs.AscendingTexts.{KeySplit, among, among-put, key-split, lower-put, same-risen}
 use Rattle.langtag_keyword.proofs.KeywordBlocks.{AreValues, block, blocks, find-among, find-passed, found_key, put-among, put-passed, removed-among, without-passed}
 use Rattle.langtag_keyword.proofs.KeywordsInForm as in_form
 use Rattle.langtag_keyword.proofs.KeywordsInForm.{blocks-put, flat-same, keys-have, plain-before}

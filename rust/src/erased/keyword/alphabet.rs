@@ -53,7 +53,7 @@ fn push_many(out: &mut Output<'_>, rest: Option<&str>) {
     }
 }
 
-/// Offers the numbers of subtags.
+/// Offers the number of each subtag to `least`.
 fn offer_each(least: &mut LeastNumbers, rest: Option<&str>) {
     let mut rest = rest;
     while let Some(text) = rest {

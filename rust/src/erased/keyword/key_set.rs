@@ -10,8 +10,8 @@ const CHARACTERS: usize = 36;
 /// The number of keys.
 const KEYS: usize = CHARACTERS * CHARACTERS;
 
-/// A set of keys, ignoring case. For each first character it has a number, with a bit for each
-/// second character.
+/// A set of keys, which ignores case. It stores a `u64` for each first character, with a bit for
+/// each second character.
 #[derive(Clone, Copy, Debug)]
 pub struct KeySet {
     seconds: [u64; CHARACTERS],
@@ -27,8 +27,8 @@ impl KeySet {
         }
     }
 
-    /// Adds a subtag if it has two characters. Returns `true` if it was not in the set, which has
-    /// no other subtags.
+    /// Adds a subtag if it is a key, which has two characters. Returns `false` only if the set
+    /// already contains it.
     pub(crate) fn insert(&mut self, subtag: &[u8]) -> bool {
         let [first, second] = subtag else {
             return true;
@@ -40,8 +40,8 @@ impl KeySet {
         is_new
     }
 
-    /// Returns the first key, in alphabetical order, that comes after `last`, or the first of all.
-    /// It is in lowercase.
+    /// Returns the first key in alphabetical order after `last`, or the first of all keys if `last`
+    /// is `None`. It is in lowercase.
     pub(crate) fn first_after(&self, last: Option<[u8; 2]>) -> Option<[u8; 2]> {
         let number = self.first_number(number_after(last));
         if number == KEYS {
@@ -53,7 +53,8 @@ impl KeySet {
         ])
     }
 
-    /// Returns the first number from `start` on whose key is in the set, or the number of all keys.
+    /// Returns the first number from `start` on whose key is in the set, or `KEYS` if there is
+    /// none.
     fn first_number(&self, start: usize) -> usize {
         let mut number = start;
         while number < KEYS {
@@ -67,7 +68,7 @@ impl KeySet {
     }
 }
 
-/// Returns the number after that of a key, or 0.
+/// Returns the number of a key plus 1, or 0 if there is no key.
 fn number_after(key: Option<[u8; 2]>) -> usize {
     let Some(key) = key else {
         return 0;
@@ -76,8 +77,8 @@ fn number_after(key: Option<[u8; 2]>) -> usize {
     place_of(first) * CHARACTERS + place_of(second) + 1
 }
 
-/// Returns the number after one that is not in the set: the next, or the first with the next
-/// character if no bit is left.
+/// Returns the next number to look up, given a number whose key is not in the set. If no bit is
+/// left, this is the first number with the next first character.
 #[inline]
 fn after(number: usize, left: u64) -> usize {
     if left == 0 {
@@ -86,7 +87,7 @@ fn after(number: usize, left: u64) -> usize {
     number + 1
 }
 
-/// Returns the character at a place, in lowercase.
+/// Returns the character of a place in `0..CHARACTERS`, in lowercase.
 #[inline]
 fn character_at(place: usize) -> u8 {
     let place = place as u8;
@@ -96,7 +97,7 @@ fn character_at(place: usize) -> u8 {
     b'a' - 10 + place
 }
 
-/// Returns the place of a digit, 0 to 9, or of a letter, 10 to 35, ignoring case.
+/// Returns the place of a character: 0 to 9 for a digit, and 10 to 35 for a letter, ignoring case.
 #[inline]
 fn place_of(byte: u8) -> usize {
     if byte.is_ascii_digit() {

@@ -49,7 +49,7 @@ impl LeastNumbers {
     /// numbers above them. Returns whether such numbers may have been left out.
     pub fn push_to(&mut self, out: &mut Output<'_>) -> bool {
         self.numbers[..self.count].sort_unstable();
-        push_rising(out, &self.numbers[..self.count], self.last);
+        push_ascending(out, &self.numbers[..self.count], self.last);
         self.last = self.limit;
         self.limit = u64::MAX;
         self.count = 0;
@@ -66,7 +66,7 @@ pub fn order_number(subtag: &[u8]) -> u64 {
 
 /// Appends the subtag of each number that is greater than `last` and than the numbers before it.
 #[inline]
-fn push_rising(out: &mut Output<'_>, numbers: &[u64], last: u64) {
+fn push_ascending(out: &mut Output<'_>, numbers: &[u64], last: u64) {
     let mut last = last;
     for number in numbers {
         if *number > last {

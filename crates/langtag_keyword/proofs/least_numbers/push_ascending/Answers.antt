@@ -1,10 +1,10 @@
 use Rattle.std.proofs.Common.{drop, map, ap, ◌∙◌, arith}
-use Rattle.langtag_keyword.specs.Least.{number_text, rising_after}
+use Rattle.langtag_keyword.specs.Least.{number_text, ascending_after}
 use Rattle.langtag_keyword.proofs.LeastTexts.{passed, risen}
 use Rattle.langtag_output.proofs.Pushed.{pushes_ended}
 use Rattle.std.proofs.lemmas.List.{drop_all}
-use Rattle.langtag_keyword.proofs.least_numbers.push_rising.Goals.{then-number-last, else-number-last}
-use Rattle.langtag_keyword.proofs.least_numbers.push_rising.Goals as goal
+use Rattle.langtag_keyword.proofs.least_numbers.push_ascending.Goals.{then-number-last, else-number-last}
+use Rattle.langtag_keyword.proofs.least_numbers.push_ascending.Goals as goal
 
 pub loop-number-preserved : goal.loop-number-preserved
 loop-number-preserved c =
@@ -29,5 +29,5 @@ loop-number-preserved c =
 pub returns-clause-pushed : goal.returns-clause-pushed
 returns-clause-pushed c =
     c.loop-number.invariant.so_far _
-    (pushes_ended (map number_text (rising_after c.loop-number.last (drop c.loop-number.number-index c.args.numbers.now))) c.loop-number.out
-    (ap (λ ms. map number_text (rising_after c.loop-number.last ms)) (drop_all c.loop-number.number-index c.args.numbers.now (omega (arith, c.loop-number-test.false)))))
+    (pushes_ended (map number_text (ascending_after c.loop-number.last (drop c.loop-number.number-index c.args.numbers.now))) c.loop-number.out
+    (ap (λ ms. map number_text (ascending_after c.loop-number.last ms)) (drop_all c.loop-number.number-index c.args.numbers.now (omega (arith, c.loop-number-test.false)))))
