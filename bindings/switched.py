@@ -21,6 +21,14 @@ C = """#ifndef PLANTED_FAULTS
 static inline int planted(int fault) { return getenv("PLANTED") && atoi(getenv("PLANTED")) == fault; }
 #endif
 """
+# The switch in PostgreSQL is an option of the session, which PGOPTIONS sets.
+POSTGRESQL = """#include "utils/guc.h"
+static bool planted(int fault) {
+    const char *it = GetConfigOption("langtag.planted", true, false);
+    return it != NULL && atoi(it) == fault;
+}
+
+"""
 RUST = """
 extern crate std;
 static PLANTED: core::sync::atomic::AtomicU32 = core::sync::atomic::AtomicU32::new(0);

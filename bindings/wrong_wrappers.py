@@ -1,9 +1,12 @@
 #!/usr/bin/env python3
 """Checks that the tests find wrong wrappers. It plants faults in the C header, langtag.hpp, the files of the Rust crate that are
-written by hand, the Python module, the JavaScript package and the extension of SQLite. It builds the result, and runs the rows or a
-test of that language.
+written by hand, the Python module, the JavaScript package and the extensions of SQLite and PostgreSQL. It builds the result, and runs
+the rows or a test of that language.
 
     wrong_wrappers.py LIBRARIES [LANGUAGE..]    LIBRARIES has liblangtag_verified.a and liblangtag_verified.so.1
+
+Without a language, all run but PostgreSQL, which needs a server: PGPORT and similar variables name it, and PG_CONFIG, DESTDIR,
+LANGTAG_ARCHIVE and LANGTAG_INCLUDE are those for which `make installcheck` passes.
 
 A language is built once with the faults in bodies of functions, each behind a switch (switched.py), and once more for each other
 fault. A fault is found if the tests fail with the words that belong to it, for example the row that differs. A fault that does not
@@ -20,14 +23,16 @@ import shutil
 import subprocess
 import sys
 import tempfile
+import time
 from typing import Callable, NamedTuple
 
-from switched import C, FORBIDDEN, RUST, Change, switched
+from switched import C, FORBIDDEN, POSTGRESQL, RUST, Change, switched
 
 ROOT = pathlib.Path(__file__).resolve().parent.parent
 H, HPP, SQL = "bindings/include/langtag.h", "bindings/include/langtag.hpp", "bindings/sqlite/sqlite_langtag.c"
 NAMES = "bindings/include/langtag_names.h"
 PY, CT, TEXTS = (f"bindings/python/langtag/{name}.py" for name in ("__init__", "_ctypes", "_texts"))
+PG, PG_SQL, PG_TYPE, PG_ORDER = (f"bindings/postgresql/{name}" for name in ("langtag_pg.c", "langtag.sql.in", "type.sql.in", "order.sql.in"))
 NATIVE, JS, CALLS, MEMORY = "bindings/python/native/", *(f"bindings/js/{name}.js" for name in ("index", "calls", "memory"))
 
 
@@ -58,6 +63,11 @@ def rust(file: str, old: str, new: str, by: str = "owned") -> Fault:
 def tested(file: str, old: str, new: str, by: str) -> Fault:
     """A fault that no row shows, and the Python test that finds it."""
     return Fault(file, old, new, by, by.rpartition(".")[2])
+
+
+def pg(file: str, old: str, new: str, by: str) -> Fault:
+    """A fault that `make installcheck` finds by one of its tests."""
+    return Fault(file, old, new, by, f"not ok - {by}")
 
 
 def js(file: str, old: str, new: str, by: str) -> Fault:
@@ -122,7 +132,7 @@ FAULTS = {
         Fault(HPP, "return name.substr(modifier.start, modifier.len)", "return name.substr(modifier.len)"),
         Fault(HPP, "std::string next(text_); ", "std::string next(written(langtag_parent)); ", "parents.txt"),
         Fault(NAMES, "? \"]\" :", "? \")\" :", "names.txt"),
-        Fault(NAMES, "is_usual ? language_len : 0}", "language_len}", "names.txt"),
+        Fault(NAMES, "is_usual ? language_len : 0;", "language_len;", "names.txt"),
         Fault(NAMES, "if (form[extension.start] != last) ", "", "names.txt"),
         Fault(NAMES, "langtag_name_order(form, variant, next) < 0)", "langtag_name_order(form, variant, next) > 0)", "names.txt"),
         Fault(HPP, "ranges()) wanted.push_back(it.range)", "ranges()) if (wanted.empty()) wanted.push_back(it.range)", "lists.txt"),
@@ -336,10 +346,10 @@ FAULTS = {
         Fault(SQL, "at ? (size_t)sqlite3_value_bytes(value) : 0", "at ? strlen(at) : 0", "table.txt"),
         Fault(SQL, "langtag_base_len(tag.at, tag.len)", "langtag_viable_len(tag.at, tag.len)", "table.txt"),
         Fault(SQL, "span.len, SQLITE_TRANSIENT", "span.len < 255 ? span.len : 255, SQLITE_TRANSIENT", "table.txt"),
-        Fault(SQL, "form, form_len, sqlite3_free", "form, form_len < 512 ? form_len : 512, sqlite3_free", "table.txt"),
-        tested(SQL, "form, form_len, sqlite3_free", "form, form_len, SQLITE_TRANSIENT", "test_memory"),
-        Fault(SQL, "(form_len <= sizeof room) {\n", "(form_len <= sizeof room) {\n        langtag_recommend(room, form_len);\n", "table.txt"),
-        tested(SQL, "(form_len <= sizeof room) {\n", "(form_len <= 2000) {\n", "test_lengths"),
+        Fault(SQL, "made, len, sqlite3_free", "made, len < 512 ? len : 512, sqlite3_free", "table.txt"),
+        tested(SQL, "made, len, sqlite3_free", "made, len, SQLITE_TRANSIENT", "test_memory"),
+        Fault(SQL, "(len <= sizeof room) {\n", "(len <= sizeof room) {\n        langtag_recommend(room, len);\n", "table.txt"),
+        tested(SQL, "(len <= sizeof room) {\n", "(len <= 2000) {\n", "test_lengths"),
         Fault(SQL, "kind != LANGTAG_NONE && span->len > 0", "kind != LANGTAG_NONE", "table.txt"),
         Fault(SQL, "kind != LANGTAG_NONE && span->len > 0", "kind == LANGTAG_NORMAL && span->len > 0", "table.txt"),
         Fault(SQL, "&invalid) == LANGTAG_VALID;", "&invalid) != LANGTAG_VALIDITY_NONE;", "table.txt"),
@@ -353,7 +363,7 @@ FAULTS = {
         tested(SQL, "return;\n    memmove(bytes, bytes + rows->best_len, tag.len);", "return;\n    memmove(bytes, bytes + rows->best_len, tag.len < 255 ? tag.len : 255);", "test_lengths"),
         tested(SQL, "memcmp(rows->header, header.at, header.len) == 0) return true;", "rows->header) return true;", "test_statements"),
         Fault(SQL, "if (!value.at) return langtag_without_keyword", "if (!value.len) return langtag_without_keyword", "keywords.txt"),
-        Fault(SQL, "write_keyword(und, key, value, &none, 0) == 0", "write_keyword(und, value, key, &none, 0) == 0", "keywords.txt"),
+        Fault(SQL, ".key = key, .value = value};", ".key = value, .value = key};", "keywords.txt"),
         Fault(SQL, ".form = langtag_extensions_form", ".form = langtag_canonical", "extensions.txt"),
         Fault(SQL, ".is = langtag_is_locale", ".is = langtag_is_canonical", "locale.txt"),
         Fault(SQL, ".form = langtag_locale_form", ".form = langtag_extensions_form", "locale.txt"),
@@ -367,6 +377,70 @@ FAULTS = {
         Fault(SQL, "return langtag_cmp(langtag_bytes(a), (size_t)a_len, langtag_bytes(b), (size_t)b_len);",
               "return memcmp(a, b, (size_t)(a_len < b_len ? a_len : b_len));", "table.txt"),
     ],
+    "PostgreSQL": [
+        pg(PG, "(a_len > b_len) - (a_len < b_len)", "(a_len < b_len) - (a_len > b_len)", "operators"),
+        pg(PG, "    langtag_fold(folded, len);\n", "", "operators"),
+        pg(PG, "    langtag_fold(head, sizeof head);\n", "", "operators"),
+        pg(PG, "'~' : '.'", "'~' : '-'", "filters"),
+        pg(PG, "if (bytes[0] == '*') end = 0;\n    else if", "if", "filters"),
+        pg(PG, "return BYTES(value)[0] != '*';", "return true;", "filters"),
+        pg(PG, "if (tag == NULL) continue;", "if (tag == NULL) break;", "registry"),
+        pg(PG, "        if (best >= 0) some[taken++] = best;\n", "", "registry"),
+        pg(PG, "all.places[all.count] = k;", "all.places[all.count] = all.count;", "registry"),
+        pg(PG, "    if (len > sizeof room) folded = palloc(len);\n", "", "operators"),
+        pg(PG, "(int)len, (uint64)PG_GETARG_INT64(1))", "(int)len, 0)", "operators"),
+        pg(PG, "int size = pg_mblen(text);", "int size = 1;", "types"),
+        pg(PG, "request->lossy = lossy;", "request->lossy = false;", "filters"),
+        pg(PG, "if (ARR_ELEMTYPE(array) == TEXTOID) check_tag(BYTES(tag), LEN(tag));", "", "registry"),
+        pg(PG, "        CHECK_FOR_INTERRUPTS();\n        if (best", "        if (best", "registry"),
+        pg(PG, "    memcpy(VARDATA(answer), bytes, end);\n", "    memcpy(VARDATA(answer), bytes, Min(end, 63));\n", "filters"),
+        pg(PG, "FORM(pg_langtag_from_posix, langtag_from_posix)", "FORM(pg_langtag_from_posix, langtag_canonical)", "registry"),
+        pg(PG, "== LANGTAG_NONE) PG_RETURN_NULL();", '== LANGTAG_NONE) refuse_tag("", 0);', "types"),
+        pg(PG, "(int)LEN(value));\n    PG_RETURN_BYTEA_P", "(int)Min(LEN(value), 2000));\n    PG_RETURN_BYTEA_P", "types"),
+        pg(PG, "&span[1])) { /* each call reads the tag from its start */\n        CHECK_FOR_INTERRUPTS();", "&span[1])) {", "registry"),
+        pg(PG, "TYPALIGN_INT, &values, &nulls, &count);", "TYPALIGN_INT, &values, &nulls, &count); count = Min(count, 256);", "registry"),
+        pg(PG, " || memcmp(it->array, array, VARSIZE(array)) != 0", "", "registry"),
+        pg(PG, "langtag_prepare(string.data, (size_t)string.len, &prepared[k]);", "if (k > 0) langtag_prepare(string.data, (size_t)string.len, &prepared[k]);", "registry"),
+        pg(PG, "prepared[k] = all->prepared[some[k]];", "prepared[k] = all->prepared[k];", "registry"),
+        pg(PG, "    while (next(BYTES(tag), LEN(tag), &rest, &one)) {", "    for (int k = 0; k < 256 && next(BYTES(tag), LEN(tag), &rest, &one); k++) {", "parts"),
+        pg(PG_SQL, "@module pg_langtag_set_script@", "@module pg_langtag_set_script@ LEAKPROOF", "types"),
+        pg(PG_SQL, "'byteane'", "'byteaeq'", "operators"),
+        pg(PG_ORDER, "OPERATOR 1 <, OPERATOR 2 <=", "OPERATOR 1 <=, OPERATOR 2 <", "operators"),
+        pg(PG_ORDER, "SORTOP = >", "SORTOP = <", "operators"),
+        pg(PG_SQL, "@module pg_langtag_script@", "@module pg_langtag_region@", "parts"),
+        pg(PG_ORDER, ", HASHES, MERGES", "", "operators"),
+        pg(PG_SQL, "@module pg_langtag_tag_for_header@ COST 50", "AS 'MODULE_PATHNAME', 'pg_langtag_tag_for_header' LANGUAGE C STABLE STRICT COST 50", "types"),
+        pg(PG, "    langtag_recommend(VARDATA(tag), len);\n", "", "types"),
+        pg(PG, "    langtag_recommend(VARDATA(changed), len);\n", "", "parts"),
+        pg(PG, "if (len > 0 && langtag_kind", "if (langtag_kind", "types"),
+        pg(PG, "PART(pg_langtag_region, region)", "PART(pg_langtag_region, script)", "operators"),
+        pg(PG, "    primary_of(tag, &rest);\n    return span_or_null(fcinfo, BYTES(tag), rest);", "    return span_or_null(fcinfo, BYTES(tag), primary_of(tag, &rest));", "parts"),
+        pg(PG, "extensions, langtag_next_extension)", "extensions, langtag_next_subtag)", "parts"),
+        pg(PG, "langtag_keyword(BYTES(tag), LEN(tag), BYTES(key), LEN(key), &value)", "langtag_field(BYTES(tag), LEN(tag), BYTES(key), LEN(key), &value)", "parts"),
+        pg(PG, "value = PG_ARGISNULL(2) ? NULL : PG_GETARG_TEXT_PP(2);", 'value = PG_ARGISNULL(2) ? cstring_to_text("") : PG_GETARG_TEXT_PP(2);', "parts"),
+        pg(PG, 'write_keyword("und", 3, key, value, nothing, 0) > 0', "write_keyword(BYTES(tag), LEN(tag), key, value, nothing, 0) > 0", "parts"),
+        pg(PG, "UNICODE_FORM(pg_langtag_extensions_form, langtag_extensions_form)", "UNICODE_FORM(pg_langtag_extensions_form, langtag_canonical)", "registry"),
+        pg(PG, "langtag_base_len(BYTES(tag), LEN(tag))", "LEN(tag)", "parts"),
+        pg(PG, "PG_RETURN_BOOL(langtag_is_locale(BYTES(tag), LEN(tag)));", "PG_RETURN_BOOL(langtag_is_canonical(BYTES(tag), LEN(tag)));", "registry"),
+        pg(PG, "UNICODE_FORM(pg_langtag_locale_form, langtag_locale_form)", "UNICODE_FORM(pg_langtag_locale_form, langtag_extensions_form)", "registry"),
+        pg(PG, '    check_length("tag", tag, LONGEST_TAG);\n', "", "registry"),
+        pg(PG, "LEN(name), &found)) PG_RETURN_NULL();", "LEN(name), &found)) found.start = found.len = 0;", "registry"),
+        pg(PG, "sizes[0] = (int)count, sizes[1] = 2;", "sizes[0] = 2, sizes[1] = (int)count;", "parts"),
+        pg(PG, "    bool lossy = extended;", "    bool lossy = false;", "filters"),
+        pg(PG, "if (!IsA(range, Const)) lossy = true;", "if (!IsA(range, Const)) lossy = false;", "filters"),
+        pg(PG, "else if (extended) end", "else if (!extended) end", "filters"),
+        pg(PG, "return DatumBigEndianToNative(number);", "return number;", "operators"),
+        pg(PG, "BYTES(b), LEN(b)) >= 0 ? a : b", "BYTES(b), LEN(b)) <= 0 ? a : b", "types"),
+        pg(PG, '[LANGTAG_PRIVATE_USE] = "private-use"', '[LANGTAG_PRIVATE_USE] = "irregular"', "parts"),
+        pg(PG_SQL, "@data pg_langtag_canonical@", "@module pg_langtag_canonical@", "registry"),
+        pg(PG_SQL, ", FUNCTION 4 btequalimage(oid)", "", "operators"),
+        pg(PG_TYPE, "WITHOUT FUNCTION AS ASSIGNMENT", "WITHOUT FUNCTION AS IMPLICIT", "types"),
+        pg(PG_SQL, "pg_langtag_matches_extended@", "pg_langtag_matches_basic@", "filters"),
+        pg(PG_SQL, "LANGUAGE internal IMMUTABLE STRICT LEAKPROOF", "LANGUAGE internal IMMUTABLE STRICT", "types"),
+        pg(PG_ORDER, "pg_langtag_hash_extended@", "pg_langtag_hash@", "operators"),
+        pg(PG_SQL, "RESTRICT = matchingsel", "RESTRICT = eqsel", "filters"),
+        pg(PG_SQL, "langtag_basic_upper(langtag_range) RETURNS langtag_bound", "langtag_basic_upper(langtag_range) RETURNS langtag", "filters"),
+    ],
 }
 
 # How the tests of each language are built, in a copy of what they need.
@@ -379,6 +453,7 @@ BUILD = {
     "Python's C": "bindings/python/native/compile $LIBRARIES/liblangtag_verified.a bindings/python/langtag/_native.abi3.so $PYTHON",
     "SQLite": "cc -w -fPIC -shared -Ibindings/include bindings/sqlite/sqlite_langtag.c $LIBRARIES/liblangtag_verified.a"
               " -o sqlite_langtag.so",
+    "PostgreSQL": "make -s -C bindings/postgresql all install",
 }
 NEEDED = {"Rust": ["rust"]}  # of the other languages, bindings/
 LEFT_OUT = shutil.ignore_patterns("target", "dist", "__pycache__", "build", "erase", "checker", "peers")
@@ -395,6 +470,9 @@ def command(language: str, by: str) -> str:
     if language == "JavaScript":
         alone = f"--test-name-pattern='{by}'" if by else ""
         return f"node --test-reporter=tap {alone} bindings/js/test/{'rows' if is_rows else 'langtag'}.test.js"
+    if language == "PostgreSQL":  # `types` creates the extension
+        named = f"REGRESS='{' '.join(dict.fromkeys(['types', by]))}'" if by else ""
+        return f"timeout 60 make -s -C bindings/postgresql installcheck {named}"
     rows = f"LANGTAG_ROWS={by if is_rows else ''}"
     if language == "SQLite":
         return f"{rows} PYTHONPATH=bindings/python python3 bindings/sqlite/test_sqlite.py ./sqlite_langtag.so Sqlite.{'test_rows' if is_rows else by}"
@@ -405,7 +483,7 @@ def command(language: str, by: str) -> str:
 def tests(language: str) -> list[str]:
     """Returns the tests that have to pass without a fault: those that find one, and all rows."""
     named = sorted({fault.by for fault in FAULTS[language] if not fault.by.endswith(".txt")} - {""})
-    return named if language == "Rust" else ["", *named]
+    return named if language == "Rust" else [""] if language == "PostgreSQL" else ["", *named]
 
 
 def linked(one: str, other: str) -> None:
@@ -445,8 +523,10 @@ class Copy:
             changes = [Change(number, text.index(fault.old), text.index(fault.old) + len(fault.old), fault.new)
                        for number, fault in enumerate(faults, 1) if fault.file == file]
             text, here = switched(text, pathlib.Path(file).suffix, changes)
+            if here and self.language == "PostgreSQL":
+                text = text.replace("PG_MODULE_MAGIC", POSTGRESQL + "PG_MODULE_MAGIC", 1)
             if here:
-                self.write(file, text if self.language == "Rust" else C + text)
+                self.write(file, text if self.language in ("Rust", "PostgreSQL") else C + text)
             done |= here
         if self.language == "Rust":
             for file, more in ("rust/src/lib.rs", RUST), ("rust/src/bin/langtag/main.rs", "\nuse langtag::planted;\n"):
@@ -454,35 +534,49 @@ class Copy:
         return done
 
     def shell(self, words: str, switch: str = "") -> subprocess.CompletedProcess[str]:
-        return subprocess.run(["sh", "-c", words], cwd=self.folder, env={**self.environment, "PLANTED": switch}, text=True,
-                              errors="replace", stdout=subprocess.PIPE, stderr=subprocess.STDOUT)
+        variables = {**self.environment, "PLANTED": switch, "PGOPTIONS": f"-c statement_timeout=5s -c langtag.planted={switch or 0}"}
+        return subprocess.run(["sh", "-c", words], cwd=self.folder, env=variables, text=True, errors="replace", stdout=subprocess.PIPE,
+                              stderr=subprocess.STDOUT)
 
     def build(self) -> str | None:
         """Builds the tests. Returns why they do not build, or None."""
         built = self.shell(BUILD.get(self.language, "true"))
         return f"does not build: {built.stdout[-2000:]}" if built.returncode != 0 else None
 
+    def ran(self, by: str, switch: str) -> subprocess.CompletedProcess[str]:
+        """Runs a test, and again if a server noticed only now that an earlier fault had ended a session, and starts again."""
+        for _ in range(3):
+            ran = self.shell(command(self.language, by), switch)
+            if self.language != "PostgreSQL" or by and f"test {by} " in ran.stdout or "server closed the connection" not in ran.stdout:
+                break
+            time.sleep(1)
+        return ran
+
     def passes(self, by: str) -> str | None:
         """Runs a test without a fault, by the number of none. Returns why it does not pass, or None."""
-        ran = self.shell(command(self.language, by), "0")
+        ran = self.ran(by, "0")
         return f"is refused without a fault: {by}: {ran.stdout[-2000:]}" if ran.returncode != 0 else None
 
     def refuses(self, fault: Fault, switch: str = "") -> str | None:
         """Runs the test that has to find a fault. Returns what differs from the expectation, or None."""
-        ran = self.shell(command(self.language, fault.by), switch)
+        ran = self.ran(fault.by, switch)
         if ran.returncode == 0:
             return f"PASSES: {fault.by}"
-        said = re.sub(r"\bnot ok \d+ - ", "not ok - ", ran.stdout)  # node prints a number before each test
+        said = re.sub(r"\bnot ok \d+ +- ", "not ok - ", ran.stdout)  # node prints a number before each test
+        said = re.sub(r"\btest (\w+) +\.\.\. FAILED", r"not ok - \1", said)  # PostgreSQL 15
         return None if fault.says in said else f"is refused, and not by {fault.says!r}: {ran.stdout[-2000:]}"
 
     def remove(self) -> None:
         shutil.rmtree(self.folder)
 
 
-def refuses_alone(language: str, libraries: pathlib.Path, fault: Fault) -> str | None:
-    """Builds a language with one fault, and runs the test that has to find it. Returns what differs from the expectation, or None."""
+def alone(language: str, libraries: pathlib.Path, fault: Fault | None) -> str | None:
+    """Builds a language with one fault, or with none, and runs the test that has to find it, or all tests. Returns what differs from the
+    expectation, or None."""
     copy = Copy(language, libraries)
     try:
+        if fault is None:
+            return copy.build() or copy.passes("")
         copy.plant(fault)
         return copy.build() or copy.refuses(fault)
     finally:
@@ -505,21 +599,23 @@ def to_be_asked(copy: Copy) -> list[Asked]:
     if why:
         return [Asked(language, None, lambda: why)]
     asked = [Asked(language, None, functools.partial(copy.passes, by)) for by in tests(language)]
-    for number, fault in enumerate(FAULTS[language], 1):
+    for number, fault in sorted(enumerate(FAULTS[language], 1), key=lambda it: it[0] not in switches):
         ask = functools.partial(copy.refuses, fault, str(number)) if number in switches else functools.partial(
-            refuses_alone, language, copy.libraries, fault)
+            alone, language, copy.libraries, fault)
         asked.append(Asked(language, fault, ask))
+    if language == "PostgreSQL":  # the server still stands
+        asked.append(Asked(language, None, functools.partial(alone, language, copy.libraries, None)))
     return asked
 
 
 def main(libraries: pathlib.Path, languages: list[str]) -> int:
-    languages = languages or list(FAULTS)
+    languages = languages or [language for language in FAULTS if language != "PostgreSQL"]
     lost = [fault for language in languages for fault in FAULTS[language] if fault.old not in (ROOT / fault.file).read_text()]
     if lost:
         sys.exit("\n".join(f"{fault.file}: the text is not there: {fault.old!r}" for fault in lost))
     copies = [Copy(language, libraries) for language in languages]
     try:
-        with concurrent.futures.ThreadPoolExecutor(os.cpu_count()) as pool:
+        with concurrent.futures.ThreadPoolExecutor(1 if languages == ["PostgreSQL"] else os.cpu_count()) as pool:  # there is one server
             asked = [it for more in pool.map(to_be_asked, copies) for it in more]
             found = list(pool.map(lambda it: it.ask(), asked))
     finally:

@@ -76,8 +76,8 @@ postgresql_clone() {
 postgresql_later() { later "$here/postgresql" "$here/include" "$work/lib/liblangtag_c.a"; }
 in_postgresql() { cd postgresql/test && python3 "$@"; }
 postgresql_wrong() {
-    cp -r postgresql "$work/wrong_extension" && PYTHONPATH=$here python3 "$work/wrong_extension/test/wrong_extension.py" PG_CONFIG="$pg_config" \
-        DESTDIR="$pg_folder/server" LANGTAG_ARCHIVE="$work/lib/liblangtag_c.a" LANGTAG_INCLUDE="$here/include"
+    env PG_CONFIG="$pg_config" DESTDIR="$pg_folder/server" LANGTAG_ARCHIVE="$work/lib/liblangtag_c.a" LANGTAG_INCLUDE="$here/include" \
+        python3 wrong_wrappers.py "$work/usr/lib" PostgreSQL
 }
 
 if ! place "$(mktemp -d)" >"$work/log" 2>&1 || ! begin hub || ! begin shard_a || ! begin shard_b; then

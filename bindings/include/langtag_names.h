@@ -96,12 +96,13 @@ static inline void langtag_name_extensions(langtag_name *to, bool *is_first, con
 static inline size_t langtag_name_describe(const char *form, size_t len, char *buffer, size_t buffer_len) {
     langtag_name to = {buffer, buffer_len, 0};
     langtag_parts parts;
+    const uint32_t kind = langtag_parse(form, len, &parts);
+    const char *language = langtag_english_name(form, parts.language.len);
     bool is_first = true;
-    if (langtag_parse(form, len, &parts) != LANGTAG_NORMAL) {
+    if (kind != LANGTAG_NORMAL) {
         langtag_name_put(&to, form, len);
         return to.len;
     }
-    const char *language = langtag_english_name(form, parts.language.len);
     langtag_name_put(&to, language ? language : form, language ? strlen(language) : parts.language.len);
     langtag_name_subtag(&to, &is_first, form, parts.script);
     langtag_name_subtag(&to, &is_first, form, parts.region);
@@ -135,23 +136,32 @@ static inline size_t langtag_name_key(char *key, size_t len, const char *part, s
     return len + 1 + part_len;
 }
 
+/* Writes the longest key of a tag, and the lengths of the beginnings of it that may have a name, the longest first. A length of 0 is none. */
+static inline void langtag_name_keys(const char *form, const langtag_parts *parts, char *key, size_t lens[4]) {
+    char likely[4], usual[4];
+    const langtag_span script = parts->script, region = parts->region, variants = parts->variants;
+    const size_t language_len = parts->language.len;
+    const size_t short_len = region.len > 0 ? region.start + region.len : script.len > 0 ? script.start + script.len : language_len;
+    const size_t likely_len = langtag_name_script(form, short_len, likely), usual_len = langtag_name_script(form, language_len, usual);
+    const bool is_usual = likely_len == 0 || (likely_len == usual_len && memcmp(likely, usual, likely_len) == 0);
+    memcpy(key, form, language_len);
+    lens[3] = is_usual ? language_len : 0;
+    lens[2] = script.len > 0 ? langtag_name_key(key, language_len, form + script.start, script.len)
+                             : langtag_name_key(key, language_len, likely, is_usual ? 0 : likely_len);
+    lens[1] = langtag_name_key(key, lens[2], form + region.start, region.len);
+    lens[0] = langtag_name_key(key, lens[1], form + variants.start, variants.len);
+}
+
 /*
  * Returns the name of the tag's language in the language itself: "Deutsch" for de-DE. Returns NULL if CLDR has none in the tag's script.
  * The name is that of the longest beginning of the tag that has one.
  */
 static inline const char *langtag_name_autonym(const char *form, size_t len) {
-    char key[LANGTAG_NAME_ROOM], likely[4], usual[4];
+    char key[LANGTAG_NAME_ROOM];
+    size_t lens[4];
     langtag_parts parts;
     if (langtag_parse(form, len, &parts) != LANGTAG_NORMAL) return NULL;
-    const size_t language_len = parts.language.len;
-    const size_t short_len = parts.region.len > 0 ? parts.region.start + parts.region.len : parts.script.len > 0 ? parts.script.start + parts.script.len : language_len;
-    const size_t likely_len = langtag_name_script(form, short_len, likely), usual_len = langtag_name_script(form, language_len, usual);
-    const bool is_usual = likely_len == 0 || (likely_len == usual_len && memcmp(likely, usual, likely_len) == 0);
-    memcpy(key, form, language_len);
-    const size_t written_len = parts.script.len > 0 ? langtag_name_key(key, language_len, form + parts.script.start, parts.script.len)
-                                                    : langtag_name_key(key, language_len, likely, is_usual ? 0 : likely_len);
-    const size_t region_len = langtag_name_key(key, written_len, form + parts.region.start, parts.region.len);
-    const size_t lens[] = {langtag_name_key(key, region_len, form + parts.variants.start, parts.variants.len), region_len, written_len, is_usual ? language_len : 0};
+    langtag_name_keys(form, &parts, key, lens);
     for (size_t k = 0; k < sizeof lens / sizeof *lens; k++) {
         const char *name = lens[k] > 0 && lens[k] < LANGTAG_NAME_ROOM ? langtag_own_name(key, lens[k]) : NULL;
         if (name) return name;

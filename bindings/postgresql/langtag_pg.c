@@ -53,12 +53,20 @@ void _PG_init(void) {
 #define BYTES(value) ((const char *)VARDATA_ANY(value))
 #define LEN(value) ((size_t)VARSIZE_ANY_EXHDR(value))
 
-/* A function of SQL with one argument, or whose first argument is `it`. */
-#define OF_ONE(name, it)                                                                                               \
+/* A function of SQL. */
+#define FUNCTION(name)                                                                                                 \
     PG_FUNCTION_INFO_V1(name);                                                                                         \
+    Datum name(PG_FUNCTION_ARGS)
+
+/* A function of SQL with one argument, or whose first argument is `it`; and with two arguments, or whose first two are `a` and `b`. */
+#define OF_ONE(name, it)                                                                                               \
     static Datum name##_of(FunctionCallInfo fcinfo, struct varlena *it);                                               \
-    Datum name(PG_FUNCTION_ARGS) { return name##_of(fcinfo, PG_GETARG_VARLENA_PP(0)); }                                \
+    FUNCTION(name) { return name##_of(fcinfo, PG_GETARG_VARLENA_PP(0)); }                                              \
     static Datum name##_of(FunctionCallInfo fcinfo, struct varlena *it)
+#define OF_TWO(name, a, b)                                                                                             \
+    static Datum name##_of(FunctionCallInfo fcinfo, struct varlena *a, struct varlena *b);                             \
+    FUNCTION(name) { return name##_of(fcinfo, PG_GETARG_VARLENA_PP(0), PG_GETARG_VARLENA_PP(1)); }                     \
+    static Datum name##_of(FunctionCallInfo fcinfo, struct varlena *a, struct varlena *b)
 
 static struct varlena *value_of(const char *bytes, size_t len) {
     return (struct varlena *)cstring_to_text_with_len(bytes, (int)len);
@@ -149,30 +157,23 @@ static struct varlena *checked_part(const char *text, size_t len) {
 
 /* The input functions of a type: from a C string, from a message of the binary protocol, and by a cast from text. */
 #define INPUT(type, checked)                                                                                           \
-    PG_FUNCTION_INFO_V1(pg_##type##_in);                                                                               \
-    Datum pg_##type##_in(PG_FUNCTION_ARGS) {                                                                           \
+    FUNCTION(pg_##type##_in) {                                                                                         \
         const char *text = PG_GETARG_CSTRING(0);                                                                       \
         PG_RETURN_POINTER(checked(text, strlen(text)));                                                                \
     }                                                                                                                  \
-    PG_FUNCTION_INFO_V1(pg_##type##_recv);                                                                             \
-    Datum pg_##type##_recv(PG_FUNCTION_ARGS) {                                                                         \
+    FUNCTION(pg_##type##_recv) {                                                                                       \
         StringInfo message = (StringInfo)PG_GETARG_POINTER(0);                                                         \
         int len;                                                                                                       \
         const char *text = pq_getmsgtext(message, message->len - message->cursor, &len);                               \
         PG_RETURN_POINTER(checked(text, (size_t)len));                                                                 \
     }                                                                                                                  \
-    PG_FUNCTION_INFO_V1(pg_##type##_from_text);                                                                        \
-    Datum pg_##type##_from_text(PG_FUNCTION_ARGS) {                                                                    \
-        text *given = PG_GETARG_TEXT_PP(0);                                                                            \
-        PG_RETURN_POINTER(checked(BYTES(given), LEN(given)));                                                          \
-    }
+    OF_ONE(pg_##type##_from_text, given) { PG_RETURN_POINTER(checked(BYTES(given), LEN(given))); }
 INPUT(langtag, checked_tag)
 INPUT(langtag_range, checked_range)
 INPUT(langtag_part, checked_part)
 
 /* The output functions of all three types. */
-PG_FUNCTION_INFO_V1(pg_langtag_out);
-Datum pg_langtag_out(PG_FUNCTION_ARGS) { PG_RETURN_CSTRING(TextDatumGetCString(PG_GETARG_DATUM(0))); }
+FUNCTION(pg_langtag_out) { PG_RETURN_CSTRING(TextDatumGetCString(PG_GETARG_DATUM(0))); }
 
 OF_ONE(pg_langtag_send, value) {
     StringInfoData message;
@@ -203,9 +204,7 @@ static int compare(const char *a, size_t a_len, const char *b, size_t b_len) {
 }
 
 #define COMPARISON(name, answer)                                                                                       \
-    PG_FUNCTION_INFO_V1(name);                                                                                         \
-    Datum name(PG_FUNCTION_ARGS) {                                                                                     \
-        struct varlena *a = PG_GETARG_VARLENA_PP(0), *b = PG_GETARG_VARLENA_PP(1);                                     \
+    OF_TWO(name, a, b) {                                                                                               \
         int order = compare(BYTES(a), LEN(a), BYTES(b), LEN(b));                                                       \
         PG_FREE_IF_COPY(a, 0);                                                                                         \
         PG_FREE_IF_COPY(b, 1);                                                                                         \
@@ -219,17 +218,8 @@ COMPARISON(pg_langtag_cmp, PG_RETURN_INT32(order))
 COMPARISON(pg_langtag_part_eq, PG_RETURN_BOOL(order == 0))
 COMPARISON(pg_langtag_part_ne, PG_RETURN_BOOL(order != 0))
 
-PG_FUNCTION_INFO_V1(pg_langtag_smaller);
-Datum pg_langtag_smaller(PG_FUNCTION_ARGS) {
-    struct varlena *a = PG_GETARG_VARLENA_PP(0), *b = PG_GETARG_VARLENA_PP(1);
-    PG_RETURN_POINTER(compare(BYTES(a), LEN(a), BYTES(b), LEN(b)) <= 0 ? a : b);
-}
-
-PG_FUNCTION_INFO_V1(pg_langtag_larger);
-Datum pg_langtag_larger(PG_FUNCTION_ARGS) {
-    struct varlena *a = PG_GETARG_VARLENA_PP(0), *b = PG_GETARG_VARLENA_PP(1);
-    PG_RETURN_POINTER(compare(BYTES(a), LEN(a), BYTES(b), LEN(b)) >= 0 ? a : b);
-}
+OF_TWO(pg_langtag_smaller, a, b) { PG_RETURN_POINTER(compare(BYTES(a), LEN(a), BYTES(b), LEN(b)) <= 0 ? a : b); }
+OF_TWO(pg_langtag_larger, a, b) { PG_RETURN_POINTER(compare(BYTES(a), LEN(a), BYTES(b), LEN(b)) >= 0 ? a : b); }
 
 /* Returns the server's hash of the lowercase text. */
 static Datum hash(FunctionCallInfo fcinfo, bool extended) {
@@ -247,11 +237,8 @@ static Datum hash(FunctionCallInfo fcinfo, bool extended) {
     return answer;
 }
 
-PG_FUNCTION_INFO_V1(pg_langtag_hash);
-Datum pg_langtag_hash(PG_FUNCTION_ARGS) { return hash(fcinfo, false); }
-
-PG_FUNCTION_INFO_V1(pg_langtag_hash_extended);
-Datum pg_langtag_hash_extended(PG_FUNCTION_ARGS) { return hash(fcinfo, true); }
+FUNCTION(pg_langtag_hash) { return hash(fcinfo, false); }
+FUNCTION(pg_langtag_hash_extended) { return hash(fcinfo, true); }
 
 static int sort_compare(Datum x, Datum y, SortSupport sort) {
     struct varlena *a = PG_DETOAST_DATUM_PACKED(x), *b = PG_DETOAST_DATUM_PACKED(y);
@@ -276,8 +263,7 @@ static Datum sort_abbreviate(Datum original, SortSupport sort) {
 /* Eight bytes distinguish most tags, and comparing them costs little if they are equal. */
 static bool sort_abbreviate_abort(int count, SortSupport sort) { return false; }
 
-PG_FUNCTION_INFO_V1(pg_langtag_sortsupport);
-Datum pg_langtag_sortsupport(PG_FUNCTION_ARGS) {
+FUNCTION(pg_langtag_sortsupport) {
     SortSupport sort = (SortSupport)PG_GETARG_POINTER(0);
     sort->comparator = sort_compare;
     if (sort->abbreviate) {
@@ -291,19 +277,19 @@ Datum pg_langtag_sortsupport(PG_FUNCTION_ARGS) {
 
 /* ---- parts ---- */
 
+static langtag_parts parts_of(struct varlena *tag) {
+    langtag_parts parts;
+    langtag_parse(BYTES(tag), LEN(tag), &parts);
+    return parts;
+}
+
 static Datum span_or_null(FunctionCallInfo fcinfo, const char *bytes, langtag_span span) {
     if (span.len == 0) PG_RETURN_NULL();
     PG_RETURN_POINTER(value_of(bytes + span.start, span.len));
 }
 
 #define PART(name, member)                                                                                             \
-    PG_FUNCTION_INFO_V1(name);                                                                                         \
-    Datum name(PG_FUNCTION_ARGS) {                                                                                     \
-        struct varlena *tag = PG_GETARG_VARLENA_PP(0);                                                                 \
-        langtag_parts parts;                                                                                           \
-        langtag_parse(BYTES(tag), LEN(tag), &parts);                                                                   \
-        return span_or_null(fcinfo, BYTES(tag), parts.member);                                                         \
-    }
+    OF_ONE(name, tag) { return span_or_null(fcinfo, BYTES(tag), parts_of(tag).member); }
 PART(pg_langtag_script, script)
 PART(pg_langtag_region, region)
 PART(pg_langtag_private_use, private_use)
@@ -312,10 +298,8 @@ OF_ONE(pg_langtag_base, tag) { PG_RETURN_POINTER(value_of(BYTES(tag), langtag_ba
 
 /* Returns the primary subtag, and sets `rest` to the extended subtags after it. */
 static langtag_span primary_of(struct varlena *tag, langtag_span *rest) {
-    langtag_parts parts;
     langtag_span primary = {0, 0};
-    langtag_parse(BYTES(tag), LEN(tag), &parts);
-    *rest = parts.language;
+    *rest = parts_of(tag).language;
     langtag_next_subtag(BYTES(tag), LEN(tag), rest, &primary);
     return primary;
 }
@@ -348,19 +332,12 @@ static Datum list(FunctionCallInfo fcinfo, struct varlena *tag, langtag_span res
 }
 
 #define LIST(name, member, next)                                                                                       \
-    PG_FUNCTION_INFO_V1(name);                                                                                         \
-    Datum name(PG_FUNCTION_ARGS) {                                                                                     \
-        struct varlena *tag = PG_GETARG_VARLENA_PP(0);                                                                 \
-        langtag_parts parts;                                                                                           \
-        langtag_parse(BYTES(tag), LEN(tag), &parts);                                                                   \
-        return list(fcinfo, tag, parts.member, next);                                                                  \
-    }
+    OF_ONE(name, tag) { return list(fcinfo, tag, parts_of(tag).member, next); }
 LIST(pg_langtag_variants, variants, langtag_next_subtag)
 LIST(pg_langtag_extensions, extensions, langtag_next_extension)
 
 /* Returns the value of a key, which is empty if the key has none, or NULL if the key is absent. */
-OF_ONE(pg_langtag_keyword, tag) {
-    text *key = PG_GETARG_TEXT_PP(1);
+OF_TWO(pg_langtag_keyword, tag, key) {
     langtag_span value;
     if (!langtag_keyword(BYTES(tag), LEN(tag), BYTES(key), LEN(key), &value)) PG_RETURN_NULL();
     PG_RETURN_TEXT_P(cstring_to_text_with_len(BYTES(tag) + value.start, (int)value.len));
@@ -419,8 +396,7 @@ static Datum with_part(FunctionCallInfo fcinfo, uint32 part, const char *name) {
 }
 
 #define SETTER(function, part, name)                                                                                   \
-    PG_FUNCTION_INFO_V1(function);                                                                                     \
-    Datum function(PG_FUNCTION_ARGS) { return with_part(fcinfo, part, name); }
+    FUNCTION(function) { return with_part(fcinfo, part, name); }
 SETTER(pg_langtag_set_language, LANGTAG_PART_LANGUAGE, "language")
 SETTER(pg_langtag_set_script, LANGTAG_PART_SCRIPT, "script")
 SETTER(pg_langtag_set_region, LANGTAG_PART_REGION, "region")
@@ -447,8 +423,7 @@ static void refuse_keyword(struct varlena *tag, text *key, text *value) {
 
 /* Sets a keyword, or removes it if the value is NULL. A tag or a key that is NULL gives NULL. The room is always enough: it is proved
  * that no result is longer (`bounded` of langtag_with_keyword and langtag_without_keyword). */
-PG_FUNCTION_INFO_V1(pg_langtag_set_keyword);
-Datum pg_langtag_set_keyword(PG_FUNCTION_ARGS) {
+FUNCTION(pg_langtag_set_keyword) {
     struct varlena *tag, *changed;
     text *key, *value;
     size_t room, len;
@@ -466,8 +441,7 @@ Datum pg_langtag_set_keyword(PG_FUNCTION_ARGS) {
 }
 
 /* Each tag got its recommended case when it was read. */
-PG_FUNCTION_INFO_V1(pg_langtag_recommended);
-Datum pg_langtag_recommended(PG_FUNCTION_ARGS) { PG_RETURN_POINTER(PG_GETARG_VARLENA_PP(0)); }
+FUNCTION(pg_langtag_recommended) { PG_RETURN_POINTER(PG_GETARG_VARLENA_PP(0)); }
 
 /* ---- the registry, and likely subtags ---- */
 
@@ -487,15 +461,13 @@ OF_ONE(pg_langtag_suggestion, tag) {
     char code[3];
     uint32 fault = langtag_validity(BYTES(tag), LEN(tag), &invalid);
     size_t len = langtag_suggestion(fault, BYTES(tag) + invalid.start, invalid.len, code, sizeof code);
-    if (len == 0 || len > sizeof code) PG_RETURN_NULL();
-    PG_RETURN_POINTER(value_of(code, len));
+    return span_or_null(fcinfo, code, (langtag_span){.len = len <= sizeof code ? len : 0});
 }
 
 OF_ONE(pg_langtag_to_posix, tag) {
     char name[28];
     size_t len = langtag_to_posix(BYTES(tag), LEN(tag), name, sizeof name);
-    if (len == 0 || len > sizeof name) PG_RETURN_NULL();
-    PG_RETURN_POINTER(value_of(name, len));
+    return span_or_null(fcinfo, name, (langtag_span){.len = len <= sizeof name ? len : 0});
 }
 
 /* The greatest lengths of strings for calls whose time grows faster than the string, and that cannot be interrupted. A form of the
@@ -535,8 +507,7 @@ static Datum form(FunctionCallInfo fcinfo, form_of write) {
 }
 
 #define FORM(name, write)                                                                                              \
-    PG_FUNCTION_INFO_V1(name);                                                                                         \
-    Datum name(PG_FUNCTION_ARGS) { return form(fcinfo, write); }
+    FUNCTION(name) { return form(fcinfo, write); }
 FORM(pg_langtag_canonical, langtag_canonical)
 FORM(pg_langtag_maximized, langtag_maximized)
 FORM(pg_langtag_minimized, langtag_minimized)
@@ -544,8 +515,7 @@ FORM(pg_langtag_from_posix, langtag_from_posix)
 FORM(pg_langtag_parent, langtag_parent)
 
 /* Returns an array of a tag, its parent, the parent of this one, and so on. Its size is quadratic in the number of variants. */
-PG_FUNCTION_INFO_V1(pg_langtag_parents);
-Datum pg_langtag_parents(PG_FUNCTION_ARGS) {
+FUNCTION(pg_langtag_parents) {
     Oid type = get_element_type(get_func_rettype(fcinfo->flinfo->fn_oid));
     ArrayBuildState *found = NULL;
     check_length("tag", PG_GETARG_VARLENA_PP(0), LONGEST_HEADER);
@@ -556,51 +526,42 @@ Datum pg_langtag_parents(PG_FUNCTION_ARGS) {
     return makeArrayResult(found, CurrentMemoryContext);
 }
 
-/* Returns the canonical form of a tag in its recommended case. */
-#define CANONICAL(tag) form_of_tag(tag, langtag_canonical)
-
 /* The library's names are in UTF-8. */
 static text *in_server_encoding(const char *name, size_t len) {
     char *converted = pg_any_to_server(name, (int)len, PG_UTF8);
     return converted == name ? cstring_to_text_with_len(name, (int)len) : cstring_to_text(converted);
 }
 
-PG_FUNCTION_INFO_V1(pg_langtag_describe);
-Datum pg_langtag_describe(PG_FUNCTION_ARGS) {
+OF_ONE(pg_langtag_describe, tag) {
     struct varlena *form;
     char none, *name;
     size_t len;
-    check_length("tag", PG_GETARG_VARLENA_PP(0), LONGEST_HEADER);
-    form = CANONICAL(PG_GETARG_VARLENA_PP(0));
+    check_length("tag", tag, LONGEST_HEADER);
+    form = form_of_tag(tag, langtag_canonical);
     len = langtag_name_describe(BYTES(form), LEN(form), &none, 0);
     name = palloc(len);
     langtag_name_describe(BYTES(form), LEN(form), name, len);
     PG_RETURN_TEXT_P(in_server_encoding(name, len));
 }
 
-PG_FUNCTION_INFO_V1(pg_langtag_autonym);
-Datum pg_langtag_autonym(PG_FUNCTION_ARGS) {
-    struct varlena *form = CANONICAL(PG_GETARG_VARLENA_PP(0));
+OF_ONE(pg_langtag_autonym, tag) {
+    struct varlena *form = form_of_tag(tag, langtag_canonical);
     const char *name = langtag_name_autonym(BYTES(form), LEN(form));
     if (name == NULL) PG_RETURN_NULL();
     PG_RETURN_TEXT_P(in_server_encoding(name, strlen(name)));
 }
 
-PG_FUNCTION_INFO_V1(pg_langtag_extensions_form);
-Datum pg_langtag_extensions_form(PG_FUNCTION_ARGS) {
-    check_length("tag", PG_GETARG_VARLENA_PP(0), LONGEST_TAG);
-    return form(fcinfo, langtag_extensions_form);
-}
+#define UNICODE_FORM(name, write)                                                                                      \
+    OF_ONE(name, tag) {                                                                                                \
+        check_length("tag", tag, LONGEST_TAG);                                                                         \
+        return form(fcinfo, write);                                                                                    \
+    }
+UNICODE_FORM(pg_langtag_extensions_form, langtag_extensions_form)
+UNICODE_FORM(pg_langtag_locale_form, langtag_locale_form)
 
 OF_ONE(pg_langtag_is_locale, tag) {
     check_length("tag", tag, LONGEST_TAG);
     PG_RETURN_BOOL(langtag_is_locale(BYTES(tag), LEN(tag)));
-}
-
-PG_FUNCTION_INFO_V1(pg_langtag_locale_form);
-Datum pg_langtag_locale_form(PG_FUNCTION_ARGS) {
-    check_length("tag", PG_GETARG_VARLENA_PP(0), LONGEST_TAG);
-    return form(fcinfo, langtag_locale_form);
 }
 
 OF_ONE(pg_langtag_unknown_modifier, name) {
@@ -609,9 +570,7 @@ OF_ONE(pg_langtag_unknown_modifier, name) {
     PG_RETURN_TEXT_P(cstring_to_text_with_len(BYTES(name) + found.start, (int)found.len));
 }
 
-PG_FUNCTION_INFO_V1(pg_langtag_distance);
-Datum pg_langtag_distance(PG_FUNCTION_ARGS) {
-    struct varlena *desired = PG_GETARG_VARLENA_PP(0), *supported = PG_GETARG_VARLENA_PP(1);
+OF_TWO(pg_langtag_distance, desired, supported) {
     PG_RETURN_INT32((int32)langtag_distance(BYTES(desired), LEN(desired), BYTES(supported), LEN(supported)));
 }
 
@@ -627,22 +586,18 @@ static char *cldr_version(void) {
 }
 
 /* Returns the line that the program `langtag` prints for --version. */
-PG_FUNCTION_INFO_V1(pg_langtag_version);
-Datum pg_langtag_version(PG_FUNCTION_ARGS) {
+FUNCTION(pg_langtag_version) {
     uint32 date = langtag_registry_date();
     PG_RETURN_TEXT_P(cstring_to_text(psprintf("langtag %s (IANA's registry of %04u-%02u-%02u, CLDR %s)", LANGTAG_VERSION, date / 10000,
                                               date / 100 % 100, date % 100, cldr_version())));
 }
 
 /* Returns whether the archive in this module is the proved one. */
-PG_FUNCTION_INFO_V1(pg_langtag_proved);
-Datum pg_langtag_proved(PG_FUNCTION_ARGS) { PG_RETURN_BOOL(LANGTAG_PROVED); }
+FUNCTION(pg_langtag_proved) { PG_RETURN_BOOL(LANGTAG_PROVED); }
 
-PG_FUNCTION_INFO_V1(pg_langtag_cldr_version);
-Datum pg_langtag_cldr_version(PG_FUNCTION_ARGS) { PG_RETURN_TEXT_P(cstring_to_text(cldr_version())); }
+FUNCTION(pg_langtag_cldr_version) { PG_RETURN_TEXT_P(cstring_to_text(cldr_version())); }
 
-PG_FUNCTION_INFO_V1(pg_langtag_registry_date);
-Datum pg_langtag_registry_date(PG_FUNCTION_ARGS) {
+FUNCTION(pg_langtag_registry_date) {
     uint32 date = langtag_registry_date();
     PG_RETURN_TEXT_P(cstring_to_text(psprintf("%04u-%02u-%02u", date / 10000, date / 100 % 100, date % 100)));
 }
@@ -650,17 +605,12 @@ Datum pg_langtag_registry_date(PG_FUNCTION_ARGS) {
 /* ---- ranges ---- */
 
 #define MATCHES(name, match)                                                                                           \
-    PG_FUNCTION_INFO_V1(name);                                                                                         \
-    Datum name(PG_FUNCTION_ARGS) {                                                                                     \
-        struct varlena *tag = PG_GETARG_VARLENA_PP(0), *range = PG_GETARG_VARLENA_PP(1);                               \
-        PG_RETURN_BOOL(match(BYTES(range), LEN(range), BYTES(tag), LEN(tag)));                                         \
-    }
+    OF_TWO(name, tag, range) { PG_RETURN_BOOL(match(BYTES(range), LEN(range), BYTES(tag), LEN(tag))); }
 MATCHES(pg_langtag_matches_basic, langtag_matches_basic)
 MATCHES(pg_langtag_matches_extended, langtag_matches_extended)
 
 /* A bound is only made from a range. */
-PG_FUNCTION_INFO_V1(pg_langtag_bound_in);
-Datum pg_langtag_bound_in(PG_FUNCTION_ARGS) {
+FUNCTION(pg_langtag_bound_in) {
     ereport(ERROR, (errcode(ERRCODE_FEATURE_NOT_SUPPORTED), errmsg("cannot accept a value of type langtag_bound")));
     PG_RETURN_NULL();
 }
@@ -687,8 +637,7 @@ static Datum bound(FunctionCallInfo fcinfo, bool extended, bool upper) {
 }
 
 #define BOUND(name, extended, upper)                                                                                   \
-    PG_FUNCTION_INFO_V1(name);                                                                                         \
-    Datum name(PG_FUNCTION_ARGS) { return bound(fcinfo, extended, upper); }
+    FUNCTION(name) { return bound(fcinfo, extended, upper); }
 BOUND(pg_langtag_basic_lower, false, false)
 BOUND(pg_langtag_basic_upper, false, true)
 BOUND(pg_langtag_extended_lower, true, false)
@@ -750,11 +699,8 @@ static Datum support(FunctionCallInfo fcinfo, bool extended) {
     PG_RETURN_POINTER(index_condition((SupportRequestIndexCondition *)request, extended));
 }
 
-PG_FUNCTION_INFO_V1(pg_langtag_basic_support);
-Datum pg_langtag_basic_support(PG_FUNCTION_ARGS) { return support(fcinfo, false); }
-
-PG_FUNCTION_INFO_V1(pg_langtag_extended_support);
-Datum pg_langtag_extended_support(PG_FUNCTION_ARGS) { return support(fcinfo, true); }
+FUNCTION(pg_langtag_basic_support) { return support(fcinfo, false); }
+FUNCTION(pg_langtag_extended_support) { return support(fcinfo, true); }
 
 /* ---- the best tag for a request ---- */
 
@@ -891,30 +837,31 @@ static int chosen_index(choice *choose, text *header, const offered *all) {
     return best;
 }
 
-PG_FUNCTION_INFO_V1(pg_langtag_tag_for_header);
-Datum pg_langtag_tag_for_header(PG_FUNCTION_ARGS) {
+FUNCTION(pg_langtag_tag_for_header) {
     offered all = tags_of(PG_GETARG_ARRAYTYPE_P(0));
     int best = chosen_index(langtag_tag_for_header_lenient, PG_GETARG_TEXT_PP(1), &all);
     if (best < 0) PG_RETURN_NULL();
     PG_RETURN_POINTER(all.tags[best]);
 }
 
-/* Returns a tag, as a copy, since what is kept may be freed before the result is. */
-PG_FUNCTION_INFO_V1(pg_langtag_best_for_header);
-Datum pg_langtag_best_for_header(PG_FUNCTION_ARGS) {
+/* Sets the tags of a call, and returns the index of the best of them for its header, or -1. */
+static int best_of_call(FunctionCallInfo fcinfo, offered *all) {
     text *header = PG_GETARG_TEXT_PP(1);
-    offered all;
-    int best;
     check_length("header", header, LONGEST_HEADER);
-    all = tags_of_call(fcinfo, PG_GETARG_ARRAYTYPE_P(0));
-    best = chosen_index(langtag_best_for_header, header, &all);
+    *all = tags_of_call(fcinfo, PG_GETARG_ARRAYTYPE_P(0));
+    return chosen_index(langtag_best_for_header, header, all);
+}
+
+/* Returns a tag, as a copy, since what is kept may be freed before the result is. */
+FUNCTION(pg_langtag_best_for_header) {
+    offered all;
+    int best = best_of_call(fcinfo, &all);
     if (best < 0) PG_RETURN_NULL();
     PG_RETURN_POINTER(value_of(BYTES(all.tags[best]), LEN(all.tags[best])));
 }
 
 /* Returns an array of the suitable tags, best first. Each choice is a call of its own, so the query can be cancelled. */
-PG_FUNCTION_INFO_V1(pg_langtag_suitable_for_header);
-Datum pg_langtag_suitable_for_header(PG_FUNCTION_ARGS) {
+FUNCTION(pg_langtag_suitable_for_header) {
     ArrayType *array = PG_GETARG_ARRAYTYPE_P(0);
     text *header = PG_GETARG_TEXT_PP(1);
     int best, count = 0;
@@ -931,20 +878,16 @@ Datum pg_langtag_suitable_for_header(PG_FUNCTION_ARGS) {
 
 /* Returns the row of the best tag. The range that it serves is found with this tag alone, since the best range for a tag does not
  * depend on other tags. */
-PG_FUNCTION_INFO_V1(pg_langtag_match_for_header);
-Datum pg_langtag_match_for_header(PG_FUNCTION_ARGS) {
+FUNCTION(pg_langtag_match_for_header) {
     text *header = PG_GETARG_TEXT_PP(1);
     offered all;
     struct varlena *tag;
-    int best;
+    int best = best_of_call(fcinfo, &all);
     TupleDesc row;
     langtag_best_match match;
     Datum values[4];
     bool nulls[4] = {false, false, false, false};
-    check_length("header", header, LONGEST_HEADER);
-    all = tags_of_call(fcinfo, PG_GETARG_ARRAYTYPE_P(0));
     if (get_call_result_type(fcinfo, NULL, &row) != TYPEFUNC_COMPOSITE) elog(ERROR, "a row is wanted");
-    best = chosen_index(langtag_best_for_header, header, &all);
     if (best < 0) PG_RETURN_NULL();
     tag = all.tags[best];
     langtag_match_for_header(BYTES(header), LEN(header), BYTES(tag), LEN(tag), &(langtag_span){.start = 0, .len = LEN(tag)}, 1, &match);

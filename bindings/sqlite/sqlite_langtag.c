@@ -139,24 +139,46 @@ static void base(sqlite3_context *context, int count, sqlite3_value **values) {
     if (span.len > 0) return_span(context, tag, span); /* else NULL */
 }
 
-/* Writes the form to the stack first, and to allocated memory only if it is longer. */
+/* Returns a string of C in allocated memory. NULL means that there was no memory, which is an error. */
+static void return_made(sqlite3_context *context, char *made) {
+    if (made) sqlite3_result_text(context, made, -1, sqlite3_free);
+    else sqlite3_result_error_nomem(context);
+}
+
+/* Of what a string is made: its form, or if `form` is NULL, the tag with the value of a key, or without the key if the value is NULL. */
+typedef struct source {
+    size_t (*form)(const char *tag, size_t len, char *buffer, size_t buffer_len);
+    text tag, key, value;
+} source;
+
+static size_t write_source(const source *of, char *buffer, size_t room) {
+    const text tag = of->tag, key = of->key, value = of->value;
+    if (of->form) return of->form(tag.at, tag.len, buffer, room);
+    if (!value.at) return langtag_without_keyword(tag.at, tag.len, key.at, key.len, buffer, room);
+    return langtag_with_keyword(tag.at, tag.len, key.at, key.len, value.at, value.len, buffer, room);
+}
+
+/* Returns the string that is made, or NULL if it is empty. It is written to the stack first, and to allocated memory only if it is longer.
+ * Returns whether there is one. */
+static bool return_written(sqlite3_context *context, const source *of) {
+    char room[256];
+    const size_t len = write_source(of, room, sizeof room);
+    if (len <= sizeof room) {
+        if (len > 0) sqlite3_result_text(context, room, (int)len, SQLITE_TRANSIENT);
+        return len > 0;
+    }
+    char *made = sqlite3_malloc64(len);
+    if (made) {
+        write_source(of, made, len);
+        sqlite3_result_text64(context, made, len, sqlite3_free, SQLITE_UTF8);
+    } else sqlite3_result_error_nomem(context);
+    return true;
+}
+
 static void form(sqlite3_context *context, int count, sqlite3_value **values) {
     (void)count;
     const text tag = text_of(values[0]);
-    char room[256];
-    size_t form_len = tag.at ? called(context)->form(tag.at, tag.len, room, sizeof room) : 0;
-    if (form_len == 0) return; /* NULL */
-    if (form_len <= sizeof room) {
-        sqlite3_result_text(context, room, (int)form_len, SQLITE_TRANSIENT);
-        return;
-    }
-    char *form = sqlite3_malloc64(form_len);
-    if (!form) {
-        sqlite3_result_error_nomem(context);
-        return;
-    }
-    called(context)->form(tag.at, tag.len, form, form_len);
-    sqlite3_result_text64(context, form, form_len, sqlite3_free, SQLITE_UTF8);
+    if (tag.at) return_written(context, &(source){.form = called(context)->form, .tag = tag}); /* else NULL */
 }
 
 /* Returns the canonical form of a tag in its recommended case, in memory to be freed, and sets `len`. Returns NULL if the string is not a
@@ -178,18 +200,8 @@ static char *form_of(sqlite3_context *context, text tag, size_t *len) {
 static void describe(sqlite3_context *context, int count, sqlite3_value **values) {
     (void)count;
     size_t len;
-    char room[256], *form = form_of(context, text_of(values[0]), &len);
-    if (!form) return; /* NULL, or the error */
-    const size_t name_len = langtag_name_describe(form, len, room, sizeof room);
-    char *name = name_len > sizeof room ? sqlite3_malloc64(name_len) : NULL;
-    if (name_len <= sizeof room) {
-        sqlite3_result_text(context, room, (int)name_len, SQLITE_TRANSIENT);
-    } else if (!name) {
-        sqlite3_result_error_nomem(context);
-    } else {
-        langtag_name_describe(form, len, name, name_len);
-        sqlite3_result_text64(context, name, name_len, sqlite3_free, SQLITE_UTF8);
-    }
+    char *form = form_of(context, text_of(values[0]), &len);
+    if (form) return_written(context, &(source){.form = langtag_name_describe, .tag = {form, len}}); /* else NULL, or the error */
     sqlite3_free(form);
 }
 
@@ -202,20 +214,13 @@ static void autonym(sqlite3_context *context, int count, sqlite3_value **values)
     sqlite3_free(form);
 }
 
-/* Writes a tag with the value of a key, or without the key if the value is NULL. Returns what the library returns. */
-static size_t write_keyword(text tag, text key, text value, char *buffer, size_t room) {
-    if (!value.at) return langtag_without_keyword(tag.at, tag.len, key.at, key.len, buffer, room);
-    return langtag_with_keyword(tag.at, tag.len, key.at, key.len, value.at, value.len, buffer, room);
-}
-
 /* Returns why a keyword is not set. A keyword can be set in und, so the library refuses the key or the value, if it refuses them there
  * too. */
 static const char *why_refused(text key, text value) {
     char none;
-    const text und = {"und", 3}, absent = {NULL, 0};
-    if (write_keyword(und, key, absent, &none, 0) == 0) return "langtag_set_keyword: not a key of the extension u";
-    if (write_keyword(und, key, value, &none, 0) == 0)
-        return "langtag_set_keyword: not a value of a key: a subtag needs three to eight letters or digits";
+    const source without = {.tag = {"und", 3}, .key = key}, with = {.tag = {"und", 3}, .key = key, .value = value};
+    if (write_source(&without, &none, 0) == 0) return "langtag_set_keyword: not a key of the extension u";
+    if (write_source(&with, &none, 0) == 0) return "langtag_set_keyword: not a value of a key: a subtag needs three to eight letters or digits";
     return "langtag_set_keyword: not a normal language tag";
 }
 
@@ -228,23 +233,7 @@ static void set_keyword(sqlite3_context *context, int count, sqlite3_value **val
         return;
     }
     if (!tag.at || !key.at || !langtag_kind(tag.at, tag.len)) return; /* NULL */
-    char room[256];
-    const size_t len = write_keyword(tag, key, value, room, sizeof room);
-    if (len == 0) {
-        sqlite3_result_error(context, why_refused(key, value), -1);
-        return;
-    }
-    if (len <= sizeof room) {
-        sqlite3_result_text(context, room, (int)len, SQLITE_TRANSIENT);
-        return;
-    }
-    char *made = sqlite3_malloc64(len);
-    if (!made) {
-        sqlite3_result_error_nomem(context);
-        return;
-    }
-    write_keyword(tag, key, value, made, len);
-    sqlite3_result_text64(context, made, len, sqlite3_free, SQLITE_UTF8);
+    if (!return_written(context, &(source){.tag = tag, .key = key, .value = value})) sqlite3_result_error(context, why_refused(key, value), -1);
 }
 
 /* Reads an argument of a function that says yes or no. Returns false if it is NULL, as then the result is, or if there is no memory for
@@ -386,10 +375,8 @@ static void match_for_header(sqlite3_context *context, int count, sqlite3_value 
     langtag_best_match match;
     size_t best = chosen(context, count, values, &match);
     if (!best) return; /* NULL */
-    char *json = sqlite3_mprintf("{\"index\":%d,\"tag\":\"%s\",\"distance\":%u,\"range\":\"%.*s\"}", (int)best - 1, text_of(values[best]).at,
-                                 (unsigned)match.distance, (int)match.range.len, text_of(values[0]).at + match.range.start);
-    if (json) sqlite3_result_text(context, json, -1, sqlite3_free);
-    else sqlite3_result_error_nomem(context);
+    return_made(context, sqlite3_mprintf("{\"index\":%d,\"tag\":\"%s\",\"distance\":%u,\"range\":\"%.*s\"}", (int)best - 1, text_of(values[best]).at,
+                                         (unsigned)match.distance, (int)match.range.len, text_of(values[0]).at + match.range.start));
 }
 
 /* Returns a JSON array of the suitable tags, best first. The bytes of tags need no escapes in JSON. */
@@ -405,9 +392,7 @@ static void suitable_for_header(sqlite3_context *context, int count, sqlite3_val
     }
     sqlite3_str_appendall(json, found ? "]" : "[]");
     sqlite3_free(tags);
-    char *text = sqlite3_str_finish(json);
-    if (text) sqlite3_result_text(context, text, -1, sqlite3_free);
-    else sqlite3_result_error_nomem(context);
+    return_made(context, sqlite3_str_finish(json));
 }
 
 static void suggestion(sqlite3_context *context, int count, sqlite3_value **values) {
@@ -480,10 +465,8 @@ static void version(sqlite3_context *context, int count, sqlite3_value **values)
     const unsigned date = langtag_registry_date();
     char cldr[32];
     const size_t len = langtag_cldr_version(cldr, sizeof cldr);
-    char *line = sqlite3_mprintf("langtag %s (IANA's registry of %04u-%02u-%02u, CLDR %.*s)", LANGTAG_VERSION, date / 10000, date / 100 % 100, date % 100,
-                                 len <= sizeof cldr ? (int)len : 0, cldr);
-    if (line) sqlite3_result_text(context, line, -1, sqlite3_free);
-    else sqlite3_result_error_nomem(context);
+    return_made(context, sqlite3_mprintf("langtag %s (IANA's registry of %04u-%02u-%02u, CLDR %.*s)", LANGTAG_VERSION, date / 10000,
+                                         date / 100 % 100, date % 100, len <= sizeof cldr ? (int)len : 0, cldr));
 }
 
 static void proved(sqlite3_context *context, int count, sqlite3_value **values) {

@@ -1,6 +1,7 @@
 #!/usr/bin/env python3
 """Tests the extension for SQLite: test_sqlite.py EXTENSION [TEST]. It runs the rows that the tests of all languages read, and tests
 what only SQL has."""
+import functools
 import json
 import re
 import subprocess
@@ -37,7 +38,7 @@ def of_rows(header, tags):
 
 def of_arguments(header, tags):
     """Returns the expression that chooses among tags that are arguments, or the query among rows if they are too many arguments."""
-    return f"coalesce(langtag_best_for_header({', '.join(map(text, [header, *tags]))}), '-')" if len(tags) < 100 else f"({of_rows(header, tags)})"
+    return f"coalesce({called('langtag_best_for_header', header, *tags)}, '-')" if len(tags) < 100 else f"({of_rows(header, tags)})"
 
 
 def chain_of(tag):
@@ -46,47 +47,20 @@ def chain_of(tag):
             f" WHERE langtag_parent(tag) IS NOT NULL) SELECT group_concat(tag, ' ') FROM (SELECT tag FROM chain ORDER BY place)")
 
 
-# Each call of the rows as a statement that returns one line.
-QUERIES = {
-    "tag": lambda tag: f"SELECT {','.join(shown(f'langtag_part({text(tag)}, {name!r})') for name in PARTS)}",
-    "keyword": lambda tag, key: f"SELECT {shown(f'langtag_keyword({text(tag)}, {text(key)})')}",
-    "with-keyword": lambda tag, key, value: "SELECT " + shown(
-        f"langtag_set_keyword({text(tag)}, {text(key)}, {'NULL' if value == b'-' else text(value)})"),
-    "base": lambda tag: f"SELECT {shown(f'langtag_base({text(tag)})')}",
-    "extensions-form": lambda tag: f"SELECT {shown(f'langtag_extensions_form({text(tag)})')}",
-    "is-locale": lambda tag: f"SELECT langtag_is_locale({text(tag)})",
-    "locale-form": lambda tag: f"SELECT {shown(f'langtag_locale_form({text(tag)})')}",
-    "canonical": lambda tag: f"SELECT {shown(f'langtag_canonical({text(tag)})')}",
-    "maximized": lambda tag: f"SELECT {shown(f'langtag_maximized({text(tag)})')}",
-    "minimized": lambda tag: f"SELECT {shown(f'langtag_minimized({text(tag)})')}",
-    "describe": lambda tag: f"SELECT {shown(f'langtag_describe({text(tag)})')}",
-    "autonym": lambda tag: f"SELECT {shown(f'langtag_autonym({text(tag)})')}",
-    "parents": lambda tag: f"SELECT CASE WHEN langtag_is_well_formed({text(tag)}) THEN ({chain_of(text(tag))}) ELSE '-' END",
-    "posix": lambda name: f"SELECT {shown(f'langtag_from_posix({text(name)})')}",
-    "posix-name": lambda tag: f"SELECT {shown(f'langtag_to_posix({text(tag)})')}",
-    "unknown-modifier": lambda name: f"SELECT {shown(f'langtag_unknown_modifier({text(name)})')}",
-    "distance": lambda a, b: f"SELECT langtag_distance({text(a)}, {text(b)})",
-    "right-to-left": lambda tag: f"SELECT langtag_is_well_formed({text(tag)}), langtag_is_right_to_left({text(tag)})",
-    "best": lambda header, tags: f"SELECT {of_arguments(header, tags.split())}, ({of_rows(header, tags.split())})",
-    "best-match": lambda header, tags:
-        f"SELECT coalesce(langtag_match_for_header({', '.join(map(text, [header, *tags.split()]))}), '-')",
-    "suitable": lambda header, tags: f"SELECT langtag_suitable_for_header({', '.join(map(text, [header, *tags.split()]))})",
-    "suggestion": lambda tag: f"SELECT {shown(f'langtag_suggestion({text(tag)})')}",
-    "validity": lambda tag: f"SELECT langtag_is_well_formed({text(tag)}), langtag_is_valid({text(tag)})",
-    "match": lambda range, tag: f"SELECT langtag_matches_basic({text(range)}, {text(tag)}),"
-                                f" langtag_matches_extended({text(range)}, {text(tag)})",
-    "order": lambda a, b: "SELECT " + ", ".join(f"{text(a)} {how} {text(b)} COLLATE langtag" for how in "<=>"),
-}
-
-
-def is_asked(row):
-    """Returns whether SQLite has the call. A function takes at most 100 arguments, so a longer list is only asked as rows."""
-    return row.call in QUERIES and (row.call != "best-match" or len(row.arguments[1].split()) < 100)
-
-
 def bytes_of(word):
     """Returns the text that was shown, or None for NULL."""
     return None if word == "NULL" else bytes.fromhex(word[2:-1]).decode("utf-8", "backslashreplace")
+
+
+def called(function, *given):
+    return f"{function}({', '.join(map(text, given))})"
+
+
+def written(function):
+    """Returns the statement and the answer of a function that returns a string or NULL."""
+    def answer(said):
+        return "-" if said == "NULL" else bytes_of(said) or "''"
+    return lambda *given: f"SELECT {shown(called(function, *given))}", answer
 
 
 def answer_tag(said):
@@ -97,6 +71,10 @@ def answer_tag(said):
 #: The answer for each message of langtag_set_keyword.
 REFUSED = {"not a key of the extension u": "bad key", "not a normal language tag": "no parts",
            "not a value of a key: a subtag needs three to eight letters or digits": "bad value"}
+
+
+def set_keyword(tag, key, value):
+    return "SELECT " + shown(f"langtag_set_keyword({text(tag)}, {text(key)}, {'NULL' if value == b'-' else text(value)})")
 
 
 def answer_with_keyword(said):
@@ -116,34 +94,34 @@ def answer_best(said):
     return arguments if arguments == of_rows else f"{of_rows} among rows"
 
 
-# The answer in a line, in the form of the rows.
-ANSWERS = {
-    "tag": answer_tag,
-    "keyword": lambda said: "-" if said == "NULL" else bytes_of(said) or "''",
-    "with-keyword": answer_with_keyword,
-    "base": bytes_of,
-    "extensions-form": bytes_of,
-    "is-locale": {"1": "yes", "0": "no"}.get,
-    "locale-form": lambda said: bytes_of(said) or "-",
-    "canonical": lambda said: bytes_of(said) or "-",
-    "suggestion": lambda said: bytes_of(said) or "-",
-    "maximized": lambda said: bytes_of(said) or "-",
-    "minimized": lambda said: bytes_of(said) or "-",
-    "describe": lambda said: rows.escaped(bytes_of(said) or "-"),
-    "autonym": lambda said: rows.escaped(bytes_of(said) or "-"),
-    "parents": str,
-    "posix": lambda said: bytes_of(said) or "-",
-    "posix-name": lambda said: bytes_of(said) or "-",
-    "unknown-modifier": lambda said: bytes_of(said) or "-",
-    "distance": lambda said: said or "-",
-    "right-to-left": {"0|0": "-", "1|1": "yes", "1|0": "no"}.get,
-    "best": answer_best,
-    "best-match": answer_match,
-    "suitable": lambda said: " ".join(json.loads(said)) or "-",
-    "validity": {"0|0": "none", "1|1": "valid", "1|0": "invalid"}.get,
-    "match": {"1|1": "both", "1|0": "basic", "0|1": "extended", "0|0": "neither"}.get,
-    "order": {"1|0|0": "before", "0|1|0": "equal", "0|0|1": "after"}.get,
+# Each call of the rows: the statement, which returns one line, and the answer in that line, in the form of the rows.
+CALLS = {
+    **{call: written(f"langtag_{call.replace('-', '_')}") for call in (
+        "keyword", "base", "extensions-form", "locale-form", "canonical", "maximized", "minimized", "describe", "autonym", "suggestion", "unknown-modifier")},
+    "posix": written("langtag_from_posix"),
+    "posix-name": written("langtag_to_posix"),
+    "tag": (lambda tag: f"SELECT {','.join(shown(f'langtag_part({text(tag)}, {name!r})') for name in PARTS)}", answer_tag),
+    "with-keyword": (set_keyword, answer_with_keyword),
+    "is-locale": (lambda tag: f"SELECT {called('langtag_is_locale', tag)}", {"1": "yes", "0": "no"}.get),
+    "parents": (lambda tag: f"SELECT CASE WHEN langtag_is_well_formed({text(tag)}) THEN ({chain_of(text(tag))}) ELSE '-' END", str),
+    "distance": (lambda a, b: f"SELECT {called('langtag_distance', a, b)}", lambda said: said or "-"),
+    "right-to-left": (lambda tag: f"SELECT {called('langtag_is_well_formed', tag)}, {called('langtag_is_right_to_left', tag)}",
+                      {"0|0": "-", "1|1": "yes", "1|0": "no"}.get),
+    "best": (lambda header, tags: f"SELECT {of_arguments(header, tags.split())}, ({of_rows(header, tags.split())})", answer_best),
+    "best-match": (lambda header, tags: f"SELECT coalesce({called('langtag_match_for_header', header, *tags.split())}, '-')", answer_match),
+    "suitable": (lambda header, tags: f"SELECT {called('langtag_suitable_for_header', header, *tags.split())}", lambda said: " ".join(json.loads(said)) or "-"),
+    "validity": (lambda tag: f"SELECT {called('langtag_is_well_formed', tag)}, {called('langtag_is_valid', tag)}",
+                 {"0|0": "none", "1|1": "valid", "1|0": "invalid"}.get),
+    "match": (lambda range, tag: f"SELECT {called('langtag_matches_basic', range, tag)}, {called('langtag_matches_extended', range, tag)}",
+              {"1|1": "both", "1|0": "basic", "0|1": "extended", "0|0": "neither"}.get),
+    "order": (lambda a, b: "SELECT " + ", ".join(f"{text(a)} {how} {text(b)} COLLATE langtag" for how in "<=>"),
+              {"1|0|0": "before", "0|1|0": "equal", "0|0|1": "after"}.get),
 }
+
+
+def is_asked(row):
+    """Returns whether SQLite has the call. A function takes at most 100 arguments, so a longer list is only asked as rows."""
+    return row.call in CALLS and (row.call != "best-match" or len(row.arguments[1].split()) < 100)
 
 
 def adapted(row):
@@ -220,15 +198,18 @@ STATEMENTS = [
 class Sqlite(unittest.TestCase):
     def test_rows(self):
         asked = [row for name in rows.wanted(FLOORS) for row in rows.read(rows.FOLDER / name) if is_asked(row)]
-        said, complaints = sqlite("".join(f"{QUERIES[row.call](*row.arguments)};\n" for row in asked))
+        said, complaints = sqlite("".join(f"{CALLS[row.call][0](*row.arguments)};\n" for row in asked))
         errors = {int(number): error for number, error in re.findall(r"(?m)near line (\d+): (.*)$", complaints)}
         self.assertEqual(len(errors), len(complaints.splitlines()))
         self.assertEqual({asked[number - 1].call for number in errors} - {"with-keyword"}, set())
         rest = iter(said.splitlines())
         lines = {(row.call, *row.arguments): errors.get(number) or next(rest) for number, row in enumerate(asked, 1)}
         self.assertEqual(list(rest), [])
-        asker = rows.Asker({call: lambda *arguments, call=call: ANSWERS[call](lines[(call, *arguments)]) if (call, *arguments) in lines else None for call in QUERIES},
-                           adapted)
+
+        def answer(call, *arguments):
+            return CALLS[call][1](lines[(call, *arguments)]) if (call, *arguments) in lines else None
+
+        asker = rows.Asker({call: functools.partial(answer, call) for call in CALLS}, adapted)
         for name, floor in rows.wanted(FLOORS).items():
             asker.ask(rows.FOLDER / name, floor)
         if asker.failures():

@@ -1,7 +1,7 @@
 #!/usr/bin/env python3
 """Runs the rows that the tests of all languages read in SQL, and compares answers about tags of the registry's subtags with
-registry/oracle.py: test_rows.py ROOT, where ROOT is the repository. In SQL a tag has its recommended case, and so have the answers.
-So they are compared in lowercase."""
+registry/oracle.py: test_rows.py ROOT, where ROOT is the repository. In SQL a tag has its recommended case, and so have the answers
+that are tags. So they are compared in lowercase."""
 import pathlib
 import subprocess
 import sys
@@ -127,14 +127,18 @@ def ranges(asked, names):
     return header(asked.replace(b"-*", b"").replace(b" ", b", "), names) if asked else None
 
 
+def of_tag(function):
+    return lambda tag: f"SELECT {function}({text(tag)}::langtag)::text"
+
+
 # Each call of the rows as a query, or None if SQL has no answer.
 QUERIES = {
+    **{call: of_tag(call.replace("-", "_")) for call in ("suggestion", "maximized", "minimized", "describe", "autonym", "extensions-form", "locale-form", "base")},
     "tag": lambda tag: f"SELECT all_of({text(tag)}::langtag)",
     "scan": lambda given: f"SELECT scan({text(given)})",
     "recommended": lambda tag: f"SELECT {text(tag)}::langtag::text",
     "validity": lambda tag: f"SELECT CASE WHEN is_valid(t) THEN 'valid' ELSE 'invalid ' || invalid_subtag(t)::text END FROM "
                             f"(SELECT {text(tag)}::langtag AS t) s",
-    "suggestion": lambda tag: f"SELECT suggestion({text(tag)}::langtag)::text",
     "canonical": lambda tag: f"SELECT canonical(t)::text || CASE WHEN canonical(t)::text::langtag = canonical(t) THEN '' ELSE "
                              f"'another' END FROM (SELECT {text(tag)}::langtag AS t) s",
     "message": lambda given: f"SELECT message_of('langtag', {text(given)})",
@@ -148,21 +152,15 @@ QUERIES = {
                                 f"(SELECT {text(tag)}::langtag AS t, {text(key)} AS k) s",
     "keywords": lambda tag: f"SELECT string_agg(k[n][1] || '=' || k[n][2], ' ' ORDER BY n) FROM (SELECT keywords({text(tag)}::langtag) AS k) s, "
                             f"generate_subscripts(k, 1) AS n",
-    "maximized": lambda tag: f"SELECT maximized({text(tag)}::langtag)::text",
-    "minimized": lambda tag: f"SELECT minimized({text(tag)}::langtag)::text",
     "distance": lambda desired, supported: f"SELECT distance({text(desired)}::langtag, {text(supported)}::langtag)::text",
-    "describe": lambda tag: f"SELECT describe({text(tag)}::langtag)",
-    "autonym": lambda tag: f"SELECT autonym({text(tag)}::langtag)",
     "parents": lambda tag: f"SELECT CASE WHEN parent(t) IS NOT DISTINCT FROM (parents(t))[2] THEN array_to_string(parents(t), ' ') ELSE 'differs' END "
                            f"FROM (SELECT {text(tag)}::langtag AS t) s",
     "posix": lambda name: f"SELECT from_posix({text(name)})::text",
-    "posix-name": lambda tag: f"SELECT to_posix({text(tag)}::langtag)",
+    "posix-name": of_tag("to_posix"),
     "unknown-modifier": lambda name: f"SELECT unknown_modifier({text(name)})",
     "best": best, "best-match": best_match, "suitable": suitable, "header": header, "ranges": ranges, "edit": edit,
-    "with-keyword": with_keyword, "extensions-form": lambda tag: f"SELECT extensions_form({text(tag)}::langtag)::text",
-    "base": lambda tag: f"SELECT base({text(tag)}::langtag)::text",
+    "with-keyword": with_keyword,
     "is-locale": lambda tag: f"SELECT CASE WHEN is_locale({text(tag)}::langtag) THEN 'yes' ELSE 'no' END",
-    "locale-form": lambda tag: f"SELECT locale_form({text(tag)}::langtag)::text",
     "cldr-version": lambda: "SELECT langtag_cldr_version()",
 }
 # The files of rows, and the least number of rows of each that SQL answers.
@@ -172,27 +170,29 @@ FLOORS = {
     "keywords.txt": 375, "extensions.txt": 630, "locale.txt": 780, "cldr.txt": 1774,
 }
 NO_TAG = "22P02"
-HOW = {"t t": "both", "t f": "basic", "f t": "extended", "f f": "neither", NO_TAG: "neither"}
-# SQL's answers, in the form of the rows.
-ANSWERS = {
-    "tag": lambda said: "none" if said == NO_TAG else said.lower().replace("/", "\n"),
-    "validity": lambda said: "none" if said == NO_TAG else said.lower(),
-    "suggestion": lambda said: "-" if said == NO_TAG else said,
-    "canonical": lambda said: "-" if said == NO_TAG else said.lower(),
-    "maximized": lambda said: "-" if said == NO_TAG else said.lower(),
-    "minimized": lambda said: "-" if said == NO_TAG else said.lower(),
-    "describe": lambda said: "-" if said == NO_TAG else rows.escaped(said),
-    "autonym": lambda said: "-" if said == NO_TAG else rows.escaped(said),
-    "parents": lambda said: "-" if said == NO_TAG else said.lower(),
-    "posix-name": lambda said: "-" if said == NO_TAG else said,
-    "posix": str.lower,
-    "range": lambda said: {NO_TAG: "none", "range true": "range"}.get(said, said),
-    "match": lambda said: HOW.get(said, said),
-    "order": lambda said: {"-1": "before", "0": "equal", "1": "after"}.get(said, said),
-    "edit": lambda said: {"22023": "refused", "22023 no parts": "no parts"}.get(said, said.lower()),
-    "with-keyword": lambda said: said.removeprefix("22023 ").lower(),
-    "extensions-form": str.lower, "locale-form": str.lower, "base": str.lower, "suitable": lambda said: said.lower() or "-",
+# What a row has for a string that is not a tag, and SQL's other answers that rows write in another way.
+REFUSED = {"tag": "none", "validity": "none", "range": "none", "match": "neither",
+           **dict.fromkeys(("suggestion", "canonical", "maximized", "minimized", "describe", "autonym", "parents", "posix-name"), "-")}
+WRITTEN = {
+    "range": {"range true": "range"},
+    "match": {"t t": "both", "t f": "basic", "f t": "extended", "f f": "neither"},
+    "order": {"-1": "before", "0": "equal", "1": "after"},
+    "edit": {"22023": "refused", "22023 no parts": "no parts"},
+    "with-keyword": {f"22023 {why}": why for why in ("bad key", "bad value", "no parts")},
+    "suitable": {"": "-"},
 }
+# The calls whose rows have the case of SQL's answers, and the calls whose answers are tags in their recommended case.
+EXACT = {"suggestion", "recommended", "message", "range-message", "describe", "autonym", "posix-name", "unknown-modifier", "cldr-version"}
+TAGS = {"tag", "validity", "canonical", "maximized", "minimized", "parents", "posix", "edit", "with-keyword", "extensions-form", "locale-form", "base", "header", "ranges",
+        "best", "best-match", "suitable"}
+
+
+def answer_of(call, said):
+    """Returns SQL's answer in the form of the rows."""
+    if said == NO_TAG and call in REFUSED:
+        return REFUSED[call]
+    said = WRITTEN.get(call, {}).get(said, said.replace("/", "\n") if call == "tag" else said)
+    return said.lower() if call in TAGS else rows.escaped(said)
 
 
 def adapted(row):
@@ -215,7 +215,7 @@ def adapted(row):
         return "before" if a != b and b.startswith(a) else "after" if a != b and a.startswith(b) else wanted
     if row.call == "header":
         return row.text.split(" | ")[-1].lower()
-    return wanted.lower() if row.call in ("canonical", "posix", "parents", "maximized", "minimized", "edit", "ranges", "best", "best-match", "suitable", "keyword", "keywords", "with-keyword", "extensions-form", "locale-form", "base") else wanted
+    return wanted if row.call in EXACT else wanted.lower()
 
 
 def query(row):
@@ -248,7 +248,7 @@ class Rows(unittest.TestCase):
                 line = known.get((call, *arguments))
                 if line is None or (call in ("order", "recommended") and line == NO_TAG):
                     return None  # SQL orders only tags
-                return ANSWERS.get(call, str)(line) if call not in ("header", "ranges", "best", "best-match") else line.lower()
+                return answer_of(call, line)
             return of
         asker = rows.Asker({row.call: answer(row.call) for row, _ in asked}, adapted)
         asker.ask(path, floor)

@@ -9,7 +9,6 @@
 /* A function of one text that only returns a value, by its name in langtag.h. */
 #define OF_ONE(name)                                                                        \
     static PyObject *name(PyObject *module, PyObject *from) {                               \
-        (void)module;                                                                       \
         Text text;                                                                          \
         if (lt_text(from, &text)) return NULL;                                              \
         LET_GO(text.len);                                                                   \
@@ -22,7 +21,6 @@ LANGTAG_OF_ONE(OF_ONE)
 
 /* Returns why a text is not a tag: (answer of the call, start, length, offset). */
 static PyObject *refused(PyObject *module, PyObject *from) {
-    (void)module;
     Text text;
     if (lt_text(from, &text)) return NULL;
     langtag_span subtag;
@@ -36,7 +34,6 @@ static PyObject *refused(PyObject *module, PyObject *from) {
 
 /* Returns the end of a range, and the ends of its fallbacks. */
 static PyObject *fallback_ends(PyObject *module, PyObject *from) {
-    (void)module;
     Text text;
     if (lt_text(from, &text)) return NULL;
     langtag_span rest = {0, (size_t)text.len};
@@ -54,7 +51,6 @@ static PyObject *fallback_ends(PyObject *module, PyObject *from) {
 
 /* Returns (answer of the call, start, length, weight) for each element of a header that is not empty. */
 static PyObject *elements(PyObject *module, PyObject *from) {
-    (void)module;
     Text text;
     if (lt_text(from, &text)) return NULL;
     langtag_span rest = {0, (size_t)text.len}, range;
@@ -71,14 +67,10 @@ static PyObject *elements(PyObject *module, PyObject *from) {
 }
 
 static PyObject *registry_date(PyObject *module, PyObject *unused) {
-    (void)module;
-    (void)unused;
     return PyLong_FromUnsignedLong(langtag_registry_date());
 }
 
 static PyObject *cldr_version(PyObject *module, PyObject *unused) {
-    (void)module;
-    (void)unused;
     char version[32];
     size_t len = langtag_cldr_version(version, sizeof version);
     if (len > sizeof version) {

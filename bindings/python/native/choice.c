@@ -198,7 +198,6 @@ static PyObject *matched(const Wanted *wanted, PyObject *listed, PyObject *type)
 }
 
 PyObject *lt_match_for_header(PyObject *module, PyObject *arguments) {
-    (void)module;
     PyObject *from, *all, *type;
     langtag_best_match match;
     Wanted wanted = {.match = &match};
@@ -210,15 +209,8 @@ PyObject *lt_match_for_header(PyObject *module, PyObject *arguments) {
     return found;
 }
 
-PyObject *lt_best_for_header(PyObject *module, PyObject *arguments) {
-    (void)module;
-    return for_header(arguments, langtag_best_for_header);
-}
-
-PyObject *lt_tag_for_header(PyObject *module, PyObject *arguments) {
-    (void)module;
-    return for_header(arguments, langtag_tag_for_header_lenient);
-}
+PyObject *lt_best_for_header(PyObject *module, PyObject *arguments) { return for_header(arguments, langtag_best_for_header); }
+PyObject *lt_tag_for_header(PyObject *module, PyObject *arguments) { return for_header(arguments, langtag_tag_for_header_lenient); }
 
 static int add_range(Offered *ranges, PyObject *from) {
     Text text;
@@ -242,7 +234,6 @@ static int open_ranges(Offered *ranges, PyObject *from) {
 PyObject *lt_best_for_ranges(PyObject *module, PyObject *arguments) {
     PyObject *from, *all, *otherwise, *type, *found;
     Offered ranges;
-    (void)module;
     if (!PyArg_ParseTuple(arguments, "O!OOO", &PyList_Type, &from, &all, &otherwise, &type) || open_ranges(&ranges, from)) return NULL;
     found = chosen(&(Wanted){.ranges = &ranges}, all, otherwise, type);
     close_offered(&ranges);
@@ -252,7 +243,6 @@ PyObject *lt_best_for_ranges(PyObject *module, PyObject *arguments) {
 PyObject *lt_suitable_for_header(PyObject *module, PyObject *arguments) {
     PyObject *from, *all, *type, *found;
     Wanted wanted = {.ranges = NULL};
-    (void)module;
     if (!PyArg_UnpackTuple(arguments, "a choice", 3, 3, &from, &all, &type) || lt_text(from, &wanted.header)) return NULL;
     found = suitable(&wanted, all, type);
     Py_DECREF(wanted.header.owner);
@@ -263,7 +253,6 @@ PyObject *lt_suitable_for_header(PyObject *module, PyObject *arguments) {
 PyObject *lt_suitable_for_ranges(PyObject *module, PyObject *arguments) {
     PyObject *from, *all, *type, *found;
     Offered ranges;
-    (void)module;
     if (!PyArg_ParseTuple(arguments, "O!OO", &PyList_Type, &from, &all, &type) || open_ranges(&ranges, from)) return NULL;
     found = suitable(&(Wanted){.ranges = &ranges}, all, type);
     close_offered(&ranges);
@@ -282,18 +271,13 @@ static size_t count_of(const Site *site) { return (size_t)site->size / sizeof *s
 
 /* Returns (text, tags) for a list of bytes that are tags. */
 PyObject *lt_prepare(PyObject *module, PyObject *from) {
-    (void)module;
     if (!PyList_Check(from)) return PyErr_Format(PyExc_TypeError, "a list is wanted");
     Offered offered;
-    size_t count = (size_t)PyList_Size(from);
-    if (open_offered(&offered, count)) return NULL;
-    PyObject *tags = NULL, *found = NULL;
-    int status = 0;
-    for (size_t i = 0; i < count && !status; i++) status = add_range(&offered, PyList_GetItem(from, (Py_ssize_t)i));
-    if (!status) tags = PyBytes_FromStringAndSize(NULL, (Py_ssize_t)(count * sizeof(langtag_prepared_tag)));
+    if (open_ranges(&offered, from)) return NULL;
+    PyObject *tags = PyBytes_FromStringAndSize(NULL, (Py_ssize_t)(offered.count * sizeof(langtag_prepared_tag))), *found = NULL;
     if (tags) {
         langtag_prepared_tag *prepared = (langtag_prepared_tag *)PyBytes_AsString(tags);
-        for (size_t i = 0; i < count; i++) {
+        for (size_t i = 0; i < offered.count; i++) {
             prepared[i] = (langtag_prepared_tag){offered.spans[i], {0, 0}};
             langtag_prepare(offered.text, offered.len, &prepared[i]);
         }
@@ -331,34 +315,23 @@ static PyObject *of_site(PyObject *arguments, langtag_best_match *match) {
     return found;
 }
 
-PyObject *lt_site_best_for_header(PyObject *module, PyObject *arguments) {
-    (void)module;
-    return of_site(arguments, NULL);
-}
+PyObject *lt_site_best_for_header(PyObject *module, PyObject *arguments) { return of_site(arguments, NULL); }
 
 PyObject *lt_site_match_for_header(PyObject *module, PyObject *arguments) {
-    (void)module;
     langtag_best_match match;
     return of_site(arguments, &match);
 }
 
 /* The arguments are a list of bytes, and what lt_prepare returned. */
 PyObject *lt_site_best_for_ranges(PyObject *module, PyObject *arguments) {
-    (void)module;
     PyObject *from, *text, *tags;
     Offered ranges;
     Site site;
-    if (!PyArg_ParseTuple(arguments, "O!OO", &PyList_Type, &from, &text, &tags) || read_site(text, tags, &site)) return NULL;
-    size_t count = (size_t)PyList_Size(from), index = 0;
-    if (open_offered(&ranges, count)) return NULL;
-    int status = 0;
-    for (size_t i = 0; i < count && !status; i++) status = add_range(&ranges, PyList_GetItem(from, (Py_ssize_t)i));
-    if (!status) {
-        LET_GO((Py_ssize_t)ranges.len);
-        index = langtag_site_best_for_ranges(ranges.text, ranges.len, ranges.spans, ranges.count, site.text, (size_t)site.len, site.tags,
-                                             count_of(&site));
-        TAKE_BACK();
-    }
+    if (!PyArg_ParseTuple(arguments, "O!OO", &PyList_Type, &from, &text, &tags) || read_site(text, tags, &site) || open_ranges(&ranges, from)) return NULL;
+    LET_GO((Py_ssize_t)ranges.len);
+    size_t index = langtag_site_best_for_ranges(ranges.text, ranges.len, ranges.spans, ranges.count, site.text, (size_t)site.len, site.tags,
+                                                count_of(&site));
+    TAKE_BACK();
     close_offered(&ranges);
-    return status ? NULL : PyLong_FromSize_t(index);
+    return PyLong_FromSize_t(index);
 }

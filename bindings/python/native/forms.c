@@ -35,7 +35,6 @@ static PyObject *tag_of(const Value *self, PyObject *owner, const Value *like) {
 }
 
 PyObject *lt_recommended(PyObject *object, PyObject *unused) {
-    (void)unused;
     Value *self = (Value *)object;
     return lt_lacks(self) ? NULL : tag_of(self, lt_changed(self, langtag_recommend), self);
 }
@@ -83,7 +82,6 @@ static PyObject *tag_by_call(const Written *it, Write *write) {
 
 #define FORM(name, write)                                   \
     PyObject *name(PyObject *self, PyObject *unused) {      \
-        (void)unused;                                       \
         const Written it = {.self = (Value *)self, .form = write}; \
         return lt_lacks((Value *)self) ? NULL : tag_by_call(&it, write_form); \
     }
@@ -96,7 +94,6 @@ FORM(lt_parent, langtag_parent)
 
 /* Returns the locale name for a tag, as a str, or None if it has none. */
 PyObject *lt_to_posix(PyObject *object, PyObject *unused) {
-    (void)unused;
     Value *self = (Value *)object;
     char name[28];
     if (lt_lacks(self)) return NULL;
@@ -105,7 +102,6 @@ PyObject *lt_to_posix(PyObject *object, PyObject *unused) {
 }
 
 PyObject *lt_folded(PyObject *object, PyObject *unused) {
-    (void)unused;
     Value *self = (Value *)object;
     PyObject *folded = lt_lacks(self) ? NULL : lt_changed(self, langtag_fold);
     PyObject *text = folded ? lt_str(PyBytes_AsString(folded), (size_t)self->text.len) : NULL;
@@ -114,7 +110,6 @@ PyObject *lt_folded(PyObject *object, PyObject *unused) {
 }
 
 PyObject *lt_fnv1a(PyObject *object, PyObject *unused) {
-    (void)unused;
     Value *self = (Value *)object;
     if (lt_lacks(self)) return NULL;
     return PyLong_FromUnsignedLongLong(langtag_hash(LANGTAG_HASH, self->text.data, (size_t)self->text.len));

@@ -2,7 +2,6 @@
 #include "native.h"
 
 PyObject *lt_distance(PyObject *module, PyObject *arguments) {
-    (void)module;
     PyObject *one, *other;
     Text desired, supported;
     if (!PyArg_ParseTuple(arguments, "OO", &one, &other) || lt_text(one, &desired)) return NULL;
@@ -18,7 +17,6 @@ PyObject *lt_distance(PyObject *module, PyObject *arguments) {
 
 /* Returns the code that is meant by an invalid subtag, or None if there is none. The first argument is the number of the fault. */
 PyObject *lt_suggestion(PyObject *module, PyObject *arguments) {
-    (void)module;
     unsigned fault;
     PyObject *from;
     Text subtag;
@@ -31,7 +29,6 @@ PyObject *lt_suggestion(PyObject *module, PyObject *arguments) {
 
 /* Returns the tag for a locale name, as bytes, or None if there is none. */
 PyObject *lt_from_posix(PyObject *module, PyObject *from) {
-    (void)module;
     Text name;
     if (lt_text(from, &name)) return NULL;
     char room[192];
@@ -44,7 +41,6 @@ PyObject *lt_from_posix(PyObject *module, PyObject *from) {
 
 /* Returns the modifier of a locale name that is not known, as bytes, or None if there is none. */
 PyObject *lt_unknown_modifier(PyObject *module, PyObject *from) {
-    (void)module;
     Text name;
     langtag_span found;
     if (lt_text(from, &name)) return NULL;

@@ -57,44 +57,19 @@ Value *lt_as_tag(PyObject *object); /* NULL with an exception if it is not a Tag
 bool lt_is_tag(PyObject *object);
 void lt_refuse(PyObject *class, PyObject *from); /* raises the exception of the class of tags for a text that is not a tag */
 
+/* A function of the module, or a method, as Python calls it. */
+typedef PyObject *Method(PyObject *self, PyObject *argument);
+
 /* A call that chooses among tags for a header, such as langtag_best_for_header. */
 typedef size_t Choose(const char *header, size_t header_len, const char *bytes, size_t len, const langtag_span *tags, size_t count);
-
-#define FUNCTION(name) (PyCFunction)(void (*)(void))(name)
 
 extern PyType_Slot lt_value_slots[];
 extern PyGetSetDef lt_tag_members[], lt_range_members[];
 extern PyMethodDef lt_tag_methods[], lt_range_methods[], lt_functions[];
-PyObject *lt_tag_for_header(PyObject *module, PyObject *arguments);
-PyObject *lt_distance(PyObject *module, PyObject *arguments);
-PyObject *lt_suggestion(PyObject *module, PyObject *arguments);
-PyObject *lt_from_posix(PyObject *module, PyObject *from);
-PyObject *lt_unknown_modifier(PyObject *module, PyObject *from);
-PyObject *lt_best_for_header(PyObject *module, PyObject *arguments);
-PyObject *lt_best_for_ranges(PyObject *module, PyObject *arguments);
-PyObject *lt_match_for_header(PyObject *module, PyObject *arguments);
-PyObject *lt_suitable_for_header(PyObject *module, PyObject *arguments);
-PyObject *lt_suitable_for_ranges(PyObject *module, PyObject *arguments);
-PyObject *lt_prepare(PyObject *module, PyObject *from);
-PyObject *lt_site_best_for_header(PyObject *module, PyObject *arguments);
-PyObject *lt_site_best_for_ranges(PyObject *module, PyObject *arguments);
-PyObject *lt_site_match_for_header(PyObject *module, PyObject *arguments);
+Method lt_distance, lt_suggestion, lt_from_posix, lt_unknown_modifier;
+Method lt_tag_for_header, lt_best_for_header, lt_match_for_header, lt_suitable_for_header, lt_best_for_ranges, lt_suitable_for_ranges;
+Method lt_prepare, lt_site_best_for_header, lt_site_best_for_ranges, lt_site_match_for_header;
+Method lt_reduce, lt_format, lt_recommended, lt_canonical, lt_maximized, lt_minimized, lt_extensions_form, lt_locale_form, lt_parent;
+Method lt_to_posix, lt_folded, lt_fnv1a, lt_set, lt_set_keyword, lt_value_of, lt_pairs, lt_before_keys;
 PyObject *lt_value_data(PyObject *self, void *unused);
-PyObject *lt_reduce(PyObject *self, PyObject *unused);
-PyObject *lt_format(PyObject *self, PyObject *form);
-PyObject *lt_recommended(PyObject *self, PyObject *unused);
-PyObject *lt_canonical(PyObject *self, PyObject *unused);
-PyObject *lt_maximized(PyObject *self, PyObject *unused);
-PyObject *lt_parent(PyObject *self, PyObject *unused);
-PyObject *lt_to_posix(PyObject *self, PyObject *unused);
-PyObject *lt_minimized(PyObject *self, PyObject *unused);
-PyObject *lt_extensions_form(PyObject *self, PyObject *unused);
-PyObject *lt_locale_form(PyObject *self, PyObject *unused);
-PyObject *lt_folded(PyObject *self, PyObject *unused);
-PyObject *lt_fnv1a(PyObject *self, PyObject *unused);
-PyObject *lt_set(PyObject *self, PyObject *arguments);
-PyObject *lt_set_keyword(PyObject *self, PyObject *arguments);
-PyObject *lt_value_of(PyObject *self, PyObject *arguments);
-PyObject *lt_pairs(PyObject *self, PyObject *number);
-PyObject *lt_before_keys(PyObject *self, PyObject *number);
 #endif

@@ -13,7 +13,6 @@ static PyObject *tag_part(PyObject *object, void *number) {
 }
 
 static PyObject *tag_kind(PyObject *object, void *unused) {
-    (void)unused;
     return lt_lacks((Value *)object) ? NULL : PyLong_FromUnsignedLong(((Value *)object)->kind);
 }
 
@@ -34,7 +33,6 @@ static PyObject *tag_is(PyObject *object, void *index) {
 }
 
 static PyObject *tag_validity(PyObject *object, PyObject *unused) {
-    (void)unused;
     Value *self = (Value *)object;
     langtag_span span;
     if (lt_lacks(self)) return NULL;
@@ -55,7 +53,6 @@ static PyObject *tag_repeated(PyObject *object, void *which) {
 }
 
 static PyObject *tag_grandfathered(PyObject *object, PyObject *unused) {
-    (void)unused;
     Value *self = (Value *)object;
     return lt_lacks(self) ? NULL : PyLong_FromUnsignedLong(langtag_grandfathered(self->text.data, (size_t)self->text.len));
 }

@@ -1,7 +1,6 @@
 #include "native.h"
 
 static PyObject *is_basic(PyObject *object, void *unused) {
-    (void)unused;
     Value *self = (Value *)object;
     return lt_lacks(self) ? NULL : PyBool_FromLong(self->kind == LANGTAG_RANGE_BASIC);
 }

@@ -23,8 +23,6 @@ PyTypeObject *lt_base(PyTypeObject *type) {
 }
 
 PyObject *lt_new(PyTypeObject *type, PyObject *arguments, PyObject *named) {
-    (void)arguments;
-    (void)named;
     PyTypeObject *base = lt_base(type);
     Value *self = base ? (Value *)((allocfunc)PyType_GetSlot(type, Py_tp_alloc))(type, 0) : NULL;
     if (!self) return NULL;
@@ -128,7 +126,6 @@ static PyObject *str(PyObject *object) {
 }
 
 PyObject *lt_value_data(PyObject *object, void *unused) {
-    (void)unused;
     Value *self = (Value *)object;
     if (lt_lacks(self)) return NULL;
     Py_INCREF(self->text.owner);
@@ -150,7 +147,6 @@ PyObject *lt_format(PyObject *self, PyObject *form) {
 }
 
 PyObject *lt_reduce(PyObject *self, PyObject *unused) {
-    (void)unused;
     PyObject *text = str(self);
     return text ? Py_BuildValue("O(N)", (PyObject *)Py_TYPE(self), text) : NULL;
 }
