@@ -27,13 +27,11 @@ check "Windows: the DLL builds, the same bytes each time, and exports the functi
 # A function that uses a page of stack or more has a wrapper that touches each page first.
 windows_stack() {
     $mingw-objdump -d --no-show-raw-insn "$work/windows/langtag.dll" >"$work/windows.code" && grep -q 'mov *\$0x4[0-9a-f]\{3\},%eax' "$work/windows.code" || return 1
-    python3 - "$root/.ci/stack" <<'END'
-import importlib.machinery, importlib.util, sys
-sys.path.insert(0, "windows")
+    PYTHONPATH=windows:$root/.ci python3 - "$root/.ci/stack" <<'END'
+import sys
+from programs import load
 from wrappers import DEEP
-loader = importlib.machinery.SourceFileLoader("stack", sys.argv[1])
-stack = importlib.util.module_from_spec(importlib.util.spec_from_loader("stack", loader))
-loader.exec_module(stack)
+stack = load(sys.argv[1])
 deep = {name: most for name, most in stack.MOST.items() if name.startswith("langtag_") and "bench" not in name and most >= 4096 and name not in ("langtag_show", "langtag_check")}
 sys.exit(f"{deep} and {DEEP}" if deep.keys() != DEEP.keys() or any(DEEP[name] < most for name, most in deep.items()) else 0)
 END

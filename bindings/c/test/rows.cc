@@ -11,6 +11,33 @@
 using langtag::tag;
 using strings = std::vector<std::string>;
 
+/* Returns a text as the rows have it: with an escape for each byte outside of ASCII, for the characters with which escapes begin, and for the
+ * characters before `first`. */
+static std::string escaped(std::string_view text, char first = ' ') {
+    std::string out;
+    char digits[8];
+    for (const char byte : text) {
+        const bool is_plain = byte >= first && byte < 0x7f && byte != '\\' && byte != '{' && byte != '}';
+        std::snprintf(digits, sizeof digits, "\\x%02x", static_cast<unsigned>(static_cast<unsigned char>(byte)));
+        out += is_plain ? std::string(1, byte) : digits;
+    }
+    return out;
+}
+
+/* Returns what a call returned as the rows have it. */
+static std::string shown(bool answer) { return answer ? "yes" : "no"; }
+static std::string shown(const std::string &text) { return escaped(text); }
+static std::string shown(const tag &tag) { return std::string(tag.text()); }
+template <class Text> static std::string shown(const std::optional<Text> &found) {
+    return !found ? "-" : found->empty() ? "''" : escaped(*found);
+}
+
+/* Returns what a call returns for a tag. */
+template <auto Ask> static std::string of_tag(const strings &asked) {
+    const auto one = tag::parse(asked[0]);
+    return one ? shown(std::invoke(Ask, *one)) : "-";
+}
+
 /* Appends a line with the name and the subtags of a part, unless the part is empty. */
 static void say(std::string &out, const char *name, std::string_view part) {
     if (part.empty()) return;
@@ -146,30 +173,10 @@ static std::string scan_of(const strings &asked) {
     return out;
 }
 
-/* Returns bytes as the rows have them. */
-static std::string escaped(const std::string &text) {
-    std::string out = text.empty() ? "''" : "";
-    char digits[8];
-    for (const char byte : text) {
-        const bool is_plain = byte > ' ' && byte < 0x7f && byte != '\\' && byte != '{' && byte != '}';
-        std::snprintf(digits, sizeof digits, "\\x%02x", static_cast<unsigned>(static_cast<unsigned char>(byte)));
-        out += is_plain ? std::string(1, byte) : digits;
-    }
-    return out;
+static std::string recommended_of(const strings &asked) {
+    const std::string text = escaped(langtag::recommended(asked[0]), '!');
+    return text.empty() ? "''" : text;
 }
-
-/* Returns a text with each byte beyond ASCII as the rows have it. */
-static std::string beyond_ascii(const std::string &text) {
-    std::string out;
-    char digits[8];
-    for (const char byte : text) {
-        std::snprintf(digits, sizeof digits, "\\x%02x", static_cast<unsigned>(static_cast<unsigned char>(byte)));
-        out += static_cast<unsigned char>(byte) < 0x80 ? std::string(1, byte) : digits;
-    }
-    return out;
-}
-
-static std::string recommended_of(const strings &asked) { return escaped(langtag::recommended(asked[0])); }
 
 static std::string range_of(const strings &asked) {
     const auto one = langtag::range::parse(asked[0]);
@@ -303,16 +310,6 @@ static std::string with_keyword_of(const strings &asked) {
     return tag::parse(*made) ? *made : "not a tag: " + *made;
 }
 
-static std::string extensions_form_of(const strings &asked) {
-    const auto one = tag::parse(asked[0]);
-    return one ? one->extensions_form() : "-";
-}
-
-static std::string base_of(const strings &asked) {
-    const auto one = tag::parse(asked[0]);
-    return one ? std::string(one->base().text()) : "-";
-}
-
 static std::string is_locale_of(const strings &asked) {
     const auto one = tag::parse(asked[0]);
     return one && one->is_locale() ? "yes" : "no";
@@ -322,7 +319,7 @@ static std::string locale_form_of(const strings &asked) {
     const auto one = tag::parse(asked[0]);
     const auto form = one ? one->locale_form() : std::nullopt;
     if (one && langtag::owned_tag(*one).locale_form() != form) return "an owned tag has another";
-    return !form ? "-" : form->empty() ? "''" : *form;
+    return shown(form);
 }
 
 static std::string cldr_version_of(const strings &) { return langtag::cldr_version(); }
@@ -339,44 +336,12 @@ static std::string refused_of(const strings &asked) {
            std::to_string(found->offset);
 }
 
-/* Returns a message as rows write it. */
-static std::string as_in_row(const std::string &message) {
-    std::string made;
-    for (const char each : message) {
-        const auto byte = static_cast<unsigned char>(each);
-        char escape[5];
-        std::snprintf(escape, sizeof escape, "\\x%02x", byte);
-        made += byte < ' ' || byte > '~' || byte == '\\' || byte == '{' || byte == '}' ? escape : std::string(1, each);
-    }
-    return made;
-}
-
 static std::string message_of(const strings &asked) {
     const auto found = langtag::refused(asked[0]);
-    return as_in_row("invalid language tag " + langtag::quoted(asked[0]) + ": " + (found ? found->message() : "none"));
+    return escaped("invalid language tag " + langtag::quoted(asked[0]) + ": " + (found ? found->message() : "none"));
 }
 
-static std::string range_message_of(const strings &asked) { return as_in_row("invalid language range " + langtag::quoted(asked[0])); }
-
-static std::string maximized_of(const strings &asked) {
-    const auto one = tag::parse(asked[0]);
-    return one ? one->maximized() : "-";
-}
-
-static std::string minimized_of(const strings &asked) {
-    const auto one = tag::parse(asked[0]);
-    return one ? one->minimized() : "-";
-}
-
-static std::string describe_of(const strings &asked) {
-    const auto one = tag::parse(asked[0]);
-    return one ? as_in_row(langtag::describe(*one)) : "-";
-}
-
-static std::string autonym_of(const strings &asked) {
-    const auto one = tag::parse(asked[0]);
-    return one ? as_in_row(std::string(langtag::autonym(*one).value_or("-"))) : "-";
-}
+static std::string range_message_of(const strings &asked) { return escaped("invalid language range " + langtag::quoted(asked[0])); }
 
 /* The parents of a tag. The second one is the parent of the first. */
 static std::string parents_of(const strings &asked) {
@@ -388,17 +353,12 @@ static std::string parents_of(const strings &asked) {
     return one->parent().value_or("") == (chain.size() > 1 ? chain[1] : "") ? line : line + ", and parent says otherwise";
 }
 
-static std::string right_to_left_of(const strings &asked) {
-    const auto one = tag::parse(asked[0]);
-    return !one ? "-" : one->is_right_to_left() ? "yes" : "no";
-}
-
 static std::string distance_of(const strings &asked) {
     const auto desired = tag::parse(asked[0]), supported = tag::parse(asked[1]);
     return desired && supported ? std::to_string(langtag::distance(*desired, *supported)) : "-";
 }
 
-static std::string posix_of(const strings &asked) { return langtag::from_posix(asked[0]).value_or("-"); }
+static std::string posix_of(const strings &asked) { return shown(langtag::from_posix(asked[0])); }
 
 /* The name for a tag. If the tag has no script, the name is read as the tag. */
 static std::string posix_name_of(const strings &asked) {
@@ -410,7 +370,7 @@ static std::string posix_name_of(const strings &asked) {
 }
 
 static std::string unknown_modifier_of(const strings &asked) {
-    return beyond_ascii(std::string(langtag::unknown_modifier(asked[0]).value_or("-")));
+    return shown(langtag::unknown_modifier(asked[0]));
 }
 
 static std::string best_of(const strings &asked) {
@@ -443,8 +403,7 @@ static std::string best_of_ranges(const strings &asked) {
 
 static std::string keyword_of(const strings &asked) {
     const auto one = tag::parse(asked[0]);
-    const auto value = one ? one->keyword(asked[1]) : std::nullopt;
-    return !value ? "-" : value->empty() ? "''" : std::string(*value);
+    return shown(one ? one->keyword(asked[1]) : std::nullopt);
 }
 
 /* Returns KEY=VALUE for each, and checks that each is found by its key. */
@@ -482,8 +441,7 @@ static std::string transform_of(const strings &asked) {
     const auto one = tag::parse(asked[0]);
     const auto language = one ? one->transform() : std::nullopt;
     if (!language) return "-";
-    return (language->empty() ? "''" : std::string(*language)) +
-           said_of(one->fields(), [&](std::string_view key) { return one->field(key); });
+    return shown(language) + said_of(one->fields(), [&](std::string_view key) { return one->field(key); });
 }
 
 static std::string best_match_of(const strings &asked) {
@@ -540,12 +498,12 @@ static const std::map<std::string, answer> answers = {
     {"fault", fault_of},
     {"message", message_of},
     {"range-message", range_message_of},
-    {"maximized", maximized_of},
+    {"maximized", of_tag<&tag::maximized>},
     {"parents", parents_of},
-    {"describe", describe_of},
-    {"autonym", autonym_of},
-    {"minimized", minimized_of},
-    {"right-to-left", right_to_left_of},
+    {"describe", of_tag<langtag::describe>},
+    {"autonym", of_tag<langtag::autonym>},
+    {"minimized", of_tag<&tag::minimized>},
+    {"right-to-left", of_tag<&tag::is_right_to_left>},
     {"distance", distance_of},
     {"posix", posix_of},
     {"posix-name", posix_name_of},
@@ -561,8 +519,8 @@ static const std::map<std::string, answer> answers = {
     {"transform", transform_of},
     {"best-match", best_match_of},
     {"with-keyword", with_keyword_of},
-    {"extensions-form", extensions_form_of},
-    {"base", base_of},
+    {"extensions-form", of_tag<&tag::extensions_form>},
+    {"base", of_tag<&tag::base>},
     {"is-locale", is_locale_of},
     {"locale-form", locale_form_of},
     {"cldr-version", cldr_version_of},
