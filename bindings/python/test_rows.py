@@ -24,6 +24,18 @@ def made(kind, text):
         return None
 
 
+def of_tag(ask, otherwise="-"):
+    """Returns a function that answers a row about a tag. For a string that is not a tag, it answers `otherwise`."""
+    def answer(text, *more):
+        tag = made(Tag, text)
+        return otherwise if tag is None else ask(tag, *more)
+    return answer
+
+
+def yes_or_no(answer):
+    return "yes" if answer else "no"
+
+
 def copied(error):
     """Returns a copy of an error made by pickle, after checking that it is the same."""
     again = pickle.loads(pickle.dumps(error))
@@ -77,34 +89,17 @@ def adapted(row):
     return "\n".join(lines)
 
 
-def answer_validity(text):
-    tag = made(Tag, text)
-    if tag is None:
-        return "none"
+def answer_validity(tag):
     wrong = tag.invalid_subtag
     assert tag.is_valid == (wrong is None)
     if wrong is None:
         return "valid"
-    assert text[wrong.start :].decode().startswith(wrong.subtag)
+    assert str(tag)[wrong.start :].startswith(wrong.subtag)
     assert str(wrong).partition(": did you mean ")[2] == (f"{wrong.suggestion}?" if wrong.suggestion else "")
     return f"{wrong.fault} {wrong.start} {wrong.subtag}"
 
 
-def answer_fault(text):
-    """Returns the message for a tag that is not valid, without the suggestion."""
-    tag = made(Tag, text)
-    return "-" if tag is None else str(tag.invalid_subtag or "valid").partition(": did you mean ")[0]
-
-
-def answer_suggestion(text):
-    tag = made(Tag, text)
-    return tag and tag.invalid_subtag and tag.invalid_subtag.suggestion or "-"
-
-
-def answer_canonical(text):
-    tag = made(Tag, text)
-    if tag is None:
-        return "-"
+def answer_canonical(tag):
     form = tag.canonical()
     assert tag.is_canonical == (form == tag) and form.is_canonical and type(form) is Tag
     return str(form)
@@ -132,12 +127,6 @@ def answer_scan(text):
             ends.append(ends[-1] + (1 + len(part) if part else 0))
         what = " ".join([what, *map(str, ends)])
     return f"{langtag.stop_len(text)} {fronts} {what}"
-
-
-def answer_recommended(text):
-    """Returns the answer for a tag, and None for other texts."""
-    tag = made(Tag, text)
-    return None if tag is None else str(tag.recommended())
 
 
 def answer_range(text):
@@ -247,28 +236,19 @@ def answer_with_keyword(tag, key, value):
     return found
 
 
-def answer_extensions_form(text):
-    tag = made(Tag, text)
-    if tag is None:
-        return "-"
+def answer_extensions_form(tag):
     form = tag.extensions_form()
     assert form.extensions_form() == form and type(form) is Tag
     return str(form)
 
 
-def answer_locale_form(text):
-    tag = made(Tag, text)
-    form = tag and tag.locale_form()
+def answer_locale_form(tag):
+    form = tag.locale_form()
     if form is None:
-        assert not (tag and tag.is_locale)
+        assert not tag.is_locale
         return "-"
     assert form.is_locale and str(form.locale_form()) == str(form) and type(form) is Tag
     return str(form)
-
-
-def likely(text, form):
-    tag = made(Tag, text)
-    return "-" if tag is None else str(form(tag))
 
 
 def answer_refused(text):
@@ -301,24 +281,12 @@ def answer_message(text, kind=Tag, error=InvalidTag):
     return said.pop()
 
 
-def answer_range_message(text):
-    return answer_message(text, Range, InvalidRange)
-
-
 def answer_distance(desired, supported):
     desired, supported = made(Tag, desired), made(Tag, supported)
     return "-" if desired is None or supported is None else str(langtag.distance(desired, supported))
 
 
-def answer_direction(text):
-    tag = made(Tag, text)
-    return "-" if tag is None else "yes" if tag.is_right_to_left else "no"
-
-
-def answer_parents(text):
-    tag = made(Tag, text)
-    if tag is None:
-        return "-"
+def answer_parents(tag):
     assert tag.parents[0] is tag and tag.parent == (tag.parents[1] if len(tag.parents) > 1 else None)
     return " ".join(map(str, tag.parents))
 
@@ -330,42 +298,38 @@ def answer_posix(name):
         return "-"
 
 
-def answer_posix_name(text):
-    tag = made(Tag, text)
-    name = None if tag is None else tag.to_posix()
-    if name is None:
-        return "-"
-    read = Tag.from_posix(name)
+def answer_posix_name(tag):
+    name = tag.to_posix()
+    read = tag if name is None else Tag.from_posix(name)
     assert read == tag or read.maximized() == tag.maximized()
-    return name
+    return name or "-"
 
 
-def answer_unknown_modifier(name):
-    found = langtag.unknown_modifier(name)
-    return "-" if found is None else found
+def chosen(call, wanted, tags):
+    """Returns what a call chooses among strings, which has to be what it chooses among tags."""
+    texts = tags.decode().split()
+    found = call(wanted, texts, DEFAULT)
+    assert call(wanted, map(Tag, texts), DEFAULT) == (found if found == DEFAULT else Tag(found))
+    return found
 
 
 def answer_best(header, tags):
-    texts = tags.decode().split()
-    found = langtag.best_for_header(header, texts, DEFAULT)
-    assert langtag.best_for_header(header, map(Tag, texts), DEFAULT) == (found if found == DEFAULT else Tag(found))
+    texts, found = tags.decode().split(), chosen(langtag.best_for_header, header, tags)
     assert b";" in header or langtag.best_for_ranges(header.split(b","), texts, DEFAULT) == found
     assert langtag.Site(texts).best_for_header(header, DEFAULT) == found
     return found
 
 
 def answer_best_accepted(header, tags):
-    accepted, texts = AcceptLanguage.lenient(header), tags.decode().split()
-    found = accepted.best(texts, DEFAULT)
-    assert AcceptLanguage(str(accepted)) == accepted and accepted.best(map(Tag, texts), DEFAULT) == (found if found == DEFAULT else Tag(found))
-    return found
+    accepted = AcceptLanguage.lenient(header)
+    assert AcceptLanguage(str(accepted)) == accepted
+    return chosen(AcceptLanguage.best, accepted, tags)
 
 
 def answer_best_ranges(ranges, tags):
-    wanted, texts = ranges.split(), tags.decode().split()
-    found = langtag.best_for_ranges(wanted, texts, DEFAULT)
-    assert langtag.best_for_ranges(map(Range, wanted), map(Tag, texts), DEFAULT) == (found if found == DEFAULT else Tag(found))
-    assert langtag.Site(texts).best_for_ranges(wanted, DEFAULT) == found
+    found = chosen(langtag.best_for_ranges, ranges.split(), tags)
+    assert chosen(langtag.best_for_ranges, list(map(Range, ranges.split())), tags) == found
+    assert langtag.Site(tags.decode().split()).best_for_ranges(ranges.split(), DEFAULT) == found
     return found
 
 
@@ -380,8 +344,8 @@ def answer_suitable_ranges(ranges, tags):
     return " ".join(langtag.suitable_for_ranges(ranges.split(), tags.decode().split())) or "-"
 
 
-def answer_keyword(text, key):
-    value = Tag(text).keyword(key)
+def answer_keyword(tag, key):
+    value = tag.keyword(key)
     return "-" if value is None else value or "''"
 
 
@@ -389,14 +353,13 @@ def said(pairs):
     return " ".join(f"{key}={value}" for key, value in pairs.items())
 
 
-def answer_keywords(text):
-    tag = Tag(text)
+def answer_keywords(tag):
     assert all(tag.keyword(key) == value for key, value in tag.keywords.items())
     return said(tag.keywords) or "-"
 
 
-def answer_transform(text):
-    transform = Tag(text).transform
+def answer_transform(tag):
+    transform = tag.transform
     return "-" if transform is None else f"{transform.language or chr(39) * 2} {said(transform.fields)}".rstrip()
 
 
@@ -413,36 +376,29 @@ def answer_best_match(header, tags):
     return f"{found.index} {found.distance} {found.range}"
 
 
-def answer_name(text, call):
-    """Returns the name for the bytes, and checks that it is the same for a str and a Tag."""
-    if made(Tag, text) is None:
-        return "-"
-    assert call(text) == call(text.decode()) == call(Tag(text))
-    return call(text) or "-"
+def answer_name(tag, call):
+    """Returns the name for a tag, and checks that it is the same for its text."""
+    assert call(tag) == call(str(tag)) == call(str(tag).encode())
+    return call(tag) or "-"
 
 
 ANSWERS = {
-    "describe": lambda text: answer_name(text, langtag.describe), "autonym": lambda text: answer_name(text, langtag.autonym),
-    "with-keyword": answer_with_keyword, "extensions-form": answer_extensions_form,
-    "base": lambda text: str(Tag(text).base),
-    "is-locale": lambda text: "yes" if getattr(made(Tag, text), "is_locale", False) else "no", "locale-form": answer_locale_form,
-    "cldr-version": lambda: langtag.CLDR_VERSION,
-    "keyword": answer_keyword, "keywords": answer_keywords, "transform": answer_transform,
-    "attributes": lambda text: " ".join(Tag(text).attributes) or "-",
-    "refused": answer_refused, "fault": answer_fault, "message": answer_message, "range-message": answer_range_message, "distance": answer_distance, "right-to-left": answer_direction, "posix": answer_posix,
-    "unknown-modifier": answer_unknown_modifier, "best": answer_best,
-    "best-ranges": answer_best_ranges,
-    "best-accepted": answer_best_accepted,
-    "best-match": answer_best_match,
-    "parents": answer_parents,
-    "suitable": answer_suitable, "suitable-ranges": answer_suitable_ranges,
-    "posix-name": answer_posix_name,
-    "maximized": lambda text: likely(text, Tag.maximized), "minimized": lambda text: likely(text, Tag.minimized),
-    "tag": answer_tag, "scan": answer_scan, "recommended": answer_recommended, "validity": answer_validity, "suggestion": answer_suggestion,
-    "canonical": answer_canonical, "grandfathered": answer_grandfathered,
+    "describe": of_tag(lambda tag: answer_name(tag, langtag.describe)), "autonym": of_tag(lambda tag: answer_name(tag, langtag.autonym)),
+    "with-keyword": answer_with_keyword, "extensions-form": of_tag(answer_extensions_form), "base": of_tag(lambda tag: str(tag.base)),
+    "is-locale": of_tag(lambda tag: yes_or_no(tag.is_locale), "no"), "locale-form": of_tag(answer_locale_form), "cldr-version": lambda: langtag.CLDR_VERSION,
+    "keyword": of_tag(answer_keyword), "keywords": of_tag(answer_keywords), "transform": of_tag(answer_transform),
+    "attributes": of_tag(lambda tag: " ".join(tag.attributes) or "-"), "refused": answer_refused,
+    "fault": of_tag(lambda tag: str(tag.invalid_subtag or "valid").partition(": did you mean ")[0]),
+    "message": answer_message, "range-message": lambda text: answer_message(text, Range, InvalidRange), "distance": answer_distance,
+    "right-to-left": of_tag(lambda tag: yes_or_no(tag.is_right_to_left)), "posix": answer_posix, "posix-name": of_tag(answer_posix_name),
+    "unknown-modifier": lambda name: langtag.unknown_modifier(name) or "-", "best": answer_best, "best-ranges": answer_best_ranges,
+    "best-accepted": answer_best_accepted, "best-match": answer_best_match, "suitable": answer_suitable, "suitable-ranges": answer_suitable_ranges,
+    "parents": of_tag(answer_parents), "maximized": of_tag(lambda tag: str(tag.maximized())), "minimized": of_tag(lambda tag: str(tag.minimized())),
+    "tag": answer_tag, "scan": answer_scan, "recommended": of_tag(lambda tag: str(tag.recommended()), None), "validity": of_tag(answer_validity, "none"),
+    "suggestion": of_tag(lambda tag: tag.invalid_subtag and tag.invalid_subtag.suggestion or "-"),
+    "canonical": of_tag(answer_canonical), "grandfathered": answer_grandfathered, "order": answer_order, "edit": answer_edit,
     "viable": lambda text: f"{langtag.viable_len(text)} {langtag.stop_len(text)}", "range": answer_range, "match": answer_match,
-    "order": answer_order, "header": answer_header, "ranges": answer_ranges, "elements": answer_elements, "fallbacks": answer_fallbacks,
-    "edit": answer_edit,
+    "header": answer_header, "ranges": answer_ranges, "elements": answer_elements, "fallbacks": answer_fallbacks,
 }
 FLOORS = {"table.txt": 360, "texts.txt": 710, "negotiation.txt": 102, "ranges.txt": 55, "edits.txt": 125, "likely.txt": 250, "parents.txt": 330,
           "refused.txt": 80, "distance.txt": 140, "direction.txt": 325, "posix.txt": 240, "choices.txt": 285, "lists.txt": 28, "suitable.txt": 32, "lengths.txt": 180,
