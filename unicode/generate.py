@@ -194,9 +194,21 @@ TYPE_ALIASES, ALIASES = "type_aliases_of (words text)", "aliases_of (words text)
 KINDS = {1: ("&str", "(List ℕ)", "words text"), 2: ("(&str, &str)", "Alias", ALIASES), 3: ("(&str, &str, &str)", "TypeAlias", TYPE_ALIASES)}
 
 
+def order_number(subtag: str) -> int:
+    """Returns the number that langtag_keyword's order_number returns."""
+    return int.from_bytes(subtag.encode().ljust(8, b"\0"), "big")
+
+
+def number_table(name, doc, texts):
+    return f"/// {doc}\n#[rattlefmt::skip]\npub(crate) static {name}: [u64; {len(texts)}] = [\n{in_lines([f'{order_number(text):#018x}' for text in texts])}\n];\n"
+
+
 def rule_tables(identifiers: Identifiers) -> str:
+    changing = sorted({row[1] for row in identifiers.variant_languages} | {row[0] for row in identifiers.variant_pairs + identifiers.variant_aliases} | set(identifiers.dropped_variants))
     return "\n".join([HEAD_OF_TABLES.format(what="The aliases of language identifiers", version=version())] + [
         table(name.upper(), f"{doc[0].upper()}{doc[1:]}.", KINDS[len(rows[0])][0], rows) for name, doc, rows in rules(identifiers)
+    ] + [
+        number_table("CHANGING_VARIANTS", "The numbers of the variants that are replaced or left out: their bytes, and zeros up to eight bytes.", changing),
     ])
 
 

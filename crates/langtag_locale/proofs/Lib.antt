@@ -7,6 +7,7 @@ pub mod LocaleAgain
 pub mod LocaleSettled
 pub mod WholeForms
 pub mod VariantForms
+pub mod KeptVariants
 pub mod IdentifierTables
 pub mod IdentifierCase
 pub mod IdentifierLast

@@ -1,11 +1,12 @@
 //! The variants in the form of a Unicode locale identifier (UTS #35, part 1, Annex C).
-ghost use Rattle.std.specs.Prelude.{◌≡◌, find, map};
+ghost use Rattle.std.specs.Prelude.{◌≡◌, IsTrue, List, false, find, map, ℕ};
 ghost use Rattle.std.specs.List.{AllByRecursion, list_any};
 ghost use Rattle.std.specs.Option.{option_map};
 ghost use Rattle.langtag.specs.Fields.{subtag_of};
 ghost use Rattle.langtag_output.specs.Output.{Pushes};
 ghost use Rattle.langtag_scan.proofs.SubtagFacts.{IsSubtag};
 ghost use Rattle.langtag_scan.specs.Case.{are_alike, fold_text};
+ghost use Rattle.langtag_scan.specs.Class.{is_variant};
 ghost use Rattle.langtag_scan.specs.Record.{one_flat};
 ghost use Rattle.langtag_scan.specs.Subtags.{segments_left};
 ghost use Rattle.langtag_keyword.specs.Alphabet as order;
@@ -58,13 +59,32 @@ fn offer_forms(least: &mut LeastNumbers, language: &[u8], variants: Option<&str>
     let mut rest = variants;
     while let Some(text) = rest {
         let (variant, others) = split_first(text);
-        offer_form(least, variant_form(language, variants, variant));
+        offer_form(least, language, variants, variant);
         rest = others;
     }
 }
 
+/// Offers the number of the form of a variant, unless the variant is left out.
+fn offer_form(least: &mut LeastNumbers, language: &[u8], variants: Option<&str>, variant: &str)
+    requires { IsTrue (is_variant variant.now) }
+    ensures { IsOffered (map order_number (one_flat (subtag_of (spec.variant_form language.now (segments_left variants.entry) variant.now)))) least.old least.new }
+{
+    let number = order_number(variant.as_bytes());
+    if may_change(number) {
+        return offer_changed(least, variant_form(language, variants, variant));
+    }
+    least.offer(number);
+}
+
+/// Returns whether the variant with this number may have another form. Most variants never do, and this is a quick test.
+fn may_change(number: u64) -> bool
+    ensures { result ≡ false → (variant : List ℕ) → order_number variant ≡ number → (language : List ℕ) (variants : List (List ℕ)) → spec.variant_form language variants variant ≡ variant }
+{
+    tables::CHANGING_VARIANTS.contains(&number)
+}
+
 /// Offers the number of a form, unless the form is empty.
-fn offer_form(least: &mut LeastNumbers, form: &str)
+fn offer_changed(least: &mut LeastNumbers, form: &str)
     requires { AllByRecursion IsSubtag (one_flat (subtag_of form.now)) }
     ensures { IsOffered (map order_number (one_flat (subtag_of form.now))) least.old least.new }
 {

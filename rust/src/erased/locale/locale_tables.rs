@@ -59,3 +59,12 @@ pub(crate) static REGION_HEIRS: [(&str, &str); 18] = [
     ("891", "rs-me"), ("an", "cw-sx-bq"), ("cs", "rs-me"), ("fq", "aq-tf"), ("nt", "sa-iq"), ("pc", "fm-mh-mp-pw"),
     ("su", "ru-am-az-by-ee-ge-kz-kg-lv-lt-md-tj-tm-ua-uz"), ("yu", "rs-me"),
 ];
+
+/// The numbers of the variants that are replaced or left out: their bytes, and zeros up to eight
+/// bytes.
+#[rustfmt::skip]
+pub(crate) static CHANGING_VARIANTS: [u64; 14] = [
+    0x61616c616e640000, 0x61726576656c6100, 0x617265766d646100, 0x626f6b6d616c0000, 0x6761756c69736800,
+    0x67756f7975000000, 0x68616b6b61000000, 0x6865706275726e00, 0x6865706c6f630000, 0x6c6f6a62616e0000,
+    0x6e796e6f72736b00, 0x706f6c79746f6e69, 0x736161686f000000, 0x7869616e67000000,
+];

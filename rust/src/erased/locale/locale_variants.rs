@@ -38,14 +38,30 @@ fn offer_forms(least: &mut LeastNumbers, language: &[u8], variants: Option<&str>
     let mut rest = variants;
     while let Some(text) = rest {
         let (variant, others) = split_first(text);
-        offer_form(least, variant_form(language, variants, variant));
+        offer_form(least, language, variants, variant);
         rest = others;
     }
 }
 
+/// Offers the number of the form of a variant, unless the variant is left out.
+fn offer_form(least: &mut LeastNumbers, language: &[u8], variants: Option<&str>, variant: &str) {
+    let number = order_number(variant.as_bytes());
+    if may_change(number) {
+        return offer_changed(least, variant_form(language, variants, variant));
+    }
+    least.offer(number);
+}
+
+/// Returns whether the variant with this number may have another form. Most variants never do, and
+/// this is a quick test.
+#[inline]
+fn may_change(number: u64) -> bool {
+    tables::CHANGING_VARIANTS.contains(&number)
+}
+
 /// Offers the number of a form, unless the form is empty.
 #[inline]
-fn offer_form(least: &mut LeastNumbers, form: &str) {
+fn offer_changed(least: &mut LeastNumbers, form: &str) {
     if !form.is_empty() {
         least.offer(order_number(form.as_bytes()));
     }

@@ -1,24 +1,18 @@
 use Rattle.std.proofs.Common.{◌≡◌, ◌∷◌, map, sym, ap, subst, ◌∙◌}
-use Rattle.std.specs.List.{AllByRecursion}
 use Rattle.std.proofs.lemmas.List.{map-append}
 use Rattle.langtag.specs.Fields.{subtag_of}
-use Rattle.langtag_scan.proofs.SubtagFacts.{IsSubtag}
 use Rattle.langtag_scan.specs.Record.{one_flat}
 use Rattle.langtag_scan.specs.Subtags.{segments_left}
 use Rattle.langtag_keyword.specs.Least.{IsOffered, order_number}
 use Rattle.langtag_keyword.proofs.LeastTexts.{offered-both, offered-none}
 use Rattle.langtag_unicode.proofs.IdentifierParts.{AreVariants}
 use Rattle.langtag_locale.specs.LocaleForm.{forms, variant_form}
-use Rattle.langtag_locale.proofs.VariantForms.{variant_fits}
 use Rattle.langtag_locale.proofs.locale_variants.offer_forms.Goals as goal
 
 pub offer_form-requires : goal.offer_form-requires
 offer_form-requires c =
-    let v = c.split_first.result.0.now in
-    let others = segments_left c.split_first.result.1 in
-    let here : segments_left c.loop-rest.rest ≡ v ∷ others = ap segments_left c.in-Some.is ∙ c.split_first.ensures in
-    let are = subst AreVariants here c.loop-rest.invariant.each in
-    subst (λ form. AllByRecursion IsSubtag (one_flat (subtag_of form))) (sym c.variant_form.ensures) (variant_fits c.args.language.now (segments_left c.args.variants) v are.0)
+    let here = ap segments_left c.in-Some.is ∙ c.split_first.ensures in
+    (subst AreVariants here c.loop-rest.invariant.each).0
 
 pub loop-rest-preserved : goal.loop-rest-preserved
 loop-rest-preserved c =
@@ -28,7 +22,6 @@ loop-rest-preserved c =
     let here : segments_left c.loop-rest.rest ≡ v ∷ others = ap segments_left c.in-Some.is ∙ c.split_first.ensures in
     let one = one_flat (subtag_of (variant_form c.args.language.now vs v)) in
     let rest = forms c.args.language.now vs others in
-    let form = c.variant_form.ensures in
     record {
       each = (subst AreVariants here c.loop-rest.invariant.each).1;
       so_far = λ new these.
@@ -36,7 +29,7 @@ loop-rest-preserved c =
           (subst (λ ns. IsOffered ns c.loop-rest.least new)
           (sym (map-append order_number one rest) ∙ sym (ap (λ ss. map order_number (forms c.args.language.now vs ss)) here))
           (offered-both (map order_number one) (map order_number rest) c.loop-rest.least c.offer_form.new.least new
-          (subst (λ f. IsOffered (map order_number (one_flat (subtag_of f))) c.loop-rest.least c.offer_form.new.least) form c.offer_form.ensures) these));
+          c.offer_form.ensures these));
     }
 
 pub returns : goal.returns

@@ -1,0 +1,79 @@
+-- A variant keeps its form if its number is not one of those in the table.
+use Rattle.std.proofs.Common.{arith}
+use Rattle.std.proofs.Common.{◌≡◌, ℕ, Bool, true, false, ◌==◌, ◌&&◌, ◌||◌, List, [], ◌∷◌, map, refl, sym, ap, ◌∙◌}
+use Rattle.std.proofs.lemmas.Bool.{false_from_ne_true, false≢true}
+use Rattle.std.specs.List.{list_all, list_any}
+use Rattle.langtag.specs.Fields.{subtag_of}
+use Rattle.langtag_scan.proofs.SubtagFacts.{IsSubtag}
+use Rattle.langtag_scan.specs.Case.{are_alike, fold_byte}
+use Rattle.langtag_scan.specs.CaseLaws.{are_alike-decides}
+use Rattle.langtag_scan.specs.Record.{one_flat}
+use Rattle.langtag_keyword.specs.Alias.{Alias, TypeAlias}
+use Rattle.langtag_keyword.specs.Least.{left_number, order_number}
+use Rattle.langtag_locale.specs.LocaleAliases as list
+use Rattle.langtag_locale.specs.LocaleForm.{has_variant, is_pair_of, variant_form}
+use Rattle.langtag_locale.specs.declared.locale_tables.TheConstants.{CHANGING_VARIANTS}
+use Rattle.langtag_keyword.proofs.Found.{both}
+use Rattle.langtag_locale.proofs.IdentifierLast.{none_found, not_both}
+
+-- whether the number of a text is in the table
+is_listed : List ℕ → Bool
+is_listed v = list_any (λ n. n == order_number v) CHANGING_VARIANTS
+
+languages_listed : list_all {X = TypeAlias} (λ alias. is_listed alias.old) list.variant_languages ≡ true
+unfolding is_listed list.variant_languages fold_byte
+languages_listed = refl
+
+dropped_listed : list_all is_listed list.dropped_variants ≡ true
+unfolding is_listed list.dropped_variants fold_byte
+dropped_listed = refl
+
+pairs_listed : list_all {X = TypeAlias} (λ alias. is_listed alias.key) list.variant_pairs ≡ true
+unfolding is_listed list.variant_pairs fold_byte
+pairs_listed = refl
+
+aliases_listed : list_all {X = Alias} (λ alias. is_listed alias.old) list.variant_aliases ≡ true
+unfolding is_listed list.variant_aliases fold_byte
+aliases_listed = refl
+
+-- alike texts have one number
+listed-alike : (a b : List ℕ) → are_alike a b ≡ true → is_listed a ≡ is_listed b
+unfolding is_listed
+listed-alike a b alike = ap (λ t. list_any (λ n. n == left_number 8 t) CHANGING_VARIANTS) ((are_alike-decides a b).0 alike)
+
+module _ (v : List ℕ) (absent : is_listed v ≡ false) where
+  apart : (old : List ℕ) → is_listed old ≡ true → are_alike old v ≡ false
+  apart old listed = false_from_ne_true (are_alike old v) (λ alike. false≢true (sym absent ∙ sym (listed-alike old v alike) ∙ listed))
+
+  apart_from : (old : List ℕ) → is_listed old ≡ true → are_alike v old ≡ false
+  apart_from old listed = false_from_ne_true (are_alike v old) (λ alike. false≢true (sym absent ∙ listed-alike v old alike ∙ listed))
+
+  not_dropped : (olds : List (List ℕ)) → list_all is_listed olds ≡ true → list_any (are_alike v) olds ≡ false
+  not_dropped [] all = refl
+  not_dropped (old ∷ olds) all =
+      let parts = both (is_listed old) (list_all is_listed olds) all in
+      ap (λ b. b || list_any (are_alike v) olds) (apart_from old parts.0) ∙ not_dropped olds parts.1
+
+  kept_form : (language : List ℕ) (variants : List (List ℕ)) → variant_form language variants v ≡ v
+  unfolding variant_form
+  kept_form language variants =
+      let languages =
+      none_found {X = TypeAlias} (λ alias. is_listed alias.old) (λ alias. are_alike alias.key language && are_alike alias.old v) list.variant_languages languages_listed
+      (λ alias listed. not_both (are_alike alias.key language) (are_alike alias.old v) (λ key old. false≢true (sym (apart alias.old listed) ∙ old))) in
+      let dropped = not_dropped list.dropped_variants dropped_listed in
+      let pairs =
+      none_found {X = TypeAlias} (λ alias. is_listed alias.key) (is_pair_of variants v) list.variant_pairs pairs_listed
+      (λ alias listed. not_both (are_alike alias.key v) (has_variant variants alias.old) (λ key old. false≢true (sym (apart alias.key listed) ∙ key))) in
+      let aliases =
+      none_found {X = Alias} (λ alias. is_listed alias.old) (λ alias. are_alike alias.old v) list.variant_aliases aliases_listed (λ alias listed. apart alias.old listed) in
+      rw (languages, dropped, pairs, aliases) refl
+
+-- a variant whose number is not in the table
+pub kept : (v : List ℕ) (n : ℕ) → order_number v ≡ n → list_any (λ m. m == n) CHANGING_VARIANTS ≡ false → (language : List ℕ) (variants : List (List ℕ)) → variant_form language variants v ≡ v
+unfolding is_listed
+kept v n is absent = kept_form v (ap (λ k. list_any (λ m. m == k) CHANGING_VARIANTS) is ∙ absent)
+
+-- a variant that keeps its form is offered as it is
+pub kept_number : (v form : List ℕ) (n : ℕ) → IsSubtag v → n ≡ order_number v → form ≡ v → n ∷ [] ≡ map order_number (one_flat (subtag_of form))
+kept_number [] form n is number kept = absurd (omega (arith, is.some))
+kept_number (b ∷ v) form n is number kept = ap (λ k. k ∷ []) number ∙ sym (ap (λ t. map order_number (one_flat (subtag_of t))) kept)
