@@ -313,10 +313,30 @@ def modifier_says(modifier):
     return script, MODIFIER_VARIANTS.get(modifier.lower())
 
 
+CHINESE_NAMES = {"zh-chs": "Hans", "zh-cht": "Hant"}
+
+
+def read_place(place):
+    """Returns the language and the territory of a name with hyphens, read as Android and .NET write them, too."""
+    if place[:2].lower() == "b+":
+        return place[2:].replace("+", "-")
+    place = place.replace("_", "-")
+    if place.lower() in CHINESE_NAMES:
+        return place[:3] + CHINESE_NAMES[place.lower()]
+    if android := re.fullmatch("(?!sgn)([a-z]{2,3})-r([a-z]{2}|[0-9]{3})", place, re.I | re.A):
+        return "-".join(android.groups())
+    dot_net = re.fullmatch("([a-z]{2,3})-([a-z]{2}|[0-9]{3})-([a-z]{4})", place, re.I | re.A)
+    if dot_net and dot_net[3].lower() in SCRIPT_CODES:
+        language, region, script = dot_net.groups()
+        return "-".join((language, script, "RS" if (language + region).lower() == "srsp" else region))
+    return place
+
+
 def posix(name):
     modifier, behind = name.partition("@")[2], re.split("[.@]", name)[0].partition("#")[2]
-    place = place_of(name).replace("_", "-")
-    if not is_tag(place) or place.lower() == "posix" or len(place) > 255:
+    written = place_of(name)
+    place = read_place(written)
+    if not is_tag(place) or place.lower() == "posix" or len(written) > 255:
         return "-"
     tag = Tag(place)
     if tag is None:

@@ -120,10 +120,24 @@ ODD_PLACES = ["C", "POSIX", "posix", "", "i-klingon", "x-a", "en-GB-oed", "de-19
 MODIFIERS = ["latin", "cyrillic", "devanagari", "valencia", "euro", "Latin", "VALENCIA", "latin@euro", "latin.UTF-8", "", "phonebook", "lati", "latinx"]
 
 
+PLATFORM_NAMES = ["zh-CHS", "zh-CHT", "sr-SP-Latn", "sr-SP-Cyrl", "sr-SP-Arab", "bs-SP-Latn", "sr-SP", "en-CHS", "sgn-rSL", "sgn-rsl", "b+zh+CHT", "b+zh+rTW",
+                  "b+", "b", "b+x+a", "b+sr-Latn", "b+sr_Latn", "bb+sr", "sr+Latn", "x-rTW", "x-DE-Latn", "i-rTW", "values-zh-rTW", "zh-r", "zh-rT", "zh-rTWN",
+                  "zh-r4", "es-r4199", "zh-rTW-x-a", "zh-yue-rHK", "de-DE-Abcd", "de-DE-Latn-x-a", "b+POSIX", "b+en+US+POSIX", "b+de+1996"]
+
+
+def platform_name(rng):
+    """Returns a name as Android or .NET writes it, or nearly so."""
+    languages, scripts, regions = names_of_fields()
+    language, script, region = rng.choice(languages), rng.choice(scripts) or "Latn", rng.choice(NEAR_REGIONS)
+    text = rng.choice([f"{language}-r{region}", f"{language}-r{region}", f"{language}-{region}-{script}", f"{language}-{region}-{script}",
+                       "b+" + random_tag(rng).replace("-", "+"), "b+" + near_tag(rng).replace("-", "+"), rng.choice(PLATFORM_NAMES)])
+    return text if rng.random() < 0.8 else text.swapcase()
+
+
 def random_name(rng):
-    text = near_tag(rng) if rng.random() < 0.9 else rng.choice(ODD_PLACES)
+    text = near_tag(rng) if rng.random() < 0.6 else platform_name(rng) if rng.random() < 0.8 else rng.choice(ODD_PLACES)
     text = text.replace("-", "_") if rng.random() < 0.8 else text
-    text += rng.choice(["", "", ".UTF-8", ".utf8", ".ISO-8859-15", ".", ".a.b", ".a_b"])
+    text += rng.choice(["", "", "_#Hant", "__#Latn", ".UTF-8", ".utf8", ".ISO-8859-15", ".", ".a.b", ".a_b"])
     if rng.random() < 0.5:
         text += "@" + rng.choice(MODIFIERS)
     return text if rng.random() < 0.95 else mutated(text, rng)
@@ -131,7 +145,7 @@ def random_name(rng):
 
 def mutated(text, rng):
     place = rng.randrange(len(text) + 1)
-    return text[:place] + rng.choice(["-", "_", "1", "\x80", "@", "a"]) + text[place + rng.choice([0, 1]):]
+    return text[:place] + rng.choice(["-", "_", "+", "1", "\x80", "@", "a", "r"]) + text[place + rng.choice([0, 1]):]
 
 
 def random_row(rng):

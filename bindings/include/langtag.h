@@ -675,6 +675,8 @@ LANGTAG_PURE size_t langtag_site_best_for_ranges(const char *text, size_t text_l
  * Writes the tag for a POSIX locale name to `buffer` (IEEE Std 1003.1, section 8.2), and returns its length:
  * pt_BR.UTF-8 becomes pt-BR, sr_RS@latin becomes sr-Latn-RS, ca_ES@valencia becomes ca-ES-valencia, and zh_TW_#Hant,
  * as Java prints it, becomes zh-Hant-TW. As with langtag_canonical, nothing is written if the buffer is too short.
+ * Names as Android and .NET write them are read, too: zh-rTW becomes zh-TW, b+sr+Latn becomes sr-Latn, zh-CHT becomes
+ * zh-Hant, and sr-SP-Latn becomes sr-Latn-RS.
  *
  * The codeset is dropped. The modifiers latin, cyrillic, devanagari, iqtelif, valencia, tarask, ijekavian,
  * ijekavianlatin and the codes of scripts are used, ignoring case. Other modifiers are dropped. If the only variant is

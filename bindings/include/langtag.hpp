@@ -266,7 +266,7 @@ public:
         return made;
     }
 
-    /* Returns the tag, its parent, the parent of this one, and so on: pt-AO, pt-PT and pt for pt-AO. */
+    /* Returns the tag, its parent, the parent of its parent, and so on: pt-AO, pt-PT and pt for pt-AO. */
     std::vector<std::string> parents() const {
         std::vector<std::string> found;
         for (std::string next(text_); !next.empty(); next = written_by(langtag_parent, found.back())) found.push_back(std::move(next));
@@ -938,8 +938,8 @@ inline std::uint32_t distance(const tag &desired, const tag &supported) noexcept
     return langtag_distance(a.data(), a.size(), b.data(), b.size());
 }
 
-/* Returns the tag for a POSIX locale name: pt_BR.UTF-8 becomes pt-BR, and en_US_POSIX becomes en-US-u-va-posix. Returns std::nullopt if there is none, such as for the
- * locales C and POSIX. */
+/* Returns the tag for a POSIX locale name: pt_BR.UTF-8 becomes pt-BR, and en_US_POSIX becomes en-US-u-va-posix. Names as Java, Android
+ * and .NET write them are read, too: zh-rTW becomes zh-TW. Returns std::nullopt if there is none, such as for the locales C and POSIX. */
 inline std::optional<std::string> from_posix(std::string_view name) {
     std::string made = written_by(langtag_from_posix, name);
     if (made.empty()) return std::nullopt;

@@ -95,8 +95,8 @@ export class LanguageTag {
     /** Returns the tag made of these parts; throws EditError if a string is not such a part. */
     static from(parts: Parts & { language: string }): LanguageTag;
     /**
-     * Returns the tag for a POSIX locale name, or undefined if there is none: pt_BR.UTF-8 becomes pt-BR. A modifier that is not known is
-     * dropped; `unknownModifier` returns it.
+     * Returns the tag for a POSIX locale name, or undefined if there is none: pt_BR.UTF-8 becomes pt-BR. Names as Java, Android and .NET
+     * write them are read, too: zh-rTW becomes zh-TW. A modifier that is not known is dropped; `unknownModifier` returns it.
      */
     static fromPosix(name: string): LanguageTag | undefined;
     /**
@@ -169,7 +169,7 @@ export class LanguageTag {
      * zh-TW. A parent is written in the same script, so zh-Hant has none: zh is Simplified.
      */
     get parent(): LanguageTag | undefined;
-    /** The tag, its parent, the parent of this one, and so on, in which order to search a catalogue: pt-AO, pt-PT and pt. */
+    /** The tag, its parent, the parent of its parent, and so on, in which order to search a catalogue: pt-AO, pt-PT and pt. */
     get parents(): LanguageTag[];
     /** Whether the tag is a Unicode locale identifier (UTS #35), as Intl requires: false for zh-yue, i-klingon and x-a. */
     get isLocale(): boolean;

@@ -9,7 +9,7 @@ use Rattle.langtag_registry.proofs.CanonicalParts as canonical
 use Rattle.langtag_registry.specs.Canonical.{IsCanonicalForm}
 use Rattle.langtag_likely.specs.Maximal.{IsMaximalForm, IsMinimalForm, maximal_record, minimal_record}
 use Rattle.langtag_range.specs.Locale.{locale_place}
-use Rattle.langtag_range.specs.Wanted.{hyphened}
+use Rattle.langtag_likely.specs.PlatformNames.{read_place}
 use Rattle.langtag_likely.specs.Posix.{IsTagOfName, NamesTag, with_said}
 use Rattle.langtag_likely.specs.ToPosix.{IsPosixName}
 use Rattle.langtag.proofs.FormLaws.{form_is_tag}
@@ -37,7 +37,7 @@ pub some_extensions : (old new : List ℕ) → IsTag old → IsExtensionsForm ol
 some_extensions old new tag is = some_tag new (form_is_tag extensions_record form_well_formed old new tag is)
 
 pub some_named : (name new : List ℕ) → NamesTag name → IsTagOfName name new → 1 ≤ length new
-some_named name new names is = some_tag new (form_is_tag (with_said name) (said_well_formed name) (hyphened (locale_place name)) new names.tag is)
+some_named name new names is = some_tag new (form_is_tag (with_said name) (said_well_formed name) (read_place (locale_place name)) new names.tag is)
 
 pub some_locale : (old new : List ℕ) → IsWholeForm old (Some new) → 1 ≤ length new
 some_locale old new is = let (r, fits, locale, same) = whole_of_record old new is in some_tag new (subst IsTag (sym same) (locale_tag r fits locale))

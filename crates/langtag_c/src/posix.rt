@@ -11,7 +11,7 @@ use langtag_span::{Span, tag_of};
 
 /// Writes the tag for a POSIX locale name (IEEE Std 1003.1, section 8.2), and returns its length in bytes: `pt-BR`
 /// for `pt_BR.UTF-8`, `sr-Latn-RS` for `sr_RS@latin`. If the buffer is too short, it stays unchanged, and the length
-/// says how long a buffer must be.
+/// says how long a buffer must be. Names as Java, Android and .NET write them are read, too: `zh-TW` for `zh-rTW`.
 ///
 /// Returns 0 and writes nothing for a name without a tag, such as `C` or `POSIX`.
 #[tactic(auto, using(crate::proofs::LikelyForms::some_named))]

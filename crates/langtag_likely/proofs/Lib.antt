@@ -9,6 +9,7 @@ pub mod FormsTwice
 pub mod GoodForms
 pub mod KeyNumbers
 pub mod LanguageBits
+pub mod PlatformNameLaws
 pub mod PosixLaws
 pub mod PosixNameLaws
 pub mod PosixNameRead

@@ -97,6 +97,11 @@ hyphened-marked : (text : List ℕ) → hyphened (marked 95 text) ≡ marked 45 
 hyphened-marked [] = refl
 hyphened-marked (b ∷ text) = refl
 
+-- letters and digits have no byte of another class
+pub free_of : (p : ℕ → Bool) → ((byte : ℕ) → is_alphanumeric byte ≡ true → p byte ≡ false) → (text : List ℕ) → are_alphanumeric text ≡ true → list_any p text ≡ false
+free_of p other [] all = refl
+free_of p other (byte ∷ text) all = let k = and_parts (is_alphanumeric byte) (are_alphanumeric text) all in rw (other byte k.0) (free_of p other text k.1)
+
 module _ (a b c : List ℕ) (first : are_alphanumeric a ≡ true) (second : are_alphanumeric b ≡ true) (third : are_alphanumeric c ≡ true) where
   pub place_hyphened : hyphened (place_text a b c) ≡ tag_text a [] b c []
   place_hyphened =
@@ -107,18 +112,14 @@ module _ (a b c : List ℕ) (first : are_alphanumeric a ≡ true) (second : are_
 
   -- a byte that is neither a letter, nor a digit, nor an underscore is not in them
   module _ (p : ℕ → Bool) (other : (byte : ℕ) → is_alphanumeric byte ≡ true → p byte ≡ false) (no_underscore : p 95 ≡ false) where
-    none : (text : List ℕ) → are_alphanumeric text ≡ true → list_any p text ≡ false
-    none [] all = refl
-    none (byte ∷ text) all = let k = and_parts (is_alphanumeric byte) (are_alphanumeric text) all in rw (other byte k.0) (none text k.1)
-
     none_marked : (text : List ℕ) → are_alphanumeric text ≡ true → list_any p (marked 95 text) ≡ false
     none_marked [] all = refl
-    none_marked (byte ∷ text) all = rw no_underscore (none (byte ∷ text) all)
+    none_marked (byte ∷ text) all = rw no_underscore (free_of p other (byte ∷ text) all)
 
     pub place_free : list_any p (place_text a b c) ≡ false
     place_free =
         list_any-append p a (marked 95 b ++ marked 95 c)
-        ∙ rw (none a first) (list_any-append p (marked 95 b) (marked 95 c) ∙ rw (none_marked b second) (none_marked c third))
+        ∙ rw (free_of p other a first) (list_any-append p (marked 95 b) (marked 95 c) ∙ rw (none_marked b second) (none_marked c third))
 
 -- ---- a text before and after a mark
 

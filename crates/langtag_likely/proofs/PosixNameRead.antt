@@ -33,6 +33,8 @@ use Rattle.langtag_likely.specs.Maximal.{fields_of}
 use Rattle.langtag_likely.specs.Modifiers.{is_empty, modifier_for, modifier_script, modifier_variant, modifiers, names}
 use Rattle.langtag_likely.specs.Posix.{IsLocalePlace, IsTagOfName, is_at, is_underscore, modifier_of, posix_extension, posix_replaced, said_script, script_behind, with_said, with_said_script, with_said_variant}
 use Rattle.langtag_likely.specs.ToPosix.{IsPosixName, IsReadBack, NameParts, ReadsBack, after_variants, is_likely, is_named, marked, name_modifier, name_parts, name_text, name_variant}
+use Rattle.langtag_likely.specs.PlatformNames.{read_place}
+use Rattle.langtag_likely.proofs.PlatformNameLaws.{place_kept, primary_two}
 use Rattle.langtag_likely.proofs.PosixLaws.{modifier_script-fits, modifier_variant-fits}
 use Rattle.langtag_likely.proofs.PosixNameLaws.{IsPlain, after_others, after_rest, alike_text, before_rest, marked_cut, others, place_free, place_hyphened, place_text, spelled_text, tag_text}
 use Rattle.langtag_likely.proofs.PosixVariantLaws.{others_stay}
@@ -110,6 +112,7 @@ record IsVariantOf (r : Record) (variant : List ℕ) (extensions : List Extensio
   fits : AllByRecursion (λ s. IsTrue (is_variant s)) (listed variant)
   alphanumeric : are_alphanumeric variant ≡ true
   short : length variant ≤ 5
+  named : (variant ≡ []) ⊎ (variant ≡ codes "POSIX")
   replaced : posix_replaced (place_record r variant) ≡ record (place_record r variant) { variants = []; extensions = extensions }
   alike : Alike (hyphenated (flat_map extension_flat extensions ++ [])) (others r)
 
@@ -118,6 +121,7 @@ no_variant r none = record {
   fits = tt;
   alphanumeric = refl;
   short = omega arith;
+  named = inl refl;
   replaced = others_stay (place_record r []) refl;
   alike = ap fold_text (sym none);
 }
@@ -128,6 +132,7 @@ posix_variant r same = record {
   fits = (refl, tt);
   alphanumeric = refl;
   short = omega arith;
+  named = inr refl;
   replaced = refl;
   alike = alike_is (codes "-u-va-posix") (others r) same;
 }
@@ -245,6 +250,10 @@ region_some (Some region) fits = (of_region region fits).some
 region_alphanumeric : (o : Option (List ℕ)) → IfSome o (λ s. IsTrue (is_region s)) → are_alphanumeric (unwrap_or o []) ≡ true
 region_alphanumeric None fits = refl
 region_alphanumeric (Some region) fits = (of_region region fits).alphanumeric
+
+region_named : (o : Option (List ℕ)) → IfSome o (λ s. IsTrue (is_region s)) → (unwrap_or o [] ≡ []) ⊎ (is_region (unwrap_or o []) ≡ true)
+region_named None fits = inl refl
+region_named (Some region) fits = inr fits
 
 region_few : (o : Option (List ℕ)) → IfSome o (λ s. IsTrue (is_region s)) → length (unwrap_or o []) ≤ 3
 region_few None fits = omega arith
@@ -403,12 +412,22 @@ module _ (r : Record) (fits : IsWellFormed r) (short : IsShort r) (v m s : List 
       ∙ ap (λ t. tag_text (fold_text r.primary) [] region t []) (join-listed v)
       ∙ sym (place_hyphened (fold_text r.primary) region v letters_first letters_second variant.alphanumeric)
 
+  read_kept : read_place place ≡ hyphened place
+  read_kept =
+      place_kept (fold_text r.primary) region v letters_first letters_second variant.alphanumeric (primary_two (fold_text r.primary) fits_place.primary) (record {
+        territory = subst (λ t. (t ≡ []) ⊎ (is_region t ≡ true)) (unwrap-capital r.region) (region_named (option_map capital_text r.region) fits_place.region);
+        variant = variant.named;
+      })
+
+  spelled_read : spell (place_record r v) ≡ read_place place
+  spelled_read = spelled_place ∙ sym read_kept
+
   names_tag : IsLocalePlace place
   unfolding IsTag IsNormal
   names_tag = record {
-    tag = inl (place_record r v, (fits_place, spelled_place));
+    tag = inl (place_record r v, (fits_place, spelled_read));
     other =
-        ap (λ t. are_alike t (codes "POSIX")) (place_hyphened (fold_text r.primary) region v letters_first letters_second variant.alphanumeric)
+        ap (λ t. are_alike t (codes "POSIX")) (read_kept ∙ place_hyphened (fold_text r.primary) region v letters_first letters_second variant.alphanumeric)
         ∙ not_posix (fold_text r.primary) region v (let few = short.few in omega (arith, few, length-fold r.primary));
     short =
         let few = short.few in
@@ -441,7 +460,7 @@ module _ (r : Record) (fits : IsWellFormed r) (short : IsShort r) (v m s : List 
 
   read_alike : (script : Option (List ℕ)) → IfSome script (λ t. 1 ≤ length t) → unwrap_or script [] ≡ s → (tag : List ℕ) → IsTagOfName name tag → Alike tag (spell (with_script r script))
   read_alike script some is tag read =
-      let parts = read.parts (place_record r v) (fits_place, spelled_place ∙ ap hyphened (sym cut.place)) in
+      let parts = read.parts (place_record r v) (fits_place, spelled_read ∙ ap read_place (sym cut.place)) in
       let plain : IsPlain (with_script r script) = (short.none, some, region_some r.region fits.region, variants_some r.variants fits.variants) in
       ap fold_text (parts ∙ ap spell said_is ∙ spelled_text (read_record r m extensions) plain_read)
       ∙ alike_text (fold_text r.primary) (unwrap_or (modifier_script m) []) (unwrap_or (option_map capital_text r.region) []) (join (one_flat (modifier_variant m))) (others (read_record r m extensions))

@@ -7,6 +7,7 @@ pub mod Maximal
 pub mod MaximalLaws
 pub mod Modifiers
 pub mod Numbers
+pub mod PlatformNames
 pub mod Posix
 pub mod PosixNames
 pub mod Ranges

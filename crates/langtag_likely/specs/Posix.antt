@@ -1,5 +1,5 @@
--- The tag for a locale name: language[_territory][.codeset][@modifier] (IEEE Std 1003.1, section 8.2), or a name as
--- Java and Android print it, with a script after `_#`.
+-- The tag for a locale name: language[_territory][.codeset][@modifier] (IEEE Std 1003.1, section 8.2), a name as Java and
+-- Android print it, with a script after `_#`, or a name as in `PlatformNames`.
 use Rattle.std.specs.Prelude.{◌≡◌, ℕ, ◌+◌, ◌≤◌, ◌==◌, ◌&&◌, Bool, true, false, List, [], ◌∷◌, ◌++◌, length, Option, None, Some, codes, if◌then◌else◌}
 use Rattle.std.specs.List.{before_first, after_first}
 use Rattle.std.specs.Borrow.{Bor}
@@ -14,7 +14,7 @@ use Rattle.langtag.specs.Form.{IsForm}
 use Rattle.langtag_likely.specs.Modifiers.{modifier_script, modifier_variant}
 use Rattle.langtag_likely.specs.declared.posix_error.PosixError.{PosixError}
 use Rattle.langtag_likely.specs.declared.posix_error.PosixError.TheVariants.{NoTag, Memory}
-use Rattle.langtag_range.specs.Wanted.{hyphened}
+use Rattle.langtag_likely.specs.PlatformNames.{read_place}
 
 -- ---- the parts of a name
 
@@ -78,11 +78,11 @@ with_said_variant (Some variant) r = with_variants r (variant ∷ [])
 abbrev pub with_said : List ℕ → Record → Record
 with_said name r = with_said_variant (modifier_variant (modifier_of name)) (with_said_script (said_script name) (posix_replaced r))
 
--- a language and a territory, joined by a hyphen, are a tag other than `POSIX`, and not too long; `C` and the empty
--- text are not tags
+-- a language and a territory are read as a tag other than `POSIX`, and are not too long; `C` and the empty text are not
+-- tags
 pub record IsLocalePlace (place : List ℕ) : Type 0 where
-  pub tag : IsTag (hyphened place)
-  pub other : are_alike (hyphened place) (codes "POSIX") ≡ false
+  pub tag : IsTag (read_place place)
+  pub other : are_alike (read_place place) (codes "POSIX") ≡ false
   pub short : length place ≤ 255
 
 -- `IsLocalePlace` holds for the language and the territory of the name
@@ -91,7 +91,7 @@ NamesTag name = IsLocalePlace (locale_place name)
 
 -- the tag of a name: its language and territory as a tag, with the script and the variant that the name gives
 abbrev pub IsTagOfName : List ℕ → List ℕ → Type 0
-IsTagOfName name tag = IsForm (with_said name) (hyphened (locale_place name)) tag
+IsTagOfName name tag = IsForm (with_said name) (read_place (locale_place name)) tag
 
 -- the error: the name has no tag, and the error contains the name; or allocation failed
 abbrev pub IsRefusal : Bor (List ℕ) → PosixError → Type 0

@@ -78,7 +78,7 @@ fn says_latin(modifier: &[u8]) -> bool
 }
 
 /// Returns whether a string is the code of a script.
-fn is_script_code(text: &[u8]) -> bool
+pub(crate) fn is_script_code(text: &[u8]) -> bool
     ensures { result ≡ spec.is_script_code text.now }
 {
     is_script(text) && is_listed(text)

@@ -6,12 +6,13 @@ ghost use Rattle.langtag_place.specs.Text.{script_text};
 ghost use Rattle.langtag_scan.specs.Class.{is_variant};
 ghost use Rattle.langtag.specs.Text.{lang_tag_text, lang_tag_buf_text};
 ghost use Rattle.langtag_range.specs.Locale.{front_of};
-ghost use Rattle.langtag_range.specs.Wanted.{hyphened};
+ghost use Rattle.langtag_likely.specs.PlatformNames.{read_place};
 ghost use Rattle.langtag_output.specs.Writes.{Writes};
 ghost use Rattle.langtag.specs.Form.{IsForm};
 ghost use Rattle.langtag_likely.specs.Posix.{IsLocalePlace, IsRefusal, IsTagOfName, NamesTag, modifier_of, script_behind, with_said_script, with_said_variant};
 
 use crate::modifiers::{modifier_script, modifier_variant, script_of};
+use crate::platform_names::{MOST, MOST_REORDERED, read_place};
 use crate::posix_error::PosixError;
 use crate::posix_variant::{MOST_WITH_KEYWORD, tag_with_keyword};
 use langtag::{LangTag, LangTagBuf, Part, tag_of, write_part};
@@ -20,9 +21,6 @@ use langtag_place::{Script, Variants};
 use langtag_range::locale_place;
 use langtag_scan::{split_at_byte, split_at_either};
 use std::alloc::{AllocError, Global};
-
-/// The greatest length of a language and a territory, in bytes.
-const MOST: usize = 255;
 
 /// The greatest length of a language and a territory with the keyword `va-posix` and a script, in bytes.
 const MOST_WITH_SCRIPT: usize = MOST_WITH_KEYWORD + 5;
@@ -36,9 +34,18 @@ const MOST_WITH_SCRIPT: usize = MOST_WITH_KEYWORD + 5;
 /// - `latin`, `cyrillic`, `devanagari`, `iqtelif`, and the code of a script, such as `Cyrl` and `shaw`;
 /// - `valencia`, `tarask`, `ijekavian`, and `ijekavianlatin`, which names both a script and a variant.
 ///
-/// Other modifiers are dropped, such as `euro`; [`unknown_modifier`] returns a modifier whose meaning is not known. A
-/// script after `_#`, as Java and Android print it, is read, too: `zh-Hant-TW` for `zh_TW_#Hant`. Each `_` is read as a
-/// hyphen. If the only variant is `POSIX`, ignoring case, it becomes the keyword `va-posix` (UTS #35):
+/// Other modifiers are dropped, such as `euro`; [`unknown_modifier`] returns a modifier whose meaning is not known.
+///
+/// These names are read, too, ignoring case:
+///
+/// - a script after `_#`, as Java and Android print it: `zh-Hant-TW` for `zh_TW_#Hant`;
+/// - a region after `r`, or subtags after `b+`, as in Android's resource folders: `zh-TW` for `zh-rTW`, and `sr-Latn` for
+///   `b+sr+Latn`;
+/// - a script after the region, as in .NET Framework: `az-Latn-AZ` for `az-AZ-Latn`, and `sr-Latn-RS` for `sr-SP-Latn`,
+///   where `SP` is Serbia;
+/// - .NET's `zh-CHS` and `zh-CHT`, which become `zh-Hans` and `zh-Hant`.
+///
+/// Each `_` is read as a hyphen. If the only variant is `POSIX`, ignoring case, it becomes the keyword `va-posix` (UTS #35):
 /// `en-US-u-va-posix` for `en_US_POSIX`. Case and deprecated subtags stay as they are.
 ///
 /// [`unknown_modifier`]: crate::unknown_modifier
@@ -53,6 +60,7 @@ const MOST_WITH_SCRIPT: usize = MOST_WITH_KEYWORD + 5;
 /// use langtag_likely::from_posix;
 ///
 /// from_posix(alloc, "sr_RS@latin")?.as_str(); // "sr-Latn-RS"
+/// from_posix(alloc, "zh-rTW")?.as_str(); // "zh-TW"
 /// from_posix(alloc, "C").is_err(); // true
 /// ```
 pub fn from_posix(alloc: Global, name: &str) -> Result<LangTagBuf, PosixError<'_>>
@@ -97,8 +105,8 @@ pub fn write_from_posix(name: &[u8], buffer: &mut [u8]) -> Option<usize>
         (λ len. NamesTag name.now × Writes (IsTagOfName name.now) buffer.old buffer.new len) }
     ensures nothing { result ≡ None → buffer.new ≡ buffer.old }
 {
-    let mut room = [0; MOST];
-    let tag = tag_of_place(locale_place(name), &mut room)?;
+    let (mut room, mut short) = ([0; MOST], [0; MOST_REORDERED]);
+    let tag = tag_of_place(locale_place(name), &mut room, &mut short)?;
     let (front, modifier) = front_and_modifier(name);
     let script = script_behind(front);
     let mut longer = [0; MOST_WITH_KEYWORD];
@@ -127,30 +135,24 @@ fn script_behind(front: &[u8]) -> Option<Script<'_>>
     script_of(script)
 }
 
-/// Writes a language and a territory into `room`, and returns them as a tag.
-fn tag_of_place<'a>(place: &[u8], room: &'a mut [u8; MOST]) -> Option<LangTag<'a>>
-    ensures { MatchOption result (IsLocalePlace place.now → ⊥)
-        (λ tag. IsLocalePlace place.now × (lang_tag_text tag ≡ hyphened place.now)) }
+/// Returns the tag that a language and a territory are read as, written into `room` or `short`.
+fn tag_of_place<'a>(
+    place: &[u8],
+    room: &'a mut [u8; MOST],
+    short: &'a mut [u8; MOST_REORDERED],
+) -> Option<LangTag<'a>>
+    ensures tag { MatchOption result (IsLocalePlace place.now → ⊥)
+        (λ tag. IsLocalePlace place.now × (lang_tag_text tag ≡ read_place place.now)) }
+    ensures few { IfSome result (λ tag. length (lang_tag_text tag) ≤ 255) }
 {
-    let bytes = room.get_mut(..place.len())?;
-    bytes.copy_from_slice(place);
-    hyphenate(bytes);
-    let tag = LangTag::from_bytes(bytes).ok()?;
+    if place.len() > MOST {
+        return None;
+    }
+    let tag = LangTag::from_bytes(read_place(place, room, short)).ok()?;
     if tag.eq_str("POSIX") {
         return None;
     }
     Some(tag)
-}
-
-/// Writes a hyphen instead of each `_`.
-fn hyphenate(bytes: &mut [u8])
-    ensures { bytes.new ≡ hyphened bytes.old }
-{
-    for byte in bytes.iter_mut() {
-        if *byte == b'_' {
-            *byte = b'-';
-        }
-    }
 }
 
 /// Writes a tag with a script into `room`, and returns it as a tag.

@@ -32,7 +32,8 @@ impl<'a> TagFields<'a> {
     }
 }
 
-/// Returns the last of the extended subtags at the start, or else the language before them, and the rest of the string.
+/// Returns the last extended language at the start of the string, or the primary language if there is none, and the rest
+/// of the string.
 #[tactic(auto, using(crate::proofs::FieldClasses::from_extended))]
 fn last_extended<'a>(language: &'a [u8], text: &'a [u8]) -> (&'a [u8], &'a [u8])
     requires { IsTrue (is_language_field language.now) }
@@ -77,7 +78,7 @@ fn region_before(text: &[u8]) -> &[u8]
     }
 }
 
-/// Returns the first subtag that counts, and the string after it.
+/// Returns the first subtag that is neither empty nor `*`, and the string after it.
 #[tactic(auto, using(crate::proofs::TextParts::next_part, langtag_range::proofs::WantedTexts::shorter))]
 fn next_subtag(text: &[u8]) -> Option<(&[u8], &[u8])>
     ensures { counted_parts text.now ≡ option_map_or (λ found. found.0.now ∷ counted_parts found.1.now) result [] }

@@ -10,7 +10,7 @@ use Rattle.langtag_parent.specs.ParentLocales.{parent_locales}
 
 -- ---- the chain ends
 
--- a text, its parent, the parent of this one, and so on are at most `most` texts
+-- a text, its parent, the parent of its parent, and so on are at most `most` texts
 abbrev pub EndsWithin : ℕ → List ℕ → Type 0
 EndsWithin zero text = ⊥
 EndsWithin (suc most) text = (parent : List ℕ) → IsParent text (Some parent) → EndsWithin most parent

@@ -26,9 +26,9 @@ fn one_script()
     ensures one_script { (tag parent : List ℕ) → IsParent tag (Some parent) → IsInOneScript tag parent }
 {}
 
-/// A parent has no language, region, variant, extension or private use that the tag has not, unless CLDR lists it.
+/// Unless CLDR lists it, a parent has no language, region, variant, extension or private use that the tag does not have.
 #[tactic(auto, using(crate::proofs::ParentSteps::kept_or_listed))]
 fn nothing_added()
-    // law: unless CLDR lists it, a parent has no language, region, variant, extension or private use that the tag has not
+    // law: unless CLDR lists it, a parent has no language, region, variant, extension or private use that the tag does not have
     ensures nothing_added { (tag parent : List ℕ) → IsParent tag (Some parent) → IsKeptOrListed tag parent }
 {}

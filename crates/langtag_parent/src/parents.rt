@@ -6,7 +6,7 @@ ghost use Rattle.langtag_parent.specs.Chain.{StepsToParent, tag_left};
 use crate::tag_parent::parent;
 use langtag::LangTag;
 
-/// An iterator over a tag, its parent, the parent of this one, and so on.
+/// An iterator over a tag, its parent, the parent of its parent, and so on.
 ///
 /// ```
 /// use langtag::LangTag;

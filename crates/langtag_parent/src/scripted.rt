@@ -1,4 +1,4 @@
-//! The parent of a tag that is read with another script than the usual one of its language.
+//! The parent of a tag in whose region the language is usually written in another script.
 ghost use Rattle.std.specs.Prelude.{◌≡◌, ◌≤◌, [], find, flat_map, length, map, option_map};
 ghost use Rattle.langtag.specs.Text.{lang_tag_text};
 ghost use Rattle.langtag_language.specs.Language.{EachLanguageSpelling};
@@ -51,7 +51,7 @@ fn written<'r>(pieces: &[&[u8]], room: &'r mut [u8; MOST]) -> &'r [u8]
     &room[..len]
 }
 
-/// Returns the first of some tags that is a string, ignoring case.
+/// Returns the first tag of a list that equals a string, ignoring case.
 fn listed(tags: &'static [&'static str], text: &[u8]) -> Option<&'static str>
     ensures { option_map (λ tag. tag.now) result ≡ find (λ tag. are_alike tag text.now) (map (λ tag. tag.now) tags.now) }
 {

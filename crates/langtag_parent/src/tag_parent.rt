@@ -13,13 +13,13 @@ use crate::scripted::parent_in_other_script;
 use langtag::{LangTag, NormalLangTag};
 use langtag_place::{Region, Script};
 
-/// Returns the parent of a tag in CLDR, which is the next tag to ask if a catalogue has no string for this tag: `pt-PT`
-/// for `pt-AO`, `es-419` for `es-MX`, `en-001` for `en-GB`. Returns `None` if there is no parent, as for `pt`.
+/// Returns the parent of a tag in CLDR: `pt-PT` for `pt-AO`, `es-419` for `es-MX`, `en-001` for `en-GB`. If a catalogue
+/// has no string for a tag, look for the string of its parent. Returns `None` if there is no parent, as for `pt`.
 ///
 /// A parent is written in the same script: `zh-TW` has the parent `zh-Hant`, which has none. Extensions and private use
 /// are removed first, then each variant, the last one first, and then the region: `de-CH-1996` for
 /// `de-CH-1996-u-co-phonebk`, `de-CH` for `de-CH-1996`, `de` for `de-CH`. A script is only removed if it is the likely
-/// script of the language: `sr` for `sr-Cyrl`, but `None` for `sr-Latn`.
+/// script of the language, or if CLDR has no likely script for it: `sr` for `sr-Cyrl`, but `None` for `sr-Latn`.
 ///
 /// The parent is a slice of the tag, or a tag of CLDR in its recommended case. Case is ignored. The tag should be in its
 /// canonical form, as CLDR does not list deprecated or extended languages. Private-use tags, irregular tags and `und`

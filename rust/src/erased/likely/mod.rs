@@ -27,6 +27,7 @@ mod locale_name;
 mod matching;
 mod modifiers;
 mod names;
+mod platform_names;
 mod posix;
 mod posix_error;
 mod posix_name;

@@ -66,7 +66,7 @@ fn says_latin(modifier: &[u8]) -> bool {
 
 /// Returns whether a string is the code of a script.
 #[inline]
-fn is_script_code(text: &[u8]) -> bool {
+pub(crate) fn is_script_code(text: &[u8]) -> bool {
     is_script(text) && is_listed(text)
 }
 

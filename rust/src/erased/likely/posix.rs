@@ -3,6 +3,7 @@
 //! The tag for a POSIX locale name.
 
 use crate::erased::likely::modifiers::{modifier_script, modifier_variant, script_of};
+use crate::erased::likely::platform_names::{read_place, MOST, MOST_REORDERED};
 #[cfg(feature = "alloc")]
 use crate::erased::likely::posix_error::PosixError;
 use crate::erased::likely::posix_variant::{tag_with_keyword, MOST_WITH_KEYWORD};
@@ -17,9 +18,6 @@ use crate::erased::tag::{write_part, LangTag, Part};
 use crate::shim::{try_vec, AllocError};
 #[cfg(feature = "alloc")]
 use alloc::vec::Vec;
-
-/// The greatest length of a language and a territory, in bytes.
-const MOST: usize = 255;
 
 /// The greatest length of a language and a territory with the keyword `va-posix` and a script, in
 /// bytes.
@@ -37,10 +35,22 @@ const MOST_WITH_SCRIPT: usize = MOST_WITH_KEYWORD + 5;
 ///   variant.
 ///
 /// Other modifiers are dropped, such as `euro`; [`unknown_modifier`] returns a modifier whose
-/// meaning is not known. A script after `_#`, as Java and Android print it, is read, too:
-/// `zh-Hant-TW` for `zh_TW_#Hant`. Each `_` is read as a hyphen. If the only variant is `POSIX`,
-/// ignoring case, it becomes the keyword `va-posix` (UTS #35): `en-US-u-va-posix` for
-/// `en_US_POSIX`. Case and deprecated subtags stay as they are.
+/// meaning is not known.
+///
+/// These names are read, too, ignoring case:
+///
+/// - a script after `_#`, as Java and Android print it: `zh-Hant-TW` for `zh_TW_#Hant`;
+/// - a region after `r`, or subtags after `b+`, as in Android's resource folders: `zh-TW` for
+///   `zh-rTW`, and `sr-Latn` for
+///   `b+sr+Latn`;
+/// - a script after the region, as in .NET Framework: `az-Latn-AZ` for `az-AZ-Latn`, and
+///   `sr-Latn-RS` for `sr-SP-Latn`,
+///   where `SP` is Serbia;
+/// - .NET's `zh-CHS` and `zh-CHT`, which become `zh-Hans` and `zh-Hant`.
+///
+/// Each `_` is read as a hyphen. If the only variant is `POSIX`, ignoring case, it becomes the
+/// keyword `va-posix` (UTS #35): `en-US-u-va-posix` for `en_US_POSIX`. Case and deprecated subtags
+/// stay as they are.
 ///
 /// [`unknown_modifier`]: crate::likely::unknown_modifier
 ///
@@ -55,6 +65,7 @@ const MOST_WITH_SCRIPT: usize = MOST_WITH_KEYWORD + 5;
 /// use langtag::likely::from_posix;
 ///
 /// assert_eq!(from_posix("sr_RS@latin")?.as_str(), "sr-Latn-RS");
+/// assert_eq!(from_posix("zh-rTW")?.as_str(), "zh-TW");
 /// assert!(from_posix("C").is_err());
 /// # Ok(())
 /// # }
@@ -91,8 +102,8 @@ fn bytes_of(name: &[u8]) -> Result<Option<Vec<u8>>, AllocError> {
 /// assert_eq!(write_from_posix(b"C", &mut buffer), None);
 /// ```
 pub fn write_from_posix(name: &[u8], buffer: &mut [u8]) -> Option<usize> {
-    let mut room = [0; MOST];
-    let tag = tag_of_place(locale_place(name), &mut room)?;
+    let (mut room, mut short) = ([0; MOST], [0; MOST_REORDERED]);
+    let tag = tag_of_place(locale_place(name), &mut room, &mut short)?;
     let (front, modifier) = front_and_modifier(name);
     let script = script_behind(front);
     let mut longer = [0; MOST_WITH_KEYWORD];
@@ -118,26 +129,20 @@ fn script_behind(front: &[u8]) -> Option<Script<'_>> {
     script_of(script)
 }
 
-/// Writes a language and a territory into `room`, and returns them as a tag.
-fn tag_of_place<'a>(place: &[u8], room: &'a mut [u8; MOST]) -> Option<LangTag<'a>> {
-    let bytes = room.get_mut(..place.len())?;
-    bytes.copy_from_slice(place);
-    hyphenate(bytes);
-    let tag = LangTag::from_bytes(bytes).ok()?;
+/// Returns the tag that a language and a territory are read as, written into `room` or `short`.
+fn tag_of_place<'a>(
+    place: &[u8],
+    room: &'a mut [u8; MOST],
+    short: &'a mut [u8; MOST_REORDERED],
+) -> Option<LangTag<'a>> {
+    if place.len() > MOST {
+        return None;
+    }
+    let tag = LangTag::from_bytes(read_place(place, room, short)).ok()?;
     if tag.eq_str("POSIX") {
         return None;
     }
     Some(tag)
-}
-
-/// Writes a hyphen instead of each `_`.
-#[inline]
-fn hyphenate(bytes: &mut [u8]) {
-    for byte in bytes.iter_mut() {
-        if *byte == b'_' {
-            *byte = b'-';
-        }
-    }
 }
 
 /// Writes a tag with a script into `room`, and returns it as a tag.

@@ -25,8 +25,8 @@ impl<'a> TagFields<'a> {
     }
 }
 
-/// Returns the last of the extended subtags at the start, or else the language before them, and the
-/// rest of the string.
+/// Returns the last extended language at the start of the string, or the primary language if there
+/// is none, and the rest of the string.
 fn last_extended<'a>(language: &'a [u8], text: &'a [u8]) -> (&'a [u8], &'a [u8]) {
     let mut language = language;
     let mut left = text;
@@ -58,7 +58,7 @@ fn region_before(text: &[u8]) -> &[u8] {
     }
 }
 
-/// Returns the first subtag that counts, and the string after it.
+/// Returns the first subtag that is neither empty nor `*`, and the string after it.
 fn next_subtag(text: &[u8]) -> Option<(&[u8], &[u8])> {
     let mut left = text;
     while !left.is_empty() {

@@ -1,8 +1,8 @@
 // Made by rust/erase from crates/langtag_parent/src/lib.rt. Change that file, not this one.
 
-//! The parents of a tag, from Unicode's CLDR. A catalogue of strings that has none for a tag looks
-//! for its parent, and then for the parent of this one: `pt-AO`, `pt-PT`, `pt`. A parent is written
-//! in the same script as the tag, so `zh-TW` leads to `zh-Hant` and never to `zh`.
+//! The parents of a tag, from Unicode's CLDR. If a catalogue has no string for `pt-AO`, look for
+//! the string of its parent `pt-PT`, and then for that of `pt`. A parent is written in the same
+//! script as the tag, so `zh-TW` leads to `zh-Hant` and never to `zh`.
 //!
 //! ```
 //! # fn main() -> Result<(), Box<dyn std::error::Error>> {

@@ -5,7 +5,7 @@
 use crate::erased::parent::tag_parent::parent;
 use crate::erased::tag::LangTag;
 
-/// An iterator over a tag, its parent, the parent of this one, and so on.
+/// An iterator over a tag, its parent, the parent of its parent, and so on.
 ///
 /// ```
 /// # fn main() -> Result<(), Box<dyn std::error::Error>> {

@@ -1,6 +1,6 @@
 // Made by rust/erase from crates/langtag_parent/src/scripted.rt. Change that file, not this one.
 
-//! The parent of a tag that is read with another script than the usual one of its language.
+//! The parent of a tag in whose region the language is usually written in another script.
 
 use crate::erased::language::Language;
 use crate::erased::output::write_pieces;
@@ -39,7 +39,7 @@ fn written<'r>(pieces: &[&[u8]], room: &'r mut [u8; MOST]) -> &'r [u8] {
     &room[..len]
 }
 
-/// Returns the first of some tags that is a string, ignoring case.
+/// Returns the first tag of a list that equals a string, ignoring case.
 fn listed(tags: &'static [&'static str], text: &[u8]) -> Option<&'static str> {
     let mut tags = tags;
     while let [tag, others @ ..] = tags {

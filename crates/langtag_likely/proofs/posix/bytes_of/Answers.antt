@@ -4,7 +4,7 @@ use Rattle.langtag_likely.specs.Posix.{IsTagOfName, with_said}
 use Rattle.langtag.proofs.FormLaws.{written_whole}
 use Rattle.langtag_likely.proofs.PosixLaws.{written_of}
 use Rattle.langtag_likely.proofs.posix.bytes_of.Goals as goal
-use Rattle.langtag_range.specs.Wanted.{hyphened}
+use Rattle.langtag_likely.specs.PlatformNames.{read_place}
 
 -- both calls write the one tag, and the second one has just the room for it
 pub returns-clause-tag : goal.returns-clause-tag
@@ -14,6 +14,6 @@ returns-clause-tag c =
     let (len, w) = written_of c.write_from_posix-2.result c.write_from_posix-2.ensures.written named in
     let before = c.deref_mut.result.now in
     let room : length before ≡ c.in-Some.len = omega (arith, ap length c.deref_mut.ensures.value, c.in_ok-bytes.ensures.len, c.in_ok-bytes.bytes.ok) in
-    let whole = written_whole (with_said name) (hyphened (locale_place name)) _ _ before c.write_from_posix-2.new.buffer _ _ c.in-Some.ensures.written.1 w room in
+    let whole = written_whole (with_said name) (read_place (locale_place name)) _ _ before c.write_from_posix-2.new.buffer _ _ c.in-Some.ensures.written.1 w room in
     let size : length c.write_from_posix-2.new.buffer ≡ c.in_ok-bytes.bytes.len = omega (arith, whole.0, room, ap length c.deref_mut.ensures.value, c.in_ok-bytes.bytes.ok) in
     (named, subst (IsTagOfName name) (sym (take_at c.write_from_posix-2.new.buffer _ c.in_ok-bytes.bytes.len size)) whole.1)
