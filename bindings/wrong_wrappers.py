@@ -127,7 +127,7 @@ FAULTS = {
         Fault(HPP, "written(langtag_extensions_form)", "written(langtag_canonical)"),
         Fault(HPP, "return langtag_is_locale(text_.data(), text_.size());", "return kind_ == langtag::kind::normal;"),
         Fault(HPP, "written(langtag_locale_form)", "written(langtag_extensions_form)"),
-        Fault(HPP, "if (made.empty()) return std::nullopt;\n        return made;\n    }\n\n    /* Returns the first subtag", "return made;\n    }\n\n    /* Returns the first subtag"),
+        Fault(HPP, "return unless_empty(written(langtag_locale_form));", "return written(langtag_locale_form);"),
         Fault(HPP, "found.data(), given_.size()));", "found.data(), given_.size() / 2));", "suitable.txt"),
         Fault(HPP, "return name.substr(modifier.start, modifier.len)", "return name.substr(modifier.len)"),
         Fault(HPP, "std::string next(text_); ", "std::string next(written(langtag_parent)); ", "parents.txt"),

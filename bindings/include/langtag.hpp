@@ -126,6 +126,11 @@ inline std::string written_by(std::size_t (*write)(const char *, std::size_t, ch
     return made;
 }
 
+/* Returns a string, or std::nullopt if it is empty. */
+inline std::optional<std::string> unless_empty(std::string made) {
+    return made.empty() ? std::nullopt : std::optional<std::string>(std::move(made));
+}
+
 /* A language tag (RFC 5646 section 2.1), as a view of its text. */
 class tag {
 public:
@@ -227,11 +232,7 @@ public:
 
     /* Returns the canonical form of the tag as a Unicode locale identifier (UTS #35, part 1, Annex C): ger-UK becomes de-GB, and zh-yue
      * becomes yue. Returns std::nullopt if there is none, such as for x-a. */
-    std::optional<std::string> locale_form() const {
-        std::string made = written(langtag_locale_form);
-        if (made.empty()) return std::nullopt;
-        return made;
-    }
+    std::optional<std::string> locale_form() const { return unless_empty(written(langtag_locale_form)); }
 
     /* Returns the first subtag that makes the tag invalid, by the registry of registry_date, or std::nullopt if it is valid. */
     std::optional<langtag::invalid_subtag> invalid_subtag() const noexcept {
@@ -252,19 +253,11 @@ public:
 
     /* Returns the POSIX locale name for the tag: sr_RS@latin for sr-Latn-RS, zh_TW for zh-Hant-TW. Returns std::nullopt if a name cannot
      * say all of the tag, such as its extensions; base() has none. The codeset is the caller's. */
-    std::optional<std::string> to_posix() const {
-        std::string made = written(langtag_to_posix);
-        if (made.empty()) return std::nullopt;
-        return made;
-    }
+    std::optional<std::string> to_posix() const { return unless_empty(written(langtag_to_posix)); }
 
     /* Returns the parent of the tag in CLDR, which a catalogue of strings asks next: pt-PT for pt-AO, zh-Hant for zh-TW. Returns
      * std::nullopt if there is none, such as for pt. A parent is written in the same script, so zh-Hant has none. */
-    std::optional<std::string> parent() const {
-        std::string made = written(langtag_parent);
-        if (made.empty()) return std::nullopt;
-        return made;
-    }
+    std::optional<std::string> parent() const { return unless_empty(written(langtag_parent)); }
 
     /* Returns the tag, its parent, the parent of its parent, and so on: pt-AO, pt-PT and pt for pt-AO. */
     std::vector<std::string> parents() const {
@@ -294,8 +287,7 @@ private:
     template <class Write, class... Given> std::optional<std::string> edited(std::size_t room, Write write, Given... given) const {
         std::string made(room, '\0');
         made.resize(write(text_.data(), text_.size(), given..., &made[0], made.size()));
-        if (made.empty()) return std::nullopt;
-        return made;
+        return unless_empty(std::move(made));
     }
 
     /* No bounds are checked: langtag_parse guarantees that each span is within the string. */
@@ -489,6 +481,12 @@ struct best_match {
     std::uint32_t distance; /* from the range to the tag, as distance() returns it; from 50 on the tag was found by lookup only */
 };
 
+/* Returns what match_for_header returns for the best tag of a header, or std::nullopt if there is none. */
+inline std::optional<best_match> matched(std::optional<tag> best, std::size_t index, std::string_view header, const langtag_best_match &match) {
+    if (!best) return std::nullopt;
+    return best_match{index, *best, header.substr(match.range.start, match.range.len), match.distance};
+}
+
 /* The tags of a list as the library reads them: one string with all tags, and where each of them is. */
 class listed_tags {
 public:
@@ -525,23 +523,13 @@ public:
         langtag_best_match match;
         const std::size_t index = langtag_match_for_header(langtag_bytes(header.data()), header.size(), text_.data(), text_.size(),
                                                            spans_.data(), given_.size(), &match);
-        const std::optional<tag> best = at(index);
-        if (!best) return std::nullopt;
-        return best_match{index, *best, header.substr(match.range.start, match.range.len), match.distance};
+        return langtag::matched(at(index), index, header, match);
     }
 
     /* Returns the suitable tags for a header or for a list of ranges, best first. */
-    std::vector<tag> suitable(std::string_view header) const {
-        std::vector<std::size_t> found(given_.size() + 1); /* so that data() is not null */
-        found.resize(langtag_suitable_for_header(langtag_bytes(header.data()), header.size(), text_.data(), text_.size(), spans_.data(),
-                                                 given_.size(), found.data(), given_.size()));
-        return all_at(found);
-    }
+    std::vector<tag> suitable(std::string_view header) const { return all(langtag_suitable_for_header, langtag_bytes(header.data()), header.size()); }
     std::vector<tag> suitable(const listed_tags &ranges) const {
-        std::vector<std::size_t> found(given_.size() + 1);
-        found.resize(langtag_suitable_for_ranges(ranges.text_.data(), ranges.text_.size(), ranges.spans_.data(), ranges.given_.size(),
-                                                 text_.data(), text_.size(), spans_.data(), given_.size(), found.data(), given_.size()));
-        return all_at(found);
+        return all(langtag_suitable_for_ranges, ranges.text_.data(), ranges.text_.size(), ranges.spans_.data(), ranges.given_.size());
     }
 
 private:
@@ -549,9 +537,12 @@ private:
         return index < given_.size() ? tag::parse(given_[index]) : std::nullopt;
     }
 
-    std::vector<tag> all_at(const std::vector<std::size_t> &indices) const {
+    /* Returns the tags whose indices a call writes. */
+    template <class Suit, class... Wanted> std::vector<tag> all(Suit suit, Wanted... wanted) const {
+        std::vector<std::size_t> found(given_.size() + 1); /* so that data() is not null */
+        found.resize(suit(wanted..., text_.data(), text_.size(), spans_.data(), given_.size(), found.data(), given_.size()));
         std::vector<tag> tags;
-        for (const std::size_t index : indices) tags.push_back(*at(index)); /* a suitable entry is a tag */
+        for (const std::size_t index : found) tags.push_back(*at(index)); /* a suitable entry is a tag */
         return tags;
     }
 
@@ -845,9 +836,7 @@ public:
         langtag_best_match match;
         const std::size_t index = langtag_site_match_for_header(langtag_bytes(header.data()), header.size(), text_.data(), text_.size(),
                                                                 tags_.data(), tags_.size(), &match);
-        const std::optional<tag> best = at(index);
-        if (!best) return std::nullopt;
-        return best_match{index, *best, header.substr(match.range.start, match.range.len), match.distance};
+        return langtag::matched(at(index), index, header, match);
     }
     template <class Allocator> std::optional<best_match> match_for_header(temporary_string<Allocator>) const = delete;
 
@@ -940,11 +929,7 @@ inline std::uint32_t distance(const tag &desired, const tag &supported) noexcept
 
 /* Returns the tag for a POSIX locale name: pt_BR.UTF-8 becomes pt-BR, and en_US_POSIX becomes en-US-u-va-posix. Names as Java, Android
  * and .NET write them are read, too: zh-rTW becomes zh-TW. Returns std::nullopt if there is none, such as for the locales C and POSIX. */
-inline std::optional<std::string> from_posix(std::string_view name) {
-    std::string made = written_by(langtag_from_posix, name);
-    if (made.empty()) return std::nullopt;
-    return made;
-}
+inline std::optional<std::string> from_posix(std::string_view name) { return unless_empty(written_by(langtag_from_posix, name)); }
 
 /* Returns the modifier that from_posix drops because it is not known: foo in de_DE@foo. Returns std::nullopt if there is none. */
 inline std::optional<std::string_view> unknown_modifier(std::string_view name) noexcept {
