@@ -9,14 +9,14 @@ cookie still count more, and the response gets `Content-Language` and `Vary`.
 from __future__ import annotations
 
 from django.conf import settings
-from langtag import best_for_header
+from langtag import Site
 
 
 def best_language(get_response):
-    codes = [code for code, _ in settings.LANGUAGES]
+    site = Site([code for code, _ in settings.LANGUAGES])
 
     def middleware(request):
-        best = best_for_header(request.META.get("HTTP_ACCEPT_LANGUAGE"), codes, settings.LANGUAGE_CODE)
+        best = site.best_for_header(request.META.get("HTTP_ACCEPT_LANGUAGE"), settings.LANGUAGE_CODE)
         request.META["HTTP_ACCEPT_LANGUAGE"] = best
         return get_response(request)
 

@@ -7,9 +7,10 @@ The language is the reader's choice (?lang=, kept in a cookie), or else the best
 from __future__ import annotations
 
 from flask import Flask, Response, make_response, request
-from langtag import Tag, autonym, describe, match_for_header
+from langtag import Site, Tag, autonym, describe
 
 PAGES = {"en": "Hello", "de": "Guten Tag", "sr-Latn": "Dobar dan", "zh-Hant": "你好", "ar": "مرحبا"}
+SITE = Site(PAGES)  # what the choice needs of each tag is computed once
 SAME = 16  # from this distance on, a tag is of another language
 
 app = Flask(__name__)
@@ -19,7 +20,7 @@ def picked() -> str | None:
     """Returns the language that the reader picked. A language that is only near the picked one does not count: ?lang=tlh is not
     English."""
     for text in (request.args.get("lang"), request.cookies.get("lang")):
-        match = match_for_header(text, PAGES)
+        match = SITE.match_for_header(text)
         if match and match.distance < SAME:
             return match.tag
     return None
@@ -37,7 +38,7 @@ def menu(page: str) -> str:
 
 @app.get("/")
 def page() -> Response:
-    wish, match = picked(), match_for_header(request.headers.get("Accept-Language"), PAGES)
+    wish, match = picked(), SITE.match_for_header(request.headers.get("Accept-Language"))
     tag = wish or (match.tag if match else "en")
     response = make_response(f'<html lang="{tag}" dir="{direction(tag)}"><p>{PAGES[tag]}<p>{menu(tag)}</html>\n')
     response.headers["Content-Language"] = tag

@@ -6,10 +6,10 @@
  * The language is the reader's choice (?lang=, kept in a cookie), or else the best language for the browser's header.
  */
 import { createServer } from "node:http";
-import { autonym, describe, LanguageTag, matchForHeader } from "langtag-verified";
+import { autonym, describe, LanguageTag, Site } from "langtag-verified";
 
 const PAGES = new Map([["en", "Hello"], ["de", "Guten Tag"], ["sr-Latn", "Dobar dan"], ["zh-Hant", "你好"], ["ar", "مرحبا"]]);
-const TAGS = [...PAGES.keys()];
+const site = new Site(PAGES.keys()); // what the choice needs of each tag is computed once
 const SAME = 16; // from this distance on, a tag is of another language
 
 /** Returns the language that the reader picked. A language that is only near the picked one does not count: ?lang=tlh is not
@@ -17,20 +17,20 @@ const SAME = 16; // from this distance on, a tag is of another language
 function picked(request) {
     const asked = new URL(request.url, "http://localhost").searchParams.get("lang");
     const kept = /(?:^|; )lang=([\w-]*)/.exec(request.headers.cookie)?.[1];
-    return [asked, kept].map((text) => matchForHeader(text, TAGS)).find((match) => match?.distance < SAME)?.tag;
+    return [asked, kept].map((text) => site.matchForHeader(text)).find((match) => match?.distance < SAME)?.tag;
 }
 
 const direction = (tag) => (LanguageTag.parse(tag).isRightToLeft ? "rtl" : "ltr");
 
 /** Returns the menu of languages, each by its name in itself. The language of the page comes first. */
 function menu(page) {
-    const tags = [page, ...TAGS.filter((tag) => tag !== page)];
+    const tags = [page, ...site.tags.filter((tag) => tag !== page)];
     return tags.map((tag) => `<a href="?lang=${tag}" lang="${tag}" dir="${direction(tag)}">${autonym(tag) ?? describe(tag)}</a>`).join(" ");
 }
 
 const server = createServer((request, response) => {
     const wish = picked(request);
-    const tag = wish ?? matchForHeader(request.headers["accept-language"], TAGS)?.tag ?? "en";
+    const tag = wish ?? site.matchForHeader(request.headers["accept-language"])?.tag ?? "en";
     response.writeHead(200, {
         "Content-Type": "text/html; charset=utf-8",
         "Content-Language": tag,

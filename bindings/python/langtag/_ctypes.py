@@ -158,7 +158,7 @@ def prepare(texts: list[bytes]) -> tuple[bytes, bytes]:
 
 
 def _site(text: bytes, tags: bytes) -> tuple[bytes, int, Any, int]:
-    return text, len(text), ctypes.cast(tags, ctypes.POINTER(PreparedTag)), len(tags) // ctypes.sizeof(PreparedTag)
+    return text, len(text), ctypes.cast(ctypes.c_char_p(tags), ctypes.POINTER(PreparedTag)), len(tags) // ctypes.sizeof(PreparedTag)
 
 
 def site_best_for_header(header: Text, text: bytes, tags: bytes) -> int:
