@@ -1,22 +1,7 @@
 /*
  * A loadable extension for SQLite. It returns parts of language tags, canonical forms, validity, likely subtags, the best tag for a
- * request, and whether a range matches. It also has a collation. `make` in this folder builds it, with the C library inside.
- *
- *     sqlite> .load ./sqlite_langtag
- *     sqlite> SELECT langtag_part('zh-Hant-TW', 'script');          -- Hant
- *     sqlite> SELECT langtag_keyword('ar-u-ca-islamic-nu-latn', 'ca'); -- islamic
- *     sqlite> SELECT langtag_set_keyword('th-u-ca-gregory', 'ca', 'buddhist'); -- th-u-ca-buddhist
- *     sqlite> SELECT langtag_canonical('iw-Hebr');                   -- he-Hebr
- *     sqlite> SELECT langtag_is_well_formed('de-1996-1996');         -- 1
- *     sqlite> SELECT langtag_is_valid('de-1996-1996');               -- 0
- *     sqlite> SELECT langtag_suggestion('ger-AT');                   -- de
- *     sqlite> SELECT langtag_maximized('zh-TW');                      -- zh-Hant-TW
- *     sqlite> SELECT langtag_from_posix('sr_RS@latin');              -- sr-Latn-RS
- *     sqlite> SELECT langtag_best_for_header('zh-TW,zh;q=0.9', 'en', 'zh-Hans', 'zh-Hant'); -- zh-Hant
- *     sqlite> SELECT langtag_match_for_header('tlh', 'de', 'en') ->> 'distance'; -- 30
- *     sqlite> SELECT langtag_group_best_for_header('zh-TW', tag) FROM (SELECT 'zh' AS tag UNION SELECT 'zh-Hant'); -- zh-Hant
- *     sqlite> SELECT * FROM strings WHERE langtag_matches_basic('de', tag);
- *     sqlite> SELECT * FROM strings WHERE tag = 'ZH-hant' COLLATE langtag;
+ * request, and whether a range matches. It also has a collation. `make` in this folder builds it, with the C library inside. The README
+ * of the tarball, which is docs/SQLITE.md, has examples.
  *
  * Each function returns NULL if an argument is NULL, except for the value of langtag_set_keyword and the tags of a choice.
  *
