@@ -29,10 +29,11 @@ dated() {
 }
 check "C: the date of the registry is that of its file" dated
 
+told_by_c() { "$work/c/test" --answer "$work/rows/calls.txt"; }
+
 # Random rows, and C's answers to random questions, with which the answers of Rust, Python and JavaScript are compared.
 answers_of_c() {
-    python3 random_rows.py rows 1000 "$FUZZ_SEED" >"$work/answers" && python3 random_rows.py questions 2000 "$FUZZ_SEED" >"$work/calls" &&
-        "$work/c/test" --answer "$work/rows/calls.txt" <"$work/calls" >>"$work/answers"
+    python3 random_rows.py rows 1000 "$FUZZ_SEED" >"$work/answers" && python3 random_rows.py questions 2000 "$FUZZ_SEED" | told_by_c >>"$work/answers"
 }
 check "C: answers to random calls, for Rust, Python and JavaScript" answers_of_c
 
@@ -44,37 +45,30 @@ in_its_words() {
 }
 as_the_oracle() {
     { oracle --each && oracle --make 30000 "$FUZZ_SEED"; } >"$work/tags" || return 1
-    sed 's/.*/validity | &\ncanonical | &/' "$work/tags" | "$work/c/test" --answer "$work/rows/calls.txt" >"$work/answers_about_tags" || return 1
+    sed 's/.*/validity | &\ncanonical | &/' "$work/tags" | told_by_c >"$work/answers_about_tags" || return 1
     in_its_words <"$work/answers_about_tags" >"$work/told"
     oracle validity canonical --compare "$work/told" <"$work/tags"
 }
 check "C: validity and canonical form of 50,000 tags, by a plain reading of the registry" as_the_oracle
 
-# Compares C's answers about likely subtags, distances, directions, choices and locale names with those of likely/oracle.py.
-as_the_likely_oracle() {
-    local likely=$root/likely
-    { "$likely/questions.py" each && "$likely/questions.py" rows 30000 "$FUZZ_SEED"; } >"$work/asked" || return 1
-    "$work/c/test" --answer "$work/rows/calls.txt" <"$work/asked" >"$work/told_of_likely" || return 1
-    "$likely/oracle.py" rows --compare "$work/told_of_likely" <"$work/asked"
+# as_an_oracle ORACLE TOLD QUESTIONS RANDOM: compares C's answers to each question and to random questions with those of an oracle.
+as_an_oracle() {
+    { "$3" each && "$3" "$4" 30000 "$FUZZ_SEED"; } >"$work/asked" || return 1
+    told_by_c <"$work/asked" >"$2" || return 1
+    "$1" rows --compare "$2" <"$work/asked"
 }
-check "C: 100,000 rows of likely subtags and choices, by a plain reading of the data" as_the_likely_oracle
-
-# Compares C's answers about the extensions u and t, and about Unicode locale identifiers, with those of unicode/oracle.py.
-as_the_unicode_oracle() {
-    local oracle=$root/unicode/oracle.py
-    { "$oracle" each && "$oracle" random 30000 "$FUZZ_SEED"; } >"$work/asked" || return 1
-    "$work/c/test" --answer "$work/rows/calls.txt" <"$work/asked" >"$work/told_of_unicode" || return 1
-    "$oracle" rows --compare "$work/told_of_unicode" <"$work/asked"
-}
-check "C: 48,000 rows of extensions and Unicode locale identifiers, by a plain reading of the data" as_the_unicode_oracle
+likely=$root/likely unicode=$root/unicode/oracle.py
+check "C: 100,000 rows of likely subtags and choices, by a plain reading of the data" \
+    as_an_oracle "$likely/oracle.py" "$work/told_of_likely" "$likely/questions.py" rows
+check "C: 48,000 rows of extensions and Unicode locale identifiers, by a plain reading of the data" \
+    as_an_oracle "$unicode" "$work/told_of_unicode" "$unicode" random
 
 # Compares the maximal forms of deprecated tags, by way of their locale forms, with those of Intl.
 as_intl() {
-    local likely=$root/likely version
+    local version
     version=$(sed -n 's/^CLDR_VERSION = \([0-9]*\).*/\1/p' postgresql/cldr_version.mk)
     "$likely/questions.py" aliases >"$work/aliases" || return 1
-    sed 's/^/locale-form | /' "$work/aliases" | "$work/c/test" --answer "$work/rows/calls.txt" | sed 's/.* | /maximized | /' |
-        "$work/c/test" --answer "$work/rows/calls.txt" | sed 's/.* | //' >"$work/told_of_aliases" || return 1
+    sed 's/^/locale-form | /' "$work/aliases" | told_by_c | sed 's/.* | /maximized | /' | told_by_c | sed 's/.* | //' >"$work/told_of_aliases" || return 1
     node "$likely/intl.mjs" "$work/told_of_aliases" "$version" <"$work/aliases"
 }
 needs 'has node' "there is no node" "C: the maximal forms of 2,600 deprecated tags, by Intl" as_intl

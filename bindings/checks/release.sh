@@ -86,11 +86,6 @@ away() {
         unset LANGTAG_ARCHIVE LANGTAG_LIBRARY LANGTAG_ANSWERS PKG_CONFIG_PATH; eval "$1"' away \
         "$folder" "$hide" "$root" "$work/bindings" "$1" | diff - <(wanted)
 }
-by_pkg_config() {
-    away 'tar -xzf ../dist/*-x86_64-elf.tar.gz; export PKG_CONFIG_PATH=$(echo $PWD/*/lib/pkgconfig)
-        cc parts.c $(pkg-config --cflags --libs langtag_verified) -o parts
-        LD_LIBRARY_PATH=$(echo $PWD/*/lib) ./parts zh-Hant-TW'
-}
 by_cmake() {
     away 'tar -xzf ../dist/*-x86_64-elf.tar.gz
         printf "%s\n" "cmake_minimum_required(VERSION 3.13)" "project(first C)" \
@@ -102,7 +97,6 @@ by_cmake() {
         b/still zh-Hant-TW | cmp - <(b/parts zh-Hant-TW); b/parts zh-Hant-TW'
 }
 check "release: C by the tarball's own archive and examples" by_itself
-needs 'has pkg-config' "it is not there" "release: C by pkg-config" by_pkg_config
 needs 'has cmake' "there is no cmake" "release: C by find_package" by_cmake
 
 # The first program for Windows, with mingw and wine. Its lines end in CR LF.
@@ -137,22 +131,23 @@ python_package() {
     [ -d "$venv" ] || "$1" -m venv "$venv" || return 1
     away "cp -r $venv v; $2 v/bin/python parts.py zh-Hant-TW"
 }
-wheel_released() { python_package "$1" 'v/bin/python -m pip install -q --no-index --find-links ../dist --only-binary :all: langtag-verified;'; }
-fallback_released() { python_package "$1" 'v/bin/python -m pip install -q --no-index ../dist/*-py3-none-*x86_64.whl;'; }
-is_native() {
+# wheel_released PYTHON NATIVE: pip takes the wheel with the C module if there is one.
+wheel_released() {
     python_package "$1" 'v/bin/python -m pip install -q --no-index --find-links ../dist --only-binary :all: langtag-verified;
-        v/bin/python -c "import langtag; assert langtag._backend.__name__ == \"langtag._native\"";'
+        v/bin/python -c "import langtag; assert langtag._backend.__name__ == \"langtag.'"$2"'\"";'
 }
+fallback_released() { python_package "$1" 'v/bin/python -m pip install -q --no-index ../dist/*-py3-none-*x86_64.whl;'; }
 sdist_released() {
     python_package "$1" "\"$1\" -m pip wheel -q --no-deps --no-index -w w ../dist/langtag_verified-*.tar.gz;
         v/bin/python -m pip install -q --no-index w/*.whl;"
 }
 for python in python3 python3.9 python3.12 python3.13; do
     if "$python" -c 'import venv, ensurepip' >/dev/null 2>&1; then
-        check "release: the wheel by $python" wheel_released "$python"
         if ls "$work"/dist/*-abi3-*.whl >/dev/null 2>&1; then
-            check "release: the wheel by $python has the C module" is_native "$python"
+            check "release: the wheel by $python, with the C module" wheel_released "$python" _native
             check "release: the wheel for other Pythons by $python" fallback_released "$python"
+        else
+            check "release: the wheel by $python" wheel_released "$python" _ctypes
         fi
     fi
 done
