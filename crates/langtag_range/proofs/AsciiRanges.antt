@@ -1,7 +1,7 @@
 -- The bytes of a language range are letters, digits, "*" and "-". So it is ASCII, bytes that are not UTF-8 are not a range, and
 -- no "_" is in it.
-use Rattle.std.proofs.Common.{◌≡◌, ℕ, ◌<◌, Bool, true, eqb, ◌||◌, List, [], ◌∷◌, refl, arith}
-use Rattle.std.specs.List.{list_all}
+use Rattle.std.proofs.Common.{◌≡◌, ◌∙◌, ℕ, ◌<◌, Bool, true, false, eqb, ◌||◌, List, [], ◌∷◌, cond, refl, ap, arith}
+use Rattle.std.specs.List.{before_first, list_all, list_any}
 use Rattle.std.specs.Str.{IsAscii, IsUtf8}
 use Rattle.std.proofs.lemmas.Bool.{and_parts, or_cases}
 use Rattle.std.proofs.lemmas.Bool.Decides.{nat_tests}
@@ -11,6 +11,7 @@ use Rattle.std.proofs.lemmas.Grind.{common_steps}
 use Rattle.langtag_scan.specs.Class.{is_letter, is_digit, is_alphanumeric, is_private_subtag}
 use Rattle.langtag_scan.specs.Subtags.{segments}
 use Rattle.langtag_scan.proofs.Ascii.{IsAscii-each}
+use Rattle.langtag_range.specs.Locale.{ends_locale, is_hash, locale_place, place_before, without_mark}
 use Rattle.langtag_range.specs.Wanted.{hyphened, hyphened_byte}
 use Rattle.langtag_range.specs.Range.{is_range_subtag, are_extended_range, is_language_range, is_basic_range}
 use Rattle.langtag_range.proofs.BasicRanges.{list_all-weaker, is_language_range-from_basic}
@@ -68,3 +69,30 @@ plain_bytes (b ∷ text) all = grind (arith, common_steps, and_parts (is_range_b
 
 pub hyphened_range : (text : List ℕ) → is_language_range text ≡ true → hyphened text ≡ text
 hyphened_range text is = plain_bytes text (range_bytes text is)
+
+-- ---- a range, also with "_", is not cut as a locale name is
+
+no_end : (b : ℕ) → is_range_byte (hyphened_byte b) ≡ true → ends_locale b ≡ false
+unfolding is_letter is_digit
+no_end b is = grind (arith, nat_tests)
+
+no_hash : (b : ℕ) → is_range_byte (hyphened_byte b) ≡ true → is_hash b ≡ false
+unfolding is_letter is_digit
+no_hash b is = grind (arith, nat_tests)
+
+none_in :
+    (p : ℕ → Bool) → ((b : ℕ) → is_range_byte (hyphened_byte b) ≡ true → p b ≡ false) → (text : List ℕ) → list_all is_range_byte (hyphened text) ≡ true → list_any p text ≡ false
+none_in p none [] all = refl
+none_in p none (b ∷ text) all =
+    let parts = and_parts (is_range_byte (hyphened_byte b)) (list_all is_range_byte (hyphened text)) all in
+    ap (λ here. here || list_any p text) (none b parts.0) ∙ none_in p none text parts.1
+
+whole_before : (p : ℕ → Bool) (text : List ℕ) → list_any p text ≡ false → before_first p text ≡ text
+whole_before p [] none = refl
+whole_before p (b ∷ text) none = grind (arith, common_steps, whole_before p text)
+
+pub range_place : (text : List ℕ) → is_basic_range (hyphened text) ≡ true → locale_place text ≡ text
+range_place text is =
+    let all = range_bytes (hyphened text) (is_language_range-from_basic (hyphened text) is) in
+    ap place_before (whole_before ends_locale text (none_in ends_locale no_end text all))
+    ∙ ap (λ test. cond test (without_mark (without_mark (before_first is_hash text))) text) (none_in is_hash no_hash text all)

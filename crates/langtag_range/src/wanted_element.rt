@@ -3,6 +3,7 @@ ghost use Rattle.std.specs.Prelude.{◌≡◌, false, IfSome, IsTrue, MatchOptio
 ghost use Rattle.std.specs.List.{after_first, slice_split, list_all};
 ghost use Rattle.std.specs.Option.{option_map};
 ghost use Rattle.langtag_range.specs.Element.{is_semicolon, items, trimmed};
+ghost use Rattle.langtag_range.specs.Locale as place;
 ghost use Rattle.langtag_range.specs.Range.{are_basic_subtags, is_basic_range, is_star};
 ghost use Rattle.langtag_range.specs.Wanted as spec;
 
@@ -20,12 +21,26 @@ pub(crate) fn wanted_at<'a>(item: &'a [u8], behind: &[u8]) -> Option<WantedRange
     ensures basic { IfSome result (λ found. IsTrue (is_basic_range (spec.hyphened found.bytes.now))) }
 {
     let (before, parameters) = split_at_byte(item, b';');
-    let bytes = locale_place(trimmed(before));
-    if !is_wanted_range(bytes) {
-        return None;
-    }
+    let bytes = wanted_bytes(trimmed(before))?;
     let weight = wanted_weight(parameters, behind);
     Some(WantedRange { bytes, weight })
+}
+
+/// Returns the range in a string, or `None` if it has none. Most strings are ranges, so only the others are read as locale
+/// names.
+#[tactic(auto, using(crate::proofs::AsciiRanges::range_place))]
+fn wanted_bytes(text: &[u8]) -> Option<&[u8]>
+    ensures { MatchOption result (is_basic_range (spec.hyphened (place.locale_place text.now)) ≡ false)
+        (λ bytes. (bytes.now ≡ place.locale_place text.now) × IsTrue (is_basic_range (spec.hyphened bytes.now))) }
+{
+    if is_wanted_range(text) {
+        return Some(text);
+    }
+    let bytes = locale_place(text);
+    if is_wanted_range(bytes) {
+        return Some(bytes);
+    }
+    None
 }
 
 /// Returns whether a string is a basic language range if `_` is read as `-`.

@@ -14,12 +14,23 @@ use crate::erased::scan::{first_place, is_private_subtag, split_at_byte, split_a
 #[inline]
 pub(crate) fn wanted_at<'a>(item: &'a [u8], behind: &[u8]) -> Option<WantedRange<'a>> {
     let (before, parameters) = split_at_byte(item, b';');
-    let bytes = locale_place(trimmed(before));
-    if !is_wanted_range(bytes) {
-        return None;
-    }
+    let bytes = wanted_bytes(trimmed(before))?;
     let weight = wanted_weight(parameters, behind);
     Some(WantedRange { bytes, weight })
+}
+
+/// Returns the range in a string, or `None` if it has none. Most strings are ranges, so only the
+/// others are read as locale names.
+#[inline]
+fn wanted_bytes(text: &[u8]) -> Option<&[u8]> {
+    if is_wanted_range(text) {
+        return Some(text);
+    }
+    let bytes = locale_place(text);
+    if is_wanted_range(bytes) {
+        return Some(bytes);
+    }
+    None
 }
 
 /// Returns whether a string is a basic language range if `_` is read as `-`.
