@@ -1,8 +1,9 @@
 -- What loops over ranges and over tags have found, and that it is the choice.
-use Rattle.std.proofs.Common.{◌≡◌, ℕ, true, List, get_or, Option, Some, None, option_map, ap, refl, sym, subst, ◌∙◌, ◌-◌, ◌==◌, ◌≤◌, false, ◌&&◌, ◌||◌, nat_lt, arith, Bool, [], ◌∷◌, ◌⊎◌, ◌+◌, ◌<◌, suc, length, below_more, inl, inr, true≢false, slice_get}
+use Rattle.std.proofs.Common.{◌≡◌, ℕ, true, List, get_or, Option, Some, None, option_map, ap, refl, sym, subst, ◌∙◌, ◌-◌, ◌==◌, ◌≤◌, false, ◌&&◌, ◌||◌, nat_lt, arith, Bool, [], ◌∷◌, ◌⊎◌, ◌+◌, ◌<◌, zero, suc, length, below_more, inl, inr, true≢false, slice_get, replicate, set, ◌↔◌}
 use Rattle.std.proofs.lemmas.Bool.Decides.{eqb_tells, nat_tests}
 use Rattle.std.proofs.lemmas.Bool.{and_parts, eqb-true, ltb-false, ltb-true, or_cases, cases_lt}
-use Rattle.std.proofs.lemmas.Grind.{common_steps}
+use Rattle.std.proofs.lemmas.Grind.{common_steps, get_or-set_at}
+use Rattle.std.proofs.lemmas.List.{get_or-set_other, get_or-set_same}
 use Rattle.std.proofs.lemmas.Option.{get_or_from_slice_get, slice_get-get_or, slice_get_within}
 use Rattle.std.specs.List.{list_any}
 use Rattle.std.specs.Option.{ForSome, MatchOption}
@@ -10,7 +11,7 @@ use Rattle.langtag_range.specs.Element.{Element}
 use Rattle.langtag_range.specs.Listed.{basic_text}
 use Rattle.langtag_choice.specs.Best.{IsAtMost, IsChoice, IsMatchOf, Pair, rank, rank_of_pair, serves, reach, service, is_excluded, is_refused, longest}
 use Rattle.langtag_choice.specs.Distance.{distance_of_texts}
-use Rattle.langtag_choice.specs.Found.{IsBestFound, IsBestOf, IsFor, IsUnrefusedAt, rank_of, service_number, AreOpen, Covers, CoversOpen, CoversRanges, CoversTags, IsAt, IsOldOrAt, IsOf, IsOfKnown, IsReal, IsNotAfter, Keeps, Takes, TakesAt, wish_element}
+use Rattle.langtag_choice.specs.Found.{IsBestFound, IsBestOf, IsFor, IsUnrefusedAt, rank_of, service_number, AreOpen, AreOpenAt, Covers, CoversOpen, CoversRanges, CoversTags, ImprovesAt, ImprovesFor, IsAt, IsOf, IsOfKnown, IsReal, IsNotAfter, Keeps, Takes, TakesAt, wish_element}
 use Rattle.langtag_choice.specs.KnownTexts.{is_known, known_text}
 use Rattle.langtag_choice.specs.Nearness.{kept}
 use Rattle.langtag_choice.specs.declared.best_match.BestMatch.{BestMatch}
@@ -113,6 +114,28 @@ known_there tags index known at tag there = at tag (get_or_from_slice_get tags i
 pub text_at : (tags : List (Option (List ℕ))) (index : ℕ) (text : List ℕ) → ForSome (get_or tags index None) (λ found. text ≡ found) → (tag : List ℕ) → slice_get tags index ≡ Some (Some tag) → text ≡ tag
 text_at tags index text same tag there = same tag (get_or_from_slice_get tags index (Some tag) None there)
 
+flag_within : (flags : List Bool) (k : ℕ) → get_or flags k false ≡ true → k < length flags
+flag_within [] k is = absurd (true≢false (sym is))
+flag_within (flag ∷ flags) zero is = grind arith
+flag_within (flag ∷ flags) (suc k) is = omega (arith, flag_within flags k is)
+
+none_flagged : (n k : ℕ) → get_or (replicate n false) k false ≡ false
+none_flagged zero k = refl
+none_flagged (suc n) zero = refl
+none_flagged (suc n) (suc k) = none_flagged n k
+
+pub all_closed : (elements : List Element) (tags : List (Option (List ℕ))) (start n : ℕ) → AreOpenAt elements tags start (replicate n false)
+all_closed elements tags start n = λ k is. absurd (true≢false (sym is ∙ none_flagged n k))
+
+flag_at :
+    (flags : List Bool) (k j : ℕ) (b : Bool) → k < length flags → (j < k) ⊎ (k ≤ j) → (k < j) ⊎ (j ≤ k) →
+    (get_or (set flags k b) j false ≡ get_or flags j false) ⊎ ((j ≡ k) × (get_or (set flags k b) j false ≡ b))
+flag_at flags k j b within (inl before) other = inl (get_or-set_other flags k j b false (λ same. omega (arith, before, same)))
+flag_at flags k j b within (inr least) (inl after) = inl (get_or-set_other flags k j b false (λ same. omega (arith, after, same)))
+flag_at flags k j b within (inr least) (inr most) =
+    let same : j ≡ k = omega (arith, least, most) in
+    inr (same, get_or-set_at flags k j b false same within)
+
 -- ---- one more
 
 pub one_more_tag :
@@ -139,25 +162,7 @@ one_more_range_for_tag elements tag index place element old new so_far keeps wan
     let same : element ≡ other = cc in
     subst (λ e. IsNotAfter new (rank place e index tag)) same (here (subst (λ e. serves e tag ≡ true) (sym same) served)))
 
-pub one_more_open :
-    (elements : List Element) (tags : List (Option (List ℕ))) (index : ℕ) (old new : Option Candidate) → CoversOpen elements tags index old → Keeps old new →
-    ((tag : List ℕ) → slice_get tags index ≡ Some (Some tag) → is_refused elements tag ≡ false → CoversRanges elements tag index (length elements) new) → CoversOpen elements tags (index + 1) new
-one_more_open elements tags index old new so_far keeps here =
-    below_more _ _ (λ k below place element tag wanted there free served. keeps (rank place element k tag) (so_far k below place element tag wanted there free served))
-    (λ place element tag wanted there free served. here tag there free place (slice_get_within elements place element wanted) element wanted served)
-
 -- ---- where it comes from
-
-pub real_from :
-    (elements : List Element) (tags : List (Option (List ℕ))) (tag : List ℕ) (index : ℕ) (old new : Option Candidate) → index < length tags → ((other : List ℕ) → slice_get tags index ≡ Some (Some other) → tag ≡ other) →
-    IsReal elements tags old → IsOldOrAt elements tag index old new → IsReal elements tags new
-real_from elements tags tag index old (Some c) inside there real (inr at) = record {
-  inside = subst (λ i. i < length tags) (sym at.index) inside;
-  there = λ other is.
-      subst (λ t. IsAt elements t c.index c) (there other (subst (λ i. slice_get tags i ≡ Some (Some other)) at.index is)) (subst (λ i. IsAt elements tag i c) (sym at.index) at);
-}
-real_from elements tags tag index old None inside there real (inr at) = absurd at
-real_from elements tags tag index old new inside there real (inl same) = subst (IsReal elements tags) (sym same) real
 
 at_of :
     (elements : List Element) (wish : Wish) (text : List ℕ) (index : ℕ) (c : Candidate) → slice_get elements wish.place ≡ Some (wish_element wish) → IsOf wish text index c → IsAt elements text index c
@@ -180,18 +185,6 @@ real_from_known elements tags wish known index old (Some c) inside at wanted rea
 real_from_known elements tags wish known index old None inside at wanted real (inr of) = absurd of
 real_from_known elements tags wish known index old new inside at wanted real (inl same) = subst (IsReal elements tags) (sym same) real
 
-pub from_of :
-    (elements : List Element) (wish : Wish) (known : KnownTag) (index : ℕ) (old new : Option Candidate) → is_known known ≡ true → slice_get elements wish.place ≡ Some (wish_element wish) →
-    (new ≡ old) ⊎ MatchOption new ⊥ (IsOfKnown wish known index) → IsOldOrAt elements (known_text known) index old new
-from_of elements wish known index old (Some c) is wanted (inr of) = inr (at_of elements wish (known_text known) index c wanted (of.1 is))
-from_of elements wish known index old None is wanted (inr of) = absurd of
-from_of elements wish known index old new is wanted (inl same) = inl same
-
--- from one step to the next
-pub from_later :
-    (elements : List Element) (tag : List ℕ) (index : ℕ) (first old new : Option Candidate) → IsOldOrAt elements tag index first old → IsOldOrAt elements tag index old new → IsOldOrAt elements tag index first new
-from_later elements tag index first old new before h7 = grind arith
-
 -- ---- of the tag at an index
 
 pub open_at :
@@ -208,6 +201,11 @@ far_takes wish known index found far none = record {
   from = inl refl;
 }
 
+from_known : (wish : Wish) (known : KnownTag) (index : ℕ) (old new : Option Candidate) → (new ≡ old) ⊎ MatchOption new ⊥ (IsOfKnown wish known index) → (new ≡ old) ⊎ MatchOption new ⊥ (λ c. c.index ≡ index)
+from_known wish known index old (Some c) (inr of) = inr of.0
+from_known wish known index old None (inr of) = absurd of
+from_known wish known index old new (inl same) = inl same
+
 -- what is tried at an index is the entry there
 pub takes_at :
     (tags : List (Option (List ℕ))) (wish : Wish) (known : KnownTag) (index : ℕ) (old new : Option Candidate) → index < length tags → IsKnownAt tags index known →
@@ -218,6 +216,7 @@ takes_at tags wish known index old new inside at takes = record {
       let here = known_there tags index known at tag there in
       subst (λ t. IsNotAfter new (rank wish.place (wish_element wish) index t)) here.0 (takes.covers here.1 (subst (λ t. serves (wish_element wish) t ≡ true) (sym here.0) served));
   real = λ elements wanted real. real_from_known elements tags wish known index old new inside at wanted real takes.from;
+  from = from_known wish known index old new takes.from;
 }
 
 pub entry_covers :
@@ -226,6 +225,104 @@ pub entry_covers :
 entry_covers tags element place wish index old new same_element same_place takes tag there served =
     subst (λ e. IsNotAfter new (rank place e index tag)) same_element
     (subst (λ p. IsNotAfter new (rank p (wish_element wish) index tag)) same_place (takes.covers tag there (subst (λ e. serves e tag ≡ true) (sym same_element) served)))
+
+-- ---- some tags that are not refused
+
+-- what was tried is still free
+still_open :
+    (elements : List Element) (tags : List (Option (List ℕ))) (index : ℕ) (old new : Option Candidate) → IsUnrefusedAt elements tags index →
+    (new ≡ old) ⊎ MatchOption new ⊥ (λ c. c.index ≡ index) → AreOpen elements tags old → AreOpen elements tags new
+still_open elements tags index old (Some c) free (inr at) are = subst (IsUnrefusedAt elements tags) (sym at) free
+still_open elements tags index old None free (inr at) are = absurd at
+still_open elements tags index old new free (inl same) are = subst (AreOpen elements tags) (sym same) are
+
+module _ (tags : List (Option (List ℕ))) (start : ℕ) (flags : List Bool) where
+  pub improves_none : (element : Element) (place : ℕ) (found : Option Candidate) → ImprovesFor element place tags start flags 0 found found
+  improves_none element place found = record { keeps = λ r is. is; covers = λ k below. absurd (omega (arith, below)); real = λ elements wanted real. real; unrefused = λ elements free are. are }
+
+  -- an entry that is no free tag is passed over
+  pub improves_past :
+      (element : Element) (place k : ℕ) (old new : Option Candidate) → ImprovesFor element place tags start flags k old new → get_or flags k false ≡ false → ImprovesFor element place tags start flags (k + 1) old new
+  improves_past element place k old new so_far closed = record {
+    keeps = so_far.keeps;
+    covers = below_more _ _ so_far.covers (λ free. absurd (true≢false (sym free ∙ closed)));
+    real = so_far.real;
+    unrefused = so_far.unrefused;
+  }
+
+  pub improves_next :
+      (element : Element) (place k : ℕ) (wish : Wish) (old middle new : Option Candidate) → wish_element wish ≡ element → wish.place ≡ place → ImprovesFor element place tags start flags k old middle →
+      get_or flags k false ≡ true → TakesAt wish tags (start + k) middle new → ImprovesFor element place tags start flags (k + 1) old new
+  improves_next element place k wish old middle new same_element same_place so_far free takes = record {
+    keeps = λ r is. takes.keeps r (so_far.keeps r is);
+    covers = below_more _ _ (λ j below flag tag there served. takes.keeps (rank place element (start + j) tag) (so_far.covers j below flag tag there served))
+        (λ flag. entry_covers tags element place wish (start + k) middle new same_element same_place takes);
+    real = λ elements wanted real.
+        takes.real elements (ap (slice_get elements) same_place ∙ wanted ∙ ap Some (sym same_element)) (so_far.real elements wanted real);
+    unrefused = λ elements are found. still_open elements tags (start + k) middle new (are k free) takes.from (so_far.unrefused elements are found);
+  }
+
+  module _ (elements : List Element) where
+    pub improves_first : (found : Option Candidate) → ImprovesAt elements tags start flags 0 found found
+    improves_first found = record { keeps = λ r is. is; covers = λ k free tag there place below. absurd (omega (arith, below)); real = λ real. real; unrefused = λ are. are }
+
+    pub one_more_improves :
+        (place : ℕ) (element : Element) (old middle new : Option Candidate) → AreOpenAt elements tags start flags → ImprovesAt elements tags start flags place old middle →
+        slice_get elements place ≡ Some element → ImprovesFor element place tags start flags (length flags) middle new → ImprovesAt elements tags start flags (place + 1) old new
+    one_more_improves place element old middle new are so_far wanted step = record {
+      keeps = λ r is. step.keeps r (so_far.keeps r is);
+      covers = λ k free tag there.
+          one_more_range_for_tag elements tag (start + k) place element middle new (so_far.covers k free tag there) step.keeps wanted
+          (step.covers k (flag_within flags k free) free tag there);
+      real = λ real. step.real elements wanted (so_far.real real);
+      unrefused = λ found. step.unrefused elements are (so_far.unrefused found);
+    }
+
+    pub improves_all :
+        (place : ℕ) (old new : Option Candidate) → ((p : ℕ) (element : Element) → slice_get elements p ≡ Some element → p < place) → ImprovesAt elements tags start flags place old new →
+        ImprovesAt elements tags start flags (length elements) old new
+    improves_all place old new done so_far = record {
+      keeps = so_far.keeps;
+      covers = λ k free tag there p below element wanted. so_far.covers k free tag there p (done p element wanted) element wanted;
+      real = so_far.real;
+      unrefused = so_far.unrefused;
+    }
+
+    -- the tags before these, and these
+    block_at :
+        (old new : Option Candidate) → ((k : ℕ) → k < 64 → IsUnrefusedAt elements tags (start + k) → get_or flags k false ≡ true) → CoversOpen elements tags start old →
+        ImprovesAt elements tags start flags (length elements) old new → (index : ℕ) → index < start + 64 → (index < start) ⊎ (start ≤ index) → (place : ℕ) (element : Element) (tag : List ℕ) →
+        slice_get elements place ≡ Some element → slice_get tags index ≡ Some (Some tag) → is_refused elements tag ≡ false → serves element tag ≡ true → IsNotAfter new (rank place element index tag)
+    block_at old new all so_far step index below (inl before) place element tag wanted there free served =
+        step.keeps (rank place element index tag) (so_far index before place element tag wanted there free served)
+    block_at old new all so_far step index below (inr after) place element tag wanted there free served =
+        let at : start + (index - start) ≡ index = omega (arith, after) in
+        let here : slice_get tags (start + (index - start)) ≡ Some (Some tag) = ap (slice_get tags) at ∙ there in
+        subst (λ i. IsNotAfter new (rank place element i tag)) at
+        (step.covers (index - start) (all (index - start) (omega (arith, after, below)) (tag, here, free)) tag here place (slice_get_within elements place element wanted) element wanted served)
+
+    pub more_open :
+        (count : ℕ) (old new : Option Candidate) → count ≤ 64 → ((k : ℕ) → k < 64 → IsUnrefusedAt elements tags (start + k) → get_or flags k false ≡ true) → CoversOpen elements tags start old →
+        ImprovesAt elements tags start flags (length elements) old new → CoversOpen elements tags (start + count) new
+    more_open count old new few all so_far step = λ index below. block_at old new all so_far step index (omega (arith, below, few)) (cases_lt index start)
+
+    -- a flag is stored
+    pub more_flagged :
+        (k : ℕ) (b : Bool) → k < length flags → ((b ≡ true) ↔ IsUnrefusedAt elements tags (start + k)) → AreOpenAt elements tags start flags → AreOpenAt elements tags start (set flags k b)
+    more_flagged k b within tells are = λ j is. flagged j is (flag_at flags k j b within (cases_lt j k) (cases_lt k j))
+      where
+        flagged :
+            (j : ℕ) → get_or (set flags k b) j false ≡ true → (get_or (set flags k b) j false ≡ get_or flags j false) ⊎ ((j ≡ k) × (get_or (set flags k b) j false ≡ b)) →
+            IsUnrefusedAt elements tags (start + j)
+        flagged j is (inl same) = are j (sym same ∙ is)
+        flagged j is (inr at) = subst (λ i. IsUnrefusedAt elements tags (start + i)) (sym at.0) (tells.0 (sym at.1 ∙ is))
+
+    pub all_flagged :
+        (k : ℕ) (b : Bool) → k < length flags → ((b ≡ true) ↔ IsUnrefusedAt elements tags (start + k)) → ((j : ℕ) → j < k → IsUnrefusedAt elements tags (start + j) → get_or flags j false ≡ true) →
+        (j : ℕ) → j < k + 1 → IsUnrefusedAt elements tags (start + j) → get_or (set flags k b) j false ≡ true
+    all_flagged k b within tells all =
+        below_more _ _ (λ j below is. get_or-set_other flags k j b false (λ same. omega (arith, below, same)) ∙ all j below is)
+        (λ is. get_or-set_same flags k b false within ∙ tells.1 is)
 
 -- ---- what is first of all
 

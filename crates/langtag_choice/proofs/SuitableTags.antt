@@ -1,5 +1,5 @@
 -- The tags that are chosen in turn.
-use Rattle.std.proofs.Common.{◌≡◌, ◌≢◌, ◌⊎◌, inl, inr, ℕ, ◌<◌, ◌≤◌, ◌+◌, ◌-◌, ◌==◌, true, false, Bool, List, [], ◌∷◌, ◌++◌, Option, Some, None, is_some, cond, count_by, eqb, sum_by, length, get_or, slice_get, set, drop, refl, sym, subst, ap, ◌∙◌, arith, All, AllPairs, Contains}
+use Rattle.std.proofs.Common.{◌≡◌, ◌≢◌, ◌⊎◌, inl, inr, ℕ, ◌<◌, ◌≤◌, ◌+◌, ◌-◌, ◌==◌, true, false, List, [], ◌∷◌, ◌++◌, Option, Some, None, is_some, cond, count_by, eqb, sum_by, length, get_or, slice_get, set, drop, refl, sym, subst, ap, ◌∙◌, arith, All, Contains}
 use Rattle.std.proofs.lemmas.Bool.Decides.{eqb_tells, leb_tells}
 use Rattle.std.proofs.lemmas.List.{append_assoc, append-nil, drop-drop, drop-set-lt, get_or-set_other, get_or-set_same, get_or_past, length-append, length-set}
 use Rattle.std.proofs.lemmas.List.Elements.{All-cons, All-nil, Contains-append_right}
@@ -8,7 +8,7 @@ use Rattle.std.proofs.lemmas.List.Sums.{count_by-le-length, sum_by-set}
 use Rattle.std.proofs.lemmas.Option.{get_or_from_slice_get, slice_get-get_or, slice_get_within}
 use Rattle.std.specs.List.{list_any}
 use Rattle.langtag_range.specs.Element.{Element}
-use Rattle.langtag_choice.specs.Best.{IsChoice, Pair}
+use Rattle.langtag_choice.specs.Best.{IsChoice}
 use Rattle.langtag_choice.specs.Remaining.{without_all}
 use Rattle.langtag_choice.specs.Suitable.{AreDistinct, AreSuitable, BeginsWithChoice, IsServing, LeavesNoneOut, without}
 

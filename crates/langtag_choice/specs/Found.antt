@@ -1,5 +1,5 @@
 -- The candidate that is found while the choice is made. Only contracts of private functions cite this page.
-use Rattle.std.specs.Prelude.{◌≡◌, ◌⊎◌, ℕ, ◌<◌, ◌-◌, true, false, List, [], ◌∷◌, Option, Some, None, MatchOption, IfSome, length, slice_get, option_map}
+use Rattle.std.specs.Prelude.{◌≡◌, ◌⊎◌, ℕ, ◌<◌, ◌+◌, ◌-◌, Bool, true, false, List, [], ◌∷◌, Option, Some, None, MatchOption, IfSome, length, slice_get, slice_index_or, option_map}
 use Rattle.langtag_range.specs.Element.{Element}
 use Rattle.langtag_range.specs.Listed.{basic_text}
 use Rattle.langtag_choice.specs.Best.{IsAtMost, Pair, is_refused, may_serve, rank, rank_of_pair, reach, serves}
@@ -79,10 +79,6 @@ pub record IsAt (elements : List Element) (text : List ℕ) (there : ℕ) (c : C
   pub served : serves element text ≡ true
   pub same_rank : rank_of c ≡ rank c.rank.place element there text
 
--- the candidate did not change, or the new candidate is the text at the index for one of the ranges
-abbrev pub IsOldOrAt : List Element → List ℕ → ℕ → Option Candidate → Option Candidate → Type 0
-IsOldOrAt elements tag index old new = (new ≡ old) ⊎ MatchOption new ⊥ (IsAt elements tag index)
-
 -- the candidate is an entry of the list; if it is a tag, it is that tag for one of the ranges, and may be refused
 pub record IsFor (elements : List Element) (tags : List (Option (List ℕ))) (c : Candidate) : Type 0 where
   pub inside : c.index < length tags
@@ -101,6 +97,7 @@ pub record TakesAt (wish : Wish) (tags : List (Option (List ℕ))) (index : ℕ)
   pub keeps : Keeps old new
   pub covers : (tag : List ℕ) → slice_get tags index ≡ Some (Some tag) → serves (wish_element wish) tag ≡ true → IsNotAfter new (rank wish.place (wish_element wish) index tag)
   pub real : (elements : List Element) → slice_get elements wish.place ≡ Some (wish_element wish) → IsReal elements tags old → IsReal elements tags new
+  pub from : (new ≡ old) ⊎ MatchOption new ⊥ (λ c. c.index ≡ index)
 
 -- no pair with one of the first ranges has a lesser rank than the candidate
 abbrev pub Covers : List Element → List (Option (List ℕ)) → ℕ → Option Candidate → Type 0
@@ -127,6 +124,27 @@ CoversOpen elements tags count found =
 -- the candidate, if there is one, is a tag that is not refused
 abbrev pub AreOpen : List Element → List (Option (List ℕ)) → Option Candidate → Type 0
 AreOpen elements tags found = IfSome found (λ c. IsUnrefusedAt elements tags c.index)
+
+-- ---- some tags that are not refused
+
+-- a flag is true only if its entry is a tag that is not refused; the first flag is that of the entry at an index
+abbrev pub AreOpenAt : List Element → List (Option (List ℕ)) → ℕ → List Bool → Type 0
+AreOpenAt elements tags start flags = (k : ℕ) → slice_index_or flags k false ≡ true → IsUnrefusedAt elements tags (start + k)
+
+-- `old` and `new` are the candidates before and after the first of some entries were tried for a range
+pub record ImprovesFor (element : Element) (place : ℕ) (tags : List (Option (List ℕ))) (start : ℕ) (flags : List Bool) (count : ℕ) (old new : Option Candidate) : Type 0 where
+  pub keeps : Keeps old new
+  pub covers : (k : ℕ) → k < count → slice_index_or flags k false ≡ true → (tag : List ℕ) → slice_get tags (start + k) ≡ Some (Some tag) → serves element tag ≡ true →
+      IsNotAfter new (rank place element (start + k) tag)
+  pub real : (elements : List Element) → slice_get elements place ≡ Some element → IsReal elements tags old → IsReal elements tags new
+  pub unrefused : (elements : List Element) → AreOpenAt elements tags start flags → AreOpen elements tags old → AreOpen elements tags new
+
+-- `old` and `new` are the candidates before and after some entries were tried for the first of the ranges
+pub record ImprovesAt (elements : List Element) (tags : List (Option (List ℕ))) (start : ℕ) (flags : List Bool) (count : ℕ) (old new : Option Candidate) : Type 0 where
+  pub keeps : Keeps old new
+  pub covers : (k : ℕ) → slice_index_or flags k false ≡ true → (tag : List ℕ) → slice_get tags (start + k) ≡ Some (Some tag) → CoversRanges elements tag (start + k) count new
+  pub real : IsReal elements tags old → IsReal elements tags new
+  pub unrefused : AreOpen elements tags old → AreOpen elements tags new
 
 -- the candidate is the pair with the least rank
 pub record IsBestOf (elements : List Element) (tags : List (Option (List ℕ))) (c : Candidate) : Type 0 where

@@ -1,4 +1,4 @@
-//! Making the choice range by range. Ranges of lower weight are skipped if a tag serves a range of higher weight.
+//! Making the choice range by range. Ranges of lower weight are skipped if a tag is near a range of higher weight.
 ghost use Rattle.std.specs.Prelude.{◌≡◌, ℕ, List, IsTrue, Some, length};
 ghost use Rattle.std.specs.List.{list_any, slice_get};
 ghost use Rattle.langtag_range.specs.Element.{Element};

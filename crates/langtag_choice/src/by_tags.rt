@@ -1,21 +1,20 @@
 //! Making the choice tag by tag. Each entry is checked once: whether it is a tag, and whether it is refused.
-ghost use Rattle.std.specs.Prelude.{◌≡◌, ◌<◌, ◌↔◌, ℕ, List, IsTrue, Some, false, length, slice_get};
-ghost use Rattle.langtag_range.specs.Element.{Element};
+ghost use Rattle.std.specs.Prelude.{◌≡◌, ◌<◌, ◌+◌, ◌^◌, ◌↔◌, ℕ, IsTrue, false, true, length, slice_index_or};
 ghost use Rattle.langtag_range.specs.Listed.{listed_element};
 ghost use Rattle.langtag_range.specs.Range.{is_language_range};
 ghost use Rattle.langtag_range.specs.Wanted.{hyphened};
-ghost use Rattle.langtag_choice.specs.Best.{is_refused, rank, serves};
-ghost use Rattle.langtag_choice.specs.KnownTexts.{is_known, known_text};
-ghost use Rattle.langtag_choice.specs.Found.{AreOpen, CoversOpen, CoversRanges, IsOldOrAt, IsUnrefusedAt, IsReal, IsNotAfter, Keeps};
+ghost use Rattle.langtag_choice.specs.Found.{AreOpen, AreOpenAt, CoversOpen, ImprovesAt, ImprovesFor, IsUnrefusedAt, IsReal};
 
 use crate::candidate::Candidate;
-use crate::improve::{improve, limit};
-use crate::known_tag::{KnownTag, known_at};
+use crate::improve::{improve_entry, limit};
 use crate::range_list::RangeList;
 use crate::refused::is_refused;
 use crate::tag_list::TagList;
 use crate::wish::Wish;
 use langtag_range::WantedRange;
+
+/// The number of tags for which each range is read once.
+const BLOCK: usize = 64;
 
 /// Returns the best candidate among the tags that are not refused.
 pub(crate) fn first_by_tags<'a, 't, R: RangeList<'a>, T: TagList>(
@@ -27,33 +26,34 @@ pub(crate) fn first_by_tags<'a, 't, R: RangeList<'a>, T: TagList>(
     ensures unrefused { AreOpen (R.elements ranges) (T.texts tags.now) result }
 {
     let mut first = None;
-    for index in 0..tags.count() {
-        improve_at(&mut first, ranges, tags, index);
+    let mut start = 0;
+    while start < tags.count() {
+        let unrefused = unrefused_from(ranges, tags, start);
+        improve_at(&mut first, ranges, tags, start, &unrefused);
+        start += BLOCK.min(tags.count() - start);
     }
     first
 }
 
-/// Replaces the candidate by the best candidate with the tag at an index, if that is better and the tag is not
-/// refused.
-fn improve_at<'a, 't, R: RangeList<'a>, T: TagList>(
-    found: &mut Option<Candidate<'a, 't>>,
+/// Returns which entries from an index on are tags that are not refused, up to [`BLOCK`] entries.
+fn unrefused_from<'a, R: RangeList<'a>, T: TagList>(
     ranges: R,
-    tags: &'t T,
-    index: usize,
-)
-    requires { index < length (T.texts tags.now) }
-    ensures keeps { Keeps found.old found.new }
-    ensures covers { (tag : List ℕ) → slice_get (T.texts tags.now) index ≡ Some (Some tag) → is_refused (R.elements ranges) tag ≡ false → CoversRanges (R.elements ranges) tag index (length (R.elements ranges)) found.new }
-    ensures real { IsReal (R.elements ranges) (T.texts tags.now) found.old → IsReal (R.elements ranges) (T.texts tags.now) found.new }
-    ensures unrefused { AreOpen (R.elements ranges) (T.texts tags.now) found.old → AreOpen (R.elements ranges) (T.texts tags.now) found.new }
+    tags: &T,
+    start: usize,
+) -> [bool; BLOCK]
+    requires { start < length (T.texts tags.now) }
+    ensures unrefused { AreOpenAt (R.elements ranges) (T.texts tags.now) start result }
+    ensures all { (k : ℕ) → k < 64 → IsUnrefusedAt (R.elements ranges) (T.texts tags.now) (start + k) → slice_index_or result k false ≡ true }
 {
-    if is_open(ranges, tags, index) {
-        improve_for_tag(found, ranges, known_at(tags, index), index);
+    let mut unrefused = [false; BLOCK];
+    for offset in 0..BLOCK.min(tags.count() - start) {
+        unrefused[offset] = is_unrefused(ranges, tags, start + offset);
     }
+    unrefused
 }
 
 /// Returns whether the entry at an index is a tag that is not refused.
-fn is_open<'a, R: RangeList<'a>, T: TagList>(ranges: R, tags: &T, index: usize) -> bool
+fn is_unrefused<'a, R: RangeList<'a>, T: TagList>(ranges: R, tags: &T, index: usize) -> bool
     requires { index < length (T.texts tags.now) }
     ensures { IsTrue result ↔ IsUnrefusedAt (R.elements ranges) (T.texts tags.now) index }
 {
@@ -63,46 +63,51 @@ fn is_open<'a, R: RangeList<'a>, T: TagList>(ranges: R, tags: &T, index: usize) 
     }
 }
 
-/// Replaces the candidate by the best candidate with a tag, if that is better.
-fn improve_for_tag<'a, 't, R: RangeList<'a>>(
+/// Replaces the candidate by the best candidate with one of some tags, if that is better. `unrefused` says which
+/// entries from the index `start` on these are.
+fn improve_at<'a, 't, R: RangeList<'a>, T: TagList>(
     found: &mut Option<Candidate<'a, 't>>,
     ranges: R,
-    tag: KnownTag<'t>,
-    index: usize,
+    tags: &'t T,
+    start: usize,
+    unrefused: &[bool],
 )
-    requires { IsTrue (is_known tag) }
-    ensures keeps { Keeps found.old found.new }
-    ensures covers { CoversRanges (R.elements ranges) (known_text tag.entry) index (length (R.elements ranges)) found.new }
-    ensures from { IsOldOrAt (R.elements ranges) (known_text tag.entry) index found.old found.new }
+    requires few { length (T.texts tags.now) < 2 ^ 64 }
+    requires unrefused { AreOpenAt (R.elements ranges) (T.texts tags.now) start unrefused.now }
+    ensures { ImprovesAt (R.elements ranges) (T.texts tags.now) start unrefused.now (length (R.elements ranges)) found.old found.new }
 {
     let mut place = 0;
     let mut left = ranges;
     while let Some((wanted, rest)) = left.split_range() {
-        improve_for_pair(found, wanted, place, tag, index);
+        improve_for_range(found, wanted, place, tags, start, unrefused);
         place += 1;
         left = rest;
     }
 }
 
-/// Replaces the candidate by the candidate with a tag and a range, if that is better.
-#[tactic(auto, using(crate::proofs::FoundLaws::from_of))]
-fn improve_for_pair<'a, 't>(
+/// Replaces the candidate by the best candidate with a range and one of some tags, if that is better.
+fn improve_for_range<'a, 't, T: TagList>(
     found: &mut Option<Candidate<'a, 't>>,
     wanted: WantedRange<'a>,
     place: usize,
-    tag: KnownTag<'t>,
-    index: usize,
+    tags: &'t T,
+    start: usize,
+    unrefused: &[bool],
 )
     requires in_class { IsTrue (is_language_range (hyphened wanted.bytes.now)) }
-    requires known { IsTrue (is_known tag) }
-    ensures keeps { Keeps found.old found.new }
-    ensures covers { IsTrue (serves (listed_element wanted.entry) (known_text tag.entry)) → IsNotAfter found.new (rank place (listed_element wanted.entry) index (known_text tag.entry)) }
-    ensures from { (elements : List Element) → slice_get elements place ≡ Some (listed_element wanted.entry) → IsOldOrAt elements (known_text tag.entry) index found.old found.new }
+    requires few { length (T.texts tags.now) < 2 ^ 64 }
+    requires within { (k : ℕ) → slice_index_or unrefused.now k false ≡ true → start + k < length (T.texts tags.now) }
+    ensures { ImprovesFor (listed_element wanted.entry) place (T.texts tags.now) start unrefused.now (length unrefused.now) found.old found.new }
 {
     if limit(found, wanted.weight, place) == 0 {
         return;
     }
-    if let Some(wish) = Wish::new(wanted, place) {
-        improve(found, &wish, tag, index);
+    let Some(wish) = Wish::new(wanted, place) else {
+        return;
+    };
+    for offset in 0..unrefused.len() {
+        if unrefused[offset] {
+            improve_entry(found, &wish, tags, start + offset);
+        }
     }
 }

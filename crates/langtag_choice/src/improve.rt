@@ -44,22 +44,8 @@ fn lack(weight: u32) -> u32
     1000_u32.saturating_sub(weight)
 }
 
-/// Replaces the candidate by the string at an index, if the string may serve a range and is better. It does not check
-/// that the string is a tag.
-pub(crate) fn improve<'a, 't>(
-    found: &mut Option<Candidate<'a, 't>>,
-    wish: &Wish<'a>,
-    tag: KnownTag<'t>,
-    index: usize,
-)
-    ensures { Takes wish.now tag.entry index found.old found.new }
-{
-    if !tag.is_far_from(wish) {
-        improve_near(found, wish, tag, index);
-    }
-}
-
-/// Does what [`improve`] does, for the entry at an index of a list.
+/// Replaces the candidate by the entry at an index, if the entry may serve a range and is better. It does not check that
+/// the entry is a tag.
 ///
 /// The entry is read twice, so that what is not needed of an entry that is far stays out of memory.
 #[tactic(auto, using(crate::proofs::FoundLaws::takes_at))]
@@ -77,8 +63,8 @@ pub(crate) fn improve_entry<'a, 't, T: TagList>(
     }
 }
 
-/// Does what [`improve`] does, without testing the first letters. It is a separate function, so that this test can be
-/// inlined in the loop over tags.
+/// Does what [`improve_entry`] does, without testing the first letters. It is a separate function, so that this test can
+/// be inlined in the loop over tags.
 #[inline(never)]
 fn improve_near<'a, 't>(
     found: &mut Option<Candidate<'a, 't>>,

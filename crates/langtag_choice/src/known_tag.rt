@@ -46,6 +46,7 @@ impl<'t> KnownTag<'t> {
     }
 
     /// Returns whether the first letters of the tag show that it cannot serve a range.
+    #[inline(always)]
     pub(crate) fn is_far_from(self, wish: &Wish<'_>) -> bool
         ensures far { IsTrue (is_known self.entry) → IsTrue result → 50 ≤ distance_of_texts (basic_text wish.now.range.now) (known_text self.entry) }
         ensures kept { IsTrue (is_known self.entry) → IsTrue result → kept (basic_text wish.now.range.now) (known_text self.entry) ≡ 0 }

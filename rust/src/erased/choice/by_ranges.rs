@@ -1,6 +1,6 @@
 // Made by rust/erase from crates/langtag_choice/src/by_ranges.rt. Change that file, not this one.
 
-//! Making the choice range by range. Ranges of lower weight are skipped if a tag serves a range of
+//! Making the choice range by range. Ranges of lower weight are skipped if a tag is near a range of
 //! higher weight.
 
 use crate::erased::choice::candidate::Candidate;

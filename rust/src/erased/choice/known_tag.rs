@@ -35,7 +35,7 @@ impl<'t> KnownTag<'t> {
     }
 
     /// Returns whether the first letters of the tag show that it cannot serve a range.
-    #[inline]
+    #[inline(always)]
     pub(crate) fn is_far_from(self, wish: &Wish<'_>) -> bool {
         match self {
             KnownTag::Text(text) => wish.is_far_from(text),
