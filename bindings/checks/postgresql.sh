@@ -32,34 +32,6 @@ postgresql_released() {
     [ "$exported" = 0 ] || { echo "$module exports $exported functions of the library"; return 1; }
 }
 
-# The first table of docs/POSTGRESQL.md.
-cat >"$work/first.sql" <<'END'
-CREATE EXTENSION langtag;
-CREATE TABLE texts (tag langtag NOT NULL, t text);
-CREATE UNIQUE INDEX texts_tag ON texts (tag);
-INSERT INTO texts VALUES ('de_CH', 'a');
-INSERT INTO texts VALUES ('ZH-hant-tw', 'b'), ('de', 'c'), ('zh', 'd');
-SET enable_seqscan = off;
-SELECT * FROM texts WHERE tag = 'zh-Hant-TW';
-EXPLAIN (COSTS OFF) SELECT * FROM texts WHERE tag = 'zh-Hant-TW';
-SELECT * FROM texts WHERE tag <@ 'zh' ORDER BY tag;
-SET enable_bitmapscan = off;
-EXPLAIN (COSTS OFF) SELECT * FROM texts WHERE tag <@ 'zh';
-DROP TABLE texts; DROP EXTENSION langtag;
-END
-cat >"$work/first.wanted" <<'END'
-ERROR:  invalid language tag `de_CH`: invalid character `_`: expected a letter, a digit or a hyphen
-zh-Hant-TW|b
-Index Scan using texts_tag on texts
-  Index Cond: (tag = 'zh-Hant-TW'::langtag)
-zh|d
-zh-Hant-TW|b
-Index Scan using texts_tag on texts
-  Index Cond: ((tag >= 'zh'::langtag) AND (tag < 'zh.'::langtag))
-END
-postgresql_first() {
-    psql -X -q -At postgres <"$work/first.sql" 2>&1 | grep -v '^LINE\|^ *^$\|^DETAIL' | diff - "$work/first.wanted"
-}
 postgresql_regress() { make -s -C "$pg_folder/first" installcheck PG_CONFIG="$pg_config" || { cat "$pg_folder/first/regression.diffs"; return 1; }; }
 # What SQL says of the library in the extension, and what it has to say of the archive that was given.
 postgresql_says() { psql -X -q -At -c "CREATE EXTENSION IF NOT EXISTS langtag; SELECT langtag_proved(), langtag_version()" postgres; }
@@ -88,7 +60,6 @@ else
     check "PostgreSQL: the tarball builds and installs, and exports no function of the library" postgresql_released
     PGPORT=$(port_of hub)
     SHARDS="$(port_of shard_a) $(port_of shard_b)"
-    check "PostgreSQL: a user's first table" postgresql_first
     check "PostgreSQL: the examples of the documents" "$root/.ci/examples" sql
     check "PostgreSQL: a planted false result in the documents is seen" python3 "$root/.ci/test_examples" Examples.test_sql
     check "PostgreSQL: make installcheck" postgresql_regress
