@@ -21,14 +21,6 @@ check "C: forms, suggestions, distances, choices and refusals of each length to 
 check "C: rows about $FUZZ_COUNT random texts, by a second implementation of the RFCs" \
     with_make fuzz COUNT="$FUZZ_COUNT" SEED="$FUZZ_SEED" BUILD="$work/c"
 
-# The date that the library returns has to be the date of the registry's file.
-dated() {
-    printf '#include <langtag.h>\n#include <stdio.h>\nint main(void) { return printf("%%u\\n", (unsigned)langtag_registry_date()) < 0; }\n' |
-        cc -x c - -Iinclude -x none "$archive" -o "$work/date" || return 1
-    [ "$("$work/date")" = "$(sed -n '1s/[^0-9]//gp' "$root/registry/language-subtag-registry")" ]
-}
-check "C: the date of the registry is that of its file" dated
-
 told_by_c() { "$work/c/test" --answer "$work/rows/calls.txt"; }
 
 # Random rows, and C's answers to random questions, with which the answers of Rust, Python and JavaScript are compared.

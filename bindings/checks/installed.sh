@@ -1,13 +1,6 @@
 # Uses the library from an empty folder: with only the archive and the header, and after an installation.
 wanted() { printf 'language zh\nscript Hant\nregion TW\n'; }
 
-archive_alone() {
-    mkdir "$work/c-alone" && cd "$work/c-alone" && cp "$archive" liblangtag_c.a || return 1
-    cp "$here/include/langtag.h" "$here/examples/parts.c" . && cc parts.c -I. liblangtag_c.a -o parts || return 1
-    ./parts zh-Hant-TW | diff - <(wanted)
-}
-check "C: the archive and the header alone" archive_alone
-
 module_alone() {
     mkdir "$work/python-alone" && cd "$work/python-alone" && cp "$archive" liblangtag_c.a || return 1
     cp -r "$here/python/langtag" "$here/examples/parts.py" . || return 1

@@ -409,45 +409,46 @@ static void answer_edit(text *to, const text *arguments) {
 
 enum { MOST_TAGS = 1 << 20 };
 
+/* The ranges and the tags of a row, as spans of its texts. */
+static langtag_span ranges[MOST_TAGS], tags[MOST_TAGS];
+
 /* The tags of a text as spans of it, and one more span that reaches beyond the text. */
-static size_t find_tags(text words, langtag_span *tags) {
+static size_t find_tags(text words, langtag_span *found) {
     size_t count = 0;
     for (size_t at = 0; at < words.len;) {
         if (count == MOST_TAGS - 1) abort();
         const char *blank = memchr(words.at + at, ' ', words.len - at);
         size_t end = blank ? (size_t)(blank - words.at) : words.len;
-        if (end > at) tags[count++] = (langtag_span){at, end - at};
+        if (end > at) found[count++] = (langtag_span){at, end - at};
         at = end + 1;
     }
-    tags[count] = (langtag_span){words.len, SIZE_MAX};
+    found[count] = (langtag_span){words.len, SIZE_MAX};
     return count;
 }
 
 typedef size_t choice(const char *header, size_t header_len, const char *bytes, size_t len, const langtag_span *tags, size_t count);
 
-static void put_tag(text *to, text words, const langtag_span *tags, size_t count, size_t index) {
+static void put_tag(text *to, text words, size_t count, size_t index) {
     if (index < count) put_bytes(to, words.at + tags[index].start, tags[index].len);
     else put_word(to, index == count ? " -" : " beyond the tags");
 }
 
 /* The tag that a call chooses, without and with a span that reaches beyond the text. */
 static void put_chosen(text *to, choice *choose, text header, text words) {
-    static langtag_span tags[MOST_TAGS];
     size_t count = find_tags(words, tags);
     size_t index = choose(header.at, header.len, words.at, words.len, tags, count);
-    put_tag(to, words, tags, count, index);
+    put_tag(to, words, count, index);
     size_t again = choose(header.at, header.len, words.at, words.len, tags, count + 1);
     if (again != (index < count ? index : count + 1)) put_word(to, " but another beside a span out of the text");
 }
 
 /* The result of the strict call: the tag, or the malformed element. */
 static void put_strictly(text *to, text header, text words) {
-    static langtag_span tags[MOST_TAGS];
     langtag_span bad;
     size_t count = find_tags(words, tags), index;
     uint32_t answer = langtag_tag_for_header(header.at, header.len, words.at, words.len, tags, count, &index, &bad);
     if (answer == LANGTAG_ACCEPTED_END) {
-        put_tag(to, words, tags, count, index);
+        put_tag(to, words, count, index);
         if (bad.start != header.len || bad.len != 0) put_word(to, " and a bad element");
         return;
     }
@@ -548,7 +549,6 @@ static langtag_prepared_tag site[MOST_TAGS], stale[MOST_TAGS];
 
 /* Prepares the tags of a text, and one more span that reaches beyond the text. In `stale` each tag has what was prepared for the first. */
 static size_t prepare_tags(text words) {
-    static langtag_span tags[MOST_TAGS];
     size_t count = find_tags(words, tags);
     for (size_t i = 0; i <= count; i++) {
         site[i].tag = tags[i];
@@ -581,11 +581,10 @@ static void answer_best(text *to, const text *arguments) {
 
 /* Also with spans that reach beyond the texts. */
 static void answer_best_ranges(text *to, const text *arguments) {
-    static langtag_span ranges[MOST_TAGS], tags[MOST_TAGS];
     const text *from = &arguments[0], *words = &arguments[1];
     size_t wanted = find_tags(*from, ranges), count = find_tags(*words, tags);
     size_t index = langtag_best_for_ranges(from->at, from->len, ranges, wanted, words->at, words->len, tags, count);
-    put_tag(to, *words, tags, count, index);
+    put_tag(to, *words, count, index);
     size_t again = langtag_best_for_ranges(from->at, from->len, ranges, wanted + 1, words->at, words->len, tags, count + 1);
     if (again != (index < count ? index : count + 1)) put_word(to, " but another beside spans out of the texts");
     prepare_tags(*words);
@@ -595,7 +594,6 @@ static void answer_best_ranges(text *to, const text *arguments) {
 
 /* The index, the distance and the range. All out arguments are written even if no tag is suitable. */
 static void answer_best_match(text *to, const text *arguments) {
-    static langtag_span tags[MOST_TAGS];
     text header = arguments[0], words = arguments[1];
     size_t count = find_tags(words, tags);
     langtag_best_match match = {{1, 2}, 3};
@@ -617,8 +615,8 @@ static void answer_best_match(text *to, const text *arguments) {
 }
 
 /* Puts the tags at the indices. The rest of the array has to stay unchanged. */
-static void put_tags(text *to, text words, const langtag_span *tags, size_t count, const size_t *found, size_t found_len) {
-    for (size_t k = 0; k < found_len; k++) put_tag(to, words, tags, count, found[k]);
+static void put_tags(text *to, text words, size_t count, const size_t *found, size_t found_len) {
+    for (size_t k = 0; k < found_len; k++) put_tag(to, words, count, found[k]);
     if (found_len == 0) put_word(to, " -");
     for (size_t k = found_len; k < MOST_TAGS; k++)
         if (found[k] != SIZE_MAX) put_word(to, " and a changed array");
@@ -626,13 +624,12 @@ static void put_tags(text *to, text words, const langtag_span *tags, size_t coun
 
 /* All suitable tags. An array that is too short has to get the first of them. */
 static void answer_suitable(text *to, const text *arguments) {
-    static langtag_span tags[MOST_TAGS];
     static size_t found[MOST_TAGS], some[MOST_TAGS];
     const text header = arguments[0], words = arguments[1];
     size_t count = find_tags(words, tags);
     memset(found, 0xff, sizeof found);
     size_t found_len = langtag_suitable_for_header(header.at, header.len, words.at, words.len, tags, count + 1, found, count + 1);
-    put_tags(to, words, tags, count, found, found_len);
+    put_tags(to, words, count, found, found_len);
     for (size_t room = 0; room <= found_len; room++) {
         memset(some, 0xff, sizeof some);
         if (langtag_suitable_for_header(header.at, header.len, words.at, words.len, tags, count, some, room) != room) put_word(to, " but another number");
@@ -641,13 +638,12 @@ static void answer_suitable(text *to, const text *arguments) {
 }
 
 static void answer_suitable_ranges(text *to, const text *arguments) {
-    static langtag_span ranges[MOST_TAGS], tags[MOST_TAGS];
     static size_t found[MOST_TAGS];
     const text *from = &arguments[0], *words = &arguments[1];
     size_t wanted = find_tags(*from, ranges), count = find_tags(*words, tags);
     memset(found, 0xff, sizeof found);
     size_t found_len = langtag_suitable_for_ranges(from->at, from->len, ranges, wanted + 1, words->at, words->len, tags, count + 1, found, count + 1);
-    put_tags(to, *words, tags, count, found, found_len);
+    put_tags(to, *words, count, found, found_len);
 }
 
 call calls[] = {
