@@ -125,10 +125,12 @@ def list_for_c(comment: str, name: str, functions: list[Function]) -> str:
 def functions_for_c(it: Interface) -> str:
     pure = [function for function in it.functions if function.is_pure()]
     texts = {count: [function for function in pure if [of.kind for of in function.parameters] == count * ["&[u8]"]] for count in (1, 2)}
+    forms = [function for function in it.functions if [of.kind for of in function.parameters] == ["&[u8]", "&mut [u8]"]]
     return f"/* Lists of the functions of langtag.h, without the prefix langtag_. {WRITTEN} */\n" + "".join([
         list_for_c("All functions.", "LANGTAG_FUNCTIONS", it.functions),
         list_for_c("The functions of one string that only return a value.", "LANGTAG_OF_ONE", texts[1]),
-        list_for_c("The functions of two strings that only return a value.", "LANGTAG_OF_TWO", texts[2])])
+        list_for_c("The functions of two strings that only return a value.", "LANGTAG_OF_TWO", texts[2]),
+        list_for_c("The functions of one string that write another string to a buffer.", "LANGTAG_FORMS", forms)])
 
 
 # ---- bindings/python/langtag/_declarations.py

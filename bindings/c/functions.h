@@ -79,3 +79,14 @@
     EACH(distance) \
     EACH(matches_basic) \
     EACH(matches_extended)
+
+/* The functions of one string that write another string to a buffer. */
+#define LANGTAG_FORMS(EACH) \
+    EACH(extensions_form) \
+    EACH(locale_form) \
+    EACH(canonical) \
+    EACH(maximized) \
+    EACH(minimized) \
+    EACH(parent) \
+    EACH(from_posix) \
+    EACH(to_posix)

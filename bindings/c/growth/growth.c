@@ -28,6 +28,8 @@ static size_t best_among(const char *header) {
 LANGTAG_OF_ONE(OF_ONE)
 #define OF_TWO(name) FUNCTION(name, result = (uint64_t)langtag_##name(text, len, other, len))
 LANGTAG_OF_TWO(OF_TWO)
+#define FORM(name) FUNCTION(name, result = langtag_##name(text, len, buffer, sizeof buffer))
+LANGTAG_FORMS(FORM)
 FUNCTION(parse, result = langtag_parse(text, len, &parts))
 FUNCTION(refused, result = langtag_refused(text, len, &found, &offset))
 FUNCTION(hash, result = langtag_hash(LANGTAG_HASH, text, len))
@@ -48,11 +50,7 @@ FUNCTION(repeats, result = langtag_repeats(text, len, &repeated))
 FUNCTION(validity, result = langtag_validity(text, len, &found))
 FUNCTION(suggestion, result = langtag_suggestion(LANGTAG_INVALID_LANGUAGE, text, len, buffer, sizeof buffer) +
                                langtag_suggestion(LANGTAG_INVALID_REGION, text, len, buffer, sizeof buffer))
-FUNCTION(canonical, result = langtag_canonical(text, len, buffer, sizeof buffer))
 FUNCTION(registry_date, result = langtag_registry_date())
-FUNCTION(maximized, result = langtag_maximized(text, len, buffer, sizeof buffer))
-FUNCTION(minimized, result = langtag_minimized(text, len, buffer, sizeof buffer))
-FUNCTION(parent, result = langtag_parent(text, len, buffer, sizeof buffer))
 FUNCTION(best_for_header, found = (langtag_span){0, len};
          result = langtag_best_for_header(text, len, "de-DE", 5, &(langtag_span){0, 5}, 1) +
                   langtag_best_for_header("de", 2, text, len, &found, 1))
@@ -77,8 +75,6 @@ FUNCTION(tag_for_header, result = langtag_tag_for_header(text, len, "de-DE", 5, 
 FUNCTION(tag_for_header_lenient, found = (langtag_span){0, len};
          result = langtag_tag_for_header_lenient(text, len, "de-DE", 5, &(langtag_span){0, 5}, 1) +
                   langtag_tag_for_header_lenient("de", 2, text, len, &found, 1))
-FUNCTION(from_posix, result = langtag_from_posix(text, len, buffer, sizeof buffer))
-FUNCTION(to_posix, result = langtag_to_posix(text, len, buffer, sizeof buffer))
 FUNCTION(unknown_modifier, result = langtag_unknown_modifier(text, len, &found))
 FUNCTION(cldr_version, result = langtag_cldr_version(buffer, sizeof buffer))
 FUNCTION(next_fallback, rest = (langtag_span){0, len};
@@ -91,8 +87,6 @@ FUNCTION(with_part, for (uint32_t part = 0; part <= LANGTAG_PART_PRIVATE_USE; pa
 FUNCTION(with_keyword, result = langtag_with_keyword(text, len, "zz", 2, "bbb", 3, buffer, sizeof buffer) +
                                 langtag_with_keyword("de", 2, "zz", 2, text + 3, len - 3, buffer, sizeof buffer))
 FUNCTION(without_keyword, result = langtag_without_keyword(text, len, "zz", 2, buffer, sizeof buffer))
-FUNCTION(extensions_form, result = langtag_extensions_form(text, len, buffer, sizeof buffer))
-FUNCTION(locale_form, result = langtag_locale_form(text, len, buffer, sizeof buffer))
 
 #define ENTRY(name) {#name, name},
 static const struct function functions[] = {LANGTAG_FUNCTIONS(ENTRY){"best_of_tags", best_of_tags}};
