@@ -26,6 +26,18 @@ function made(type, text) {
     }
 }
 
+/** Returns a function that answers a row about a tag. For a string that is not a tag, it answers `otherwise`. */
+const ofTag = (ask, otherwise = "-") => (text, ...more) => {
+    const tag = made(LanguageTag, text);
+    return tag === undefined ? otherwise : ask(tag, ...more);
+};
+
+const yesOrNo = (answer) => (answer ? "yes" : "no");
+
+/** Returns the strings of a list, and the tags that they are. */
+const wordsOf = (list) => list.split(" ").filter(Boolean);
+const tagsOf = (list) => wordsOf(list).map((text) => LanguageTag.parse(text));
+
 const kindOf = (text) => {
     const tag = made(LanguageTag, text);
     return tag === undefined ? "none" : KINDS[tag.kind];
@@ -67,25 +79,17 @@ export function adapted({ call, wanted }) {
     }).join("\n");
 }
 
-function answerValidity(text) {
-    const tag = made(LanguageTag, text);
-    if (tag === undefined) return "none";
+function answerValidity(tag) {
     const wrong = tag.invalidSubtag;
     assert(tag.isValid === (wrong === undefined), "valid");
     if (wrong === undefined) return "valid";
-    assert(text.startsWith(wrong.subtag, wrong.start), "the subtag");
+    assert(tag.text.startsWith(wrong.subtag, wrong.start), "the subtag");
     const meant = String(wrong).split(": did you mean ")[1];
     assert(meant === (wrong.suggestion && `${wrong.suggestion}?`), String(wrong));
     return `${wrong.fault} ${wrong.start} ${wrong.subtag}`;
 }
 
-const answerFault = (text) => (made(LanguageTag, text) === undefined ? "-" : String(LanguageTag.parse(text).invalidSubtag ?? "valid").split(": did")[0]);
-
-const answerSuggestion = (text) => made(LanguageTag, text)?.invalidSubtag?.suggestion ?? "-";
-
-function answerCanonical(text) {
-    const tag = made(LanguageTag, text);
-    if (tag === undefined) return "-";
+function answerCanonical(tag) {
     const form = tag.canonical();
     assert(tag.isCanonical === form.equals(tag) && form.isCanonical, "is canonical");
     return String(form);
@@ -136,8 +140,7 @@ function answerOrder(one, other) {
 }
 
 function answerHeader(header, list) {
-    const texts = list.split(" ").filter((text) => text !== "");
-    const tags = texts.map((text) => LanguageTag.parse(text));
+    const texts = wordsOf(list), tags = tagsOf(list);
     let strict;
     try {
         strict = String(tagForHeader(header, tags, DEFAULT));
@@ -164,9 +167,6 @@ function answerElements(header) {
         return `${error.message} | ${lenient}`;
     }
 }
-
-const answerRanges = (ranges, tags) =>
-    String(lookUp(ranges.split(" ").filter(Boolean), tags.split(" ").filter(Boolean).map((text) => LanguageTag.parse(text)), DEFAULT));
 
 function answerRefused(text) {
     const [answer, start, length, offset] = calls.refused(text);
@@ -209,55 +209,39 @@ function answerUnknownModifier(bytes) {
     return name === undefined ? undefined : escaped(unknownModifier(name) ?? "-");
 }
 
-function answerDistance(desired, supported) {
-    const [one, other] = [made(LanguageTag, desired), made(LanguageTag, supported)];
-    return one && other ? String(distance(one, other)) : "-";
+/** Returns what a call chooses among strings, which has to be what it chooses among tags. */
+function chosen(call, list) {
+    const found = call(wordsOf(list), DEFAULT);
+    assert(String(call(tagsOf(list), DEFAULT)) === found, "the tag of tags");
+    return found;
 }
 
 function answerBest(header, list) {
-    const texts = list.split(" ").filter(Boolean);
-    const found = bestForHeader(header, texts, DEFAULT);
-    assert(String(bestForHeader(header, texts.map((text) => LanguageTag.parse(text)), DEFAULT)) === found, "the tag of tags");
+    const texts = wordsOf(list), found = chosen((tags, otherwise) => bestForHeader(header, tags, otherwise), list);
     assert(header.includes(";") || bestForRanges(header.split(","), texts, DEFAULT) === found, "the tag of ranges");
     assert(new Site(texts).bestForHeader(header, DEFAULT) === found, "the tag of a site");
     return found;
 }
 
-function answerBestAccepted(header, list) {
-    const accepted = AcceptLanguage.lenient(header), texts = list.split(" ").filter(Boolean);
-    const found = accepted.best(texts, DEFAULT);
-    assert(String(accepted.best(texts.map((text) => LanguageTag.parse(text)), DEFAULT)) === found, "the tag of tags");
-    return found;
-}
-
 function answerBestRanges(ranges, list) {
-    const [wanted, texts] = [ranges, list].map((words) => words.split(" ").filter(Boolean));
-    const found = bestForRanges(wanted, texts, DEFAULT);
-    assert(new Site(texts).bestForRanges(wanted, DEFAULT) === found, "the tag of a site");
-    const again = bestForRanges(wanted.map((text) => LanguageRange.parse(text)), texts.map((text) => LanguageTag.parse(text)), DEFAULT);
-    assert(String(again) === found, "the tag of ranges");
+    const wanted = wordsOf(ranges), found = chosen((tags, otherwise) => bestForRanges(wanted, tags, otherwise), list);
+    assert(new Site(wordsOf(list)).bestForRanges(wanted, DEFAULT) === found, "the tag of a site");
+    assert(bestForRanges(wanted.map((text) => LanguageRange.parse(text)), wordsOf(list), DEFAULT) === found, "the tag of ranges");
     return found;
 }
 
 function answerBestMatch(header, list) {
-    const texts = list.split(" ").filter(Boolean);
-    const found = matchForHeader(header, texts);
-    assert(matchForHeader(header, texts.map((text) => LanguageTag.parse(text)))?.index === found?.index, "the index of tags");
+    const texts = wordsOf(list), found = matchForHeader(header, texts);
+    assert(matchForHeader(header, tagsOf(list))?.index === found?.index, "the index of tags");
     assert(found?.tag === bestForHeader(header, texts), "the best tag");
     assert(JSON.stringify(new Site(texts).matchForHeader(header)) === JSON.stringify(found), "the match of a site");
     return found === undefined ? "-" : `${found.index} ${found.distance} ${found.range}`;
 }
 
 function answerSuitable(header, list) {
-    const texts = list.split(" ").filter(Boolean);
-    const found = suitableForHeader(header, texts).join(" ");
-    assert(suitableForHeader(header, texts.map((text) => LanguageTag.parse(text))).join(" ") === found, "the tags of tags");
+    const found = suitableForHeader(header, wordsOf(list)).join(" ");
+    assert(suitableForHeader(header, tagsOf(list)).join(" ") === found, "the tags of tags");
     return found || "-";
-}
-
-function answerSuitableRanges(ranges, list) {
-    const [wanted, texts] = [ranges, list].map((words) => words.split(" ").filter(Boolean));
-    return suitableForRanges(wanted, texts).join(" ") || "-";
 }
 
 function edited(tag, part, value) {
@@ -306,17 +290,16 @@ function answerWithKeyword(text, key, given) {
     return found;
 }
 
-function answerExtensionsForm(text) {
-    const form = made(LanguageTag, text)?.extensionsForm();
-    if (form === undefined) return "-";
+function answerExtensionsForm(tag) {
+    const form = tag.extensionsForm();
     assert(form.extensionsForm().text === form.text, "the form of the form");
     return form.text;
 }
 
-function answerLocaleForm(text) {
-    const tag = made(LanguageTag, text), form = tag?.localeForm();
+function answerLocaleForm(tag) {
+    const form = tag.localeForm();
     if (form === undefined) {
-        assert(!tag?.isLocale, "a locale has a form");
+        assert(!tag.isLocale, "a locale has a form");
         return "-";
     }
     assert(form.isLocale && form.localeForm().text === form.text, "the form of the form");
@@ -326,73 +309,68 @@ function answerLocaleForm(text) {
 const orEmpty = (text) => (text === "" ? "''" : text);
 const said = (pairs) => [...pairs].map(([key, value]) => `${key}=${value}`).join(" ");
 
-function answerKeywords(text) {
-    const tag = LanguageTag.parse(text), pairs = tag.keywords;
+function answerKeywords(tag) {
+    const pairs = tag.keywords;
     for (const [key, value] of pairs) assert(tag.keyword(key) === value, "each by its key");
     return said(pairs) || "-";
 }
 
-function answerTransform(text) {
-    const transform = LanguageTag.parse(text).transform;
+function answerTransform({ transform }) {
     return transform === undefined ? "-" : `${transform.language ?? "''"} ${said(transform.fields)}`.trimEnd();
 }
 
-/** Returns the name for a string, which has to be that for a tag. */
-function answerName(text, call) {
-    if (made(LanguageTag, text) === undefined) return "-";
-    assert(call(text) === call(LanguageTag.parse(text)), "the name of a tag");
-    return escaped(call(text) ?? "-");
+/** Returns the name for a tag, which has to be that for its string. */
+function answerName(tag, call) {
+    assert(call(tag.text) === call(tag), "the name of a tag");
+    return escaped(call(tag) ?? "-");
 }
 
 export const answers = {
-    describe: (text) => answerName(text, describe),
-    autonym: (text) => answerName(text, autonym),
+    describe: ofTag((tag) => answerName(tag, describe)),
+    autonym: ofTag((tag) => answerName(tag, autonym)),
     "with-keyword": answerWithKeyword,
-    "extensions-form": answerExtensionsForm,
-    base: (text) => LanguageTag.parse(text).base.text,
-    "is-locale": (text) => (made(LanguageTag, text)?.isLocale ? "yes" : "no"),
-    "locale-form": answerLocaleForm,
+    "extensions-form": ofTag(answerExtensionsForm),
+    base: ofTag((tag) => tag.base.text),
+    "is-locale": ofTag((tag) => yesOrNo(tag.isLocale), "no"),
+    "locale-form": ofTag(answerLocaleForm),
     "cldr-version": () => CLDR_VERSION,
-    keyword: (text, key) => orEmpty(LanguageTag.parse(text).keyword(key) ?? "-"),
-    keywords: answerKeywords,
-    attributes: (text) => LanguageTag.parse(text).attributes.join(" ") || "-",
-    transform: answerTransform,
+    keyword: ofTag((tag, key) => orEmpty(tag.keyword(key) ?? "-")),
+    keywords: ofTag(answerKeywords),
+    attributes: ofTag((tag) => tag.attributes.join(" ") || "-"),
+    transform: ofTag(answerTransform),
     tag: answerTag,
     scan: answerScan,
-    recommended: (text) => made(LanguageTag, text)?.toRecommended().toString(),
-    validity: answerValidity,
-    suggestion: answerSuggestion,
-    canonical: answerCanonical,
+    recommended: (text) => made(LanguageTag, text)?.toRecommended().text,
+    validity: ofTag(answerValidity, "none"),
+    suggestion: ofTag((tag) => tag.invalidSubtag?.suggestion ?? "-"),
+    canonical: ofTag(answerCanonical),
     grandfathered: answerGrandfathered,
     viable: (text) => `${viableLength(text)} ${stopLength(text)}`,
-    range: (text) => {
-        const range = made(LanguageRange, text);
-        return range === undefined ? "none" : range.isBasic ? "basic" : "extended";
-    },
+    range: (text) => ({ true: "basic", false: "extended", undefined: "none" })[made(LanguageRange, text)?.isBasic],
     match: answerMatch,
     order: answerOrder,
     refused: answerRefused,
-    fault: answerFault,
+    fault: ofTag((tag) => String(tag.invalidSubtag ?? "valid").split(": did")[0]),
     message: messageOf(LanguageTag),
     "range-message": messageOf(LanguageRange),
     posix: (name) => LanguageTag.fromPosix(name)?.text ?? "-",
-    "posix-name": (text) => made(LanguageTag, text)?.toPosix() ?? "-",
+    "posix-name": ofTag((tag) => tag.toPosix() ?? "-"),
     "unknown-modifier": answerUnknownModifier,
-    "right-to-left": (text) => ({ true: "yes", false: "no", undefined: "-" })[made(LanguageTag, text)?.isRightToLeft],
-    distance: answerDistance,
+    "right-to-left": ofTag((tag) => yesOrNo(tag.isRightToLeft)),
+    distance: (desired, supported) => (made(LanguageTag, desired) && made(LanguageTag, supported) ? String(distance(LanguageTag.parse(desired), supported)) : "-"),
     best: answerBest,
     "best-ranges": answerBestRanges,
-    "best-accepted": answerBestAccepted,
+    "best-accepted": (header, list) => chosen((tags, otherwise) => AcceptLanguage.lenient(header).best(tags, otherwise), list),
     "best-match": answerBestMatch,
-    parents: (text) => made(LanguageTag, text)?.parents.join(" ") ?? "-",
+    parents: ofTag((tag) => tag.parents.join(" ")),
     suitable: answerSuitable,
-    "suitable-ranges": answerSuitableRanges,
-    maximized: (text) => made(LanguageTag, text)?.maximize().toString() ?? "-",
-    minimized: (text) => made(LanguageTag, text)?.minimize().toString() ?? "-",
+    "suitable-ranges": (ranges, list) => suitableForRanges(wordsOf(ranges), wordsOf(list)).join(" ") || "-",
+    maximized: ofTag((tag) => tag.maximize().text),
+    minimized: ofTag((tag) => tag.minimize().text),
     header: answerHeader,
     elements: answerElements,
     fallbacks: (text) => Array.from(made(LanguageRange, text)?.fallbacks() ?? ["refused"], String).join(" "),
-    ranges: answerRanges,
+    ranges: (ranges, list) => String(lookUp(wordsOf(ranges), tagsOf(list), DEFAULT)),
     edit: answerEdit,
 };
 
