@@ -138,9 +138,7 @@ after_last-next last (s ∷ ss) h rise found = by_test (is_after s last) (after_
         (t : Bool) → (first_after last ss ≡ Some h → after_last last ss ≡ h ∷ after_last (Some h) ss) → is_after s last ≡ t →
         cond t (Some s) (first_after last ss) ≡ Some h → cond t (s ∷ ss) (after_last last ss) ≡ h ∷ cond (is_before h s) (s ∷ ss) (after_last (Some h) ss)
     by_test true later is found = grind (arith, nat_tests, before-itself s)
-    by_test false later is found =
-        later found
-        ∙ ap (λ b. h ∷ cond b (s ∷ ss) (after_last (Some h) ss)) (sym (not_before last is (first-is_after last ss h found)))
+    by_test false later is found = grind (arith, nat_tests, not_before last is (first-is_after last ss h found))
 
 -- one of two texts has ended
 pub before-left : (a b : List ℕ) → length a < 1 → nat_lt (length a) (length b) ≡ is_before (fold_text a) (fold_text b)

@@ -29,11 +29,7 @@ each-among before (k ∷ ss) = (
   where
     here : (bs : List (List ℕ)) → among k (bs ++ k ∷ ss) ≡ true
     here [] = among-first k ss
-    here (b ∷ bs) = by_test (are_alike b k) (here bs)
-      where
-        by_test : (t : Bool) → among k (bs ++ k ∷ ss) ≡ true → (t || among k (bs ++ k ∷ ss)) ≡ true
-        by_test true later = refl
-        by_test false later = later
+    here (b ∷ bs) = grind (arith, nat_tests, here bs)
 
 -- ---- in the order of the alphabet
 
@@ -62,15 +58,7 @@ under-each s (t ∷ ts) under rise = (under, under-each s ts (under-next s t ts 
 
 -- a text in lowercase that comes before another is not alike it
 pub before-apart : (s t : List ℕ) → fold_text s ≡ s → fold_text t ≡ t → is_before s t ≡ true → (are_alike s t ≡ false) × (are_alike t s ≡ false)
-before-apart s t low other below =
-    (by_test s t (are_alike s t) refl (λ same. clash (sym low ∙ same ∙ other)), by_test t s (are_alike t s) refl (λ same. clash (sym (sym other ∙ same ∙ low))))
-  where
-    clash : s ≡ t → ⊥
-    clash same = false≢true (sym (before-itself s) ∙ ap (is_before s) same ∙ below)
-
-    by_test : (a b : List ℕ) (u : Bool) → are_alike a b ≡ u → (fold_text a ≡ fold_text b → ⊥) → are_alike a b ≡ false
-    by_test a b true alike differ = absurd (differ ((are_alike-decides a b).0 alike))
-    by_test a b false apart differ = apart
+before-apart s t low other below = grind (arith, nat_tests, are_alike-decides s t, are_alike-decides t s, before-itself s)
 
 pub after-apart :
     (s : List ℕ) (ss : List (List ℕ)) → fold_text s ≡ s → AreLower ss → AllByRecursion (λ t. is_before s t ≡ true) ss → AllByRecursion (λ t. are_alike t s ≡ false) ss
@@ -80,8 +68,7 @@ after-apart s (t ∷ ts) low lowers after = ((before-apart s t low lowers.0 afte
 pub not-among :
     (k s : List ℕ) (ss : List (List ℕ)) → fold_text s ≡ fold_text k → fold_text s ≡ s → AreLower ss → AllByRecursion (λ t. is_before s t ≡ true) ss → among k ss ≡ false
 not-among k s [] same low lowers after = refl
-not-among k s (t ∷ ts) same low lowers after =
-    ap (λ b. b || among k ts) (ap (bytes_eq (fold_text t)) (sym same) ∙ (before-apart s t low lowers.0 after.0).1) ∙ not-among k s ts same low lowers.1 after.1
+not-among k s (t ∷ ts) same low lowers after = grind (arith, nat_tests, not-among k s ts same low lowers.1 after.1, before-apart s t low lowers.0 after.0)
 
 -- ---- lists among which the same texts are
 

@@ -1,7 +1,7 @@
 -- A canonical value is its own canonical value: no replacement is replaced, and the empty value stays.
 use Rattle.std.proofs.lemmas.Grind.{common_steps}
 use Rattle.std.proofs.Common.{arith}
-use Rattle.std.proofs.Common.{◌≡◌, ℕ, Bool, true, false, not, cond, ◌&&◌, List, [], ◌∷◌, map, find, Option, None, Some, option_map, unwrap_or, refl, sym, ap, ◌∙◌}
+use Rattle.std.proofs.Common.{◌≡◌, ℕ, true, not, cond, List, [], ◌∷◌, map, Option, None, Some, unwrap_or, refl, ap}
 use Rattle.std.proofs.lemmas.Bool.{false≢true, not-true}
 use Rattle.std.specs.List.{list_all}
 use Rattle.std.specs.Option.{is_none}
@@ -58,17 +58,7 @@ alias-own rows text settled = grind (arith, common_steps, alias_for-alike, fold_
 type-own :
     (rows : List TypeAlias) (key text : List ℕ) → list_all {X = TypeAlias} (λ row. is_none (type_alias_for rows row.key row.new)) rows ≡ true →
     type_alias_for rows key (fold_text (unwrap_or (type_alias_for rows key text) text)) ≡ None
-type-own rows key text settled = type_alias_for-alike rows key key _ _ refl (fold_text-twice (unwrap_or (type_alias_for rows key text) text)) ∙ by_row (find test rows) refl
-  where
-    test : TypeAlias → Bool
-    test alias = are_alike alias.key key && are_alike alias.old text
-
-    by_row : (o : Option TypeAlias) → find test rows ≡ o → type_alias_for rows key (unwrap_or (option_map (λ alias. alias.new) o) text) ≡ None
-    by_row None none = ap (option_map (λ alias. alias.new)) none
-    by_row (Some a) found =
-        let same = (are_alike-decides a.key key).0 (both (are_alike a.key key) (are_alike a.old text) (found_is test rows a found)).0 in
-        type_alias_for-alike rows key a.key a.new a.new (sym same) refl
-        ∙ is_none-none (type_alias_for rows a.key a.new) (found_has (λ (alias : TypeAlias). is_none (type_alias_for rows alias.key alias.new)) test rows a settled found)
+type-own rows key text settled = grind (arith, common_steps, type_alias_for-alike, fold_text-twice, is_none-none, found_has, found_is, both, are_alike-decides)
 
 type-empty : (rows : List TypeAlias) (key : List ℕ) → list_all {X = TypeAlias} (λ row. not (are_alike row.old [])) rows ≡ true → type_alias_for rows key [] ≡ None
 type-empty rows key no_empty = grind (arith, common_steps, false≢true, not-true, found_has, both, found_is)
@@ -80,14 +70,7 @@ replaced key text = cond (has_subdivision key) (subdivision text) (unicode_type 
 
 replaced-own : (key text : List ℕ) → replaced key (fold_text (replaced key text)) ≡ fold_text (replaced key text)
 unfolding subdivision unicode_type
-replaced-own key text = by_test (has_subdivision key)
-  where
-    by_test :
-        (b : Bool) →
-        cond b (subdivision (fold_text (cond b (subdivision text) (unicode_type key text)))) (unicode_type key (fold_text (cond b (subdivision text) (unicode_type key text))))
-        ≡ fold_text (cond b (subdivision text) (unicode_type key text))
-    by_test true = ap (λ o. unwrap_or o (fold_text (subdivision text))) (alias-own subdivision_aliases text subdivisions_settled)
-    by_test false = ap (λ o. unwrap_or o (fold_text (unicode_type key text))) (type-own unicode_type_aliases key text types_settled)
+replaced-own key text = grind (arith, common_steps, alias-own subdivision_aliases text subdivisions_settled, type-own unicode_type_aliases key text types_settled)
 
 replaced-empty : (key : List ℕ) → replaced key [] ≡ []
 unfolding subdivision unicode_type

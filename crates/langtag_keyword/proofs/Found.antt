@@ -1,7 +1,7 @@
 -- What is found in a list has what all of the list have.
 use Rattle.std.proofs.lemmas.Grind.{common_steps}
 use Rattle.std.proofs.Common.{arith}
-use Rattle.std.proofs.Common.{◌≡◌, Bool, true, false, cond, List, [], ◌∷◌, ◌&&◌, Some, refl, sym, ap, ◌∙◌}
+use Rattle.std.proofs.Common.{◌≡◌, Bool, true, false, List, [], ◌∷◌, ◌&&◌, Some, refl}
 use Rattle.std.proofs.lemmas.Bool.{false≢true}
 use Rattle.std.specs.Prelude.{find}
 use Rattle.std.specs.List.{list_all}
@@ -13,13 +13,7 @@ both false y is = absurd (false≢true is)
 -- what is found has what all have
 pub found_has : {X : Type 0} (good test : X → Bool) (xs : List X) (x : X) → list_all good xs ≡ true → find test xs ≡ Some x → good x ≡ true
 found_has good test [] x all is = absurd cc
-found_has good test (y ∷ xs) x all is =
-    let parts = both (good y) (list_all good xs) all in
-    by_test (test y) parts.0 (found_has good test xs x parts.1) is
-  where
-    by_test : (b : Bool) → good y ≡ true → (find test xs ≡ Some x → good x ≡ true) → cond b (Some y) (find test xs) ≡ Some x → good x ≡ true
-    by_test true first later found = let same : y ≡ x = cc in ap good (sym same) ∙ first
-    by_test false first later found = later found
+found_has good test (y ∷ xs) x all is = grind (arith, common_steps, both (good y) (list_all good xs) all, found_has good test xs x)
 
 -- what is found passes the test
 pub found_is : {X : Type 0} (test : X → Bool) (xs : List X) (x : X) → find test xs ≡ Some x → test x ≡ true

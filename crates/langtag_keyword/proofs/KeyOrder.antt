@@ -1,5 +1,5 @@
 -- The keys of a set in alphabetical order.
-use Rattle.std.proofs.Common.{◌≡◌, eqb-true, bit_and, ◌^◌, ℕ, ◌+◌, ◌*◌, ◌/◌, ◌%◌, ◌<◌, ◌≤◌, Bool, true, false, cond, nat_lt, ◌==◌, ◌||◌, List, [], ◌∷◌, length, slice_index_or, Option, None, Some, Less, Equal, Greater, IfSome, ◌⊎◌, inl, inr, refl, ap, sym, subst, ◌∙◌, arith}
+use Rattle.std.proofs.Common.{◌≡◌, bit_and, ◌^◌, ℕ, ◌+◌, ◌*◌, ◌/◌, ◌%◌, ◌<◌, ◌≤◌, Bool, true, false, cond, ◌==◌, ◌||◌, List, [], ◌∷◌, length, slice_index_or, Option, None, Some, IfSome, ◌⊎◌, inl, inr, refl, ap, sym, subst, ◌∙◌, arith}
 use Rattle.std.specs.Int.{bit_at}
 use Rattle.std.specs.List.{AllByRecursion}
 use Rattle.std.proofs.lemmas.Bool.{and_parts, false≢true}
@@ -9,8 +9,6 @@ use Rattle.std.proofs.Math.Nat.{lt-div-mul-add}
 use Rattle.std.proofs.lemmas.Nat.{pow_pos}
 use Rattle.std.proofs.lemmas.Bool.{ne_eqb}
 use Rattle.std.proofs.lemmas.Nat.Bits.{bit_at_above, shr_and_one}
-use Rattle.std.specs.Cmp.Lexicographic.{slice_cmp}
-use Rattle.std.specs.Ordering.{is_lt, nat_cmp, ordering_then}
 use Rattle.langtag_scan.specs.Case.{are_alike, fold_byte, fold_text}
 use Rattle.langtag_scan.specs.CaseLaws.{are_alike-decides}
 use Rattle.langtag_scan.specs.Class.{are_alphanumeric, is_alphanumeric, is_digit, is_letter}
@@ -100,14 +98,7 @@ number-key_at n fits =
 -- ---- the order of keys is that of their numbers
 
 first-bytes : (x y : ℕ) (a b : List ℕ) → is_before (x ∷ a) (y ∷ b) ≡ true → (x < y) ⊎ ((x ≡ y) × (is_before a b ≡ true))
-first-bytes x y a b before = by_tests (nat_lt x y) (x == y) refl refl before
-  where
-    by_tests :
-        (l e : Bool) → nat_lt x y ≡ l → (x == y) ≡ e → is_lt (ordering_then (cond l Less (cond e Equal Greater)) (slice_cmp nat_cmp a b)) ≡ true →
-        (x < y) ⊎ ((x ≡ y) × (is_before a b ≡ true))
-    by_tests true e is same before = inl (grind (arith, nat_tests))
-    by_tests false true is same before = inr (grind (arith, nat_tests), before)
-    by_tests false false is same before = absurd (false≢true before)
+first-bytes x y a b before = grind (arith, nat_tests)
 
 number-less : (p q r t : ℕ) → (p < r) ⊎ ((p ≡ r) × (q < t)) → q < 36 → p * 36 + q < r * 36 + t
 number-less p q r t (inl less) fits = omega (arith, less, fits)
@@ -140,11 +131,7 @@ after-number (Some last) key is_last is after = omega (arith, before-number last
 
 early-number : (last : Option (List ℕ)) (key : List ℕ) → IfSome last IsLowerKey → IsLowerKey key → is_after key last ≡ false → key_number key < number_after last
 early-number None key is_last is early = absurd (false≢true (sym early))
-early-number (Some last) key is_last is early = by_test (is_before key last) refl
-  where
-    by_test : (b : Bool) → is_before key last ≡ b → key_number key < key_number last + 1
-    by_test true before = omega (arith, before-number key last is is_last before)
-    by_test false behind = omega (arith, ap key_number (before-tie key last behind early))
+early-number (Some last) key is_last is early = grind (arith, nat_tests, before-number key last is is_last, before-tie key last)
 
 -- a key in lowercase that the set has
 abbrev IsIn : List ℕ → List ℕ → Type 0
@@ -153,19 +140,11 @@ IsIn seconds key = IsLowerKey key × (has_number seconds (key_number key) ≡ tr
 module _ (seconds : List ℕ) (last : Option (List ℕ)) (found : ℕ) (is_last : IfSome last IsLowerKey) (first : IsFirstNumber seconds (number_after last) found) where
   -- no key that comes after the last has a smaller number
   late : (key : List ℕ) → IsIn seconds key → is_after key last ≡ true → found ≤ key_number key
-  late key is after = by_test (nat_lt (key_number key) found) refl
-    where
-      by_test : (b : Bool) → nat_lt (key_number key) found ≡ b → found ≤ key_number key
-      by_test true below = absurd (false≢true (sym (first.none (key_number key) (after-number last key is_last is.0 after) (grind (arith, nat_tests))) ∙ is.1))
-      by_test false behind = grind (arith, nat_tests)
+  late key is after = grind (arith, nat_tests, first.none (key_number key), after-number last key is_last is.0 after)
 
   none-after : (keys : List (List ℕ)) → AllByRecursion (IsIn seconds) keys → found ≡ 1296 → first_after last keys ≡ None
   none-after [] all is = refl
-  none-after (key ∷ keys) all is = by_test (is_after key last) refl (none-after keys all.1 is)
-    where
-      by_test : (b : Bool) → is_after key last ≡ b → first_after last keys ≡ None → cond b (Some key) (first_after last keys) ≡ None
-      by_test true after others = absurd (omega (arith, late key all.0 after, number-below key all.0.0, is))
-      by_test false early others = others
+  none-after (key ∷ keys) all is = grind (arith, nat_tests, none-after keys all.1 is, late key all.0, number-below key all.0.0)
 
   module _ (fits : found < 1296) where
     lower : IsLowerKey (key_at found)
@@ -179,11 +158,7 @@ module _ (seconds : List ℕ) (last : Option (List ℕ)) (found : ℕ) (is_last 
         (key : List ℕ) (keys : List (List ℕ)) → IsLowerKey key → AllByRecursion (IsIn seconds) keys → AllByRecursion (λ k. is_before key k ≡ true) keys →
         among (key_at found) keys ≡ true → key_number key < found
     earlier key [] is all before none = absurd (false≢true none)
-    earlier key (k ∷ keys) is all before one = by_test (are_alike k (key_at found)) refl (earlier key keys is all.1 before.1) one
-      where
-        by_test : (b : Bool) → are_alike k (key_at found) ≡ b → (among (key_at found) keys ≡ true → key_number key < found) → (b || among (key_at found) keys) ≡ true → key_number key < found
-        by_test true alike others one = omega (arith, before-number key k is all.0.0 before.0, ap key_number (same k all.0.0 alike), number-key_at found fits)
-        by_test false other others one = others one
+    earlier key (k ∷ keys) is all before one = grind (arith, nat_tests, earlier key keys is all.1 before.1, before-number key k is all.0.0 before.0, same k all.0.0, number-key_at found fits)
 
     found-after : (keys : List (List ℕ)) → AllByRecursion (IsIn seconds) keys → Rise keys → among (key_at found) keys ≡ true → first_after last keys ≡ Some (key_at found)
     found-after [] all rise is = absurd (false≢true is)
@@ -267,19 +242,9 @@ row-none seconds number n none from below =
 pub next-none :
     (seconds : List ℕ) (start number left : ℕ) → left ≡ slice_index_or seconds (number / 36) 0 / 2 ^ (number % 36) → (bit_and left 1 ≡ 1 → ⊥) →
     ((n : ℕ) → start ≤ n → n < number → has_number seconds n ≡ false) → (n : ℕ) → start ≤ n → n < after number left → has_number seconds n ≡ false
-next-none seconds start number left is other none n from below = by_tests (nat_lt n number) (left == 0) refl refl below
-  where
-    here : has_number seconds number ≡ false
-    here = ne_eqb _ 1 (λ one. other (ap (λ l. bit_and l 1) is ∙ shr_and_one (slice_index_or seconds (number / 36) 0) (number % 36) ∙ one))
-
-    by_tests : (early empty : Bool) → nat_lt n number ≡ early → (left == 0) ≡ empty → n < cond empty ((number / 36 + 1) * 36) (number + 1) → has_number seconds n ≡ false
-    by_tests true empty before e below = none n from (grind (arith, nat_tests))
-    by_tests false true behind e below = row-none seconds number n (sym is ∙ eqb-true left 0 e) (grind (arith, nat_tests)) below
-    by_tests false false behind e below = let same : n ≡ number = grind (arith, nat_tests) in ap (has_number seconds) same ∙ here
+next-none seconds start number left is other none n from below =
+    let here : has_number seconds number ≡ false = ne_eqb _ 1 (λ one. other (ap (λ l. bit_and l 1) is ∙ shr_and_one (slice_index_or seconds (number / 36) 0) (number % 36) ∙ one)) in
+    grind (arith, nat_tests, here, none n from, row-none seconds number n)
 
 pub after-within : (number left next : ℕ) → number < 1296 → next ≡ after number left → (number ≤ next) × (next ≤ 1296)
-after-within number left next fits is = by_test (left == 0) is
-  where
-    by_test : (b : Bool) → next ≡ cond b ((number / 36 + 1) * 36) (number + 1) → (number ≤ next) × (next ≤ 1296)
-    by_test true is = (omega (arith, is), omega (arith, is, fits))
-    by_test false is = (omega (arith, is), omega (arith, is, fits))
+after-within number left next fits is = grind (arith, nat_tests)

@@ -1,6 +1,6 @@
 -- The keys that a walk has met, and the keywords that are left to it.
 use Rattle.std.proofs.lemmas.Grind.{common_steps}
-use Rattle.std.proofs.Common.{◌≡◌, cond, ◌≢◌, ℕ, ◌*◌, ◌%◌, ◌^◌, ◌<◌, Bool, true, false, eqb, ◌==◌, ◌&&◌, ◌||◌, not, List, [], ◌∷◌, ◌++◌, bit_or, length, replicate, set, slice_index_or, append-nil, append_assoc, drop, IsTrue, eqb-true, refl, ap, sym, subst, ◌∙◌, arith, w64}
+use Rattle.std.proofs.Common.{◌≡◌, ◌≢◌, ℕ, ◌*◌, ◌%◌, ◌^◌, ◌<◌, Bool, true, false, eqb, ◌==◌, ◌&&◌, ◌||◌, not, List, [], ◌∷◌, ◌++◌, bit_or, length, replicate, set, slice_index_or, append-nil, append_assoc, drop, IsTrue, eqb-true, refl, ap, sym, subst, ◌∙◌, arith, w64}
 use Rattle.std.specs.Int.{bit_at}
 use Rattle.std.specs.List.{AllByRecursion, filter, list_any}
 use Rattle.std.proofs.lemmas.Bool.{and_parts}
@@ -60,10 +60,7 @@ bit-more :
 bit-more rows row place r p within fits = grind (arith, nat_tests, eqb_tells r row, eqb_tells p place, bit-again rows row place within fits, bit-beside rows row place p within fits, row-beside rows row place r p)
 
 with-true : (a b c : Bool) → (a || (b && c)) ≡ (a || (b && (c && true)))
-with-true true b c = refl
-with-true false true true = refl
-with-true false true false = refl
-with-true false false c = refl
+with-true a b c = grind (arith, nat_tests)
 
 key-more :
     (rows : List ℕ) (a b c d : ℕ) → length rows ≡ 36 → is_alphanumeric a ≡ true → is_alphanumeric b ≡ true → is_alphanumeric c ≡ true → is_alphanumeric d ≡ true →
@@ -120,11 +117,7 @@ OpensKeys opens = (s : List ℕ) → opens s ≡ true → length s ≡ 2
 
 module _ (opens : List ℕ → Bool) (two : OpensKeys opens) where
   pub new-met : (rows : List ℕ) (before : List (List ℕ)) (s : List ℕ) → IsSubtag s → HasKeys rows before → (opens s && not (has_key rows s)) ≡ (opens s && not (list_any (are_alike s) before))
-  new-met rows before s fits met = by_key (opens s) refl
-    where
-      by_key : (b : Bool) → opens s ≡ b → (b && not (has_key rows s)) ≡ (b && not (list_any (are_alike s) before))
-      by_key true is = ap not (met.same s fits (two s is))
-      by_key false is = refl
+  new-met rows before s fits met = grind (arith, nat_tests, met.same s fits, two s)
 
   pub unmet-after : (rows : List ℕ) (before ss : List (List ℕ)) → AllByRecursion IsSubtag ss → HasKeys rows before → keywords_beyond opens rows ss ≡ keywords_after opens before ss
   unmet-after rows before [] fits met = refl
@@ -168,11 +161,7 @@ after-singleton-fits text (e, spells) = subst (λ ss. IsTrue (are_extension_subt
 module _ (keys : Keys) where
   pub are-keys : (ss : List (List ℕ)) → AllByRecursion IsSubtag ss → AreKeys (filter (opens_keyword keys) ss)
   are-keys [] fits = tt
-  are-keys (s ∷ ss) fits = by_key (opens_keyword keys s) refl (are-keys ss fits.1)
-    where
-      by_key : (b : Bool) → opens_keyword keys s ≡ b → AreKeys (filter (opens_keyword keys) ss) → AreKeys (cond b (s ∷ filter (opens_keyword keys) ss) (filter (opens_keyword keys) ss))
-      by_key true is others = ((fits.0, key-two keys s is), others)
-      by_key false is others = others
+  are-keys (s ∷ ss) fits = grind (arith, nat_tests, are-keys ss fits.1, key-two keys s)
 
   keys-from : (rows : List ℕ) (before ks : List (List ℕ)) → AreKeys ks → HasKeys rows before → HasKeys (with_keys rows ks) (before ++ ks)
   keys-from rows before [] are has = subst (HasKeys rows) (sym (append-nil before)) has

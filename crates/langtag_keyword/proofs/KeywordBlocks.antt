@@ -18,14 +18,11 @@ use Rattle.langtag_keyword.proofs.KeywordTwice.{without-value}
 module _ (key : List ℕ) where
   pub put-passed : (stands : Bool) (keyword a b : List (List ℕ)) → AreNoKeys a → put_keyword key stands keyword (a ++ b) ≡ a ++ put_keyword key stands keyword b
   put-passed stands keyword [] b all = refl
-  put-passed stands keyword (s ∷ a) b all =
-      put-later key s (a ++ b) stands keyword (ap (λ t. t && cond stands (are_alike s key) (is_before (fold_text key) (fold_text s))) all.0)
-      ∙ ap (λ t. s ∷ t) (put-passed stands keyword a b all.1)
+  put-passed stands keyword (s ∷ a) b all = grind (arith, common_steps, put-passed stands keyword a b all.1)
 
   pub without-passed : (a b : List (List ℕ)) → AreNoKeys a → without_keyword key (a ++ b) ≡ a ++ without_keyword key b
   without-passed [] b all = refl
-  without-passed (s ∷ a) b all =
-      without-kept key s (a ++ b) false false (sym (ap (λ t. cond t (are_alike s key) false) all.0)) refl ∙ ap (λ t. s ∷ t) (without-passed a b all.1)
+  without-passed (s ∷ a) b all = grind (arith, common_steps, without-passed a b all.1)
 
   pub find-passed : (a b : List (List ℕ)) → AreNoKeys a → find (is_this_key key) (a ++ b) ≡ find (is_this_key key) b
   find-passed [] b all = refl
@@ -96,12 +93,7 @@ module _ (value : List ℕ → Option (List (List ℕ))) (are : AreValues value)
     where
       not_places : (stands : Bool) (keys : List (List ℕ)) → AllByRecursion (λ j. is_before (fold_text key) (fold_text j) ≡ false) keys → AreOthers keys → AllByRecursion (λ j. is_place key stands j ≡ false) keys
       not_places stands [] less others = tt
-      not_places stands (j ∷ keys) less others = (by_test stands (is_key j), not_places stands keys less.1 others.1)
-        where
-          by_test : (t b : Bool) → (b && cond t (are_alike j key) (is_before (fold_text key) (fold_text j))) ≡ false
-          by_test true true = others.0
-          by_test false true = less.0
-          by_test t false = refl
+      not_places stands (j ∷ keys) less others = grind (arith, common_steps, not_places stands keys less.1 others.1)
 
       -- the key with its old value goes
       old-gone : (old : List (List ℕ)) → value key ≡ Some old → without_keyword key (key ∷ (old ++ blocks value after)) ≡ blocks value after
@@ -111,14 +103,7 @@ module _ (value : List ℕ → Option (List (List ℕ))) (are : AreValues value)
           ∙ without-value key old (blocks value after) fits.1 ∙ without-all true after after_others
 
       pub removed-among : without_keyword key (blocks value before ++ (block value key ++ blocks value after)) ≡ blocks value before ++ blocks value after
-      removed-among =
-          without-others (block value key ++ blocks value after) false before before_others refl ∙ ap (λ t. blocks value before ++ t) (by_value (value key) refl (without-all false after after_others))
-        where
-          by_value :
-              (o : Option (List (List ℕ))) → value key ≡ o → without_keyword key (blocks value after) ≡ blocks value after →
-              without_keyword key (option_map_or (λ v. key ∷ v) o [] ++ blocks value after) ≡ blocks value after
-          by_value None is later = later
-          by_value (Some old) is later = old-gone old is
+      removed-among = grind (arith, common_steps, without-others (block value key ++ blocks value after) false before before_others refl, without-all false after after_others, old-gone)
 
       pub find-among : find (is_this_key key) (blocks value before ++ (block value key ++ blocks value after)) ≡ found_key key (value key)
       find-among = find-others (block value key ++ blocks value after) before before_others ∙ by_value (value key) refl

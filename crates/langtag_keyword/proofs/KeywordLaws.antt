@@ -1,15 +1,14 @@
 -- What is set is read, what is removed is not, and other keys keep their values.
 use Rattle.std.proofs.lemmas.Grind.{common_steps}
-use Rattle.std.proofs.Common.{◌≡◌, ℕ, ◌+◌, Bool, true, false, cond, ◌&&◌, leb, List, [], ◌∷◌, ◌++◌, length, find, Option, None, Some, unwrap_or, refl, sym, ap, ◌∙◌, arith, eqb-true}
+use Rattle.std.proofs.Common.{◌≡◌, ℕ, ◌+◌, Bool, true, false, cond, ◌&&◌, leb, List, [], ◌∷◌, ◌++◌, length, find, Option, None, Some, unwrap_or, refl, ap, ◌∙◌, arith, eqb-true}
 use Rattle.std.proofs.lemmas.Bool.{and_parts, false≢true, leb-true}
 use Rattle.std.specs.List.{AllByRecursion}
 use Rattle.std.specs.Option.{is_some}
 use Rattle.std.proofs.lemmas.Bool.Decides.{nat_tests}
-use Rattle.langtag_scan.specs.Case.{are_alike, fold_text}
+use Rattle.langtag_scan.specs.Case.{are_alike}
 use Rattle.langtag_scan.specs.CaseLaws.{are_alike-decides}
 use Rattle.langtag_scan.specs.Class.{is_extension_subtag}
 use Rattle.langtag_keyword.specs.Edit.{invalid_type, invalid_type_from, is_place, is_this_key, is_type, is_unicode_key, keyword_error, put_keyword, with_keyword, without_keyword, without_within}
-use Rattle.langtag_keyword.specs.Form.{is_before}
 use Rattle.langtag_keyword.specs.Keywords.{before_key, is_key, value_of}
 
 -- no subtag is a key
@@ -25,7 +24,7 @@ before-end (s ∷ value) rest all end = grind (arith, nat_tests, before-end valu
 
 before-whole : (value : List (List ℕ)) → AreNoKeys value → before_key is_key value ≡ value
 before-whole [] all = refl
-before-whole (s ∷ value) all = ap (λ b. cond b [] (s ∷ before_key is_key value)) all.0 ∙ ap (λ ss. s ∷ ss) (before-whole value all.1)
+before-whole (s ∷ value) all = grind (arith, nat_tests, before-whole value all.1)
 
 module _ (key : List ℕ) where
   -- nothing stands before the first key where a value went
@@ -81,10 +80,7 @@ module _ (key k : List ℕ) (value : List (List ℕ)) (this : is_this_key key k 
 
   -- a key begins at a place
   value-here : (stands : Bool) (s : List ℕ) (ss : List (List ℕ)) → is_place key stands s ≡ true → value_of is_key key ((k ∷ value) ++ without_keyword key (s ∷ ss)) ≡ Some value
-  value-here stands s ss place =
-      let opens = (and_parts (is_key s) (cond stands (are_alike s key) (is_before (fold_text key) (fold_text s))) place).0 in
-      let end = before-kept key (s ∷ ss) ∙ ap (λ b. cond b [] (s ∷ before_key is_key ss)) opens in
-      value-first (value ++ without_keyword key (s ∷ ss)) ∙ ap Some (before-end value (without_keyword key (s ∷ ss)) all end)
+  value-here stands s ss place = grind (arith, common_steps, and_parts, before-kept key (s ∷ ss), value-first (value ++ without_keyword key (s ∷ ss)), before-end value (without_keyword key (s ∷ ss)) all)
 
   -- where each subtag that is passed is another key, or no key
   value-put : (stands : Bool) (ss : List (List ℕ)) → ArePassed key stands ss → value_of is_key key (put_keyword key stands (k ∷ value) ss) ≡ Some value
@@ -104,13 +100,7 @@ value-without key inside (s ∷ ss) = grind (arith, common_steps, value-without 
 -- ---- other keys stay
 
 apart : (s key other : List ℕ) → are_alike key other ≡ false → are_alike s key ≡ true → are_alike s other ≡ false
-apart s key other differ same = by_test (are_alike s other) refl
-  where
-    by_test : (b : Bool) → are_alike s other ≡ b → are_alike s other ≡ false
-    by_test true is =
-        let alike : are_alike key other ≡ true = (are_alike-decides key other).1 (sym ((are_alike-decides s key).0 same) ∙ (are_alike-decides s other).0 is) in
-        absurd (false≢true (sym differ ∙ alike))
-    by_test false is = is
+apart s key other differ same = grind (arith, nat_tests, are_alike-decides s key, are_alike-decides s other, are_alike-decides key other)
 
 module _ (key other : List ℕ) (differ : are_alike key other ≡ false) where
   -- a subtag that is no key of this name is passed over
@@ -119,11 +109,11 @@ module _ (key other : List ℕ) (differ : are_alike key other ≡ false) where
 
   value-passed : (value rest : List (List ℕ)) → AreNoKeys value → value_of is_key other (value ++ rest) ≡ value_of is_key other rest
   value-passed [] rest all = refl
-  value-passed (s ∷ value) rest all = other-skipped s (value ++ rest) (ap (λ b. b && are_alike s other) all.0) ∙ value-passed value rest all.1
+  value-passed (s ∷ value) rest all = grind (arith, nat_tests, value-passed value rest all.1)
 
   value-none : (value : List (List ℕ)) → AreNoKeys value → value_of is_key other value ≡ None
   value-none [] all = refl
-  value-none (s ∷ value) all = other-skipped s value (ap (λ b. b && are_alike s other) all.0) ∙ value-none value all.1
+  value-none (s ∷ value) all = grind (arith, nat_tests, value-none value all.1)
 
   both-apart : (s : List ℕ) → is_key s ≡ true → are_alike s key ≡ true → (is_key s && are_alike s other) ≡ false
   both-apart s is same = ap (λ b. b && are_alike s other) is ∙ apart s key other differ same
@@ -135,17 +125,8 @@ module _ (key other : List ℕ) (differ : are_alike key other ≡ false) where
   module _ (k : List ℕ) (value : List (List ℕ)) (this : is_this_key key k ≡ true) (all : AreNoKeys value) (stands : Bool) where
     others-put : (ss : List (List ℕ)) → value_of is_key other (put_keyword key stands (k ∷ value) ss) ≡ value_of is_key other ss
     others-put [] = other-skipped k value (both-apart k (key-opens key k value this all) (and_parts (is_key k) (are_alike k key) this).1) ∙ value-none value all
-    others-put (s ∷ ss) = by_place (is_place key stands s) (others-put ss)
-      where
-        by_place :
-            (b : Bool) → value_of is_key other (put_keyword key stands (k ∷ value) ss) ≡ value_of is_key other ss →
-            value_of is_key other (cond b ((k ∷ value) ++ without_keyword key (s ∷ ss)) (s ∷ put_keyword key stands (k ∷ value) ss)) ≡ value_of is_key other (s ∷ ss)
-        by_place true later =
-            other-skipped k (value ++ without_keyword key (s ∷ ss)) (both-apart k (key-opens key k value this all) (and_parts (is_key k) (are_alike k key) this).1)
-            ∙ value-passed value (without_keyword key (s ∷ ss)) all ∙ others-without false (s ∷ ss)
-        by_place false later =
-            ap (λ r. cond (is_key s && are_alike s other) (Some (before_key is_key (put_keyword key stands (k ∷ value) ss))) r) later
-            ∙ ap (λ r. cond (is_key s && are_alike s other) (Some r) (value_of is_key other ss)) (before-put key k value this all stands ss)
+    others-put (s ∷ ss) =
+        grind (arith, common_steps, others-put ss, both-apart k (key-opens key k value this all), and_parts (is_key k) (are_alike k key) this, value-passed value (without_keyword key (s ∷ ss)) all, others-without false (s ∷ ss), before-put key k value this all stands ss)
 
   pub others-with : (value ss : List (List ℕ)) → is_key key ≡ true → AreNoKeys value → value_of is_key other (with_keyword key value ss) ≡ value_of is_key other ss
   others-with value ss is all = others-put (unwrap_or (find (is_this_key key) ss) key) value (standing-this key ss is) all (is_some (find (is_this_key key) ss)) ss

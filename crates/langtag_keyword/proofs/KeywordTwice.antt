@@ -1,17 +1,17 @@
 -- A key that is set twice has the second value, and the tag is the one that the second call alone gives.
 use Rattle.std.proofs.lemmas.Grind.{common_steps}
 use Rattle.std.proofs.Common.{◌≡◌, ℕ, ◌≤◌, Bool, true, false, cond, ◌&&◌, not, List, [], ◌∷◌, ◌++◌, length, find, Option, None, Some, unwrap_or, refl, sym, ap, ◌∙◌, arith, append-nil, append_assoc}
-use Rattle.std.proofs.lemmas.Bool.{and_parts, false≢true}
+use Rattle.std.proofs.lemmas.Bool.{and_parts}
 use Rattle.std.specs.List.{flat_map}
 use Rattle.std.specs.Option.{is_some}
 use Rattle.std.proofs.lemmas.Bool.Decides.{nat_tests}
 use Rattle.langtag_extension.specs.Spelling.{find_extension}
-use Rattle.langtag_scan.specs.Case.{are_alike, fold_byte, fold_text}
+use Rattle.langtag_scan.specs.Case.{fold_byte}
 use Rattle.langtag_scan.specs.Record.{Extension, Record, extension_flat}
-use Rattle.langtag_keyword.specs.Edit.{at_place, changed_from, edited_record, extension_of, is_place, is_place_of_u, is_this_key, keyword_error, put_keyword, with_changed_u, with_keyword, without_keyword, without_within}
-use Rattle.langtag_keyword.specs.Form.{is_before, is_of}
+use Rattle.langtag_keyword.specs.Edit.{changed_from, edited_record, extension_of, is_place_of_u, is_this_key, keyword_error, put_keyword, with_changed_u, with_keyword, without_keyword, without_within}
+use Rattle.langtag_keyword.specs.Form.{is_of}
 use Rattle.langtag_keyword.specs.Keywords.{is_key}
-use Rattle.langtag_keyword.proofs.KeywordEdits.{put-here, put-later, without-gone, without-kept}
+use Rattle.langtag_keyword.proofs.KeywordEdits.{put-here, put-later, without-gone}
 use Rattle.langtag_keyword.proofs.KeywordLaws.{AreNoKeys, ArePassed, fits_from, passed, standing-this}
 
 -- ---- what is removed twice
@@ -24,22 +24,7 @@ module _ (key : List ℕ) where
 
   without-twice : (i inside : Bool) (ss : List (List ℕ)) → (i && not inside) ≡ false → without_within key i (without_within key inside ss) ≡ without_within key inside ss
   without-twice i inside [] within = refl
-  without-twice i inside (s ∷ ss) within =
-      by_key (is_key s) (are_alike s key) refl refl i inside within (λ j. without-twice j true ss (and_false j)) (without-twice false false ss refl)
-    where
-      and_false : (j : Bool) → (j && false) ≡ false
-      and_false j = grind (arith, nat_tests)
-
-      by_key :
-          (is same : Bool) → is_key s ≡ is → are_alike s key ≡ same → (i inside : Bool) → (i && not inside) ≡ false →
-          ((j : Bool) → without_within key j (without_within key true ss) ≡ without_within key true ss) → without_within key false (without_within key false ss) ≡ without_within key false ss →
-          without_within key i (cond (cond is same inside) (without_within key true ss) (s ∷ without_within key false ss))
-          ≡ cond (cond is same inside) (without_within key true ss) (s ∷ without_within key false ss)
-      by_key true true key_is same_is i inside within gone kept = gone i
-      by_key true false key_is same_is i inside within gone kept = grind (arith, nat_tests, without-kept key s (without_within key false ss) i false)
-      by_key false same key_is same_is i true within gone kept = gone i
-      by_key false same key_is same_is true false within gone kept = absurd (false≢true (sym within))
-      by_key false same key_is same_is false false within gone kept = grind (arith, nat_tests, without-kept key s (without_within key false ss) false false)
+  without-twice i inside (s ∷ ss) within = grind (arith, nat_tests, without-twice true true ss refl, without-twice false true ss refl, without-twice false false ss refl)
 
   -- before a key, nothing depends on what came before
   without-key : (s : List ℕ) (ss : List (List ℕ)) → is_key s ≡ true → without_within key true (without_keyword key (s ∷ ss)) ≡ without_keyword key (s ∷ ss)
@@ -62,16 +47,8 @@ module _ (key k : List ℕ) (v w : List (List ℕ)) (this : is_this_key key k �
 
     put-twice : (ss : List (List ℕ)) → ArePassed key stands ss → put_keyword key true (k ∷ w) (put_keyword key stands (k ∷ v) ss) ≡ put_keyword key stands (k ∷ w) ss
     put-twice [] passed = ap (put_keyword key true (k ∷ w)) (sym (append-nil (k ∷ v))) ∙ again-first [] ∙ append-nil (k ∷ w)
-    put-twice (s ∷ ss) passed = by_place (is_place key stands s) refl (put-twice ss passed.1)
-      where
-        by_place :
-            (b : Bool) → is_place key stands s ≡ b → put_keyword key true (k ∷ w) (put_keyword key stands (k ∷ v) ss) ≡ put_keyword key stands (k ∷ w) ss →
-            put_keyword key true (k ∷ w) (cond b ((k ∷ v) ++ without_keyword key (s ∷ ss)) (s ∷ put_keyword key stands (k ∷ v) ss))
-            ≡ cond b ((k ∷ w) ++ without_keyword key (s ∷ ss)) (s ∷ put_keyword key stands (k ∷ w) ss)
-        by_place true is later =
-            again-first (without_keyword key (s ∷ ss))
-            ∙ ap (λ t. (k ∷ w) ++ t) (without-key key s ss (and_parts (is_key s) (cond stands (are_alike s key) (is_before (fold_text key) (fold_text s))) is).0)
-        by_place false is later = put-later key s (put_keyword key stands (k ∷ v) ss) true (k ∷ w) (passed.0 is) ∙ ap (λ t. s ∷ t) later
+    put-twice (s ∷ ss) passed =
+        grind (arith, nat_tests, put-twice ss passed.1, again-first (without_keyword key (s ∷ ss)), without-key key s ss, put-later key s (put_keyword key stands (k ∷ v) ss) true (k ∷ w))
 
 with-twice : (key : List ℕ) (v w ss : List (List ℕ)) → is_key key ≡ true → AreNoKeys v → with_keyword key w (with_keyword key v ss) ≡ with_keyword key w ss
 with-twice key v w ss is all =
@@ -122,28 +99,14 @@ module _ (one two : List (List ℕ) → List (List ℕ)) (some : (ss : List (Lis
 
   find-changed : (stands : Bool) (es : List Extension) → AreOthers stands es → is_some (find (is_of 117) (changed_from one stands es)) ≡ true
   find-changed stands [] others = ap (λ x. is_some (find (is_of 117) x)) (sym (append-nil (extension_of 117 (one [])))) ∙ find-here 117 [] [] (u_is_u (one []))
-  find-changed stands (e ∷ es) others = by_place stands (is_place_of_u stands e) refl others.0 (find-changed stands es others.1)
-    where
-      by_place :
-          (t b : Bool) → is_place_of_u t e ≡ b → (is_place_of_u t e ≡ false → is_of 117 e ≡ false) → is_some (find (is_of 117) (changed_from one t es)) ≡ true →
-          is_some (find (is_of 117) (cond b (at_place one t e ++ es) (e ∷ changed_from one t es))) ≡ true
-      by_place true true is other later = find-here e.singleton e.subtags es is
-      by_place false true is other later = grind (arith, nat_tests, append_assoc (extension_of 117 (one [])) (e ∷ []) es, find-here 117, u_is_u (one []))
-      by_place t false is other later = ap (λ b. is_some (cond b (Some e) (find (is_of 117) (changed_from one t es)))) (other is) ∙ later
+  find-changed stands (e ∷ es) others =
+      grind (arith, nat_tests, find-changed stands es others.1, append_assoc (extension_of 117 (one [])) (e ∷ []) es, find-here 117, find-here e.singleton, u_is_u (one []))
 
   changed-twice : (stands : Bool) (es : List Extension) → AreOthers stands es → changed_from two true (changed_from one stands es) ≡ changed_from two stands es
   changed-twice stands [] others =
       ap (changed_from two true) (sym (append-nil (extension_of 117 (one [])))) ∙ again-here 117 [] [] (u_is_u (one [])) ∙ append-nil (extension_of 117 (two []))
-  changed-twice stands (e ∷ es) others = by_place stands (is_place_of_u stands e) refl others.0 (changed-twice stands es others.1)
-    where
-      by_place :
-          (t b : Bool) → is_place_of_u t e ≡ b → (is_place_of_u t e ≡ false → is_of 117 e ≡ false) → changed_from two true (changed_from one t es) ≡ changed_from two t es →
-          changed_from two true (cond b (at_place one t e ++ es) (e ∷ changed_from one t es)) ≡ cond b (at_place two t e ++ es) (e ∷ changed_from two t es)
-      by_place true true is other later = again-here e.singleton e.subtags es is
-      by_place false true is other later =
-          ap (changed_from two true) (append_assoc (extension_of 117 (one [])) (e ∷ []) es) ∙ again-here 117 [] (e ∷ es) (u_is_u (one []))
-          ∙ sym (append_assoc (extension_of 117 (two [])) (e ∷ []) es)
-      by_place t false is other later = ap (λ b. cond b (at_place two true e ++ changed_from one t es) (e ∷ changed_from two true (changed_from one t es))) (other is) ∙ ap (λ x. e ∷ x) later
+  changed-twice stands (e ∷ es) others =
+      grind (arith, nat_tests, changed-twice stands es others.1, append_assoc (extension_of 117 (one [])) (e ∷ []) es, append_assoc (extension_of 117 (two [])) (e ∷ []) es, again-here 117, again-here e.singleton, u_is_u (one []))
 
   others-standing : (es : List Extension) → AreOthers true es
   others-standing [] = tt

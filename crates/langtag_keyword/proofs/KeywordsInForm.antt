@@ -2,10 +2,10 @@
 -- form, and subtags in which each key has the same value have the same form.
 use Rattle.std.proofs.lemmas.Grind.{common_steps}
 use Rattle.std.proofs.Common.{arith}
-use Rattle.std.proofs.Common.{◌≡◌, ℕ, Bool, true, false, cond, ◌&&◌, ◌||◌, List, [], ◌∷◌, ◌++◌, map, Option, None, Some, option_map, refl, sym, ap, ◌∙◌, append-nil}
-use Rattle.std.specs.List.{AllByRecursion, filter, flat_map, list_any}
+use Rattle.std.proofs.Common.{◌≡◌, ℕ, Bool, true, false, cond, ◌||◌, List, [], ◌∷◌, ◌++◌, map, Option, None, Some, option_map, refl, sym, ap, ◌∙◌, append-nil}
+use Rattle.std.specs.List.{AllByRecursion, filter, flat_map}
 use Rattle.std.specs.Option.{is_some, option_map_or}
-use Rattle.langtag_scan.specs.Case.{are_alike, fold_text}
+use Rattle.langtag_scan.specs.Case.{fold_text}
 use Rattle.langtag_scan.specs.CaseLaws.{are_alike-decides}
 use Rattle.langtag_scan.specs.Subtags.{join, subtags}
 use Rattle.langtag_keyword.specs.Form as form
@@ -18,7 +18,7 @@ use Rattle.langtag_keyword.proofs.AscendingTexts.{among, among-alphabet, before-
 
 pub flat-same : (f g : List ℕ → List (List ℕ)) (keys : List (List ℕ)) → AllByRecursion (λ k. f k ≡ g k) keys → flat_map f keys ≡ flat_map g keys
 flat-same f g [] same = refl
-flat-same f g (k ∷ keys) same = ap (λ t. t ++ flat_map f keys) same.0 ∙ ap (λ t. g k ++ t) (flat-same f g keys same.1)
+flat-same f g (k ∷ keys) same = grind (arith, common_steps, flat-same f g keys same.1)
 
 -- a key that has no value puts nothing among the keys
 pub blocks-put :
@@ -47,12 +47,11 @@ module _ (opens : List ℕ → Bool) where
 
   pub before-plain : (xs ys : List (List ℕ)) → Plain xs → before_key opens (xs ++ ys) ≡ xs ++ before_key opens ys
   before-plain [] ys plain = refl
-  before-plain (x ∷ xs) ys plain = ap (λ b. cond b [] (x ∷ before_key opens (xs ++ ys))) plain.0 ∙ ap (λ t. x ∷ t) (before-plain xs ys plain.1)
+  before-plain (x ∷ xs) ys plain = grind (arith, common_steps, before-plain xs ys plain.1)
 
   pub value-plain : (key : List ℕ) (xs ys : List (List ℕ)) → Plain xs → value_of opens key (xs ++ ys) ≡ value_of opens key ys
   value-plain key [] ys plain = refl
-  value-plain key (x ∷ xs) ys plain =
-      ap (λ b. cond (b && are_alike x key) (Some (before_key opens (xs ++ ys))) (value_of opens key (xs ++ ys))) plain.0 ∙ value-plain key xs ys plain.1
+  value-plain key (x ∷ xs) ys plain = grind (arith, common_steps, value-plain key xs ys plain.1)
 
   -- what has a value is a key, and there is no key in the value
   abbrev pub AreKeywords : (List ℕ → Option (List (List ℕ))) → Type 0
@@ -77,30 +76,8 @@ module _ (opens : List ℕ → Bool) where
         (k : List ℕ) (keys : List (List ℕ)) → fold_text k ≡ k → AllByRecursion (λ j. fold_text j ≡ j) keys →
         value_of opens k (blocks value keys) ≡ cond (among k keys) (value k) None
     value-found k [] lower lowers = refl
-    value-found k (j ∷ keys) lower lowers = by_tests (are_alike j k) (value j) refl refl (value-found k keys lower lowers.1)
-      where
-        by_any : (b : Bool) → value k ≡ None → cond b (value k) None ≡ value k
-        by_any true none = refl
-        by_any false none = sym none
-
-        by_tests :
-            (a : Bool) (o : Option (List (List ℕ))) → are_alike j k ≡ a → value j ≡ o →
-            value_of opens k (blocks value keys) ≡ cond (list_any (λ i. are_alike i k) keys) (value k) None →
-            value_of opens k (option_map_or (λ v. j ∷ v) o [] ++ blocks value keys) ≡ cond (a || list_any (λ i. are_alike i k) keys) (value k) None
-        by_tests true None alike is later =
-            let same : j ≡ k = sym lowers.0 ∙ (are_alike-decides j k).0 alike ∙ lower in
-            later ∙ by_any (list_any (λ i. are_alike i k) keys) (ap value (sym same) ∙ is)
-        by_tests true (Some v) alike is later =
-            let same : j ≡ k = sym lowers.0 ∙ (are_alike-decides j k).0 alike ∙ lower in
-            let rest : List (List ℕ) = v ++ blocks value keys in
-            ap (λ b. cond (b && are_alike j k) (Some (before_key opens rest)) (value_of opens k rest)) (are j v is).0
-            ∙ ap (λ b. cond b (Some (before_key opens rest)) (value_of opens k rest)) alike
-            ∙ ap (λ t. Some t) (before-blocks v keys (are j v is).1) ∙ sym is ∙ ap value same
-        by_tests false None alike is later = later
-        by_tests false (Some v) alike is later =
-            let rest : List (List ℕ) = v ++ blocks value keys in
-            ap (λ b. cond (b && are_alike j k) (Some (before_key opens rest)) (value_of opens k rest)) (are j v is).0
-            ∙ ap (λ b. cond b (Some (before_key opens rest)) (value_of opens k rest)) alike ∙ value-plain k v (blocks value keys) (are j v is).1 ∙ later
+    value-found k (j ∷ keys) lower lowers =
+        grind (arith, common_steps, value-found k keys lower lowers.1, are j, are_alike-decides j k, before-blocks, value-plain k)
 
   -- ---- which keys are in order
 
@@ -130,24 +107,13 @@ module _ (opens : List ℕ → Bool) where
     pub form-blocks : (ss : List (List ℕ)) → form.keywords_form opens canonical ss ≡ blocks (values_in_form ss) (keys_in_order opens ss)
     form-blocks ss = flat-same (form.keyword_form opens canonical ss) (block (values_in_form ss)) (keys_in_order opens ss) (each (keys_in_order opens ss))
       where
-        by_value :
-            (key : List ℕ) (o : Option (List (List ℕ))) →
-            option_map_or (λ w. key ∷ map fold_text (subtags (canonical key (join w)))) o []
-            ≡ option_map_or (λ v. key ∷ v) (option_map (λ w. map fold_text (subtags (canonical key (join w)))) o) []
-        by_value key None = refl
-        by_value key (Some w) = refl
-
         each : (keys : List (List ℕ)) → AllByRecursion (λ k. form.keyword_form opens canonical ss k ≡ block (values_in_form ss) k) keys
         each [] = tt
-        each (k ∷ keys) = (by_value k (value_of opens k ss), each keys)
+        each (k ∷ keys) = (grind (arith, common_steps), each keys)
 
     -- a key is among the keys of subtags in which it has a value
     has-value : (k : List ℕ) (ss : List (List ℕ)) → among k (keys_in_order opens ss) ≡ is_some (values_in_form ss k)
-    has-value k ss = keys-have k ss ∙ by_value (value_of opens k ss)
-      where
-        by_value : (o : Option (List (List ℕ))) → is_some o ≡ is_some (option_map (λ w. map fold_text (subtags (canonical k (join w)))) o)
-        by_value None = refl
-        by_value (Some w) = refl
+    has-value k ss = grind (arith, common_steps, keys-have k ss)
 
     -- the form depends on nothing but the values of keys in lowercase
     pub same-values :
@@ -175,13 +141,7 @@ module _ (opens : List ℕ → Bool) where
 
       found-again : (k : List ℕ) → fold_text k ≡ k → value_of opens k whole ≡ values_in_form ss k
       found-again k low =
-          value-plain k front (form.keywords_form opens canonical ss) plain ∙ ap (value_of opens k) (form-blocks ss)
-          ∙ value-found (values_in_form ss) are k (keys_in_order opens ss) low (lower-in_alphabet (filter opens ss)) ∙ ap (λ b. cond b (values_in_form ss k) None) (has-value k ss)
-          ∙ by_value (values_in_form ss k)
-        where
-          by_value : (o : Option (List (List ℕ))) → cond (is_some o) o None ≡ o
-          by_value None = refl
-          by_value (Some v) = refl
+          grind (arith, common_steps, value-plain k front (form.keywords_form opens canonical ss) plain, form-blocks ss, value-found (values_in_form ss) are k (keys_in_order opens ss) low (lower-in_alphabet (filter opens ss)), has-value k ss)
 
       -- a canonical value is its own canonical value
       module _
@@ -190,11 +150,4 @@ module _ (opens : List ℕ → Bool) where
           map fold_text (subtags (canonical key (join (map fold_text (subtags (canonical key (join w))))))) ≡ map fold_text (subtags (canonical key (join w))))
         where
           pub keywords-again : form.keywords_form opens canonical whole ≡ form.keywords_form opens canonical ss
-          keywords-again = same-values whole ss (λ k low. ap (option_map (λ w. map fold_text (subtags (canonical k (join w))))) (found-again k low) ∙ by_value k (value_of opens k ss))
-            where
-              by_value :
-                  (k : List ℕ) (o : Option (List (List ℕ))) →
-                  option_map (λ w. map fold_text (subtags (canonical k (join w)))) (option_map (λ w. map fold_text (subtags (canonical k (join w)))) o)
-                  ≡ option_map (λ w. map fold_text (subtags (canonical k (join w)))) o
-              by_value k None = refl
-              by_value k (Some w) = ap (λ t. Some t) (settled k w)
+          keywords-again = same-values whole ss (λ k low. grind (arith, common_steps, found-again k low, settled k))

@@ -1,5 +1,5 @@
 -- Numbers that rise, and the least of numbers in any order.
-use Rattle.std.proofs.Common.{◌≡◌, ℕ, zero, suc, ◌<◌, ◌≤◌, Bool, true, false, cond, ◌==◌, ◌&&◌, ◌||◌, List, [], ◌∷◌, ◌++◌, length, get_or, take, refl, sym, ap, subst, ◌∙◌, arith}
+use Rattle.std.proofs.Common.{◌≡◌, ℕ, zero, suc, ◌<◌, ◌≤◌, Bool, true, false, ◌==◌, ◌&&◌, ◌||◌, List, [], ◌∷◌, ◌++◌, length, get_or, take, refl, ap, subst, ◌∙◌, arith}
 use Rattle.std.proofs.Math.Dec.{leb, ltb}
 use Rattle.std.specs.List.{filter}
 use Rattle.std.specs.List.Sorted.{IsNonDecreasing}
@@ -35,22 +35,11 @@ has-filter p n (m ∷ ms) = grind (arith, nat_tests, has-filter p n ms)
 
 rise-filter : (p : ℕ → Bool) (l : ℕ) (ns : List ℕ) → AscendsFrom l ns → AscendsFrom l (filter p ns)
 rise-filter p l [] rise = tt
-rise-filter p l (n ∷ ns) rise = by_test (p n) (rise-filter p n ns rise.1)
-  where
-    by_test : (b : Bool) → AscendsFrom n (filter p ns) → AscendsFrom l (cond b (n ∷ filter p ns) (filter p ns))
-    by_test true later = (rise.0, later)
-    by_test false later = rise-weaker l n (filter p ns) (omega (arith, rise.0)) later
+rise-filter p l (n ∷ ns) rise = grind (arith, nat_tests, rise-filter p n ns rise.1, rise-weaker l n (filter p ns))
 
 rise-within : (last limit l : ℕ) (ns : List ℕ) → AscendsFrom l ns → AscendsFrom last (filter (is_within last limit) ns)
 rise-within last limit l [] rise = tt
-rise-within last limit l (n ∷ ns) rise =
-    by_test (is_within last limit n) refl (rise-filter (is_within last limit) n ns rise.1) (rise-within last limit n ns rise.1)
-  where
-    by_test :
-        (b : Bool) → is_within last limit n ≡ b → AscendsFrom n (filter (is_within last limit) ns) → AscendsFrom last (filter (is_within last limit) ns) →
-        AscendsFrom last (cond b (n ∷ filter (is_within last limit) ns) (filter (is_within last limit) ns))
-    by_test true is above later = (grind (arith, nat_tests), above)
-    by_test false is above later = later
+rise-within last limit l (n ∷ ns) rise = grind (arith, nat_tests, rise-filter (is_within last limit) n ns rise.1, rise-within last limit n ns rise.1)
 
 -- ---- numbers above another one
 
@@ -60,31 +49,17 @@ above last ns = filter (ltb last) ns
 pub above-all : (last l : ℕ) (ns : List ℕ) → last ≤ l → AscendsFrom l ns → above last ns ≡ ns
 above-all last l [] below rise = refl
 above-all last l (n ∷ ns) below rise =
-    let inside : ltb last n ≡ true = grind (arith, nat_tests, rise.0) in
-    ap (λ b. cond b (n ∷ above last ns) (above last ns)) inside ∙ ap (λ ms. n ∷ ms) (above-all last n ns (omega (arith, below, rise.0)) rise.1)
+    grind (arith, nat_tests, above-all last n ns (omega (arith, below, rise.0)) rise.1)
 
 none-within : (last limit l : ℕ) (ns : List ℕ) → limit ≤ l → AscendsFrom l ns → filter (is_within last limit) ns ≡ []
 none-within last limit l [] below rise = refl
 none-within last limit l (n ∷ ns) below rise =
-    let outside : is_within last limit n ≡ false = grind (arith, nat_tests, rise.0) in
-    ap (λ b. cond b (n ∷ filter (is_within last limit) ns) (filter (is_within last limit) ns)) outside ∙ none-within last limit n ns (omega (arith, below, rise.0)) rise.1
+    grind (arith, nat_tests, none-within last limit n ns (omega (arith, below, rise.0)) rise.1)
 
 pub above-split : (last limit l : ℕ) (ns : List ℕ) → last ≤ limit → AscendsFrom l ns → above last ns ≡ filter (is_within last limit) ns ++ above limit ns
 above-split last limit l [] order rise = refl
 above-split last limit l (n ∷ ns) order rise =
-    by_tests (ltb last n) (leb n limit) (ltb limit n) refl refl refl (above-split last limit n ns order rise.1)
-  where
-    by_tests :
-        (a b c : Bool) → ltb last n ≡ a → leb n limit ≡ b → ltb limit n ≡ c → above last ns ≡ filter (is_within last limit) ns ++ above limit ns →
-        cond a (n ∷ above last ns) (above last ns) ≡ cond (a && b) (n ∷ filter (is_within last limit) ns) (filter (is_within last limit) ns) ++ cond c (n ∷ above limit ns) (above limit ns)
-    by_tests true true true is fits over later = absurd (grind (arith, nat_tests))
-    by_tests true true false is fits over later = ap (λ ms. n ∷ ms) later
-    by_tests true false true is fits over later =
-        let none = none-within last limit n ns (grind (arith, nat_tests)) rise.1 in
-        ap (λ ms. n ∷ ms) later ∙ ap (λ ms. n ∷ (ms ++ above limit ns)) none ∙ sym (ap (λ ms. ms ++ n ∷ above limit ns) none)
-    by_tests true false false is fits over later = absurd (grind (arith, nat_tests))
-    by_tests false b true is fits over later = absurd (grind (arith, nat_tests))
-    by_tests false b false is fits over later = later
+    grind (arith, nat_tests, above-split last limit n ns order rise.1, λ (h : limit ≤ n). none-within last limit n ns h rise.1)
 
 abbrev pub AllUpTo : ℕ → List ℕ → Type 0
 AllUpTo most [] = Unit
@@ -92,9 +67,7 @@ AllUpTo most (n ∷ ns) = (n ≤ most) × AllUpTo most ns
 
 pub above-none : (most : ℕ) (ns : List ℕ) → AllUpTo most ns → above most ns ≡ []
 above-none most [] all = refl
-above-none most (n ∷ ns) all =
-    let below : ltb most n ≡ false = grind (arith, nat_tests, all.0) in
-    ap (λ b. cond b (n ∷ above most ns) (above most ns)) below ∙ above-none most ns all.1
+above-none most (n ∷ ns) all = grind (arith, nat_tests, above-none most ns all.1)
 
 -- ---- numbers in order
 
@@ -134,13 +107,7 @@ has-take n (suc k) l (m ∷ ms) up inside =
 
 pub rise-ascending : (last : ℕ) (ns : List ℕ) → AscendsFrom last (ascending_after last ns)
 rise-ascending last [] = tt
-rise-ascending last (n ∷ ns) = by_test (ltb last n) refl (rise-ascending n ns) (rise-ascending last ns)
-  where
-    by_test :
-        (b : Bool) → ltb last n ≡ b → AscendsFrom n (ascending_after n ns) → AscendsFrom last (ascending_after last ns) →
-        AscendsFrom last (cond b (n ∷ ascending_after n ns) (ascending_after last ns))
-    by_test true is next same = (grind (arith, nat_tests), next)
-    by_test false is next same = same
+rise-ascending last (n ∷ ns) = grind (arith, nat_tests, rise-ascending n ns, rise-ascending last ns)
 
 has-ascending : (last n l : ℕ) (ns : List ℕ) → NeverFalls l ns → has n (ascending_after last ns) ≡ (ltb last n && has n ns)
 has-ascending last n l [] up = grind arith
@@ -152,12 +119,7 @@ pub kept-within :
     ascending_after least.last ns ≡ filter (is_within least.last least.limit) all
 kept-within least all ns rise holds up same =
     same-rise least.last _ _ (rise-ascending least.last ns) (rise-within least.last least.limit 0 all rise)
-    (λ n. has-ascending least.last n 0 ns up ∙ ap (λ b. ltb least.last n && b) (same n ∙ holds.same n) ∙ twice (ltb least.last n) (leb n least.limit) (has n all)
-    ∙ sym (has-filter (is_within least.last least.limit) n all))
-  where
-    twice : (a b c : Bool) → (a && ((a && b) && c)) ≡ ((a && b) && c)
-    twice true b c = refl
-    twice false b c = refl
+    (λ n. has-ascending least.last n 0 ns up ∙ ap (λ b. ltb least.last n && b) (same n ∙ holds.same n) ∙ grind (arith, nat_tests, has-filter (is_within least.last least.limit) n all))
 
 -- one number more was offered, and only the lower half of the numbers is kept
 pub thinned :

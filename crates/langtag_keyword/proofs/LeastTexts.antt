@@ -111,10 +111,7 @@ digit :
     (k h r n d : ℕ) (s : List ℕ) → n ≡ h * 256 ^ k + r → r < 256 ^ k → h % 256 ≡ d →
     filter (λ b. not (b == 0)) (bytes_high_first k n) ≡ s →
     filter (λ b. not (b == 0)) (bytes_high_first (suc k) n) ≡ cond (not (d == 0)) (d ∷ s) s
-digit k h r n d s is below low rest =
-    let here : byte_at k n ≡ d = byte-of k h r n is below ∙ low in
-    ap (λ b. cond (not (b == 0)) (b ∷ filter (λ b. not (b == 0)) (bytes_high_first k n)) (filter (λ b. not (b == 0)) (bytes_high_first k n))) here
-    ∙ ap (λ t. cond (not (d == 0)) (d ∷ t) t) rest
+digit k h r n d s is below low rest = grind (arith, nat_tests, byte-of k h r n is below)
 
 some-kept : (b : ℕ) (s : List ℕ) → 0 < b → cond (not (b == 0)) (b ∷ s) s ≡ b ∷ s
 some-kept b s some = let test : (b == 0) ≡ false = grind (arith, nat_tests) in ap (λ c. cond (not c) (b ∷ s) s) test
@@ -303,8 +300,7 @@ passed ns k last next out after new inside under is same these =
 nonzero-more :
     (ns : List ℕ) (k : ℕ) → k < length ns →
     filter (λ b. not (b == 0)) (take (k + 1) ns) ≡ filter (λ b. not (b == 0)) (take k ns) ++ cond (not (get_or ns k 0 == 0)) (get_or ns k 0 ∷ []) []
-nonzero-more ns k inside =
-    ap (filter (λ b. not (b == 0))) (take_more ns k 0 inside) ∙ filter-append (λ b. not (b == 0)) (take k ns) (get_or ns k 0 ∷ [])
+nonzero-more ns k inside = rw (take_more ns k 0 inside, filter-append)
 
 pub digit_put :
     (text ns : List ℕ) (k : ℕ) → k < length ns → 0 < get_or ns k 0 →

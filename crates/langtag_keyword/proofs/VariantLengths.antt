@@ -1,5 +1,5 @@
 -- Variants of which no two are equal take as many bytes when each is written once.
-use Rattle.std.proofs.Common.{◌≡◌, ℕ, ◌+◌, ◌-◌, ◌<◌, ◌≤◌, Bool, true, false, not, cond, ◌==◌, ◌&&◌, ◌||◌, List, [], ◌∷◌, length, fold, min, refl, sym, ap, ◌∙◌, arith}
+use Rattle.std.proofs.Common.{◌≡◌, ℕ, ◌+◌, ◌-◌, ◌<◌, ◌≤◌, true, false, cond, ◌==◌, ◌||◌, List, [], ◌∷◌, length, fold, min, refl, sym, ap, ◌∙◌, arith}
 use Rattle.std.specs.List.{AllByRecursion, list_all, list_any}
 use Rattle.std.proofs.lemmas.Bool.{and_parts}
 use Rattle.std.proofs.lemmas.List.Splits.{join_with_byte-slice_split, length-slice_split}
@@ -34,12 +34,7 @@ in_order-length (s ∷ ss) some all = written-length s ss all.0.some
 
 put-some : (x : List ℕ) (ss : List (List ℕ)) → 0 < length (put_among x ss)
 put-some x [] = omega arith
-put-some x (s ∷ ss) = by_tests (is_before x s) (is_before s x)
-  where
-    by_tests : (a b : Bool) → 0 < length (cond a (x ∷ s ∷ ss) (cond b (s ∷ put_among x ss) (s ∷ ss)))
-    by_tests true b = omega arith
-    by_tests false true = omega arith
-    by_tests false false = omega arith
+put-some x (s ∷ ss) = grind (arith, nat_tests)
 
 -- ---- one text more
 
@@ -47,42 +42,13 @@ put-length :
     (x : List ℕ) (ss : List (List ℕ)) → fold_text x ≡ x → AreLower ss → Rise ss →
     length_with_hyphens (put_among x ss) ≡ cond (among x ss) (length_with_hyphens ss) (length x + 1 + length_with_hyphens ss)
 put-length x [] low lowers rise = refl
-put-length x (s ∷ ss) low lowers rise = by_tests (is_before x s) (is_before s x) refl refl (put-length x ss low lowers.1 rise.1)
-  where
-    by_tests :
-        (a b : Bool) → is_before x s ≡ a → is_before s x ≡ b →
-        length_with_hyphens (put_among x ss) ≡ cond (among x ss) (length_with_hyphens ss) (length x + 1 + length_with_hyphens ss) →
-        length_with_hyphens (cond a (x ∷ s ∷ ss) (cond b (s ∷ put_among x ss) (s ∷ ss)))
-        ≡ cond (are_alike s x || among x ss) (length s + 1 + length_with_hyphens ss) (length x + 1 + (length s + 1 + length_with_hyphens ss))
-    by_tests true b is other later =
-        let none : among x (s ∷ ss) ≡ false = not-among x x (s ∷ ss) refl low lowers (under-each x (s ∷ ss) is rise) in
-        sym (ap (λ t. cond t (length s + 1 + length_with_hyphens ss) (length x + 1 + (length s + 1 + length_with_hyphens ss))) none)
-    by_tests false true is other later =
-        let apart : are_alike s x ≡ false = (before-apart s x lowers.0 low other).0 in
-        by_among (among x ss) later ∙ sym (ap (λ t. cond (t || among x ss) (length s + 1 + length_with_hyphens ss) (length x + 1 + (length s + 1 + length_with_hyphens ss))) apart)
-      where
-        by_among :
-            (t : Bool) → length_with_hyphens (put_among x ss) ≡ cond t (length_with_hyphens ss) (length x + 1 + length_with_hyphens ss) →
-            length s + 1 + length_with_hyphens (put_among x ss) ≡ cond t (length s + 1 + length_with_hyphens ss) (length x + 1 + (length s + 1 + length_with_hyphens ss))
-        by_among true same = omega (arith, same)
-        by_among false more = omega (arith, more)
-    by_tests false false is other later =
-        let one : x ≡ s = before-tie x s is other in
-        let there : are_alike s x ≡ true = (are_alike-decides s x).1 (ap fold_text (sym one)) in
-        sym (ap (λ t. cond (t || among x ss) (length s + 1 + length_with_hyphens ss) (length x + 1 + (length s + 1 + length_with_hyphens ss))) there)
+put-length x (s ∷ ss) low lowers rise =
+    grind (arith, nat_tests, put-length x ss low lowers.1 rise.1, before-apart s x lowers.0 low, before-tie x s, are_alike-decides s x, λ (is : is_before x s ≡ true). not-among x x (s ∷ ss) refl low lowers (under-each x (s ∷ ss) is rise))
 
 -- ---- among texts
 
 turned : (s t : List ℕ) → are_alike t (fold_text s) ≡ are_alike s t
-turned s t = by_tests (are_alike t (fold_text s)) (are_alike s t) refl refl
-  where
-    by_tests : (a b : Bool) → are_alike t (fold_text s) ≡ a → are_alike s t ≡ b → a ≡ b
-    by_tests true true one other = refl
-    by_tests false false one other = refl
-    by_tests true false one other =
-        sym ((are_alike-decides s t).1 (sym (fold_text-twice s) ∙ sym ((are_alike-decides t (fold_text s)).0 one))) ∙ other
-    by_tests false true one other =
-        sym one ∙ (are_alike-decides t (fold_text s)).1 (sym ((are_alike-decides s t).0 other) ∙ sym (fold_text-twice s))
+turned s t = grind (arith, nat_tests, are_alike-decides t (fold_text s), are_alike-decides s t, fold_text-twice s)
 
 pub among-alike : (s : List ℕ) (ss : List (List ℕ)) → among (fold_text s) ss ≡ list_any (are_alike s) ss
 among-alike s [] = refl
@@ -101,24 +67,12 @@ weighs : (ss : List (List ℕ)) → list_all is_variant ss ≡ true → Weighs s
 weighs [] all = record { less = omega arith; tells = refl }
 weighs (s ∷ ss) all =
     let parts = and_parts (is_variant s) (list_all is_variant ss) all in
-    by_among (list_any (are_alike s) ss) parts.0 (weighs ss parts.1)
-    (put-length (fold_text s) (in_alphabet ss) (fold_text-twice s) (lower-in_alphabet ss) (rise-in_alphabet ss)
-    ∙ ap (λ t. cond t (length_with_hyphens (in_alphabet ss)) (length (fold_text s) + 1 + length_with_hyphens (in_alphabet ss))) (among-alphabet (fold_text s) ss ∙ among-alike s ss)
-    ∙ ap (λ n. cond (list_any (are_alike s) ss) (length_with_hyphens (in_alphabet ss)) (n + 1 + length_with_hyphens (in_alphabet ss))) (same_length s)) refl
-  where
-    by_among :
-        (t : Bool) → is_variant s ≡ true → Weighs ss →
-        length_with_hyphens (in_alphabet (s ∷ ss)) ≡ cond t (length_with_hyphens (in_alphabet ss)) (length s + 1 + length_with_hyphens (in_alphabet ss)) →
-        list_any (are_alike s) ss ≡ t → Weighs (s ∷ ss)
-    by_among true variant rest is there = record {
-      less = omega (arith, is, rest.less);
-      tells = (let unequal : (length_with_hyphens (in_alphabet (s ∷ ss)) == length s + 1 + length_with_hyphens ss) ≡ false = grind (arith, nat_tests, is, rest.less) in unequal)
-          ∙ sym (ap (λ a. (a && not (list_any (are_alike s) ss)) && are_different_variants ss) variant ∙ ap (λ a. not a && are_different_variants ss) there);
-    }
-    by_among false variant rest is there = record {
-      less = omega (arith, is, rest.less);
-      tells = (let same : (length_with_hyphens (in_alphabet (s ∷ ss)) == length s + 1 + length_with_hyphens ss) ≡ (length_with_hyphens (in_alphabet ss) == length_with_hyphens ss) = grind (arith, nat_tests, is) in same)
-          ∙ rest.tells ∙ sym (ap (λ a. (a && not (list_any (are_alike s) ss)) && are_different_variants ss) variant ∙ ap (λ a. not a && are_different_variants ss) there);
+    let rest = weighs ss parts.1 in
+    let put = put-length (fold_text s) (in_alphabet ss) (fold_text-twice s) (lower-in_alphabet ss) (rise-in_alphabet ss) in
+    let there = among-alphabet (fold_text s) ss ∙ among-alike s ss in
+    record {
+      less = grind (arith, nat_tests, put, there, same_length s, rest.less);
+      tells = grind (arith, nat_tests, put, there, same_length s, rest.less, rest.tells, parts.0);
     }
 
 each_variant : (ss : List (List ℕ)) → list_all is_variant ss ≡ true → AllByRecursion IsSubtag ss
@@ -128,19 +82,9 @@ each_variant (s ∷ ss) all = let parts = and_parts (is_variant s) (list_all is_
 pub are_subtags : (ss : List (List ℕ)) → list_all is_variant ss ≡ true → AllByRecursion IsSubtag ss
 are_subtags ss all = each_variant ss all
 
-nothing : (t : Bool) → false ≡ (t && false)
-nothing true = refl
-nothing false = refl
-
 pub not_variants : (ss : List (List ℕ)) → list_all is_variant ss ≡ false → are_different_variants ss ≡ false
 not_variants [] other = absurd cc
-not_variants (s ∷ ss) other = by_test (is_variant s) (not_variants ss) other
-  where
-    by_test :
-        (t : Bool) → (list_all is_variant ss ≡ false → are_different_variants ss ≡ false) → (t && list_all is_variant ss) ≡ false →
-        ((t && not (list_any (are_alike s) ss)) && are_different_variants ss) ≡ false
-    by_test false later other = refl
-    by_test true later other = ap (λ b. not (list_any (are_alike s) ss) && b) (later other) ∙ sym (nothing (not (list_any (are_alike s) ss)))
+not_variants (s ∷ ss) other = grind (arith, nat_tests, not_variants ss)
 
 different_by :
     (ss : List (List ℕ)) (text : List ℕ) (n : ℕ) → list_all is_variant ss ≡ true → segments text ≡ ss → length text < 18446744073709551616 →

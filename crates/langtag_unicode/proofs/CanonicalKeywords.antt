@@ -134,9 +134,7 @@ module _ (ss : List (List ℕ)) (good : Good ss) (own : unicode_form ss ≡ ss) 
 
   removed-shape : without_keyword key ss ≡ spelled []
   removed-shape =
-      ap (without_keyword key) shape
-      ∙ without-passed key attributes (blocks (values ss) s.before ++ (block (values ss) key ++ blocks (values ss) s.after)) plain
-      ∙ ap (λ t. attributes ++ t) (removed-among (values ss) (values-are ss good) key s.before s.after s.early s.late s.before_others s.after_others (alike-itself key))
+      grind (arith, common_steps, shape, without-passed key attributes, plain, removed-among (values ss) (values-are ss good) key s.before s.after s.early s.late s.before_others s.after_others (alike-itself key))
 
   set-shape : (v : List (List ℕ)) → with_keyword key v ss ≡ spelled (key ∷ v)
   set-shape v =
@@ -172,10 +170,7 @@ module _ (ss : List (List ℕ)) (good : Good ss) (own : unicode_form ss ≡ ss) 
     where
       each : (keys : List (List ℕ)) → AllByRecursion (λ j. are_alike j key ≡ false) keys → AllByRecursion (λ j. block (values ts) j ≡ block (values ss) j) keys
       each [] apart = tt
-      each (j ∷ keys) apart = (
-        ap (λ o. option_map_or (λ v. j ∷ v) (option_map (λ w. map fold_text (subtags (unicode_value j (join w)))) o) []) (others j (alike-back j key apart.0)),
-        each keys apart.1,
-      )
+      each (j ∷ keys) apart = (grind (arith, common_steps, others j (alike-back j key apart.0)), each keys apart.1)
 
       alike_blocks : (keys : List (List ℕ)) → AllByRecursion (λ j. are_alike j key ≡ false) keys → blocks (values ts) keys ≡ blocks (values ss) keys
       alike_blocks keys apart = flat-same (block (values ts)) (block (values ss)) keys (each keys apart)

@@ -33,8 +33,7 @@ unfolding fold_byte
 u_is_no_t ss = refl
 
 or_false : (t : Bool) → (t || false) ≡ t
-or_false true = refl
-or_false false = refl
+or_false t = grind (arith, common_steps)
 
 record Absent (e : Extension) (es : List Extension) : Type 0 where
   first : is_of 117 e ≡ false
@@ -46,11 +45,7 @@ absent-next e es none = grind (arith, common_steps)
 -- without a `u`, it makes no difference whether a `u` came before
 forms-absent : (t : Bool) (es : List Extension) → find (is_of 117) es ≡ None → forms_after true t es ≡ forms_after false t es
 forms-absent t [] none = refl
-forms-absent t (e ∷ es) none =
-    let absent = absent-next e es none in
-    ap (λ x. x ∷ forms_after true (t || is_of 116 e) es) (form-other true t e absent.first ∙ sym (form-other false t e absent.first))
-    ∙ ap (λ x. extension_form false t e ∷ x) (forms-absent (t || is_of 116 e) es absent.others)
-    ∙ ap (λ b. extension_form false t e ∷ forms_after b (t || is_of 116 e) es) (sym absent.first)
+forms-absent t (e ∷ es) none = grind (arith, common_steps, absent-next e es none, form-other true t e, form-other false t e, forms-absent (t || is_of 116 e) es)
 
 own-none : unicode_form [] ≡ []
 own-none = refl
@@ -61,15 +56,7 @@ module _
   where
     new-u : (t : Bool) (rest : List Extension) → forms_after true t rest ≡ rest → forms_after false t (extension_of 117 (change []) ++ rest) ≡ extension_of 117 (change []) ++ rest
     new-u t rest own =
-        let is = extension-some 117 (change []) (some []) in
-        ap (λ x. forms_after false t (x ++ rest)) is
-        ∙ ap (λ x. x ∷ forms_after (is_of 117 (extension 117 (change []))) (t || is_of 116 (extension 117 (change []))) rest)
-        (form-u t (extension 117 (change [])) (u_is_u (change [])) ∙ ap (extension 117) (keeps [] tt own-none))
-        ∙ ap (λ b. extension 117 (change []) ∷ forms_after b (t || is_of 116 (extension 117 (change []))) rest) (u_is_u (change []))
-        ∙ ap (λ b. extension 117 (change []) ∷ forms_after true (t || b) rest) (u_is_no_t (change []))
-        ∙ ap (λ b. extension 117 (change []) ∷ forms_after true b rest) (or_false t)
-        ∙ ap (λ x. extension 117 (change []) ∷ x) own
-        ∙ ap (λ x. x ++ rest) (sym is)
+        grind (arith, common_steps, extension-some 117 (change []) (some []), form-u t (extension 117 (change [])), u_is_u (change []), keeps [] tt own-none, u_is_no_t (change []), or_false t)
 
     changed-u :
         (t : Bool) (e : Extension) (es : List Extension) → is_of 117 e ≡ true → IsWellFormedExtension e → forms_after false t (e ∷ es) ≡ e ∷ es →

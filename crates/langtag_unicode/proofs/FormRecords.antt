@@ -1,10 +1,10 @@
 -- The form of a tag is a tag: its extensions are well-formed.
 use Rattle.std.proofs.lemmas.Grind.{common_steps}
-use Rattle.std.proofs.Common.{◌≡◌, ℕ, ◌+◌, ◌≤◌, ◌&&◌, ◌||◌, not, Bool, true, false, cond, IsTrue, List, [], ◌∷◌, ◌++◌, length, map, Option, Some, None, unwrap_or, refl, sym, ap, subst, ◌∙◌, arith, length-append}
-use Rattle.std.proofs.lemmas.Bool.{and_parts, false≢true}
+use Rattle.std.proofs.Common.{◌≡◌, ℕ, ◌≤◌, ◌&&◌, ◌||◌, not, Bool, true, false, IsTrue, List, [], ◌∷◌, ◌++◌, length, map, Some, unwrap_or, refl, sym, ap, subst, ◌∙◌, arith, length-append}
+use Rattle.std.proofs.lemmas.Bool.{and_parts}
 use Rattle.std.proofs.lemmas.Bool.Decides.{nat_tests}
 use Rattle.std.specs.List.{AllByRecursion, filter, flat_map, list_all}
-use Rattle.std.specs.Option.{is_some, option_map_or}
+use Rattle.std.specs.Option.{is_some}
 use Rattle.langtag_scan.proofs.CaseLaw.{classes-fold}
 use Rattle.langtag_scan.proofs.SubtagFacts.{of_extension_subtag}
 use Rattle.langtag_scan.proofs.SubtagLists.{each_from_test, each_subtag, subtags-joined, each-append}
@@ -127,46 +127,22 @@ module _ (opens : List ℕ → Bool) (canonical : List ℕ → List ℕ → List
 
   -- a key puts something
   some-key : (s : List ℕ) (ss : List (List ℕ)) → opens s ≡ true → 1 ≤ length (form.keywords_form opens canonical (s ∷ ss))
-  some-key s ss is = by_keys (form.keys_in_order opens (s ∷ ss)) some (each-has opens (s ∷ ss))
+  some-key s ss is = by_keys (form.keys_in_order opens (s ∷ ss)) (grind (arith, nat_tests, some-put (fold_text s) (in_alphabet (filter opens ss)))) (each-has opens (s ∷ ss))
     where
-      some : 1 ≤ length (form.keys_in_order opens (s ∷ ss))
-      some = subst (λ b. 1 ≤ length (in_alphabet (cond b (s ∷ filter opens ss) (filter opens ss)))) (sym is) (some-put (fold_text s) (in_alphabet (filter opens ss)))
-
-      by_value : (key : List ℕ) (o : Option (List (List ℕ))) (rest : List (List ℕ)) → is_some o ≡ true →
-          1 ≤ length (option_map_or (λ v. key ∷ map fold_text (subtags (canonical key (join v)))) o [] ++ rest)
-      by_value key None rest has = absurd (false≢true has)
-      by_value key (Some v) rest has = omega arith
-
       by_keys : (keys : List (List ℕ)) → 1 ≤ length keys → AllByRecursion (λ k. is_some (value_of opens k (s ∷ ss)) ≡ true) keys →
           1 ≤ length (flat_map (form.keyword_form opens canonical (s ∷ ss)) keys)
       by_keys [] none has = absurd (omega (arith, none))
-      by_keys (key ∷ keys) none has = by_value key (value_of opens key (s ∷ ss)) (flat_map (form.keyword_form opens canonical (s ∷ ss)) keys) has.0
+      by_keys (key ∷ keys) none has = grind (arith, nat_tests)
 
 -- ---- the forms of `u` and `t`
-
-two_parts : (n a b : ℕ) → n ≡ a + b → 1 ≤ b → 1 ≤ n
-two_parts n a b both some = omega (arith, both, some)
-
-one_part : (n a b c : ℕ) → n ≡ a + b → a ≡ c → 1 ≤ c → 1 ≤ n
-one_part n a b c both first some = omega (arith, both, first, some)
 
 pub good-unicode_form : (ss : List (List ℕ)) → Good ss → Good (unicode_form ss)
 good-unicode_form ss good = grind (arith, common_steps, each-append, good-alphabet, good-before, good-keywords, good-unicode)
 
 pub some-unicode_form : (ss : List (List ℕ)) → Good ss → 1 ≤ length ss → 1 ≤ length (unicode_form ss)
 some-unicode_form [] good some = absurd (omega (arith, some))
-some-unicode_form (s ∷ ss) good some = by_test (is_key s) refl
-  where
-    by_test : (t : Bool) → is_key s ≡ t → 1 ≤ length (unicode_form (s ∷ ss))
-    by_test true is =
-        let keys = some-key is_key unicode_value s ss is in
-        let both = length-append (in_alphabet (before_key is_key (s ∷ ss))) (form.keywords_form is_key unicode_value (s ∷ ss)) in
-        two_parts _ _ _ both keys
-    by_test false is =
-        let first = ap (λ b. length (in_alphabet (cond b [] (s ∷ before_key is_key ss)))) is in
-        let here = some-put (fold_text s) (in_alphabet (before_key is_key ss)) in
-        let both = length-append (in_alphabet (before_key is_key (s ∷ ss))) (form.keywords_form is_key unicode_value (s ∷ ss)) in
-        one_part _ _ _ _ both first here
+some-unicode_form (s ∷ ss) good some =
+    grind (arith, nat_tests, some-key is_key unicode_value s ss, some-put (fold_text s) (in_alphabet (before_key is_key ss)), length-append (in_alphabet (before_key is_key (s ∷ ss))) (form.keywords_form is_key unicode_value (s ∷ ss)))
 
 good-one : (test : List ℕ → Bool) (ss : List (List ℕ)) → Good ss → Good (form.one_of test ss)
 good-one test ss good = grind (arith, nat_tests)
@@ -185,18 +161,8 @@ module _ (language : List (List ℕ) → List (List ℕ)) (has : (s : List ℕ) 
   pub some-transform :
       (ss : List (List ℕ)) → Good ss → 1 ≤ length ss → 1 ≤ length (language (before_key is_field_key ss) ++ form.keywords_form is_field_key transform_value ss)
   some-transform [] good some = absurd (omega (arith, some))
-  some-transform (s ∷ ss) good some = by_test (is_field_key s) refl
-    where
-      by_test : (t : Bool) → is_field_key s ≡ t → 1 ≤ length (language (before_key is_field_key (s ∷ ss)) ++ form.keywords_form is_field_key transform_value (s ∷ ss))
-      by_test true is =
-          let keys = some-key is_field_key transform_value s ss is in
-          let both = length-append (language (before_key is_field_key (s ∷ ss))) (form.keywords_form is_field_key transform_value (s ∷ ss)) in
-          two_parts _ _ _ both keys
-      by_test false is =
-          let first = ap (λ b. length (language (cond b [] (s ∷ before_key is_field_key ss)))) is in
-          let here = has s (before_key is_field_key ss) in
-          let both = length-append (language (before_key is_field_key (s ∷ ss))) (form.keywords_form is_field_key transform_value (s ∷ ss)) in
-          one_part _ _ _ _ both first here
+  some-transform (s ∷ ss) good some =
+      grind (arith, nat_tests, some-key is_field_key transform_value s ss, has s (before_key is_field_key ss), length-append (language (before_key is_field_key (s ∷ ss))) (form.keywords_form is_field_key transform_value (s ∷ ss)))
 
 -- ---- extensions
 

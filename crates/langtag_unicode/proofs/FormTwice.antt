@@ -1,7 +1,7 @@
 -- The form of the extension `u`, and of `t`, is its own form.
 use Rattle.std.proofs.lemmas.Grind.{common_steps}
 use Rattle.std.proofs.Common.{arith}
-use Rattle.std.proofs.Common.{◌≡◌, ℕ, Bool, true, false, not, cond, ◌&&◌, ◌==◌, List, [], ◌∷◌, ◌++◌, length, map, refl, sym, ap, subst, ◌∙◌}
+use Rattle.std.proofs.Common.{◌≡◌, ℕ, Bool, true, false, not, ◌&&◌, ◌==◌, List, [], ◌∷◌, ◌++◌, length, map, refl, sym, ap, subst, ◌∙◌}
 use Rattle.langtag.specs.FieldClasses.{is_region_field, is_script_field}
 use Rattle.langtag.specs.Fields.{Fields, subtag_of}
 use Rattle.langtag_scan.proofs.CaseLaw.{classes-fold, fold_text-twice, length-fold}
@@ -42,17 +42,12 @@ pub same_fields : (f g : Fields) → f.language ≡ g.language → f.script ≡ 
 same_fields f g one two three = grind (arith, common_steps)
 
 region_again : (s : List ℕ) (vs : List (List ℕ)) → is_region_field s ≡ true → AreVariants vs → first_subtag (one_of is_region (one_flat (subtag_of s) ++ vs)) ≡ s
-region_again (b ∷ s) vs is variants = ap (λ t. first_subtag (cond t ((b ∷ s) ∷ []) [])) is
-region_again [] [] is variants = refl
-region_again [] (v ∷ vs) is variants = ap (λ t. first_subtag (cond t (v ∷ []) [])) (variant-no_region v variants.0)
+region_again s vs is variants = grind (arith, common_steps, variant-no_region)
 
 script_again :
     (s r : List ℕ) (vs : List (List ℕ)) → is_script_field s ≡ true → is_region_field r ≡ true → AreVariants vs →
     first_subtag (one_of is_script (one_flat (subtag_of s) ++ (one_flat (subtag_of r) ++ vs))) ≡ s
-script_again (b ∷ s) r vs is region variants = ap (λ t. first_subtag (cond t ((b ∷ s) ∷ []) [])) is
-script_again [] (b ∷ r) vs is region variants = ap (λ t. first_subtag (cond t ((b ∷ r) ∷ []) [])) (region-no_script (b ∷ r) region)
-script_again [] [] [] is region variants = refl
-script_again [] [] (v ∷ vs) is region variants = ap (λ t. first_subtag (cond t (v ∷ []) [])) (variant-no_script v variants.0)
+script_again s r vs is region variants = grind (arith, common_steps, region-no_script, variant-no_script)
 
 -- the subtags after the language
 abbrev pub after_language : Fields → List (List ℕ) → List (List ℕ)
@@ -62,8 +57,7 @@ pub fields-again : (f : Fields) (vs : List (List ℕ)) → AreSubtags f → AreV
 fields-again f vs subtags variants = grind (arith, common_steps, same_fields, script_again, after_script, region_again)
 
 pub variants-again : (f : Fields) (vs : List (List ℕ)) → AreSubtags f → AreVariants vs → identifier_variants (after_language f vs) ≡ vs
-variants-again f vs subtags variants =
-    ap (after_one is_region) (after_script f.script f.region vs subtags.script subtags.region variants) ∙ after_region f.region vs subtags.region variants
+variants-again f vs subtags variants = grind (arith, common_steps, after_script, after_region)
 
 -- ---- the language of `t`, with its case and the order of its variants changed alone
 
@@ -148,16 +142,10 @@ module _ (language : List (List ℕ) → List (List ℕ)) where
     start-again = front-again is_field_key transform_value ss (field_values ss good fields_are) (language start) form_is.none
 
     pub with-twice : form_with (form_with ss) ≡ form_with ss
-    with-twice =
-        ap (λ t. language t ++ form.keywords_form is_field_key transform_value (form_with ss)) start-again
-        ∙ ap (λ t. t ++ form.keywords_form is_field_key transform_value (form_with ss)) form_is.twice
-        ∙ ap (λ t. language start ++ t) (keywords-again is_field_key transform_value ss (field_values ss good fields_are) (language start) form_is.none transform-settled)
+    with-twice = grind (arith, common_steps, start-again, form_is.twice, keywords-again is_field_key transform_value ss (field_values ss good fields_are) (language start) form_is.none transform-settled)
 
     pub with-allowed : is_transform (form_with ss) ≡ true
-    with-allowed =
-        ap (λ t. is_language_or_none t && are_fields false false (form_with ss)) start-again
-        ∙ ap (λ b. b && are_fields false false (form_with ss)) form_is.allowed
-        ∙ are-fields ss good fields_are (language start) form_is.none
+    with-allowed = grind (arith, common_steps, start-again, form_is.allowed, are-fields ss good fields_are (language start) form_is.none)
 
 pub transform-is_form : (ss : List (List ℕ)) → is_transform ss ≡ true → IsLanguageForm language_form (before_key is_field_key ss)
 transform-is_form ss is = language-is_form (before_key is_field_key ss) (both (is_language_or_none (before_key is_field_key ss)) (are_fields false false ss) is).0

@@ -12,7 +12,7 @@ use Rattle.langtag_scan.specs.Case.{are_alike}
 use Rattle.langtag_scan.specs.Record.{Extension, Record, extension_flat, spell}
 use Rattle.langtag_scan.specs.Subtags.{subtags}
 use Rattle.langtag_scan.specs.Tag.{IsNormal}
-use Rattle.langtag_keyword.specs.Edit.{at_place, changed_from, edited_record, extension_of, is_place_of_u, is_this_key, put_keyword, with_keyword, without_keyword, without_within}
+use Rattle.langtag_keyword.specs.Edit.{at_place, changed_from, edited_record, extension_of, is_this_key, put_keyword, with_keyword, without_keyword, without_within}
 use Rattle.langtag_keyword.specs.Keywords.{is_key}
 use Rattle.langtag_keyword.proofs.ExtensionsPut.{flat-last}
 use Rattle.langtag_unicode.proofs.FormSizes.{bytes-most, extensions-length, size, size-append, subtags-size}
@@ -51,12 +51,7 @@ module _
 
     changed-size : (stands : Bool) (es : List Extension) → size (flat_map extension_flat (changed_from change stands es)) ≤ fresh + size (flat_map extension_flat es)
     changed-size stands [] = omega (arith, new)
-    changed-size stands (e ∷ es) = by_test (is_place_of_u stands e) refl (changed-size stands es)
-      where
-        by_test :
-            (b : Bool) → is_place_of_u stands e ≡ b → size (flat_map extension_flat (changed_from change stands es)) ≤ fresh + size (flat_map extension_flat es) →
-            size (flat_map extension_flat (changed_from change stands (e ∷ es))) ≤ fresh + size (flat_map extension_flat (e ∷ es))
-        by_test b is later = grind (arith, common_steps, size, u-here, size-append, u-later)
+    changed-size stands (e ∷ es) = grind (arith, common_steps, size, u-here, size-append, u-later, changed-size stands es, place-size stands e)
 
 -- ---- the whole tag
 

@@ -1,5 +1,5 @@
 -- The parts of `t`: a language identifier whose parts are found again, and fields that have values.
-use Rattle.std.proofs.Common.{◌≡◌, ℕ, ◌≤◌, leb, Bool, true, false, cond, ◌&&◌, ◌||◌, List, [], ◌∷◌, ◌++◌, length, map, find, Option, Some, None, option_map, unwrap_or, refl, sym, ap, subst, ◌∙◌, append-nil, append_assoc, arith}
+use Rattle.std.proofs.Common.{◌≡◌, ℕ, ◌≤◌, leb, Bool, true, false, ◌&&◌, ◌||◌, List, [], ◌∷◌, ◌++◌, length, map, find, Option, Some, None, option_map, unwrap_or, refl, sym, ap, subst, ◌∙◌, append-nil, append_assoc, arith}
 use Rattle.std.proofs.lemmas.Bool.{false≢true, leb-true}
 use Rattle.std.specs.List.{AllByRecursion, flat_map, list_all, list_any}
 use Rattle.std.proofs.lemmas.Bool.Decides.{nat_tests}
@@ -80,7 +80,7 @@ after_script s r vs is region variants = grind (arith, nat_tests, region-no_scri
 
 none-alike : (v : List ℕ) (vs : List (List ℕ)) → AllByRecursion (λ y. are_alike y v ≡ false) vs → list_any (are_alike v) vs ≡ false
 none-alike v [] apart = refl
-none-alike v (y ∷ ys) apart = ap (λ b. b || list_any (are_alike v) ys) (alike-back y v apart.0) ∙ none-alike v ys apart.1
+none-alike v (y ∷ ys) apart = grind (arith, nat_tests, alike-back y v apart.0, none-alike v ys apart.1)
 
 different : (vs : List (List ℕ)) → AreVariants vs → Apart are_alike vs → are_different_variants vs ≡ true
 different [] variants apart = refl
@@ -118,20 +118,7 @@ or_true b = grind (arith, nat_tests)
 found-field : (inside after : Bool) (key : List ℕ) (ss w : List (List ℕ)) → are_fields inside after ss ≡ true → value_of is_field_key key ss ≡ Some w → FoundField key w
 found-field inside after key [] w are found = absurd cc
 found-field inside after key (s ∷ ss) w are found =
-    let rest = (both (may_follow inside after s) (are_fields (inside || is_field_key s) (is_field_key s) ss) are).1 in
-    by_test (is_field_key s && are_alike s key) refl rest (found-field (inside || is_field_key s) (is_field_key s) key ss w rest) found
-  where
-    by_test :
-        (b : Bool) → (is_field_key s && are_alike s key) ≡ b → are_fields (inside || is_field_key s) (is_field_key s) ss ≡ true → (value_of is_field_key key ss ≡ Some w → FoundField key w) →
-        cond b (Some (before_key is_field_key ss)) (value_of is_field_key key ss) ≡ Some w → FoundField key w
-    by_test true this rest later found =
-        let parts = both (is_field_key s) (are_alike s key) this in
-        let alike = (are_alike-decides s key).0 parts.1 in
-        let same : before_key is_field_key ss ≡ w = cc in
-        let fields : are_fields true true ss ≡ true =
-        sym (ap (λ b. are_fields b true ss) (or_true inside)) ∙ ap (λ b. are_fields (inside || b) b ss) (sym parts.0) ∙ rest in
-        record { opens = sym (field_key-fold key) ∙ ap is_field_key (sym alike) ∙ field_key-fold s ∙ parts.0; value = subst IsValue same (fields-value ss fields) }
-    by_test false this rest later found = later found
+    grind (arith, nat_tests, both (may_follow inside after s) (are_fields (inside || is_field_key s) (is_field_key s) ss) are, found-field (inside || is_field_key s) (is_field_key s) key ss w, are_alike-decides s key, or_true inside, field_key-fold key, field_key-fold s, fields-value ss)
 
 types_good : list_all {X = TypeAlias} (λ alias. leb 1 (length (subtags alias.new)) && list_all (λ s. leb 3 (length s)) (subtags alias.new)) transform_type_aliases ≡ true
 unfolding transform_type_aliases
@@ -211,5 +198,4 @@ module _ (ss : List (List ℕ)) (good : Good ss) (are : are_fields false false s
   -- after subtags of a language
   pub are-fields : (language : List (List ℕ)) → AreNoFields language → are_fields false false (language ++ form.keywords_form is_field_key transform_value ss) ≡ true
   are-fields [] none = ap (are_fields false false) (sym (append-nil (form.keywords_form is_field_key transform_value ss))) ∙ fields.follows false [] (λ b. refl)
-  are-fields (s ∷ language) none =
-      ap (λ b. cond b true true && are_fields b b (language ++ form.keywords_form is_field_key transform_value ss)) none.0 ∙ are-fields language none.1
+  are-fields (s ∷ language) none = grind (arith, nat_tests, are-fields language none.1)

@@ -53,10 +53,7 @@ module _ (test : List ℕ → Bool) (respects : RespectsCase test) (key : List �
       (are_alike s key ≡ false → value_among key others ≡ option_map join (value_of test key ss)) →
       value_among key (cond (opened && not (list_any (are_alike s) before)) (record { key = s; value = join (before_key test ss) } ∷ others) others)
       ≡ option_map join (cond (opened && same) (Some (before_key test ss)) (value_of test key ss))
-  by_key before ss s others true true is_opened e none later = grind (arith, common_steps, list_any_congr, by_old, alike_is)
-  by_key before ss s others true false is_opened e none later = grind (arith, common_steps, list_any_congr, by_old, alike_is)
-  by_key before ss s others false true closed e none later = grind (arith, common_steps, list_any_congr, by_old, alike_is)
-  by_key before ss s others false false closed e none later = later e
+  by_key before ss s others opened same is_opened e none later = grind (arith, common_steps, list_any_congr, by_old, alike_is)
 
   listed-after : (before ss : List (List ℕ)) → list_any (are_alike key) before ≡ false → value_among key (keywords_after test before ss) ≡ option_map join (value_of test key ss)
   listed-after before [] none = refl
