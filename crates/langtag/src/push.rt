@@ -11,8 +11,7 @@ use langtag_private::PrivateUse;
 
 /// Appends the private use part, if there is one.
 pub fn push_private_use(out: &mut Output<'_>, private_use: Option<PrivateUse<'_>>)
-    ensures same_buffer { out.new.buffer.ghost_name ≡ out.old.buffer.ghost_name }
-    ensures pushed { (part : Option model.PrivateUse) → option_map private_use_text private_use.entry
+    ensures { (part : Option model.PrivateUse) → option_map private_use_text private_use.entry
         ≡ option_map (λ p. join (model.private_use_flat p)) part → Pushes (model.private_part_flat part) out.old out.new }
 {
     if let Some(private_use) = private_use {

@@ -1,66 +1,16 @@
--- Extensions in their forms, put one after the other.
-use Rattle.std.proofs.Common.{◌≡◌, ℕ, ◌≤◌, ◌||◌, ◌&&◌, not, Bool, false, cond, List, [], ◌∷◌, ◌++◌, length, fold, map, take, refl, sym, ap, ◌∙◌, arith, append_assoc}
-use Rattle.std.specs.List.{AllByRecursion, flat_map}
+-- The forms of extensions, and the tag that has them.
+use Rattle.std.proofs.Common.{◌≡◌, ℕ, ◌≤◌, ◌&&◌, not, Bool, false, cond, List, [], ◌∷◌, ◌++◌, length, fold, take, sym, ap, ◌∙◌, arith, append_assoc}
+use Rattle.std.specs.List.{flat_map}
 use Rattle.std.proofs.lemmas.List.Splits.{length-slice_split}
-use Rattle.langtag_extension.specs.Spelling.{SpellsExtension, extension_spelling}
-use Rattle.langtag_output.specs.declared.output.Output.{Output}
-use Rattle.langtag_output.specs.Output.{Pushes, with_subtag}
-use Rattle.langtag_output.proofs.Pushed.{pushes_both, pushes_ended, pushes_same, with_joined}
+use Rattle.langtag_output.specs.Output.{with_subtag}
+use Rattle.langtag_output.proofs.Pushed.{with_joined}
 use Rattle.langtag_scan.proofs.Joins.{take-join}
 use Rattle.langtag_scan.proofs.PartOffsets.{ends_in_order}
 use Rattle.langtag_scan.proofs.SubtagFacts.{of_primary}
 use Rattle.langtag_scan.specs.Ends.{ends_of, to_variants}
-use Rattle.langtag_scan.specs.Record.{Extension, IsWellFormed, IsWellFormedExtension, Record, extension_flat, one_flat, private_part_flat, spell}
+use Rattle.langtag_scan.specs.Record.{Extension, IsWellFormed, Record, extension_flat, one_flat, private_part_flat, spell}
 use Rattle.langtag_scan.specs.Subtags.{is_hyphen, join, segments}
 use Rattle.langtag_keyword.specs.Form.{extension_form, extensions_record, forms_after, is_language_id, is_language_or_none, is_of, is_transform, transform_form, unicode_form}
-
--- some extensions are left, and their forms are put after those before them
-pub record AreLeft (all : List Extension) (after_u after_t : Bool) (texts : List (List ℕ)) (start out : Output) : Type 0 where
-  pub left : List Extension
-  pub spelled : texts ≡ map extension_spelling left
-  pub members : AllByRecursion IsWellFormedExtension left
-  pub these : (new : Output) → Pushes (flat_map extension_flat (forms_after after_u after_t left)) out new → Pushes (flat_map extension_flat (forms_after false false all)) start new
-
-module _ (all : List Extension) (after_u after_t : Bool) (start out : Output) where
-  -- one more is put
-  pub left-next :
-      (texts rest : List (List ℕ)) (x : List ℕ) (u t : Bool) (out_after : Output) → texts ≡ x ∷ rest → AreLeft all after_u after_t texts start out →
-      ((e : Extension) → SpellsExtension e x → Pushes (extension_flat (extension_form after_u after_t e)) out out_after) →
-      ((e : Extension) → SpellsExtension e x → u ≡ (after_u || is_of 117 e)) → ((e : Extension) → SpellsExtension e x → t ≡ (after_t || is_of 116 e)) →
-      AreLeft all u t rest start out_after
-  left-next texts rest x u t out_after first so_far put u_is t_is = by_left so_far.left so_far.spelled so_far.members so_far.these
-    where
-      by_left :
-          (es : List Extension) → texts ≡ map extension_spelling es → AllByRecursion IsWellFormedExtension es →
-          ((new : Output) → Pushes (flat_map extension_flat (forms_after after_u after_t es)) out new → Pushes (flat_map extension_flat (forms_after false false all)) start new) →
-          AreLeft all u t rest start out_after
-      by_left [] spelled members these = absurd (omega (arith, ap length (sym first ∙ spelled)))
-      by_left (e ∷ es) spelled members these =
-          let same : x ∷ rest ≡ extension_spelling e ∷ map extension_spelling es = sym first ∙ spelled in
-          let head : x ≡ extension_spelling e = cc in
-          let tail : rest ≡ map extension_spelling es = cc in
-          let spells : SpellsExtension e x = record { member = members.0; joined = sym head } in
-          record {
-            left = es;
-            spelled = tail;
-            members = members.1;
-            these = λ new those.
-                these new
-                (pushes_both (extension_flat (extension_form after_u after_t e)) _ out out_after new (put e spells)
-                (pushes_same _ _ out_after new (ap (λ b. flat_map extension_flat (forms_after b t es)) (u_is e spells)
-                ∙ ap (λ b. flat_map extension_flat (forms_after (after_u || is_of 117 e) b es)) (t_is e spells)) those));
-          }
-
-  -- none is left
-  pub left-ended : (texts : List (List ℕ)) → texts ≡ [] → AreLeft all after_u after_t texts start out → Pushes (flat_map extension_flat (forms_after false false all)) start out
-  left-ended texts none so_far = by_left so_far.left so_far.spelled so_far.these
-    where
-      by_left :
-          (es : List Extension) → texts ≡ map extension_spelling es →
-          ((new : Output) → Pushes (flat_map extension_flat (forms_after after_u after_t es)) out new → Pushes (flat_map extension_flat (forms_after false false all)) start new) →
-          Pushes (flat_map extension_flat (forms_after false false all)) start out
-      by_left [] spelled these = these out (pushes_ended [] out refl)
-      by_left (e ∷ es) spelled these = absurd (omega (arith, ap length (sym none ∙ spelled)))
 
 -- a text has a segment
 pub language-some : (text : List ℕ) (ss : List (List ℕ)) → segments text ≡ ss → is_language_id (segments text) ≡ is_language_or_none ss

@@ -21,8 +21,7 @@ const FEW: usize = 40;
 /// Appends subtags in lowercase and in alphabetical order, each once.
 pub(crate) fn push_in_alphabet(out: &mut Output<'_>, rest: Option<&str>)
     requires { AllByRecursion IsSubtag (segments_left rest) }
-    ensures same_buffer { out.new.buffer.ghost_name ≡ out.old.buffer.ghost_name }
-    ensures pushed { Pushes (spec.in_alphabet (segments_left rest.entry)) out.old out.new }
+    ensures { Pushes (spec.in_alphabet (segments_left rest.entry)) out.old out.new }
 {
     if are_few(rest) {
         return push_few(out, rest);
@@ -40,8 +39,7 @@ pub fn are_few(rest: Option<&str>) -> bool {
 
 /// Appends what [`push_in_alphabet`] appends, in a time proportional to the square of the number of subtags.
 fn push_few(out: &mut Output<'_>, rest: Option<&str>)
-    ensures same_buffer { out.new.buffer.ghost_name ≡ out.old.buffer.ghost_name }
-    ensures pushed { Pushes (spec.in_alphabet (segments_left rest.entry)) out.old out.new }
+    ensures { Pushes (spec.in_alphabet (segments_left rest.entry)) out.old out.new }
 {
     let mut last = None;
     while let Some(next) = first_after(rest, last) {
@@ -55,8 +53,7 @@ fn push_few(out: &mut Output<'_>, rest: Option<&str>)
 #[inline(never)]
 fn push_many(out: &mut Output<'_>, rest: Option<&str>)
     requires { AllByRecursion IsSubtag (segments_left rest) }
-    ensures same_buffer { out.new.buffer.ghost_name ≡ out.old.buffer.ghost_name }
-    ensures pushed { Pushes (spec.in_alphabet (segments_left rest.entry)) out.old out.new }
+    ensures { Pushes (spec.in_alphabet (segments_left rest.entry)) out.old out.new }
 {
     let mut least = LeastNumbers::new();
     let mut more = true;
@@ -135,8 +132,7 @@ pub(crate) fn is_before(a: &[u8], b: &[u8]) -> bool
 
 /// Appends each subtag of a string in lowercase.
 pub(crate) fn push_each_lowercase(out: &mut Output<'_>, text: &str)
-    ensures same_buffer { out.new.buffer.ghost_name ≡ out.old.buffer.ghost_name }
-    ensures pushed { Pushes (map fold_text (subtags text.now)) out.old out.new }
+    ensures { Pushes (map fold_text (subtags text.now)) out.old out.new }
 {
     for subtag in Subtags::new(text) {
         push_lowercase(out, subtag);
@@ -145,8 +141,7 @@ pub(crate) fn push_each_lowercase(out: &mut Output<'_>, text: &str)
 
 /// Appends a subtag in lowercase, after a hyphen if there is text before it.
 pub fn push_lowercase(out: &mut Output<'_>, subtag: &str)
-    ensures same_buffer { out.new.buffer.ghost_name ≡ out.old.buffer.ghost_name }
-    ensures pushed { Pushes (fold_text subtag.now ∷ []) out.old out.new }
+    ensures { Pushes (fold_text subtag.now ∷ []) out.old out.new }
 {
     out.push_subtag(b"");
     for byte in subtag.as_bytes() {

@@ -27,8 +27,7 @@ pub(crate) fn has_others(text: &str, key: &str) -> bool
 
 /// Appends the subtags that belong to no keyword of a key.
 pub(crate) fn push_without_keyword(out: &mut Output<'_>, rest: Option<&str>, key: &str)
-    ensures same_buffer { out.new.buffer.ghost_name ≡ out.old.buffer.ghost_name }
-    ensures pushed { Pushes (spec.without_keyword key.now (segments_left rest.entry)) out.old out.new }
+    ensures { Pushes (spec.without_keyword key.now (segments_left rest.entry)) out.old out.new }
 {
     let mut rest = rest;
     let mut is_inside = false;
@@ -54,8 +53,7 @@ fn belongs(key: &str, is_inside: bool, subtag: &str) -> bool
 
 /// Appends the subtags with a keyword set.
 pub(crate) fn push_with_keyword(out: &mut Output<'_>, text: &str, key: &str, value: &str)
-    ensures same_buffer { out.new.buffer.ghost_name ≡ out.old.buffer.ghost_name }
-    ensures pushed { Pushes (spec.with_keyword key.now (subtags value.now) (subtags text.now)) out.old out.new }
+    ensures { Pushes (spec.with_keyword key.now (subtags value.now) (subtags text.now)) out.old out.new }
 {
     let standing = standing_key(text, key);
     let mut rest = nonempty(text);
@@ -99,8 +97,7 @@ fn is_place(key: &str, standing: Option<&str>, subtag: &str) -> bool
 
 /// Appends a key and the subtags of its value.
 fn push_keyword(out: &mut Output<'_>, key: &str, value: &str)
-    ensures same_buffer { out.new.buffer.ghost_name ≡ out.old.buffer.ghost_name }
-    ensures pushed { Pushes (key.now ∷ subtags value.now) out.old out.new }
+    ensures { Pushes (key.now ∷ subtags value.now) out.old out.new }
 {
     out.push_subtag(key.as_bytes());
     for subtag in Subtags::new(value) {

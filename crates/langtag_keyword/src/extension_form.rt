@@ -20,8 +20,7 @@ use langtag_scan::into_smallcase;
 
 /// Appends extensions, with the first `u` and the first `t` in canonical form.
 pub fn push_extensions(out: &mut Output<'_>, extensions: Extensions<'_>)
-    ensures same_buffer { out.new.buffer.ghost_name ≡ out.old.buffer.ghost_name }
-    ensures pushed { (es : List model.Extension) → SpellsExtensions es (extensions_text extensions.entry)
+    ensures { (es : List model.Extension) → SpellsExtensions es (extensions_text extensions.entry)
         → Pushes (flat_map model.extension_flat (spec.forms_after false false es)) out.old out.new }
 {
     let mut after_u = false;
@@ -36,8 +35,7 @@ pub fn push_extensions(out: &mut Output<'_>, extensions: Extensions<'_>)
 /// Appends an extension: in canonical form if it is the first `u`, or the first `t` and well-formed, and otherwise
 /// unchanged.
 fn push_extension(out: &mut Output<'_>, extension: Extension<'_>, after_u: bool, after_t: bool)
-    ensures same_buffer { out.new.buffer.ghost_name ≡ out.old.buffer.ghost_name }
-    ensures pushed { (e : model.Extension) → SpellsExtension e (extension_text extension.entry)
+    ensures { (e : model.Extension) → SpellsExtension e (extension_text extension.entry)
         → Pushes (model.extension_flat (spec.extension_form after_u after_t e)) out.old out.new }
 {
     if is_first(b'u', extension, after_u) {
@@ -82,8 +80,7 @@ pub fn subtags_of<'a>(extension: Extension<'a>) -> &'a str
 /// Appends the canonical form of the extension `u` with these subtags.
 pub fn push_unicode(out: &mut Output<'_>, text: &str)
     requires { AllByRecursion IsSubtag (subtags text.now) }
-    ensures same_buffer { out.new.buffer.ghost_name ≡ out.old.buffer.ghost_name }
-    ensures pushed { Pushes ((117 ∷ []) ∷ spec.unicode_form (subtags text.now)) out.old out.new }
+    ensures { Pushes ((117 ∷ []) ∷ spec.unicode_form (subtags text.now)) out.old out.new }
 {
     out.push_subtag(b"u");
     push_in_alphabet(out, preceding(text, Keys::Unicode));

@@ -36,8 +36,7 @@ pub(crate) enum Place {
 
 /// Appends extensions, with a keyword set or removed in the first `u`.
 pub fn push_edited(out: &mut Output<'_>, extensions: Extensions<'_>, edit: KeywordEdit<'_>)
-    ensures same_buffer { out.new.buffer.ghost_name ≡ out.old.buffer.ghost_name }
-    ensures pushed { (es : List model.Extension) → SpellsExtensions es (extensions_text extensions.entry)
+    ensures { (es : List model.Extension) → SpellsExtensions es (extensions_text extensions.entry)
         → Pushes (flat_map model.extension_flat (spec.with_changed_u (edited_by edit.entry) es)) out.old out.new }
 {
     let place = place_of_unicode(extensions);
@@ -75,8 +74,7 @@ fn is_at(place: Place, extension: Extension<'_>) -> bool
 
 /// Appends the edited `u` at its place, which is at this extension.
 fn push_at(out: &mut Output<'_>, place: Place, extension: Extension<'_>, edit: KeywordEdit<'_>)
-    ensures same_buffer { out.new.buffer.ghost_name ≡ out.old.buffer.ghost_name }
-    ensures pushed { (e : model.Extension) → SpellsExtension e (extension_text extension.entry)
+    ensures { (e : model.Extension) → SpellsExtension e (extension_text extension.entry)
         → Pushes (flat_map model.extension_flat (spec.at_place (edited_by edit.entry) (replaces place) e)) out.old out.new }
 {
     match place {
@@ -93,8 +91,7 @@ fn push_at(out: &mut Output<'_>, place: Place, extension: Extension<'_>, edit: K
 
 /// Appends the remaining extensions of an iterator.
 fn push_extensions(out: &mut Output<'_>, rest: ExtensionsIter<'_>)
-    ensures same_buffer { out.new.buffer.ghost_name ≡ out.old.buffer.ghost_name }
-    ensures pushed { (es : List model.Extension) → AllByRecursion IsWellFormedExtension es → extensions_left rest.entry ≡ map extension_spelling es
+    ensures { (es : List model.Extension) → AllByRecursion IsWellFormedExtension es → extensions_left rest.entry ≡ map extension_spelling es
         → Pushes (flat_map model.extension_flat es) out.old out.new }
 {
     for extension in rest {
@@ -104,8 +101,7 @@ fn push_extensions(out: &mut Output<'_>, rest: ExtensionsIter<'_>)
 
 /// Appends an extension with its edited subtags, or nothing if no subtag is left.
 fn push_unicode(out: &mut Output<'_>, singleton: u8, text: &str, edit: KeywordEdit<'_>)
-    ensures same_buffer { out.new.buffer.ghost_name ≡ out.old.buffer.ghost_name }
-    ensures pushed { Pushes (flat_map model.extension_flat (spec.extension_of singleton (edited_by edit.entry (subtags text.now)))) out.old out.new }
+    ensures { Pushes (flat_map model.extension_flat (spec.extension_of singleton (edited_by edit.entry (subtags text.now)))) out.old out.new }
 {
     let Some(value) = edit.value else {
         return push_others(out, singleton, text, edit.key);
@@ -116,8 +112,7 @@ fn push_unicode(out: &mut Output<'_>, singleton: u8, text: &str, edit: KeywordEd
 
 /// Appends an extension without the keywords of a key, or nothing if no subtag is left.
 fn push_others(out: &mut Output<'_>, singleton: u8, text: &str, key: &str)
-    ensures same_buffer { out.new.buffer.ghost_name ≡ out.old.buffer.ghost_name }
-    ensures pushed { Pushes (flat_map model.extension_flat (spec.extension_of singleton (spec.without_keyword key.now (subtags text.now)))) out.old out.new }
+    ensures { Pushes (flat_map model.extension_flat (spec.extension_of singleton (spec.without_keyword key.now (subtags text.now)))) out.old out.new }
 {
     if has_others(text, key) {
         out.push_subtag(&[singleton]);

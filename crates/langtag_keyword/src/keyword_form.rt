@@ -21,8 +21,7 @@ use langtag_scan::Subtags;
 /// The string is read once to find its keys, and up to each key to find its value.
 pub fn push_keywords(out: &mut Output<'_>, text: &str, keys: Keys)
     requires { AllByRecursion IsSubtag (subtags text.now) }
-    ensures same_buffer { out.new.buffer.ghost_name ≡ out.old.buffer.ghost_name }
-    ensures pushed { Pushes (spec.keywords_form (opens_keyword keys) (canonical_value_of keys) (subtags text.now)) out.old out.new }
+    ensures { Pushes (spec.keywords_form (opens_keyword keys) (canonical_value_of keys) (subtags text.now)) out.old out.new }
 {
     let found = keys_of(text, keys);
     let mut last = None;
@@ -48,8 +47,7 @@ fn keys_of(text: &str, keys: Keys) -> KeySet
 
 /// Appends a key with its canonical value, if the key occurs in the string.
 fn push_keyword(out: &mut Output<'_>, text: &str, keys: Keys, key: &[u8])
-    ensures same_buffer { out.new.buffer.ghost_name ≡ out.old.buffer.ghost_name }
-    ensures pushed { Pushes (spec.keyword_form (opens_keyword keys) (canonical_value_of keys) (subtags text.now) key.now) out.old out.new }
+    ensures { Pushes (spec.keyword_form (opens_keyword keys) (canonical_value_of keys) (subtags text.now) key.now) out.old out.new }
 {
     if let Some(value) = value_in(text, keys, key) {
         out.push_subtag(key);

@@ -30,8 +30,7 @@ pub(crate) fn is_language_id(text: &str) -> bool
 /// Appends a language with its script, region and variants in lowercase, and with the variants in order.
 pub(crate) fn push_language_id(out: &mut Output<'_>, text: &str)
     requires { AllByRecursion IsSubtag (segments text.now) }
-    ensures same_buffer { out.new.buffer.ghost_name ≡ out.old.buffer.ghost_name }
-    ensures pushed { Pushes (spec.language_form (segments text.now)) out.old out.new }
+    ensures { Pushes (spec.language_form (segments text.now)) out.old out.new }
 {
     let (language, rest) = split_first(text);
     let (script, rest) = take_script(rest);
@@ -43,8 +42,7 @@ pub(crate) fn push_language_id(out: &mut Output<'_>, text: &str)
 }
 
 fn push_optional(out: &mut Output<'_>, subtag: Option<&str>)
-    ensures same_buffer { out.new.buffer.ghost_name ≡ out.old.buffer.ghost_name }
-    ensures pushed { Pushes (map fold_text (one_flat (option_map (λ t. t.now) subtag.entry))) out.old out.new }
+    ensures { Pushes (map fold_text (one_flat (option_map (λ t. t.now) subtag.entry))) out.old out.new }
 {
     if let Some(subtag) = subtag {
         push_lowercase(out, subtag);

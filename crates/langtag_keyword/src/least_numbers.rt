@@ -62,7 +62,6 @@ impl LeastNumbers {
     /// Appends the subtags of the numbers in ascending order, each once, and makes room for the numbers above them.
     /// Returns whether such numbers may have been left out.
     pub fn push_to(&mut self, out: &mut Output<'_>) -> bool
-        ensures same_buffer { out.new.buffer.ghost_name ≡ out.old.buffer.ghost_name }
         ensures pushed { (all : List ℕ) → AscendsFrom 0 all → HoldsLeast self.old all
             → Pushes (map spec.number_text (filter (spec.is_within self.old.last self.old.limit) all)) out.old out.new }
         ensures next { self.new.last ≡ self.old.limit }
@@ -89,8 +88,7 @@ pub fn order_number(subtag: &[u8]) -> u64
 
 /// Appends the subtag of each number that is greater than `last` and than the numbers before it.
 fn push_ascending(out: &mut Output<'_>, numbers: &[u64], last: u64)
-    ensures same_buffer { out.new.buffer.ghost_name ≡ out.old.buffer.ghost_name }
-    ensures pushed { Pushes (map spec.number_text (spec.ascending_after last numbers.now)) out.old out.new }
+    ensures { Pushes (map spec.number_text (spec.ascending_after last numbers.now)) out.old out.new }
 {
     let mut last = last;
     for number in numbers {
@@ -103,8 +101,7 @@ fn push_ascending(out: &mut Output<'_>, numbers: &[u64], last: u64)
 
 /// Appends the subtag of a number.
 fn push_number(out: &mut Output<'_>, number: u64)
-    ensures same_buffer { out.new.buffer.ghost_name ≡ out.old.buffer.ghost_name }
-    ensures pushed { Pushes (spec.number_text number ∷ []) out.old out.new }
+    ensures { Pushes (spec.number_text number ∷ []) out.old out.new }
 {
     out.push_subtag(b"");
     for byte in number.to_be_bytes() {

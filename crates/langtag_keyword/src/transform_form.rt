@@ -37,8 +37,7 @@ fn is_language_or_none(text: &str) -> bool
 /// Appends the canonical form of the extension `t` with these subtags.
 pub(crate) fn push_transform(out: &mut Output<'_>, text: &str)
     requires { AllByRecursion IsSubtag (subtags text.now) }
-    ensures same_buffer { out.new.buffer.ghost_name ≡ out.old.buffer.ghost_name }
-    ensures pushed { Pushes ((116 ∷ []) ∷ spec.transform_form (subtags text.now)) out.old out.new }
+    ensures { Pushes ((116 ∷ []) ∷ spec.transform_form (subtags text.now)) out.old out.new }
 {
     out.push_subtag(b"t");
     push_language(out, text);
@@ -48,8 +47,7 @@ pub(crate) fn push_transform(out: &mut Output<'_>, text: &str)
 /// Appends the canonical form of the language before the fields.
 fn push_language(out: &mut Output<'_>, text: &str)
     requires { AllByRecursion IsSubtag (subtags text.now) }
-    ensures same_buffer { out.new.buffer.ghost_name ≡ out.old.buffer.ghost_name }
-    ensures pushed { Pushes (spec.language_form (before_key is_field_key (subtags text.now))) out.old out.new }
+    ensures { Pushes (spec.language_form (before_key is_field_key (subtags text.now))) out.old out.new }
 {
     if let Some(language) = preceding(text, Keys::Transform) {
         push_language_id(out, language);

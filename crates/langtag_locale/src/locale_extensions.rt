@@ -33,8 +33,7 @@ use langtag_registry::{SINGLETONS, singletons_of};
 /// Appends the extensions in their forms, in the order of their singletons.
 pub(crate) fn push_locale_extensions(out: &mut Output<'_>, extensions: Extensions<'_>)
     requires { AreAllowed (extensions_text extensions) }
-    ensures same_buffer { out.new.buffer.ghost_name ≡ out.old.buffer.ghost_name }
-    ensures pushed { (es : List model.Extension) → SpellsExtensions es (extensions_text extensions.entry)
+    ensures { (es : List model.Extension) → SpellsExtensions es (extensions_text extensions.entry)
         → Pushes (flat_map model.extension_flat (spec.extensions_in_order es)) out.old out.new }
 {
     if extensions.as_str().is_empty() {
@@ -53,8 +52,7 @@ pub(crate) fn push_locale_extensions(out: &mut Output<'_>, extensions: Extension
 fn push_extension_at(out: &mut Output<'_>, extensions: Extensions<'_>, singleton: u8)
     requires singleton { IsTrue (is_singleton singleton) }
     requires allowed { AreAllowed (extensions_text extensions) }
-    ensures same_buffer { out.new.buffer.ghost_name ≡ out.old.buffer.ghost_name }
-    ensures pushed { (es : List model.Extension) → SpellsExtensions es (extensions_text extensions.entry)
+    ensures { (es : List model.Extension) → SpellsExtensions es (extensions_text extensions.entry)
         → Pushes (flat_map model.extension_flat (spec.extension_at es singleton)) out.old out.new }
 {
     let Ok(singleton) = Singleton::new(singleton) else {
@@ -68,8 +66,7 @@ fn push_extension_at(out: &mut Output<'_>, extensions: Extensions<'_>, singleton
 /// Appends an extension in its form.
 fn push_extension(out: &mut Output<'_>, extension: Extension<'_>)
     requires { IsAllowed (extension_text extension) }
-    ensures same_buffer { out.new.buffer.ghost_name ≡ out.old.buffer.ghost_name }
-    ensures pushed { (e : model.Extension) → SpellsExtension e (extension_text extension.entry)
+    ensures { (e : model.Extension) → SpellsExtension e (extension_text extension.entry)
         → Pushes (model.extension_flat (spec.locale_extension_form e)) out.old out.new }
 {
     if is_of(b'u', extension) {
@@ -85,8 +82,7 @@ fn push_extension(out: &mut Output<'_>, extension: Extension<'_>)
 fn push_locale_transform(out: &mut Output<'_>, text: &str)
     requires each { AllByRecursion IsSubtag (subtags text.now) }
     requires allowed { IsTrue (is_transform (subtags text.now)) }
-    ensures same_buffer { out.new.buffer.ghost_name ≡ out.old.buffer.ghost_name }
-    ensures pushed { Pushes ((116 ∷ []) ∷ spec.locale_transform_form (subtags text.now)) out.old out.new }
+    ensures { Pushes ((116 ∷ []) ∷ spec.locale_transform_form (subtags text.now)) out.old out.new }
 {
     out.push_subtag(b"t");
     push_language(out, text);
@@ -97,8 +93,7 @@ fn push_locale_transform(out: &mut Output<'_>, text: &str)
 fn push_language(out: &mut Output<'_>, text: &str)
     requires each { AllByRecursion IsSubtag (subtags text.now) }
     requires allowed { IsTrue (is_transform (subtags text.now)) }
-    ensures same_buffer { out.new.buffer.ghost_name ≡ out.old.buffer.ghost_name }
-    ensures pushed { Pushes (spec.transform_language_form (before_key is_field_key (subtags text.now))) out.old out.new }
+    ensures { Pushes (spec.transform_language_form (before_key is_field_key (subtags text.now))) out.old out.new }
 {
     if let Some(language) = preceding(text, Keys::Transform) {
         push_language_id(out, language);
@@ -108,8 +103,7 @@ fn push_language(out: &mut Output<'_>, text: &str)
 /// Appends the form of a language identifier, given as a string.
 fn push_language_id(out: &mut Output<'_>, text: &str)
     requires { IsTrue (is_language_id (segments text.now)) }
-    ensures same_buffer { out.new.buffer.ghost_name ≡ out.old.buffer.ghost_name }
-    ensures pushed { Pushes (spec.transform_language_form (segments text.now)) out.old out.new }
+    ensures { Pushes (spec.transform_language_form (segments text.now)) out.old out.new }
 {
     let (language, rest) = split_first(text);
     let (script, rest) = take_script(rest);
@@ -135,8 +129,7 @@ fn text_of<'a>(subtag: Option<&'a str>) -> &'a [u8]
 /// Appends the form of a language identifier with these fields and variants.
 pub(crate) fn push_identifier(out: &mut Output<'_>, fields: TagFields<'_>, variants: Option<&str>)
     requires { AreVariants (segments_left variants) }
-    ensures same_buffer { out.new.buffer.ghost_name ≡ out.old.buffer.ghost_name }
-    ensures pushed { Pushes (identifier_flat (spec.identifier_form (segments_left variants.entry) (field_texts fields.entry))
+    ensures { Pushes (identifier_flat (spec.identifier_form (segments_left variants.entry) (field_texts fields.entry))
         (spec.new_variants (segments_left variants.entry) (field_texts fields.entry))) out.old out.new }
 {
     let replaced = language_replaced(fields);
@@ -149,8 +142,7 @@ pub(crate) fn push_identifier(out: &mut Output<'_>, fields: TagFields<'_>, varia
 
 /// Appends a field, unless it is empty.
 fn push_field(out: &mut Output<'_>, field: &[u8])
-    ensures same_buffer { out.new.buffer.ghost_name ≡ out.old.buffer.ghost_name }
-    ensures pushed { Pushes (model.one_flat (subtag_of field.now)) out.old out.new }
+    ensures { Pushes (model.one_flat (subtag_of field.now)) out.old out.new }
 {
     if !field.is_empty() {
         out.push_subtag(field);

@@ -26,8 +26,7 @@ use langtag_output::Output;
 /// Appends the variants of a language identifier in their forms, each once, in lowercase and in alphabetical order.
 pub(crate) fn push_variants(out: &mut Output<'_>, language: &[u8], variants: Option<&str>)
     requires { AreVariants (segments_left variants) }
-    ensures same_buffer { out.new.buffer.ghost_name ≡ out.old.buffer.ghost_name }
-    ensures pushed { Pushes (spec.variants_form language.now (segments_left variants.entry)) out.old out.new }
+    ensures { Pushes (spec.variants_form language.now (segments_left variants.entry)) out.old out.new }
 {
     if are_few(variants) {
         return push_few(out, language, variants);
@@ -40,8 +39,7 @@ pub(crate) fn push_variants(out: &mut Output<'_>, language: &[u8], variants: Opt
 #[inline(never)]
 fn push_many(out: &mut Output<'_>, language: &[u8], variants: Option<&str>)
     requires { AreVariants (segments_left variants) }
-    ensures same_buffer { out.new.buffer.ghost_name ≡ out.old.buffer.ghost_name }
-    ensures pushed { Pushes (spec.variants_form language.now (segments_left variants.entry)) out.old out.new }
+    ensures { Pushes (spec.variants_form language.now (segments_left variants.entry)) out.old out.new }
 {
     let mut least = LeastNumbers::new();
     let mut more = true;
@@ -95,8 +93,7 @@ fn offer_changed(least: &mut LeastNumbers, form: &str)
 
 /// Appends what [`push_variants`] appends, in a time proportional to the square of the number of variants.
 fn push_few(out: &mut Output<'_>, language: &[u8], variants: Option<&str>)
-    ensures same_buffer { out.new.buffer.ghost_name ≡ out.old.buffer.ghost_name }
-    ensures pushed { Pushes (spec.variants_form language.now (segments_left variants.entry)) out.old out.new }
+    ensures { Pushes (spec.variants_form language.now (segments_left variants.entry)) out.old out.new }
 {
     let mut last = None;
     while let Some(next) = first_form_after(language, variants, last) {

@@ -12,8 +12,7 @@ pub struct Output<'a> {
 impl<'a> Output<'a> {
     /// Returns an empty output, which writes from the start of a buffer.
     pub fn new(buffer: &'a mut [u8]) -> Output<'a>
-        ensures same_buffer { result.buffer.ghost_name ≡ buffer.entry.ghost_name }
-        ensures empty { HasText buffer.old result [] }
+        ensures { HasText buffer.entry result [] }
     {
         Output { buffer, len: 0 }
     }
@@ -27,8 +26,7 @@ impl<'a> Output<'a> {
 
     /// Appends a subtag, or several subtags joined by hyphens. A hyphen comes first, unless the string is still empty.
     pub fn push_subtag(&mut self, subtag: &[u8])
-        ensures same_buffer { self.new.buffer.ghost_name ≡ self.old.buffer.ghost_name }
-        ensures pushed { Pushes (subtag.now ∷ []) self.old self.new }
+        ensures { Pushes (subtag.now ∷ []) self.old self.new }
     {
         if self.len > 0 {
             self.push(b"-");
@@ -38,8 +36,7 @@ impl<'a> Output<'a> {
 
     /// Appends bytes. The length stays at `usize::MAX` if the string has more bytes than that.
     pub fn push(&mut self, bytes: &[u8])
-        ensures same_buffer { self.new.buffer.ghost_name ≡ self.old.buffer.ghost_name }
-        ensures appended { Appends bytes.now self.old self.new }
+        ensures { Appends bytes.now self.old self.new }
     {
         let end = self.len.saturating_add(bytes.len());
         if end <= self.buffer.len() {

@@ -37,8 +37,7 @@ pub(crate) fn put_canonical_parts(tag: NormalLangTag<'_>, buffer: &mut [u8]) -> 
 }
 
 fn push_parts(out: &mut Output<'_>, tag: NormalLangTag<'_>)
-    ensures same_buffer { out.new.buffer.ghost_name ≡ out.old.buffer.ghost_name }
-    ensures pushed { model.EachRecord (normal_lang_tag_text tag.entry) (λ r. Pushes (model.flat (canonical_record r)) out.old out.new) }
+    ensures { model.EachRecord (normal_lang_tag_text tag.entry) (λ r. Pushes (model.flat (canonical_record r)) out.old out.new) }
 {
     push_language(out, tag.language());
     push_script(out, tag.script());
@@ -51,8 +50,7 @@ fn push_parts(out: &mut Output<'_>, tag: NormalLangTag<'_>)
 /// Adds the canonical form of a language. A registered extended subtag replaces the language before it, and may then be
 /// replaced as a language. If there are two or more extended subtags, nothing is replaced.
 fn push_language(out: &mut Output<'_>, language: Language<'_>)
-    ensures same_buffer { out.new.buffer.ghost_name ≡ out.old.buffer.ghost_name }
-    ensures pushed { EachLanguageSpelling (language_text language.entry) (λ primary extended.
+    ensures { EachLanguageSpelling (language_text language.entry) (λ primary extended.
         Pushes (canonical_primary primary extended ∷ canonical_extended extended) out.old out.new) }
 {
     let primary = language.primary();
@@ -72,8 +70,7 @@ fn push_language(out: &mut Output<'_>, language: Language<'_>)
 
 /// Adds the language that replaces an extended subtag.
 fn push_extlang(out: &mut Output<'_>, extlang: ExtendedLangTag<'_>)
-    ensures same_buffer { out.new.buffer.ghost_name ≡ out.old.buffer.ghost_name }
-    ensures pushed { Pushes (canonical_language (fold_text (extended_lang_tag_text extlang.entry)) ∷ []) out.old out.new }
+    ensures { Pushes (canonical_language (fold_text (extended_lang_tag_text extlang.entry)) ∷ []) out.old out.new }
 {
     match preferred_language(PrimaryLanguage::from_checked(extlang.as_str())) {
         Some(preferred) => out.push_subtag(preferred.as_bytes()),
@@ -93,8 +90,7 @@ fn in_small_letters(extlang: ExtendedLangTag<'_>) -> [u8; 3]
 }
 
 fn push_script(out: &mut Output<'_>, script: Option<Script<'_>>)
-    ensures same_buffer { out.new.buffer.ghost_name ≡ out.old.buffer.ghost_name }
-    ensures pushed { Pushes (model.one_flat (option_map script_text script.entry)) out.old out.new }
+    ensures { Pushes (model.one_flat (option_map script_text script.entry)) out.old out.new }
 {
     if let Some(script) = script {
         out.push_subtag(script.as_bytes());
@@ -102,8 +98,7 @@ fn push_script(out: &mut Output<'_>, script: Option<Script<'_>>)
 }
 
 fn push_region(out: &mut Output<'_>, region: Option<Region<'_>>)
-    ensures same_buffer { out.new.buffer.ghost_name ≡ out.old.buffer.ghost_name }
-    ensures pushed { Pushes (model.one_flat (canonical_region (option_map region_text region.entry))) out.old out.new }
+    ensures { Pushes (model.one_flat (canonical_region (option_map region_text region.entry))) out.old out.new }
 {
     if let Some(region) = region {
         out.push_subtag(preferred_region(region).unwrap_or(region).as_bytes());
@@ -112,8 +107,7 @@ fn push_region(out: &mut Output<'_>, region: Option<Region<'_>>)
 
 /// Adds the canonical form of each variant, even if the form equals another variant.
 fn push_variants(out: &mut Output<'_>, variants: Variants<'_>)
-    ensures same_buffer { out.new.buffer.ghost_name ≡ out.old.buffer.ghost_name }
-    ensures pushed { Pushes (canonical_variants (subtags (variants_text variants.entry))) out.old out.new }
+    ensures { Pushes (canonical_variants (subtags (variants_text variants.entry))) out.old out.new }
 {
     for variant in variants.iter() {
         out.push_subtag(preferred_variant(variant).unwrap_or(variant).as_bytes());
@@ -123,8 +117,7 @@ fn push_variants(out: &mut Output<'_>, variants: Variants<'_>)
 /// Adds extensions in the order of their singletons. Extensions with the same singleton, which no valid tag has, keep
 /// their order.
 fn push_extensions(out: &mut Output<'_>, extensions: Extensions<'_>)
-    ensures same_buffer { out.new.buffer.ghost_name ≡ out.old.buffer.ghost_name }
-    ensures pushed { (es : List model.Extension) → SpellsExtensions es (extensions_text extensions.entry)
+    ensures { (es : List model.Extension) → SpellsExtensions es (extensions_text extensions.entry)
         → Pushes (flat_map model.extension_flat (in_order es)) out.old out.new }
 {
     if extensions.as_str().is_empty() {
@@ -144,8 +137,7 @@ fn push_extensions(out: &mut Output<'_>, extensions: Extensions<'_>)
 
 /// Adds the extensions with a singleton, ignoring its case.
 fn push_extensions_of(out: &mut Output<'_>, extensions: Extensions<'_>, singleton: u8)
-    ensures same_buffer { out.new.buffer.ghost_name ≡ out.old.buffer.ghost_name }
-    ensures pushed { (es : List model.Extension) → SpellsExtensions es (extensions_text extensions.entry)
+    ensures { (es : List model.Extension) → SpellsExtensions es (extensions_text extensions.entry)
         → Pushes (of_singleton singleton (map extension_spelling es)) out.old out.new }
 {
     for extension in extensions.iter() {

@@ -113,8 +113,7 @@ fn put_parts(tag: NormalLangTag<'_>, buffer: &mut [u8]) -> usize
 
 /// Appends the part of a tag before its extensions.
 pub(crate) fn push_head(out: &mut Output<'_>, tag: NormalLangTag<'_>)
-    ensures same_buffer { out.new.buffer.ghost_name ≡ out.old.buffer.ghost_name }
-    ensures pushed { model.EachRecord (normal_lang_tag_text tag.entry) (λ r. Pushes (to_variants r) out.old out.new) }
+    ensures { model.EachRecord (normal_lang_tag_text tag.entry) (λ r. Pushes (to_variants r) out.old out.new) }
 {
     let text = tag.as_str();
     out.push_subtag(&text.as_bytes()[..tag.ends().variants]);

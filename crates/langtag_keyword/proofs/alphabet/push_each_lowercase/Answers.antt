@@ -1,4 +1,4 @@
-use Rattle.std.proofs.Common.{map, refl, sym, ap, ◌∙◌}
+use Rattle.std.proofs.Common.{map, refl, sym, ap}
 use Rattle.langtag_output.proofs.Pushed.{pushes_ended, pushes_next, pushes_same}
 use Rattle.langtag_scan.specs.Case.{fold_text}
 use Rattle.langtag_keyword.proofs.alphabet.push_each_lowercase.Goals as goal
@@ -7,12 +7,11 @@ pub loop-subtag-preserved : goal.loop-subtag-preserved
 loop-subtag-preserved c = record {
   can_next = tt;
   is_finite = tt;
-  same_buffer = c.push_lowercase.ensures.same_buffer ∙ c.loop-subtag.invariant.same_buffer;
   so_far = λ new these.
       c.loop-subtag.invariant.so_far new
       (pushes_same _ _ _ new (sym (ap (map fold_text) c.in-Some.ensures.steps))
-      (pushes_next _ (fold_text c.in-Some.subtag.now) (map fold_text c.next.new.self) _ _ new refl c.push_lowercase.ensures.pushed these));
+      (pushes_next _ (fold_text c.in-Some.subtag.now) (map fold_text c.next.new.self) _ _ new refl c.push_lowercase.ensures these));
 }
 
-pub returns-clause-pushed : goal.returns-clause-pushed
-returns-clause-pushed c = c.loop-subtag.invariant.so_far _ (pushes_ended _ _ (ap (map fold_text) c.in-None.ensures.steps.0))
+pub returns : goal.returns
+returns c = c.loop-subtag.invariant.so_far _ (pushes_ended _ _ (ap (map fold_text) c.in-None.ensures.steps.0))

@@ -8,30 +8,24 @@ use Rattle.langtag_keyword.proofs.AlphabetLaws.{after_last, after_last-ended, af
 use Rattle.langtag_keyword.proofs.alphabet.push_few.Goals as goal
 
 pub loop-next-init : goal.loop-next-init
-loop-next-init c = record {
-  same_buffer = refl;
-  so_far = λ new these. pushes_same _ _ _ new (after_last-none (in_alphabet (segments_left c.args.rest))) these;
-}
+loop-next-init c = λ new these. pushes_same _ _ _ new (after_last-none (in_alphabet (segments_left c.args.rest))) these
 
 pub loop-next-preserved : goal.loop-next-preserved
 loop-next-preserved c =
     let ss = in_alphabet (segments_left c.args.rest) in
     let last = option_map (λ t. fold_text t.now) c.loop-next.last in
     let found : first_after last ss ≡ Some (fold_text c.in-Some.next.now) = sym c.first_after.ensures ∙ ap (option_map (λ t. fold_text t.now)) c.in-Some.is in
-    record {
-      same_buffer = c.push_lowercase.ensures.same_buffer ∙ c.loop-next.invariant.same_buffer;
-      so_far = λ new these.
-          c.loop-next.invariant.so_far new
-          (pushes_same _ _ _ new (sym (after_last-next last ss (fold_text c.in-Some.next.now) (rise-in_alphabet (segments_left c.args.rest)) found))
-          (pushes_next _ (fold_text c.in-Some.next.now) (after_last (Some (fold_text c.in-Some.next.now)) ss) _ _ new refl c.push_lowercase.ensures.pushed these));
-    }
+    λ new these.
+    c.loop-next.invariant new
+    (pushes_same _ _ _ new (sym (after_last-next last ss (fold_text c.in-Some.next.now) (rise-in_alphabet (segments_left c.args.rest)) found))
+    (pushes_next _ (fold_text c.in-Some.next.now) (after_last (Some (fold_text c.in-Some.next.now)) ss) _ _ new refl c.push_lowercase.ensures these))
 
-pub returns-clause-pushed : goal.returns-clause-pushed
-returns-clause-pushed c =
+pub returns : goal.returns
+returns c =
     let ss = in_alphabet (segments_left c.args.rest) in
     let last = option_map (λ t. fold_text t.now) c.loop-next.last in
     let none : first_after last ss ≡ None = sym c.first_after.ensures ∙ ap (option_map (λ t. fold_text t.now)) c.in_default.is in
-    c.loop-next.invariant.so_far _ (pushes_ended _ _ (after_last-ended last ss none))
+    c.loop-next.invariant _ (pushes_ended _ _ (after_last-ended last ss none))
 
 pub loop-next-smaller : goal.loop-next-smaller
 loop-next-smaller c =

@@ -1,4 +1,4 @@
-use Rattle.std.proofs.Common.{◌≡◌, length}
+use Rattle.std.proofs.Common.{length}
 use Rattle.std.specs.Option.{option_map}
 use Rattle.langtag_scan.specs.Case.{fold_text}
 use Rattle.langtag_scan.specs.Subtags.{segments_left}
@@ -10,12 +10,8 @@ use Rattle.langtag_keyword.proofs.alphabet.push_few.Given as goal
 
 -- those after the last one are put after those before them
 abbrev pub invariant-loop-next : goal.invariant-loop-next
-invariant-loop-next l = record {
-  same_buffer : l.out.buffer.ghost_name ≡ l.fn.out.buffer.ghost_name;
-  so_far :
-      (new : Output) → Pushes (after_last (option_map (λ t. fold_text t.now) l.last) (in_alphabet (segments_left l.rest))) l.out new →
-      Pushes (in_alphabet (segments_left l.rest)) l.fn.out new;
-}
+invariant-loop-next l = (new : Output) → Pushes (after_last (option_map (λ t. fold_text t.now) l.last) (in_alphabet (segments_left l.rest))) l.out new →
+    Pushes (in_alphabet (segments_left l.rest)) l.fn.out new
 
 abbrev pub decreases-loop-next : goal.decreases-loop-next
 decreases-loop-next l = length (after_last (option_map (λ t. fold_text t.now) l.last) (in_alphabet (segments_left l.rest)))

@@ -1,25 +1,19 @@
-use Rattle.std.proofs.Common.{[], ap, sym, subst, ◌∙◌, arith, append-nil, length}
+use Rattle.std.proofs.Common.{[], ap, sym, subst, arith, append-nil, length}
 use Rattle.langtag_output.specs.Output.{HasText, with_subtag}
 use Rattle.langtag_keyword.proofs.AlphabetLaws.{byte-put, bytes-put}
 use Rattle.langtag_keyword.proofs.alphabet.push_lowercase.Goals as goal
 
 pub loop-byte-init : goal.loop-byte-init
-loop-byte-init c = record {
-  same_buffer = c.push_subtag.ensures.same_buffer;
-  so_far = λ first text has. subst (HasText first c.push_subtag.new.self) (sym (append-nil (with_subtag text []))) (c.push_subtag.ensures.pushed first text has);
-}
+loop-byte-init c = λ first text has. subst (HasText first c.push_subtag.new.self) (sym (append-nil (with_subtag text []))) (c.push_subtag.ensures first text has)
 
 pub loop-byte-preserved : goal.loop-byte-preserved
-loop-byte-preserved c = record {
-  same_buffer = c.push.ensures.same_buffer ∙ c.loop-byte.invariant.same_buffer;
-  so_far = λ first text has.
-      subst (HasText first c.push.new.self)
-      (byte-put (with_subtag text []) c.args.subtag.now c.as_bytes-byte-items.result.now c.loop-byte.byte-index c.into_smallcase.result c.as_bytes-byte-items.ensures.value c.loop-byte-test.true c.into_smallcase.ensures)
-      (c.push.ensures.appended first _ (c.loop-byte.invariant.so_far first text has));
-}
+loop-byte-preserved c = λ first text has.
+    subst (HasText first c.push.new.self)
+    (byte-put (with_subtag text []) c.args.subtag.now c.as_bytes-byte-items.result.now c.loop-byte.byte-index c.into_smallcase.result c.as_bytes-byte-items.ensures.value c.loop-byte-test.true c.into_smallcase.ensures)
+    (c.push.ensures first _ (c.loop-byte.invariant first text has))
 
-pub returns-clause-pushed : goal.returns-clause-pushed
-returns-clause-pushed c = λ first text has.
+pub returns : goal.returns
+returns c = λ first text has.
     subst (HasText first c.loop-byte.out)
     (bytes-put text c.args.subtag.now c.loop-byte.byte-index (omega (arith, c.loop-byte-test.false, ap length c.as_bytes-byte-items.ensures.value)))
-    (c.loop-byte.invariant.so_far first text has)
+    (c.loop-byte.invariant first text has)

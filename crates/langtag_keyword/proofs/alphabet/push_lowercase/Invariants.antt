@@ -1,11 +1,8 @@
-use Rattle.std.proofs.Common.{◌≡◌, ℕ, List, [], ◌++◌, take}
+use Rattle.std.proofs.Common.{ℕ, List, [], ◌++◌, take, MutBor}
 use Rattle.langtag_scan.specs.Case.{fold_text}
 use Rattle.langtag_output.specs.Output.{HasText, with_subtag}
 use Rattle.langtag_keyword.proofs.alphabet.push_lowercase.Given as goal
 
 -- the bytes before this index stand after the hyphen
 abbrev pub invariant-loop-byte : goal.invariant-loop-byte
-invariant-loop-byte l = record {
-  same_buffer : l.out.buffer.ghost_name ≡ l.fn.out.buffer.ghost_name;
-  so_far : (first text : List ℕ) → HasText first l.fn.out text → HasText first l.out (with_subtag text [] ++ fold_text (take l.byte-index l.subtag));
-}
+invariant-loop-byte l = (first : MutBor (List ℕ)) (text : List ℕ) → HasText first l.fn.out text → HasText first l.out (with_subtag text [] ++ fold_text (take l.byte-index l.subtag))

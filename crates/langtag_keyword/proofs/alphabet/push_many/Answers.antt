@@ -1,4 +1,4 @@
-use Rattle.std.proofs.Common.{◌<◌, ◌≤◌, refl, sym, ap, subst, ◌∙◌, arith, ltb-true, ltb-false}
+use Rattle.std.proofs.Common.{◌<◌, ◌≤◌, sym, ap, subst, ◌∙◌, arith, ltb-true, ltb-false}
 use Rattle.std.proofs.Math.Dec.{ltb}
 use Rattle.langtag_output.proofs.Pushed.{pushes_ended, pushes_same}
 use Rattle.langtag_output.specs.Output.{Pushes}
@@ -12,7 +12,6 @@ loop-more-init c =
     let ss = segments_left c.args.rest in
     let last = c.new-least.ensures.last in
     record {
-      same_buffer = refl;
       empty = λ more. c.new-least.ensures.empty;
       ended = sym (ap (λ n. ltb n 18446744073709551615) last);
       so_far = λ new these. pushes_same (left_after c.new-least.result.last ss) (in_alphabet ss) c.args.out.now new (ap (λ n. left_after n ss) last ∙ left-first ss c.requires) these;
@@ -26,7 +25,6 @@ loop-more-preserved c =
     let next = c.push_to-more.ensures.next in
     let order : offered.last ≤ offered.limit = omega (arith, holds.order) in
     record {
-      same_buffer = c.push_to-more.ensures.same_buffer ∙ c.loop-more.invariant.same_buffer;
       empty = c.push_to-more.ensures.empty;
       ended = c.push_to-more.ensures.more ∙ ap (λ n. ltb n 18446744073709551615) (sym next);
       so_far = λ new these.
@@ -37,8 +35,8 @@ loop-more-preserved c =
           (subst (λ n. Pushes (left_after n ss) c.push_to-more.new.out new) next these)));
     }
 
-pub returns-clause-pushed : goal.returns-clause-pushed
-returns-clause-pushed c =
+pub returns : goal.returns
+returns c =
     let ss = segments_left c.args.rest in
     let last = c.loop-more.least.last in
     let ended : 18446744073709551615 ≤ last = ltb-false last 18446744073709551615 (sym c.loop-more.invariant.ended ∙ c.loop-more-test.false) in

@@ -11,7 +11,6 @@ use Rattle.langtag_keyword.proofs.alphabet.push_many.Given as goal
 -- those after the last one are put after those before them
 abbrev pub invariant-loop-more : goal.invariant-loop-more
 invariant-loop-more l = record {
-  same_buffer : l.out.buffer.ghost_name ≡ l.fn.out.buffer.ghost_name;
   empty : l.more ≡ true → HoldsLeast l.least [];
   ended : l.more ≡ ltb l.least.last 18446744073709551615;
   so_far : (new : Output) → Pushes (left_after l.least.last (segments_left l.rest)) l.out new → Pushes (in_alphabet (segments_left l.rest)) l.fn.out new;

@@ -1,4 +1,4 @@
-use Rattle.std.proofs.Common.{◌≡◌, ◌∷◌}
+use Rattle.std.proofs.Common.{◌∷◌}
 use Rattle.langtag_scan.specs.Subtags.{subtags}
 use Rattle.langtag_output.specs.declared.output.Output.{Output}
 use Rattle.langtag_output.specs.Output.{Pushes}
@@ -9,6 +9,5 @@ abbrev pub invariant-loop-subtag : goal.invariant-loop-subtag
 invariant-loop-subtag l = record {
   can_next : (goal.iterator-loop-subtag).can_next l.subtag-iterator;
   is_finite : (goal.iterator-loop-subtag).is_finite l.subtag-iterator;
-  same_buffer : l.out.buffer.ghost_name ≡ l.fn.out.buffer.ghost_name;
   so_far : (new : Output) → Pushes l.subtag-iterator l.out new → Pushes (l.key ∷ subtags l.value) l.fn.out new;
 }

@@ -6,8 +6,8 @@ use Rattle.langtag_keyword.specs.Edit.{is_place, without_keyword}
 use Rattle.langtag_keyword.proofs.KeywordEdits.{put-here, put-later, put_at_standing, standing-some, standing-text}
 use Rattle.langtag_keyword.proofs.edited_subtags.push_with_keyword.Goals as goal
 
-pub returns-then-is_place-clause-pushed : goal.returns-then-is_place-clause-pushed
-returns-then-is_place-clause-pushed c =
+pub returns-then-is_place : goal.returns-then-is_place
+returns-then-is_place c =
     let key = c.args.key.now in
     let value = subtags c.args.value.now in
     let standing = option_map (λ t. t.now) c.standing_key-standing.result in
@@ -23,9 +23,9 @@ returns-then-is_place-clause-pushed c =
     let all : keyword ++ without_keyword key left ≡ put left =
     ap (λ t. (t ∷ value) ++ without_keyword key left) same ∙ ap (λ ss. (unwrap_or standing key ∷ value) ++ without_keyword key ss) cut
     ∙ sym (ap put cut ∙ put-here key first others (is_some standing) (unwrap_or standing key ∷ value) here) in
-    c.loop-rest.invariant.so_far c.push_without_keyword.new.out
+    c.loop-rest.invariant c.push_without_keyword.new.out
     (pushes_same (keyword ++ without_keyword key left) (put left) c.loop-rest.out c.push_without_keyword.new.out all
-    (pushes_both keyword (without_keyword key left) c.loop-rest.out c.push_keyword.new.out c.push_without_keyword.new.out c.push_keyword.ensures.pushed c.push_without_keyword.ensures.pushed))
+    (pushes_both keyword (without_keyword key left) c.loop-rest.out c.push_keyword.new.out c.push_without_keyword.new.out c.push_keyword.ensures c.push_without_keyword.ensures))
 
 pub loop-rest-preserved : goal.loop-rest-preserved
 loop-rest-preserved c =
@@ -39,20 +39,17 @@ loop-rest-preserved c =
     ap (λ b. is_place key b first) (standing-some c.standing_key-standing.result) ∙ sym c.is_place.ensures ∙ c.if-is_place.false in
     let all : put (segments_left c.loop-rest.rest) ≡ first ∷ put others =
     ap (λ r. put (segments_left r)) c.in-Some.is ∙ ap put c.split_first.ensures ∙ put-later key first others (is_some standing) (unwrap_or standing key ∷ value) later in
-    record {
-      same_buffer = c.push_subtag.ensures.same_buffer ∙ c.loop-rest.invariant.same_buffer;
-      so_far = λ new these.
-          c.loop-rest.invariant.so_far new
-          (pushes_same (first ∷ put others) (put (segments_left c.loop-rest.rest)) c.loop-rest.out new (sym all)
-          (pushes_next _ first (put others) c.loop-rest.out c.push_subtag.new.self new c.as_bytes.ensures.value c.push_subtag.ensures.pushed these));
-    }
+    λ new these.
+    c.loop-rest.invariant new
+    (pushes_same (first ∷ put others) (put (segments_left c.loop-rest.rest)) c.loop-rest.out new (sym all)
+    (pushes_next _ first (put others) c.loop-rest.out c.push_subtag.new.self new c.as_bytes.ensures.value c.push_subtag.ensures these))
 
-pub returns-clause-pushed : goal.returns-clause-pushed
-returns-clause-pushed c =
+pub returns : goal.returns
+returns c =
     let value = subtags c.args.value.now in
     let standing = option_map (λ t. t.now) c.standing_key-standing.result in
     let put = put_at_standing c.args.key.now standing value in
     let same : c.unwrap_or-2.result.now ≡ unwrap_or standing c.args.key.now = ap (λ t. t.now) c.unwrap_or-2.ensures ∙ standing-text c.standing_key-standing.result c.args.key in
-    c.loop-rest.invariant.so_far c.push_keyword-2.new.out
+    c.loop-rest.invariant c.push_keyword-2.new.out
     (pushes_same (c.unwrap_or-2.result.now ∷ value) (put (segments_left c.loop-rest.rest)) c.loop-rest.out c.push_keyword-2.new.out
-    (ap (λ t. t ∷ value) same ∙ sym (ap (λ r. put (segments_left r)) c.in_default.is)) c.push_keyword-2.ensures.pushed)
+    (ap (λ t. t ∷ value) same ∙ sym (ap (λ r. put (segments_left r)) c.in_default.is)) c.push_keyword-2.ensures)

@@ -14,12 +14,9 @@ loop-rest-preserved-then-not-is_inside c =
     let all : stay (segments_left c.loop-rest.rest) ≡ first ∷ stays =
     ap (λ r. stay (segments_left r)) c.in-Some.is ∙ ap stay c.split_first.ensures
     ∙ without-kept c.args.key.now first others c.loop-rest.is_inside _ c.belongs-is_inside.ensures c.if-not-is_inside.true in
-    record {
-      same_buffer = c.push_subtag.ensures.same_buffer ∙ c.loop-rest.invariant.same_buffer;
-      so_far = λ new these.
-          c.loop-rest.invariant.so_far new
-          (pushes_same (first ∷ stays) _ _ new (sym all) (pushes_next _ first stays _ _ new c.as_bytes.ensures.value c.push_subtag.ensures.pushed these));
-    }
+    λ new these.
+    c.loop-rest.invariant new
+    (pushes_same (first ∷ stays) _ _ new (sym all) (pushes_next _ first stays _ _ new c.as_bytes.ensures.value c.push_subtag.ensures these))
 
 pub loop-rest-preserved : goal.loop-rest-preserved
 loop-rest-preserved c =
@@ -29,12 +26,9 @@ loop-rest-preserved c =
     let all : stay (segments_left c.loop-rest.rest) ≡ stays =
     ap (λ r. stay (segments_left r)) c.in-Some.is ∙ ap stay c.split_first.ensures
     ∙ without-gone c.args.key.now c.split_first.result.0.now others c.loop-rest.is_inside _ c.belongs-is_inside.ensures c.if-not-is_inside.false in
-    record {
-      same_buffer = c.loop-rest.invariant.same_buffer;
-      so_far = λ new these. c.loop-rest.invariant.so_far new (pushes_same stays _ _ new (sym all) these);
-    }
+    λ new these. c.loop-rest.invariant new (pushes_same stays _ _ new (sym all) these)
 
-pub returns-clause-pushed : goal.returns-clause-pushed
-returns-clause-pushed c =
+pub returns : goal.returns
+returns c =
     let stay = without_within c.args.key.now c.loop-rest.is_inside in
-    c.loop-rest.invariant.so_far _ (pushes_ended (stay (segments_left c.loop-rest.rest)) _ (ap (λ r. stay (segments_left r)) c.in_default.is))
+    c.loop-rest.invariant _ (pushes_ended (stay (segments_left c.loop-rest.rest)) _ (ap (λ r. stay (segments_left r)) c.in_default.is))

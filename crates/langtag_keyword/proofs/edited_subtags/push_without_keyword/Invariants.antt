@@ -1,4 +1,4 @@
-use Rattle.std.proofs.Common.{◌≡◌, length}
+use Rattle.std.proofs.Common.{length}
 use Rattle.langtag_scan.specs.Subtags.{segments_left}
 use Rattle.langtag_output.specs.declared.output.Output.{Output}
 use Rattle.langtag_output.specs.Output.{Pushes}
@@ -7,12 +7,8 @@ use Rattle.langtag_keyword.proofs.edited_subtags.push_without_keyword.Given as g
 
 -- those that stay of the rest are put after those before them
 abbrev pub invariant-loop-rest : goal.invariant-loop-rest
-invariant-loop-rest l = record {
-  same_buffer : l.out.buffer.ghost_name ≡ l.fn.out.buffer.ghost_name;
-  so_far :
-      (new : Output) → Pushes (without_within l.key l.is_inside (segments_left l.rest)) l.out new →
-      Pushes (without_keyword l.key (segments_left l.fn.rest)) l.fn.out new;
-}
+invariant-loop-rest l = (new : Output) → Pushes (without_within l.key l.is_inside (segments_left l.rest)) l.out new →
+    Pushes (without_keyword l.key (segments_left l.fn.rest)) l.fn.out new
 
 abbrev pub decreases-loop-rest : goal.decreases-loop-rest
 decreases-loop-rest l = length (segments_left l.rest)

@@ -1,13 +1,15 @@
-use Rattle.std.proofs.Common.{refl, ap, ◌∙◌}
+use Rattle.std.proofs.Common.{List, false, ap, ◌∙◌}
+use Rattle.std.specs.List.{flat_map}
 use Rattle.langtag_extension.specs.Text.{extension_text, extensions_left}
-use Rattle.langtag_keyword.proofs.ExtensionForms.{left-ended, left-next}
+use Rattle.langtag_scan.specs.Record.{Extension, extension_flat}
+use Rattle.langtag_keyword.specs.Form.{extension_form, forms_after}
+use Rattle.langtag_keyword.proofs.ExtensionsPut.{left-ended, left-next}
 use Rattle.langtag_keyword.proofs.extension_form.push_extensions.Goals as goal
 
 pub loop-extension-init : goal.loop-extension-init
 loop-extension-init c = record {
   can_next = tt;
   is_finite = tt;
-  same_buffer = refl;
   so_far = λ es spells. record {
     left = es;
     spelled = ap extensions_left c.into_iter-extension-iterator.ensures.into_iter_gives ∙ c.iter-extension-items.ensures.list es spells;
@@ -17,15 +19,20 @@ loop-extension-init c = record {
 }
 
 pub loop-extension-preserved : goal.loop-extension-preserved
-loop-extension-preserved c = record {
-  can_next = tt;
-  is_finite = tt;
-  same_buffer = c.push_extension.ensures.same_buffer ∙ c.loop-extension.invariant.same_buffer;
-  so_far = λ es spells.
-      left-next es c.loop-extension.after_u c.loop-extension.after_t _ c.loop-extension.out _ (extensions_left c.next.new.self) (extension_text c.in-Some.extension) _ _ _ c.in-Some.ensures.steps
-      (c.loop-extension.invariant.so_far es spells) c.push_extension.ensures.pushed c.is_after-after_u.ensures c.is_after-after_t.ensures;
-}
+loop-extension-preserved c =
+    let after_u = c.loop-extension.after_u in
+    let after_t = c.loop-extension.after_t in
+    record {
+      can_next = tt;
+      is_finite = tt;
+      so_far = λ es spells.
+          left-next (λ (left : List Extension). flat_map extension_flat (forms_after after_u after_t left)) (flat_map extension_flat (forms_after false false es)) _ c.loop-extension.out
+          (λ left. flat_map extension_flat (forms_after c.is_after-after_u.result c.is_after-after_t.result left)) (λ e. extension_flat (extension_form after_u after_t e))
+          _ (extensions_left c.next.new.self) (extension_text c.in-Some.extension) _ c.in-Some.ensures.steps (c.loop-extension.invariant.so_far es spells)
+          (λ e others spelled. rw (c.is_after-after_u.ensures e spelled, c.is_after-after_t.ensures e spelled)) c.push_extension.ensures;
+    }
 
-pub returns-clause-pushed : goal.returns-clause-pushed
-returns-clause-pushed c = λ es spells.
-    left-ended es c.loop-extension.after_u c.loop-extension.after_t _ c.loop-extension.out _ c.in-None.ensures.steps.0 (c.loop-extension.invariant.so_far es spells)
+pub returns : goal.returns
+returns c = λ es spells.
+    left-ended (λ (left : List Extension). flat_map extension_flat (forms_after c.loop-extension.after_u c.loop-extension.after_t left)) (flat_map extension_flat (forms_after false false es)) _ c.loop-extension.out
+    _ _ c.in-None.ensures.steps.0 (c.loop-extension.invariant.so_far es spells) (λ first text has. has)

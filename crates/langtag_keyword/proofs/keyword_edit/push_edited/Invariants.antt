@@ -1,4 +1,4 @@
-use Rattle.std.proofs.Common.{◌≡◌, List, length}
+use Rattle.std.proofs.Common.{List, length}
 use Rattle.std.specs.List.{flat_map}
 use Rattle.langtag_extension.specs.Spelling.{SpellsExtensions}
 use Rattle.langtag_extension.specs.Text.{extensions_left, extensions_text}
@@ -10,13 +10,9 @@ use Rattle.langtag_keyword.proofs.keyword_edit.push_edited.Given as goal
 
 -- those that are left, with `u` in its place, are put after those before them
 abbrev pub invariant-loop-extension : goal.invariant-loop-extension
-invariant-loop-extension l = record {
-  same_buffer : l.out.buffer.ghost_name ≡ l.fn.out.buffer.ghost_name;
-  so_far :
-      (es : List Extension) → SpellsExtensions es (extensions_text l.fn.extensions) →
-      AreLeft (λ left. flat_map extension_flat (changed_from (edited_by l.edit) (replaces l.place) left)) (flat_map extension_flat (with_changed_u (edited_by l.edit) es))
-      (extensions_left l.rest) l.fn.out l.out;
-}
+invariant-loop-extension l = (es : List Extension) → SpellsExtensions es (extensions_text l.fn.extensions) →
+    AreLeft (λ left. flat_map extension_flat (changed_from (edited_by l.edit) (replaces l.place) left)) (flat_map extension_flat (with_changed_u (edited_by l.edit) es))
+    (extensions_left l.rest) l.fn.out l.out
 
 abbrev pub decreases-loop-extension : goal.decreases-loop-extension
 decreases-loop-extension l = length (extensions_left l.rest)

@@ -1,4 +1,4 @@
-use Rattle.std.proofs.Common.{refl, ◌∙◌}
+use Rattle.std.proofs.Common.{refl}
 use Rattle.std.specs.List.{flat_map}
 use Rattle.langtag_extension.specs.Text.{extension_text, extensions_left}
 use Rattle.langtag_scan.specs.Record.{extension_flat}
@@ -10,14 +10,13 @@ pub loop-extension-preserved : goal.loop-extension-preserved
 loop-extension-preserved c = record {
   can_next = tt;
   is_finite = tt;
-  same_buffer = c.push_subtag.ensures.same_buffer ∙ c.loop-extension.invariant.same_buffer;
   so_far = λ es members spelled.
       left-next (flat_map extension_flat) (flat_map extension_flat es) c.args.out.now c.loop-extension.out (flat_map extension_flat) extension_flat _ (extensions_left c.next.new.self) (extension_text c.in-Some.extension)
       c.push_subtag.new.self c.in-Some.ensures.steps (c.loop-extension.invariant.so_far es members spelled) (λ e others spells. refl)
-      (λ e spells. extension-pushed e _ _ _ _ spells c.as_bytes.ensures c.push_subtag.ensures.pushed);
+      (λ e spells. extension-pushed e _ _ _ _ spells c.as_bytes.ensures c.push_subtag.ensures);
 }
 
-pub returns-clause-pushed : goal.returns-clause-pushed
-returns-clause-pushed c = λ es members spelled.
+pub returns : goal.returns
+returns c = λ es members spelled.
     left-ended (flat_map extension_flat) (flat_map extension_flat es) c.args.out.now c.loop-extension.out _ c.loop-extension.out c.in-None.ensures.steps.0 (c.loop-extension.invariant.so_far es members spelled)
     (pushes_ended _ _ refl)

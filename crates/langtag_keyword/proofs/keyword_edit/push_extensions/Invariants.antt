@@ -11,7 +11,6 @@ abbrev pub invariant-loop-extension : goal.invariant-loop-extension
 invariant-loop-extension l = record {
   can_next : (goal.iterator-loop-extension).can_next l.extension-iterator;
   is_finite : (goal.iterator-loop-extension).is_finite l.extension-iterator;
-  same_buffer : l.out.buffer.ghost_name ≡ l.fn.out.buffer.ghost_name;
   so_far :
       (es : List Extension) → AllByRecursion IsWellFormedExtension es → extensions_left l.fn.rest ≡ map extension_spelling es →
       AreLeft (flat_map extension_flat) (flat_map extension_flat es) (extensions_left l.extension-iterator) l.fn.out l.out;

@@ -1,4 +1,4 @@
-use Rattle.std.proofs.Common.{◌≡◌, IfSome, subst, Some, None, length, refl, sym, ap, ◌∙◌, arith}
+use Rattle.std.proofs.Common.{◌≡◌, IfSome, subst, Some, None, length, sym, ap, ◌∙◌, arith}
 use Rattle.std.specs.List.{filter, flat_map}
 use Rattle.langtag_output.proofs.Pushed.{pushes_both, pushes_ended, pushes_same}
 use Rattle.langtag_scan.specs.Subtags.{subtags}
@@ -15,7 +15,6 @@ loop-key-init c =
     let of = keyword_form (opens_keyword c.args.keys) (canonical_value_of c.args.keys) (subtags c.args.text.now) in
     record {
       key = tt;
-      same_buffer = refl;
       so_far = λ new these. pushes_same _ _ _ new (ap (flat_map of) (after_last-none (keys_in_order (opens_keyword c.args.keys) (subtags c.args.text.now)))) these;
     }
 
@@ -28,15 +27,14 @@ loop-key-preserved c =
     sym (c.first_after.ensures.first (filter (opens_keyword c.args.keys) ss) (keys-among c.args.keys _ ss c.keys_of-found.ensures c.requires) (are-keys c.args.keys ss c.requires)) ∙ c.in-Some.is in
     record {
       key = subst (λ key. IfSome key IsLowerKey) c.in-Some.is c.first_after.ensures.key;
-      same_buffer = c.push_keyword.ensures.same_buffer ∙ c.loop-key.invariant.same_buffer;
       so_far = λ new these.
           c.loop-key.invariant.so_far new
           (pushes_same _ _ _ new (ap (flat_map of) (sym (after_last-next c.loop-key.last all c.in-Some.key (rise-in_alphabet (filter (opens_keyword c.args.keys) ss)) found)))
-          (pushes_both (of c.in-Some.key) (flat_map of (after_last (Some c.in-Some.key) all)) _ _ new c.push_keyword.ensures.pushed these));
+          (pushes_both (of c.in-Some.key) (flat_map of (after_last (Some c.in-Some.key) all)) _ _ new c.push_keyword.ensures these));
     }
 
-pub returns-clause-pushed : goal.returns-clause-pushed
-returns-clause-pushed c =
+pub returns : goal.returns
+returns c =
     let ss = subtags c.args.text.now in
     let of = keyword_form (opens_keyword c.args.keys) (canonical_value_of c.args.keys) ss in
     let all = keys_in_order (opens_keyword c.args.keys) ss in

@@ -1,4 +1,4 @@
-use Rattle.std.proofs.Common.{◌≡◌, IfSome, length}
+use Rattle.std.proofs.Common.{IfSome, length}
 use Rattle.std.specs.List.{flat_map}
 use Rattle.langtag_scan.specs.Subtags.{subtags}
 use Rattle.langtag_output.specs.declared.output.Output.{Output}
@@ -13,7 +13,6 @@ use Rattle.langtag_keyword.proofs.keyword_form.push_keywords.Given as goal
 abbrev pub invariant-loop-key : goal.invariant-loop-key
 invariant-loop-key l = record {
   key : IfSome l.last IsLowerKey;
-  same_buffer : l.out.buffer.ghost_name ≡ l.fn.out.buffer.ghost_name;
   so_far :
       (new : Output) →
       Pushes (flat_map (keyword_form (opens_keyword l.keys) (canonical_value_of l.keys) (subtags l.text)) (after_last l.last (keys_in_order (opens_keyword l.keys) (subtags l.text)))) l.out new →

@@ -1,11 +1,8 @@
-use Rattle.std.proofs.Common.{◌≡◌, ℕ, List, [], ◌++◌, not, ◌==◌, take}
+use Rattle.std.proofs.Common.{ℕ, List, [], ◌++◌, not, ◌==◌, take, MutBor}
 use Rattle.std.specs.List.{filter}
 use Rattle.langtag_output.specs.Output.{HasText, with_subtag}
 use Rattle.langtag_keyword.proofs.least_numbers.push_number.Given as goal
 
 -- the digits before this index that are not zero stand after the hyphen
 abbrev pub invariant-loop-byte : goal.invariant-loop-byte
-invariant-loop-byte l = record {
-  same_buffer : l.out.buffer.ghost_name ≡ l.fn.out.buffer.ghost_name;
-  so_far : (first text : List ℕ) → HasText first l.fn.out text → HasText first l.out (with_subtag text [] ++ filter (λ b. not (b == 0)) (take l.byte-index l.byte-items));
-}
+invariant-loop-byte l = (first : MutBor (List ℕ)) (text : List ℕ) → HasText first l.fn.out text → HasText first l.out (with_subtag text [] ++ filter (λ b. not (b == 0)) (take l.byte-index l.byte-items))

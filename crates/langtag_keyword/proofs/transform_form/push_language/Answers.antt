@@ -12,9 +12,9 @@ pub push_language_id-requires : goal.push_language_id-requires
 push_language_id-requires c =
     subst (AllByRecursion IsSubtag) (sym c.preceding.ensures ∙ ap segments_left c.in-Some.is) (fits-before_key is_field_key (subtags c.args.text.now) c.requires)
 
-pub returns-in-Some-clause-pushed : goal.returns-in-Some-clause-pushed
-returns-in-Some-clause-pushed c =
-    pushes_same _ _ _ _ (ap language_form (ap segments_left (sym c.in-Some.is) ∙ c.preceding.ensures)) c.push_language_id.ensures.pushed
+pub returns-in-Some : goal.returns-in-Some
+returns-in-Some c =
+    pushes_same _ _ _ _ (ap language_form (ap segments_left (sym c.in-Some.is) ∙ c.preceding.ensures)) c.push_language_id.ensures
 
-pub returns-in_default-clause-pushed : goal.returns-in_default-clause-pushed
-returns-in_default-clause-pushed c = pushes_ended _ _ (ap language_form (sym c.preceding.ensures ∙ ap segments_left c.in_default.is))
+pub returns-in_default : goal.returns-in_default
+returns-in_default c = pushes_ended _ _ (ap language_form (sym c.preceding.ensures ∙ ap segments_left c.in_default.is))

@@ -6,8 +6,8 @@ use Rattle.langtag_keyword.specs.Keywords.{before_key}
 use Rattle.langtag_keyword.specs.Transform.{is_field_key}
 use Rattle.langtag_keyword.proofs.transform_form.push_transform.Goals as goal
 
-pub returns-clause-pushed : goal.returns-clause-pushed
-returns-clause-pushed c =
+pub returns : goal.returns
+returns c =
     let ss = subtags c.args.text.now in
-    pushes_both ((116 ∷ []) ∷ []) (transform_form ss) _ _ _ c.push_subtag.ensures.pushed
-    (pushes_both (language_form (before_key is_field_key ss)) (keywords_form is_field_key transform_value ss) _ _ _ c.push_language.ensures.pushed c.push_keywords.ensures.pushed)
+    pushes_both ((116 ∷ []) ∷ []) (transform_form ss) _ _ _ c.push_subtag.ensures
+    (pushes_both (language_form (before_key is_field_key ss)) (keywords_form is_field_key transform_value ss) _ _ _ c.push_language.ensures c.push_keywords.ensures)

@@ -5,8 +5,8 @@ use Rattle.langtag_likely.specs.Texts.{field_texts}
 use Rattle.langtag_output.specs.Output.{HasText}
 use Rattle.langtag.proofs.PartsFound.{variants_listed}
 use Rattle.langtag_output.proofs.Pushed.{pushes_both, pushes_same}
-use Rattle.langtag_scan.specs.Record.{extension_flat, private_part_flat, spell}
-use Rattle.langtag_locale.specs.LocaleForm.{extensions_in_order, identifier_form, locale_record, new_variants, record_fields}
+use Rattle.langtag_scan.specs.Record.{extension_flat, private_part_flat}
+use Rattle.langtag_locale.specs.LocaleForm.{extensions_in_order, identifier_form, new_variants, record_fields}
 use Rattle.langtag_unicode.specs.Identifier.{identifier_flat}
 use Rattle.langtag_locale.proofs.IdentifierForms.{locale_joined}
 use Rattle.langtag_locale.proofs.SpelledLocales.{spelled_locale}
@@ -33,10 +33,10 @@ returns c = λ r spells.
     pushes_both name (extensions ++ private_use) _ _ _
     (pushes_same _ name _ _
     (ap (λ vs. identifier_flat (identifier_form vs fields) (new_variants vs fields)) variants ∙ ap (λ f. identifier_flat (identifier_form r.variants f) (new_variants r.variants f)) (c.fields_of.ensures r spells))
-    c.push_identifier.ensures.pushed)
+    c.push_identifier.ensures)
     (pushes_both extensions private_use _ _ _
-    (c.push_locale_extensions.ensures.pushed r.extensions (record { members = spells.0.extensions; joined = sym (c.extensions.ensures r spells) }))
-    (c.push_private_use.ensures.pushed r.private_use (c.private_use.ensures r spells))) in
-    let has : HasText c.args.buffer.now c.push_private_use.new.out (spell (locale_record r)) =
-    subst (HasText c.args.buffer.now c.push_private_use.new.out) (locale_joined r spells.0 (spelled_locale (normal_lang_tag_text c.args.tag) r c.requires spells)) (pushed c.args.buffer.now [] c.new-out.ensures.empty) in
-    record { counted = c.len.ensures ∙ has.counted; written = λ fits. search (rules, has.written fits) }
+    (c.push_locale_extensions.ensures r.extensions (record { members = spells.0.extensions; joined = sym (c.extensions.ensures r spells) }))
+    (c.push_private_use.ensures r.private_use (c.private_use.ensures r spells))) in
+    let has =
+    subst (HasText _ c.push_private_use.new.out) (locale_joined r spells.0 (spelled_locale (normal_lang_tag_text c.args.tag) r c.requires spells)) (pushed _ [] c.new-out.ensures) in
+    record { counted = c.len.ensures ∙ has.counted; written = λ fits. search (rules, has.same_buffer, has.written fits) }

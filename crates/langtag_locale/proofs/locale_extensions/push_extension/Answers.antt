@@ -13,20 +13,20 @@ push_locale_transform-requires-clause-allowed c =
     ap is_transform (c.subtags_of-then-is_of-2.ensures.subtags e spells)
     ∙ transform_allowed e (sym (c.is_of.ensures e spells) ∙ c.if-is_of.false) (sym (c.is_of-2.ensures e spells) ∙ c.if-is_of-2.true) allowed
 
-pub returns-then-is_of-clause-pushed : goal.returns-then-is_of-clause-pushed
-returns-then-is_of-clause-pushed c = λ e spells.
+pub returns-then-is_of : goal.returns-then-is_of
+returns-then-is_of c = λ e spells.
     let is = locale_form_tested true (is_of 116 e) e (sym (c.is_of.ensures e spells) ∙ c.if-is_of.true) refl in
     pushes_same ((117 ∷ []) ∷ unicode_form (subtags c.subtags_of.result.now)) (extension_flat (locale_extension_form e)) _ _
-    (ap (λ ss. (117 ∷ []) ∷ unicode_form ss) (c.subtags_of.ensures.subtags e spells) ∙ sym (ap extension_flat is)) c.push_unicode.ensures.pushed
+    (ap (λ ss. (117 ∷ []) ∷ unicode_form ss) (c.subtags_of.ensures.subtags e spells) ∙ sym (ap extension_flat is)) c.push_unicode.ensures
 
-pub returns-then-is_of-2-clause-pushed : goal.returns-then-is_of-2-clause-pushed
-returns-then-is_of-2-clause-pushed c = λ e spells.
+pub returns-then-is_of-2 : goal.returns-then-is_of-2
+returns-then-is_of-2 c = λ e spells.
     let is = locale_form_tested false true e (sym (c.is_of.ensures e spells) ∙ c.if-is_of.false) (sym (c.is_of-2.ensures e spells) ∙ c.if-is_of-2.true) in
     pushes_same ((116 ∷ []) ∷ locale_transform_form (subtags c.subtags_of-then-is_of-2.result.now)) (extension_flat (locale_extension_form e)) _ _
-    (ap (λ ss. (116 ∷ []) ∷ locale_transform_form ss) (c.subtags_of-then-is_of-2.ensures.subtags e spells) ∙ sym (ap extension_flat is)) c.push_locale_transform.ensures.pushed
+    (ap (λ ss. (116 ∷ []) ∷ locale_transform_form ss) (c.subtags_of-then-is_of-2.ensures.subtags e spells) ∙ sym (ap extension_flat is)) c.push_locale_transform.ensures
 
-pub returns-clause-pushed : goal.returns-clause-pushed
-returns-clause-pushed c = λ e spells.
+pub returns : goal.returns
+returns c = λ e spells.
     let is = locale_form_tested false false e (sym (c.is_of.ensures e spells) ∙ c.if-is_of.false) (sym (c.is_of-2.ensures e spells) ∙ c.if-is_of-2.false) in
     pushes_same (extension_flat e) (extension_flat (locale_extension_form e)) _ _ (sym (ap extension_flat is))
-    (pushes_joined (e.singleton ∷ []) e.subtags _ _ (omega arith) (pushes_same _ _ _ _ (ap (λ t. t ∷ []) (c.as_bytes.ensures ∙ sym spells.joined)) c.push_subtag.ensures.pushed))
+    (pushes_joined (e.singleton ∷ []) e.subtags _ _ (omega arith) (pushes_same _ _ _ _ (ap (λ t. t ∷ []) (c.as_bytes.ensures ∙ sym spells.joined)) c.push_subtag.ensures))

@@ -13,14 +13,14 @@ push_extension-requires c =
     let found = found_one (singleton_byte c.in-Ok.singleton) es spells.members (extension_text c.in-Some.extension) (sym (ap (option_map extension_text) c.in-Some.is) ∙ c.get.ensures.first_match es spells) in
     (found.one, found.spells, found_has is_locale_extension _ es found.one all found.found)
 
-pub returns-in-Some-clause-pushed : goal.returns-in-Some-clause-pushed
-returns-in-Some-clause-pushed c = λ es spells.
+pub returns-in-Some : goal.returns-in-Some
+returns-in-Some c = λ es spells.
     let byte : singleton_byte c.in-Ok.singleton ≡ c.args.singleton = c.in-Ok.ensures.same_byte in
     let found = found_one (singleton_byte c.in-Ok.singleton) es spells.members (extension_text c.in-Some.extension) (sym (ap (option_map extension_text) c.in-Some.is) ∙ c.get.ensures.first_match es spells) in
-    pushes_same _ _ _ _ (sym (at_found es c.args.singleton found.one (sym (ap (λ b. find_extension b es) byte) ∙ found.found))) (c.push_extension.ensures.pushed found.one found.spells)
+    pushes_same _ _ _ _ (sym (at_found es c.args.singleton found.one (sym (ap (λ b. find_extension b es) byte) ∙ found.found))) (c.push_extension.ensures found.one found.spells)
 
-pub returns-in_default-get-clause-pushed : goal.returns-in_default-get-clause-pushed
-returns-in_default-get-clause-pushed c = λ es spells.
+pub returns-in_default-get : goal.returns-in_default-get
+returns-in_default-get c = λ es spells.
     let byte : singleton_byte c.in-Ok.singleton ≡ c.args.singleton = c.in-Ok.ensures.same_byte in
     pushes_ended _ _
     (at_nothing es c.args.singleton

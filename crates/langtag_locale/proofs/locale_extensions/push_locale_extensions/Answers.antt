@@ -1,4 +1,4 @@
-use Rattle.std.proofs.Common.{ℕ, List, ◌+◌, ◌++◌, false, drop, get_or, refl, sym, ap, ◌∙◌, eqb-true}
+use Rattle.std.proofs.Common.{ℕ, List, ◌+◌, ◌++◌, false, drop, get_or, sym, ap, ◌∙◌, eqb-true}
 use Rattle.std.proofs.lemmas.List.{at_drop_all, at_drop_more, nil_from_length}
 use Rattle.std.specs.List.{flat_map}
 use Rattle.langtag_output.proofs.Pushed.{pushes_both, pushes_ended, pushes_same}
@@ -9,15 +9,12 @@ use Rattle.langtag_locale.proofs.LocaleExtensions.{at_nothing, each_singleton, f
 use Rattle.langtag_locale.proofs.locale_extensions.push_locale_extensions.Goals as goal
 
 pub returns-then-is_empty : goal.returns-then-is_empty
-returns-then-is_empty c = record {
-  same_buffer = refl;
-  pushed = λ es spells.
-      let empty = sym c.as_str.ensures.same_text ∙ nil_from_length c.as_str.result.now (eqb-true _ _ (sym c.is_empty.ensures ∙ c.if-is_empty.true)) in
-      pushes_ended _ _ (ap (λ es. flat_map extension_flat (extensions_in_order es)) (none_spelled es _ spells empty));
-}
+returns-then-is_empty c = λ es spells.
+    let empty = sym c.as_str.ensures.same_text ∙ nil_from_length c.as_str.result.now (eqb-true _ _ (sym c.is_empty.ensures ∙ c.if-is_empty.true)) in
+    pushes_ended _ _ (ap (λ es. flat_map extension_flat (extensions_in_order es)) (none_spelled es _ spells empty))
 
 pub loop-singleton-init : goal.loop-singleton-init
-loop-singleton-init c = record { same_buffer = refl; so_far = λ es spells new these. these }
+loop-singleton-init c = λ es spells new these. these
 
 pub push_extension_at-requires-clause-singleton : goal.push_extension_at-requires-clause-singleton
 push_extension_at-requires-clause-singleton c = each_singleton c.loop-singleton.singleton-index c.loop-singleton-test.true
@@ -26,31 +23,25 @@ pub loop-singleton-preserved-then-not-present-from : goal.loop-singleton-preserv
 loop-singleton-preserved-then-not-present-from c =
     let k = c.loop-singleton.singleton-index in
     let singleton = get_or singletons k 0 in
-    record {
-      same_buffer = c.loop-singleton.invariant.same_buffer;
-      so_far = λ es spells new these.
-          let of : ℕ → List (List ℕ) = λ singleton. flat_map extension_flat (extension_at es singleton) in
-          let unmarked = ap (λ at. get_or c.singletons_of-present.result at false) (sym (c.from.ensures ∙ c.into_smallcase.ensures)) ∙ c.if-not-present-from.true in
-          let none = at_nothing es singleton (not_noted singleton es (c.singletons_of-present.ensures es spells singleton unmarked)) in
-          c.loop-singleton.invariant.so_far es spells new
-          (pushes_same _ _ _ new
-          (sym (at_drop_more (flat_map of) singletons k 0 c.loop-singleton-test.true ∙ ap (λ put. put ++ flat_map of (drop (k + 1) singletons)) none)) these);
-    }
+    λ es spells new these.
+    let of : ℕ → List (List ℕ) = λ singleton. flat_map extension_flat (extension_at es singleton) in
+    let unmarked = ap (λ at. get_or c.singletons_of-present.result at false) (sym (c.from.ensures ∙ c.into_smallcase.ensures)) ∙ c.if-not-present-from.true in
+    let none = at_nothing es singleton (not_noted singleton es (c.singletons_of-present.ensures es spells singleton unmarked)) in
+    c.loop-singleton.invariant es spells new
+    (pushes_same _ _ _ new
+    (sym (at_drop_more (flat_map of) singletons k 0 c.loop-singleton-test.true ∙ ap (λ put. put ++ flat_map of (drop (k + 1) singletons)) none)) these)
 
 pub loop-singleton-preserved : goal.loop-singleton-preserved
 loop-singleton-preserved c =
     let k = c.loop-singleton.singleton-index in
-    record {
-      same_buffer = c.push_extension_at.ensures.same_buffer ∙ c.loop-singleton.invariant.same_buffer;
-      so_far = λ es spells new these.
-          let of : ℕ → List (List ℕ) = λ singleton. flat_map extension_flat (extension_at es singleton) in
-          c.loop-singleton.invariant.so_far es spells new
-          (pushes_same _ _ _ new (sym (at_drop_more (flat_map of) singletons k 0 c.loop-singleton-test.true))
-          (pushes_both (of (get_or singletons k 0)) (flat_map of (drop (k + 1) singletons)) _ _ new (c.push_extension_at.ensures.pushed es spells) these));
-    }
+    λ es spells new these.
+    let of : ℕ → List (List ℕ) = λ singleton. flat_map extension_flat (extension_at es singleton) in
+    c.loop-singleton.invariant es spells new
+    (pushes_same _ _ _ new (sym (at_drop_more (flat_map of) singletons k 0 c.loop-singleton-test.true))
+    (pushes_both (of (get_or singletons k 0)) (flat_map of (drop (k + 1) singletons)) _ _ new (c.push_extension_at.ensures es spells) these))
 
-pub returns-clause-pushed : goal.returns-clause-pushed
-returns-clause-pushed c = λ es spells.
+pub returns : goal.returns
+returns c = λ es spells.
     let of : ℕ → List (List ℕ) = λ singleton. flat_map extension_flat (extension_at es singleton) in
     pushes_same _ _ _ _ (sym (flat_of_each es singletons))
-    (c.loop-singleton.invariant.so_far es spells _ (pushes_ended _ _ (at_drop_all (flat_map of) singletons c.loop-singleton.singleton-index c.loop-singleton-test.false)))
+    (c.loop-singleton.invariant es spells _ (pushes_ended _ _ (at_drop_all (flat_map of) singletons c.loop-singleton.singleton-index c.loop-singleton-test.false)))

@@ -1,4 +1,4 @@
-use Rattle.std.proofs.Common.{◌≡◌, List, drop}
+use Rattle.std.proofs.Common.{List, drop}
 use Rattle.std.specs.List.{flat_map}
 use Rattle.langtag_extension.specs.Spelling.{SpellsExtensions}
 use Rattle.langtag_extension.specs.Text.{extensions_text}
@@ -11,10 +11,6 @@ use Rattle.langtag_locale.proofs.locale_extensions.push_locale_extensions.Given 
 
 -- the extensions from this singleton on are put after those before it
 abbrev pub invariant-loop-singleton : goal.invariant-loop-singleton
-invariant-loop-singleton l = record {
-  same_buffer : l.out.buffer.ghost_name ≡ l.fn.out.buffer.ghost_name;
-  so_far :
-      (es : List model.Extension) → SpellsExtensions es (extensions_text l.fn.extensions) → (new : Output) →
-      Pushes (flat_map (λ singleton. flat_map model.extension_flat (extension_at es singleton)) (drop l.singleton-index singletons)) l.out new →
-      Pushes (flat_map (λ singleton. flat_map model.extension_flat (extension_at es singleton)) singletons) l.fn.out new;
-}
+invariant-loop-singleton l = (es : List model.Extension) → SpellsExtensions es (extensions_text l.fn.extensions) → (new : Output) →
+    Pushes (flat_map (λ singleton. flat_map model.extension_flat (extension_at es singleton)) (drop l.singleton-index singletons)) l.out new →
+    Pushes (flat_map (λ singleton. flat_map model.extension_flat (extension_at es singleton)) singletons) l.fn.out new

@@ -13,7 +13,6 @@ abbrev pub invariant-loop-more : goal.invariant-loop-more
 invariant-loop-more l =
     let vs = segments_left l.variants in
     record {
-      same_buffer : l.out.buffer.ghost_name ≡ l.fn.out.buffer.ghost_name;
       empty : l.more ≡ true → HoldsLeast l.least [];
       ended : l.more ≡ ltb l.least.last 18446744073709551615;
       so_far : (new : Output) → Pushes (left_after l.least.last (forms l.language vs vs)) l.out new → Pushes (variants_form l.language vs) l.fn.out new;

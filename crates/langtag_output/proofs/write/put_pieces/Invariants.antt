@@ -1,11 +1,8 @@
-use Rattle.std.proofs.Common.{◌≡◌, take}
+use Rattle.std.proofs.Common.{take}
 use Rattle.std.specs.List.{flat_map}
 use Rattle.langtag_output.specs.Output.{HasText}
 use Rattle.langtag_output.proofs.write.put_pieces.Given as goal
 
 -- the pieces before this one were put
 abbrev pub invariant-loop-piece : goal.invariant-loop-piece
-invariant-loop-piece l = record {
-  same_buffer : l.out.buffer.ghost_name ≡ l.initial.out.buffer.ghost_name;
-  so_far : HasText l.fn.buffer l.out (flat_map (λ piece. piece.now) (take l.piece-index l.pieces));
-}
+invariant-loop-piece l = HasText l.initial.out.buffer l.out (flat_map (λ piece. piece.now) (take l.piece-index l.pieces))

@@ -1,4 +1,4 @@
-use Rattle.std.proofs.Common.{◌+◌, ◌≤◌, ◌∷◌, ◌++◌, [], false, length, get_or, drop, refl, sym, ap, ◌∙◌, arith, eqb-true}
+use Rattle.std.proofs.Common.{◌+◌, ◌≤◌, ◌∷◌, ◌++◌, [], false, length, get_or, drop, sym, ap, ◌∙◌, arith, eqb-true}
 use Rattle.std.proofs.lemmas.Bool.Decides.{nat_tests}
 use Rattle.std.proofs.lemmas.List.{at_drop_more, at_drop_all, nil_from_length}
 use Rattle.langtag_extension.specs.Text.{extensions_text}
@@ -9,58 +9,43 @@ use Rattle.langtag_output.proofs.Pushed.{pushes_same, pushes_both, pushes_ended}
 use Rattle.langtag_registry.proofs.canonical_parts.push_extensions.Goals as goal
 
 pub returns-then-is_empty : goal.returns-then-is_empty
-returns-then-is_empty c = record {
-  same_buffer = refl;
-  pushed = λ es spells.
-      none_in_order es _ _ spells (sym c.as_str.ensures.same_text ∙ nil_from_length c.as_str.result.now (eqb-true _ _ (sym c.is_empty.ensures ∙ c.if-is_empty.true)));
-}
+returns-then-is_empty c = λ es spells.
+    none_in_order es _ _ spells (sym c.as_str.ensures.same_text ∙ nil_from_length c.as_str.result.now (eqb-true _ _ (sym c.is_empty.ensures ∙ c.if-is_empty.true)))
 
 pub returns-then-are_in_order : goal.returns-then-are_in_order
 returns-then-are_in_order c =
     let test = sym c.is_empty.ensures ∙ c.if-is_empty.false in
     let here = ap length c.as_str.ensures.same_text in
     let some : 1 ≤ length (extensions_text c.args.extensions) = grind (arith, nat_tests, here, test) in
-    record {
-      same_buffer = c.push_subtag.ensures.same_buffer;
-      pushed = λ es spells.
-          all_in_order es _ _ _ spells some ((c.are_in_order.ensures es spells).0 c.if-are_in_order.true)
-          (pushes_same _ _ _ _ (ap (λ t. t ∷ []) c.as_bytes.ensures) c.push_subtag.ensures.pushed);
-    }
+    λ es spells.
+    all_in_order es _ _ _ spells some ((c.are_in_order.ensures es spells).0 c.if-are_in_order.true)
+    (pushes_same _ _ _ _ (ap (λ t. t ∷ []) c.as_bytes.ensures) c.push_subtag.ensures)
 
 pub loop-singleton-init : goal.loop-singleton-init
-loop-singleton-init c = record { same_buffer = refl; so_far = λ es spells new these. these }
+loop-singleton-init c = λ es spells new these. these
 
 pub loop-singleton-preserved-then-not-present-from : goal.loop-singleton-preserved-then-not-present-from
 loop-singleton-preserved-then-not-present-from c =
     let k = c.loop-singleton.singleton-index in
-    record {
-      same_buffer = c.loop-singleton.invariant.same_buffer;
-      so_far = λ es spells new these.
-          let none = c.singletons_of-present.ensures es spells (get_or singletons k 0)
-          (ap (λ at. get_or c.singletons_of-present.result at false) (sym (c.from.ensures ∙ c.into_smallcase.ensures)) ∙ c.if-not-present-from.true) in
-          c.loop-singleton.invariant.so_far es spells new
-          (pushes_same _ _ _ new
-          (sym (at_drop_more (λ ss. by_singletons ss (spellings es)) singletons k 0 c.loop-singleton-test.true
-          ∙ ap (λ ts. ts ++ by_singletons (drop (k + 1) singletons) (spellings es)) none)) these);
-    }
+    λ es spells new these.
+    let none = c.singletons_of-present.ensures es spells (get_or singletons k 0)
+    (ap (λ at. get_or c.singletons_of-present.result at false) (sym (c.from.ensures ∙ c.into_smallcase.ensures)) ∙ c.if-not-present-from.true) in
+    c.loop-singleton.invariant es spells new
+    (pushes_same _ _ _ new
+    (sym (at_drop_more (λ ss. by_singletons ss (spellings es)) singletons k 0 c.loop-singleton-test.true
+    ∙ ap (λ ts. ts ++ by_singletons (drop (k + 1) singletons) (spellings es)) none)) these)
 
 pub loop-singleton-preserved : goal.loop-singleton-preserved
 loop-singleton-preserved c =
     let k = c.loop-singleton.singleton-index in
-    record {
-      same_buffer = c.push_extensions_of.ensures.same_buffer ∙ c.loop-singleton.invariant.same_buffer;
-      so_far = λ es spells new these.
-          c.loop-singleton.invariant.so_far es spells new
-          (pushes_same _ _ _ new (sym (at_drop_more (λ ss. by_singletons ss (spellings es)) singletons k 0 c.loop-singleton-test.true))
-          (pushes_both (of_singleton (get_or singletons k 0) (spellings es)) _ _ _ new (c.push_extensions_of.ensures.pushed es spells) these));
-    }
+    λ es spells new these.
+    c.loop-singleton.invariant es spells new
+    (pushes_same _ _ _ new (sym (at_drop_more (λ ss. by_singletons ss (spellings es)) singletons k 0 c.loop-singleton-test.true))
+    (pushes_both (of_singleton (get_or singletons k 0) (spellings es)) _ _ _ new (c.push_extensions_of.ensures es spells) these))
 
 pub returns : goal.returns
 returns c =
     let k = c.loop-singleton.singleton-index in
-    record {
-      same_buffer = c.loop-singleton.invariant.same_buffer;
-      pushed = λ es spells.
-          spelled_in_order es _ _ (c.loop-singleton.invariant.so_far es spells _
-          (pushes_ended _ _ (at_drop_all (λ ss. by_singletons ss (spellings es)) singletons k c.loop-singleton-test.false)));
-    }
+    λ es spells.
+    spelled_in_order es _ _ (c.loop-singleton.invariant es spells _
+    (pushes_ended _ _ (at_drop_all (λ ss. by_singletons ss (spellings es)) singletons k c.loop-singleton-test.false)))

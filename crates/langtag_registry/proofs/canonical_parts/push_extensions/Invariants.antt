@@ -1,4 +1,4 @@
-use Rattle.std.proofs.Common.{◌≡◌, List, drop}
+use Rattle.std.proofs.Common.{List, drop}
 use Rattle.langtag_scan.specs.Record as model
 use Rattle.langtag_extension.specs.Spelling.{SpellsExtensions}
 use Rattle.langtag_extension.specs.Text.{extensions_text}
@@ -10,10 +10,6 @@ use Rattle.langtag_registry.proofs.canonical_parts.push_extensions.Given as goal
 
 -- the extensions of the singletons from this one on are put after those before it
 abbrev pub invariant-loop-singleton : goal.invariant-loop-singleton
-invariant-loop-singleton l = record {
-  same_buffer : l.out.buffer.ghost_name ≡ l.initial.out.buffer.ghost_name;
-  so_far :
-      (es : List model.Extension) → SpellsExtensions es (extensions_text l.fn.extensions) →
-      (new : Output) → Pushes (by_singletons (drop l.singleton-index singletons) (spellings es)) l.out new →
-      Pushes (by_singletons singletons (spellings es)) l.initial.out new;
-}
+invariant-loop-singleton l = (es : List model.Extension) → SpellsExtensions es (extensions_text l.fn.extensions) →
+    (new : Output) → Pushes (by_singletons (drop l.singleton-index singletons) (spellings es)) l.out new →
+    Pushes (by_singletons singletons (spellings es)) l.initial.out new

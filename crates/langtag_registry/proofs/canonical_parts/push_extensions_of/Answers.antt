@@ -16,11 +16,10 @@ loop-extension-preserved c =
     record {
       can_next = tt;
       is_finite = tt;
-      same_buffer = c.push_subtag.ensures.same_buffer ∙ c.loop-extension.invariant.same_buffer;
       so_far = λ es spells new these.
           c.loop-extension.invariant.so_far es spells new
           (pushes_same _ _ _ new (sym (of_singleton-next c.args.singleton _ _ _ true c.in-Some.ensures.steps alike))
-          (pushes_next _ (extension_text c.in-Some.extension) (of_singleton c.args.singleton (extensions_left c.next.new.self)) _ _ new c.as_bytes.ensures c.push_subtag.ensures.pushed these));
+          (pushes_next _ (extension_text c.in-Some.extension) (of_singleton c.args.singleton (extensions_left c.next.new.self)) _ _ new c.as_bytes.ensures c.push_subtag.ensures these));
     }
 
 pub loop-extension-preserved-then-folded_singleton-into_smallcase : goal.loop-extension-preserved-then-folded_singleton-into_smallcase
@@ -29,14 +28,10 @@ loop-extension-preserved-then-folded_singleton-into_smallcase c =
     record {
       can_next = tt;
       is_finite = tt;
-      same_buffer = c.loop-extension.invariant.same_buffer;
       so_far = λ es spells new these.
           c.loop-extension.invariant.so_far es spells new
           (pushes_same _ _ _ new (sym (of_singleton-next c.args.singleton _ _ _ false c.in-Some.ensures.steps apart)) these);
     }
 
 pub returns : goal.returns
-returns c = record {
-  same_buffer = c.loop-extension.invariant.same_buffer;
-  pushed = λ es spells. c.loop-extension.invariant.so_far es spells _ (pushes_ended _ _ (ap (of_singleton c.args.singleton) c.in-None.ensures.steps.0));
-}
+returns c = λ es spells. c.loop-extension.invariant.so_far es spells _ (pushes_ended _ _ (ap (of_singleton c.args.singleton) c.in-None.ensures.steps.0))

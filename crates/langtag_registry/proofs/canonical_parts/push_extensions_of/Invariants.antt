@@ -1,4 +1,4 @@
-use Rattle.std.proofs.Common.{◌≡◌, List}
+use Rattle.std.proofs.Common.{List}
 use Rattle.langtag_scan.specs.Record as model
 use Rattle.langtag_extension.specs.Spelling.{SpellsExtensions}
 use Rattle.langtag_extension.specs.Text.{extensions_text, extensions_left}
@@ -13,7 +13,6 @@ abbrev pub invariant-loop-extension : goal.invariant-loop-extension
 invariant-loop-extension l = record {
   can_next : (goal.iterator-loop-extension).can_next l.extension-iterator;
   is_finite : (goal.iterator-loop-extension).is_finite l.extension-iterator;
-  same_buffer : l.out.buffer.ghost_name ≡ l.initial.out.buffer.ghost_name;
   so_far :
       (es : List model.Extension) → SpellsExtensions es (extensions_text l.fn.extensions) →
       (new : Output) → Pushes (of_singleton l.fn.singleton (extensions_left l.extension-iterator)) l.out new →

@@ -9,8 +9,8 @@ use Rattle.langtag_registry.proofs.canonical_parts.push_extlang.Goals as goal
 pub from_checked-requires : goal.from_checked-requires
 from_checked-requires c = extended_primary c.as_str.result.now c.as_str.ensures.in_class
 
-pub returns-in-Some-clause-pushed : goal.returns-in-Some-clause-pushed
-returns-in-Some-clause-pushed c = grind (arith, common_steps, language-alike, fold_text-twice, pushes_same)
+pub returns-in-Some : goal.returns-in-Some
+returns-in-Some c = grind (arith, common_steps, language-alike, fold_text-twice, pushes_same)
 
-pub returns-in-None-clause-pushed : goal.returns-in-None-clause-pushed
-returns-in-None-clause-pushed c = grind (arith, common_steps, language-alike, fold_text-twice, pushes_same)
+pub returns-in-None : goal.returns-in-None
+returns-in-None c = grind (arith, common_steps, language-alike, fold_text-twice, pushes_same)

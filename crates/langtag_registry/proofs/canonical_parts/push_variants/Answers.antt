@@ -1,4 +1,4 @@
-use Rattle.std.proofs.Common.{sym, ap, ◌∙◌, unwrap_or, arith, ◌≡◌}
+use Rattle.std.proofs.Common.{sym, ap, unwrap_or, arith, ◌≡◌}
 use Rattle.std.proofs.lemmas.Grind.{common_steps}
 use Rattle.langtag_place.specs.Text.{variant_text, variants_left}
 use Rattle.langtag_registry.specs.Canonical.{canonical_variants}
@@ -17,14 +17,10 @@ loop-variant-preserved c =
     record {
       can_next = tt;
       is_finite = tt;
-      same_buffer = c.push_subtag.ensures.same_buffer ∙ c.loop-variant.invariant.same_buffer;
       so_far = λ new these.
           c.loop-variant.invariant.so_far new
-          (pushes_same _ _ _ new (sym (ap canonical_variants c.in-Some.ensures.steps)) (pushes_next _ (unwrap_or (preferred_variant v) v) (canonical_variants (variants_left c.next.new.self)) _ _ new becomes c.push_subtag.ensures.pushed these));
+          (pushes_same _ _ _ new (sym (ap canonical_variants c.in-Some.ensures.steps)) (pushes_next _ (unwrap_or (preferred_variant v) v) (canonical_variants (variants_left c.next.new.self)) _ _ new becomes c.push_subtag.ensures these));
     }
 
 pub returns : goal.returns
-returns c = record {
-  same_buffer = c.loop-variant.invariant.same_buffer;
-  pushed = c.loop-variant.invariant.so_far _ (pushes_ended _ _ (ap canonical_variants c.in-None.ensures.steps.0));
-}
+returns c = c.loop-variant.invariant.so_far _ (pushes_ended _ _ (ap canonical_variants c.in-None.ensures.steps.0))

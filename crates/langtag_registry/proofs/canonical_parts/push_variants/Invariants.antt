@@ -1,4 +1,3 @@
-use Rattle.std.proofs.Common.{◌≡◌}
 use Rattle.langtag_scan.specs.Subtags.{subtags}
 use Rattle.langtag_place.specs.Text.{variants_text, variants_left}
 use Rattle.langtag_registry.specs.Canonical.{canonical_variants}
@@ -11,7 +10,6 @@ abbrev pub invariant-loop-variant : goal.invariant-loop-variant
 invariant-loop-variant l = record {
   can_next : (goal.iterator-loop-variant).can_next l.variant-iterator;
   is_finite : (goal.iterator-loop-variant).is_finite l.variant-iterator;
-  same_buffer : l.out.buffer.ghost_name ≡ l.initial.out.buffer.ghost_name;
   so_far :
       (new : Output) → Pushes (canonical_variants (variants_left l.variant-iterator)) l.out new →
       Pushes (canonical_variants (subtags (variants_text l.fn.variants))) l.initial.out new;

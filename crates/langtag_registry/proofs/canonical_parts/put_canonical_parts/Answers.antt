@@ -1,9 +1,11 @@
-use Rattle.std.proofs.Common.{[], arith}
-use Rattle.std.proofs.lemmas.Grind.{common_steps}
+use Rattle.std.proofs.Common.{[], ◌∙◌, subst, rules}
+use Rattle.langtag_output.specs.Output.{HasText}
 use Rattle.langtag_output.proofs.Pushed.{record_joined}
+use Rattle.langtag_registry.specs.Canonical.{canonical_record}
 use Rattle.langtag_registry.proofs.WellFormedForms.{canonical_record_well_formed}
 use Rattle.langtag_registry.proofs.canonical_parts.put_canonical_parts.Goals as goal
 
 pub returns : goal.returns
 returns c = λ r spells.
-    grind (arith, common_steps, record_joined, canonical_record_well_formed r spells.0, c.push_parts.ensures.pushed r spells c.args.buffer.now [])
+    let has = subst (HasText _ c.push_parts.new.out) (record_joined (canonical_record r) (canonical_record_well_formed r spells.0)) (c.push_parts.ensures r spells _ [] c.new-out.ensures) in
+    record { counted = c.len.ensures ∙ has.counted; written = λ fits. search (rules, has.same_buffer, has.written fits) }

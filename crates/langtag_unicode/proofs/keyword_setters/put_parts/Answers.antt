@@ -2,9 +2,9 @@ use Rattle.std.proofs.Common.{◌++◌, [], sym, subst, ◌∙◌, rules}
 use Rattle.std.specs.List.{flat_map}
 use Rattle.langtag_output.specs.Output.{HasText}
 use Rattle.langtag_output.proofs.Pushed.{pushes_both}
-use Rattle.langtag_scan.specs.Record.{extension_flat, private_part_flat, spell}
+use Rattle.langtag_scan.specs.Record.{extension_flat, private_part_flat}
 use Rattle.langtag_keyword.specs.Edit.{with_changed_u}
-use Rattle.langtag_keyword.specs.EditText.{edited_by, edited_record_by, value_subtags}
+use Rattle.langtag_keyword.specs.EditText.{edited_by, value_subtags}
 use Rattle.langtag_scan.specs.Ends.{to_variants}
 use Rattle.langtag_keyword.proofs.KeywordEdits.{edited_joined}
 use Rattle.langtag_unicode.proofs.keyword_setters.put_parts.Goals as goal
@@ -14,10 +14,10 @@ returns c = λ r spells.
     let pushed =
     let extensions = flat_map extension_flat (with_changed_u (edited_by c.args.edit) r.extensions) in
     let private_use = private_part_flat r.private_use in
-    pushes_both (to_variants r) (extensions ++ private_use) _ _ _ (c.push_head.ensures.pushed r spells)
+    pushes_both (to_variants r) (extensions ++ private_use) _ _ _ (c.push_head.ensures r spells)
     (pushes_both extensions private_use _ _ _
-    (c.push_edited.ensures.pushed r.extensions (record { members = spells.0.extensions; joined = sym (c.extensions.ensures r spells) }))
-    (c.push_private_use.ensures.pushed r.private_use (c.private_use.ensures r spells))) in
-    let has : HasText c.args.buffer.now c.push_private_use.new.out (spell (edited_record_by c.args.edit r)) =
-    subst (HasText c.args.buffer.now c.push_private_use.new.out) (edited_joined c.args.edit.key.now (value_subtags c.args.edit) r spells.0) (pushed c.args.buffer.now [] c.new-out.ensures.empty) in
-    record { counted = c.len.ensures ∙ has.counted; written = λ fits. search (rules, has.written fits) }
+    (c.push_edited.ensures r.extensions (record { members = spells.0.extensions; joined = sym (c.extensions.ensures r spells) }))
+    (c.push_private_use.ensures r.private_use (c.private_use.ensures r spells))) in
+    let has =
+    subst (HasText _ c.push_private_use.new.out) (edited_joined c.args.edit.key.now (value_subtags c.args.edit) r spells.0) (pushed _ [] c.new-out.ensures) in
+    record { counted = c.len.ensures ∙ has.counted; written = λ fits. search (rules, has.same_buffer, has.written fits) }

@@ -25,4 +25,4 @@ returns-clause-pushed c =
     ∙ ap (map number_text)
     (kept-within (the_view old) all ns rise holds (sorted ns (IsNonDecreasingBy-from_sort (λ x. x) ns c.sort_unstable.ensures.sorted))
     (λ n. sym (list_any-IsPermutation (λ m. m == n) (take old.count old.numbers) ns c.sort_unstable.ensures.permutation))))
-    c.push_ascending.ensures.pushed)
+    c.push_ascending.ensures)
