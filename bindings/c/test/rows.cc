@@ -121,26 +121,21 @@ static std::string validity_of(const strings &asked) {
 }
 
 /* Returns the message for a tag that is not valid, without the suggestion. */
-static std::string fault_of(const strings &asked) {
-    const auto one = tag::parse(asked[0]);
-    if (!one) return "-";
-    const auto wrong = one->invalid_subtag();
+static std::string fault_of(const tag &one) {
+    const auto wrong = one.invalid_subtag();
     return wrong ? wrong->message().substr(0, wrong->message().find(": did you mean ")) : "valid";
 }
 
-static std::string suggestion_of(const strings &asked) {
-    const auto one = tag::parse(asked[0]);
-    const auto wrong = one ? one->invalid_subtag() : std::nullopt;
+static std::string suggestion_of(const tag &one) {
+    const auto wrong = one.invalid_subtag();
     const std::string code = wrong ? wrong->suggestion() : "";
     return code.empty() ? "-" : code;
 }
 
-static std::string canonical_of(const strings &asked) {
-    const auto one = tag::parse(asked[0]);
-    if (!one) return "-";
-    const std::string form = one->canonical();
+static std::string canonical_of(const tag &one) {
+    const std::string form = one.canonical();
     const auto same = tag::parse(form);
-    if (!same || !same->is_canonical() || one->is_canonical() != (*one == *same))
+    if (!same || !same->is_canonical() || one.is_canonical() != (one == *same))
         return form + ", and is_canonical says otherwise";
     return form;
 }
@@ -315,10 +310,9 @@ static std::string is_locale_of(const strings &asked) {
     return one && one->is_locale() ? "yes" : "no";
 }
 
-static std::string locale_form_of(const strings &asked) {
-    const auto one = tag::parse(asked[0]);
-    const auto form = one ? one->locale_form() : std::nullopt;
-    if (one && langtag::owned_tag(*one).locale_form() != form) return "an owned tag has another";
+static std::string locale_form_of(const tag &one) {
+    const auto form = one.locale_form();
+    if (langtag::owned_tag(one).locale_form() != form) return "an owned tag has another";
     return shown(form);
 }
 
@@ -344,13 +338,11 @@ static std::string message_of(const strings &asked) {
 static std::string range_message_of(const strings &asked) { return escaped("invalid language range " + langtag::quoted(asked[0])); }
 
 /* The parents of a tag. The second one is the parent of the first. */
-static std::string parents_of(const strings &asked) {
-    const auto one = tag::parse(asked[0]);
-    if (!one) return "-";
-    const std::vector<std::string> chain = one->parents();
+static std::string parents_of(const tag &one) {
+    const std::vector<std::string> chain = one.parents();
     std::string line;
     for (const std::string &parent : chain) line.append(line.empty() ? "" : " ").append(parent);
-    return one->parent().value_or("") == (chain.size() > 1 ? chain[1] : "") ? line : line + ", and parent says otherwise";
+    return one.parent().value_or("") == (chain.size() > 1 ? chain[1] : "") ? line : line + ", and parent says otherwise";
 }
 
 static std::string distance_of(const strings &asked) {
@@ -361,12 +353,11 @@ static std::string distance_of(const strings &asked) {
 static std::string posix_of(const strings &asked) { return shown(langtag::from_posix(asked[0])); }
 
 /* The name for a tag. If the tag has no script, the name is read as the tag. */
-static std::string posix_name_of(const strings &asked) {
-    const auto one = tag::parse(asked[0]);
-    const auto name = one ? one->to_posix() : std::nullopt;
+static std::string posix_name_of(const tag &one) {
+    const auto name = one.to_posix();
     if (!name) return "-";
     const std::string read = langtag::from_posix(*name).value_or("");
-    return !one->script().empty() || *one == tag::parse(read) ? *name : *name + ", which is another tag";
+    return !one.script().empty() || one == tag::parse(read) ? *name : *name + ", which is another tag";
 }
 
 static std::string unknown_modifier_of(const strings &asked) {
@@ -417,18 +408,16 @@ static std::string said_of(const std::vector<langtag::key_value> &pairs,
     return out;
 }
 
-static std::string keywords_of(const strings &asked) {
-    const auto one = tag::parse(asked[0]);
-    if (!one || one->keywords().empty()) return "-";
-    return said_of(one->keywords(), [&](std::string_view key) { return one->keyword(key); }).substr(1);
+static std::string keywords_of(const tag &one) {
+    if (one.keywords().empty()) return "-";
+    return said_of(one.keywords(), [&](std::string_view key) { return one.keyword(key); }).substr(1);
 }
 
 /* Returns each attribute once. */
-static std::string attributes_of(const strings &asked) {
-    const auto one = tag::parse(asked[0]);
+static std::string attributes_of(const tag &one) {
     strings seen;
     std::string out;
-    for (std::string_view attribute : langtag::subtags(one ? one->attributes() : std::string_view())) {
+    for (std::string_view attribute : langtag::subtags(one.attributes())) {
         const std::string key = langtag::folded(attribute);
         if (std::find(seen.begin(), seen.end(), key) != seen.end()) continue;
         seen.push_back(key);
@@ -437,11 +426,10 @@ static std::string attributes_of(const strings &asked) {
     return out.empty() ? "-" : out;
 }
 
-static std::string transform_of(const strings &asked) {
-    const auto one = tag::parse(asked[0]);
-    const auto language = one ? one->transform() : std::nullopt;
+static std::string transform_of(const tag &one) {
+    const auto language = one.transform();
     if (!language) return "-";
-    return shown(language) + said_of(one->fields(), [&](std::string_view key) { return one->field(key); });
+    return shown(language) + said_of(one.fields(), [&](std::string_view key) { return one.field(key); });
 }
 
 static std::string best_match_of(const strings &asked) {
@@ -480,8 +468,8 @@ using answer = std::string (*)(const strings &asked); /* returns an empty text i
 static const std::map<std::string, answer> answers = {
     {"tag", tag_of},
     {"validity", validity_of},
-    {"suggestion", suggestion_of},
-    {"canonical", canonical_of},
+    {"suggestion", of_tag<suggestion_of>},
+    {"canonical", of_tag<canonical_of>},
     {"viable", viable_of},
     {"range", range_of},
     {"grandfathered", grandfathered_of},
@@ -495,18 +483,18 @@ static const std::map<std::string, answer> answers = {
     {"elements", elements_of},
     {"fallbacks", fallbacks_of},
     {"refused", refused_of},
-    {"fault", fault_of},
+    {"fault", of_tag<fault_of>},
     {"message", message_of},
     {"range-message", range_message_of},
     {"maximized", of_tag<&tag::maximized>},
-    {"parents", parents_of},
+    {"parents", of_tag<parents_of>},
     {"describe", of_tag<langtag::describe>},
     {"autonym", of_tag<langtag::autonym>},
     {"minimized", of_tag<&tag::minimized>},
     {"right-to-left", of_tag<&tag::is_right_to_left>},
     {"distance", distance_of},
     {"posix", posix_of},
-    {"posix-name", posix_name_of},
+    {"posix-name", of_tag<posix_name_of>},
     {"unknown-modifier", unknown_modifier_of},
     {"best", best_of},
     {"best-ranges", best_of_ranges},
@@ -514,15 +502,15 @@ static const std::map<std::string, answer> answers = {
     {"suitable-ranges", suitable_of_ranges},
     {"best-accepted", best_of_accepted},
     {"keyword", keyword_of},
-    {"keywords", keywords_of},
-    {"attributes", attributes_of},
-    {"transform", transform_of},
+    {"keywords", of_tag<keywords_of>},
+    {"attributes", of_tag<attributes_of>},
+    {"transform", of_tag<transform_of>},
     {"best-match", best_match_of},
     {"with-keyword", with_keyword_of},
     {"extensions-form", of_tag<&tag::extensions_form>},
     {"base", of_tag<&tag::base>},
     {"is-locale", is_locale_of},
-    {"locale-form", locale_form_of},
+    {"locale-form", of_tag<locale_form_of>},
     {"cldr-version", cldr_version_of},
 };
 
