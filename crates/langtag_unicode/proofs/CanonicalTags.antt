@@ -1,14 +1,14 @@
 -- A tag whose extensions are in canonical form stays in that form when a canonical keyword is set.
 use Rattle.std.proofs.lemmas.Grind.{common_steps}
 use Rattle.std.proofs.Common.{arith}
-use Rattle.std.proofs.Common.{◌≡◌, ℕ, ◌≤◌, ◌&&◌, ◌||◌, not, Bool, true, false, cond, List, [], ◌∷◌, ◌++◌, length, find, None, Some, unwrap_or, refl, sym, ap, ◌∙◌, append-nil, append_assoc}
+use Rattle.std.proofs.Common.{◌≡◌, ℕ, ◌≤◌, ◌&&◌, ◌||◌, not, Bool, true, false, List, [], ◌∷◌, ◌++◌, length, find, None, Some, unwrap_or, refl, sym, ap, ◌∙◌, append-nil, append_assoc}
 use Rattle.std.proofs.lemmas.Bool.{false≢true}
 use Rattle.std.specs.List.{AllByRecursion}
 use Rattle.std.specs.Option.{is_some}
 use Rattle.langtag_extension.specs.Spelling.{find_extension}
 use Rattle.langtag_scan.specs.Case.{fold_byte}
 use Rattle.langtag_scan.specs.Record.{Extension, IsWellFormed, IsWellFormedExtension, Record}
-use Rattle.langtag_keyword.specs.Edit.{IsCanonicalKeyword, at_place, changed_from, edited_record, extension_of, is_place_of_u, is_this_key, keyword_error, with_keyword}
+use Rattle.langtag_keyword.specs.Edit.{IsCanonicalKeyword, changed_from, edited_record, extension_of, is_this_key, keyword_error, with_keyword}
 use Rattle.langtag_keyword.specs.Form.{extension_form, extensions_record, forms_after, is_of, is_transform, unicode_form}
 use Rattle.langtag_unicode.proofs.CanonicalKeywords.{canonical_set}
 use Rattle.langtag_keyword.proofs.ExtensionForms.{form_by, form_tested}
@@ -64,14 +64,7 @@ module _
     changed-u t e es is fits own =
         let head : extension_form false t e ≡ e = cc in
         let tail : forms_after (is_of 117 e) (t || is_of 116 e) es ≡ es = cc in
-        let form = sym (form-u t e is) ∙ head in
-        let here = extension-some e.singleton (change e.subtags) (some e.subtags) in
-        ap (λ x. forms_after false t (x ++ es)) here
-        ∙ ap (λ x. x ∷ forms_after (is_of 117 e) (t || is_of 116 e) es)
-        (form-u t (extension e.singleton (change e.subtags)) is ∙ ap (extension 117) (keeps e.subtags fits.subtags (ap (λ x. x.subtags) form))
-        ∙ ap (λ n. extension n (change e.subtags)) (ap (λ x. x.singleton) form))
-        ∙ ap (λ x. extension e.singleton (change e.subtags) ∷ x) tail
-        ∙ ap (λ x. x ++ es) (sym here)
+        grind (arith, common_steps, head, tail, form-u t e is, form-u t (extension e.singleton (change e.subtags)) is, extension-some e.singleton (change e.subtags) (some e.subtags), keeps e.subtags fits.subtags)
 
     forms-changed :
         (t stands : Bool) (es : List Extension) → AllByRecursion IsWellFormedExtension es → (stands ≡ false → find (is_of 117) es ≡ None) → forms_after false t es ≡ es →
@@ -79,31 +72,9 @@ module _
     forms-changed t stands [] fits absent own =
         ap (forms_after false t) (sym (append-nil (extension_of 117 (change [])))) ∙ new-u t [] refl ∙ append-nil (extension_of 117 (change []))
     forms-changed t stands (e ∷ es) fits absent own =
-        by_place stands (is_place_of_u stands e) refl absent (forms-changed (t || is_of 116 e) stands es fits.1)
-      where
-        passed :
-            (s : Bool) → is_of 117 e ≡ false → (s ≡ false → find (is_of 117) es ≡ None) →
-            ((s ≡ false → find (is_of 117) es ≡ None) → forms_after false (t || is_of 116 e) es ≡ es → forms_after false (t || is_of 116 e) (changed_from change s es) ≡ changed_from change s es) →
-            forms_after false t (e ∷ changed_from change s es) ≡ e ∷ changed_from change s es
-        passed s is none later =
-            let head : extension_form false t e ≡ e = cc in
-            let tail : forms_after (is_of 117 e) (t || is_of 116 e) es ≡ es = cc in
-            ap (λ x. x ∷ forms_after (is_of 117 e) (t || is_of 116 e) (changed_from change s es)) head
-            ∙ ap (λ b. e ∷ forms_after b (t || is_of 116 e) (changed_from change s es)) is
-            ∙ ap (λ x. e ∷ x) (later none (ap (λ b. forms_after b (t || is_of 116 e) es) (sym is) ∙ tail))
-
-        by_place :
-            (s b : Bool) → is_place_of_u s e ≡ b → (s ≡ false → find (is_of 117) (e ∷ es) ≡ None) →
-            ((s ≡ false → find (is_of 117) es ≡ None) → forms_after false (t || is_of 116 e) es ≡ es → forms_after false (t || is_of 116 e) (changed_from change s es) ≡ changed_from change s es) →
-            forms_after false t (cond b (at_place change s e ++ es) (e ∷ changed_from change s es)) ≡ cond b (at_place change s e ++ es) (e ∷ changed_from change s es)
-        by_place true true is none later = changed-u t e es is fits.0 own
-        by_place false true is none later =
-            ap (forms_after false t) (append_assoc (extension_of 117 (change [])) (e ∷ []) es) ∙ new-u t (e ∷ es) (forms-absent t (e ∷ es) (none refl) ∙ own)
-            ∙ sym (append_assoc (extension_of 117 (change [])) (e ∷ []) es)
-        by_place true false is none later = passed true is (λ out. absurd (false≢true (sym out))) later
-        by_place false false is none later =
-            let absent = absent-next e es (none refl) in
-            passed false absent.first (λ out. absent.others) later
+        let head : extension_form false t e ≡ e = cc in
+        let tail : forms_after (is_of 117 e) (t || is_of 116 e) es ≡ es = cc in
+        grind (arith, common_steps, head, tail, changed-u t e es, append_assoc (extension_of 117 (change [])) (e ∷ []) es, new-u t (e ∷ es), forms-absent t (e ∷ es), forms-changed (t || is_of 116 e) stands es fits.1, absent-next e es, false≢true)
 
 none-from : (es : List Extension) → is_some (find_extension 117 es) ≡ false → find (is_of 117) es ≡ None
 none-from es is = grind (arith, common_steps, find_u, false≢true)
