@@ -10,19 +10,13 @@ negotiate() {
 check "C: the HTTP example builds" negotiate
 check "the HTTP examples in C and Python answer alike" python3 examples/test_examples.py "$work/built/negotiate"
 
-subtitles() {
+# example_in_cc NAME TEST
+example_in_cc() {
     c++ -std=c++17 -Wall -Wextra -Wpedantic -Wshadow -Wconversion -Werror -g -fsanitize=address,undefined -I"$work/usr/include" \
-        examples/subtitles.cc "$work/usr/lib/liblangtag_verified.a" -o "$work/built/subtitles" &&
-        python3 examples/test_subtitles.py "$work/built/subtitles"
+        "examples/$1.cc" "$work/usr/lib/liblangtag_verified.a" -o "$work/built/$1" && python3 "examples/$2" "$work/built/$1"
 }
-check "C++: the subtitle editor, over the installed header" subtitles
-
-player() {
-    c++ -std=c++17 -Wall -Wextra -Wpedantic -Wshadow -Wconversion -Werror -g -fsanitize=address,undefined -I"$work/usr/include" \
-        examples/player.cc "$work/usr/lib/liblangtag_verified.a" -o "$work/built/player" &&
-        python3 examples/test_sites.py "$work/built/player"
-}
-check "C++ and Flask: what a viewer and a reader pick" player
+check "C++: the subtitle editor, over the installed header" example_in_cc subtitles test_subtitles.py
+check "C++ and Flask: what a viewer and a reader pick" example_in_cc player test_sites.py
 python3 -c 'import flask' 2>/dev/null || not_run "Python: the Flask site" "Flask is not there"
 
 count_tags() { python3 examples/count_tags.py | diff - <(wanted_counts); }
