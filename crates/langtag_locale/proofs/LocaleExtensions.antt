@@ -96,7 +96,7 @@ none_spelled [] text spells none = refl
 none_spelled (e ∷ es) text spells none = absurd (omega (arith, length-join (e.singleton ∷ []) (e.subtags ++ flat_map extension_flat es), ap length (spells.joined ∙ none)))
 
 -- a singleton with which no text begins
-pub not_noted : (singleton : ℕ) (es : List Extension) → of_singleton singleton (map extension_spelling es) ≡ [] → find_extension singleton es ≡ None
+pub not_noted : (singleton : ℕ) (es : List Extension) → of_singleton (fold_byte singleton) (map extension_spelling es) ≡ [] → find_extension singleton es ≡ None
 not_noted singleton [] none = refl
 not_noted singleton (e ∷ es) none = grind (arith, common_steps, not_noted singleton es, first_byte-spelling)
 

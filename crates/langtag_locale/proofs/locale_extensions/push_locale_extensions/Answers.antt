@@ -31,7 +31,7 @@ loop-singleton-preserved-then-not-present-from c =
       so_far = λ es spells new these.
           let of : ℕ → List (List ℕ) = λ singleton. flat_map extension_flat (extension_at es singleton) in
           let unmarked = ap (λ at. get_or c.singletons_of-present.result at false) (sym (c.from.ensures ∙ c.into_smallcase.ensures)) ∙ c.if-not-present-from.true in
-          let none = at_nothing es singleton (not_noted singleton es (c.singletons_of-present.ensures es spells singleton unmarked)) in
+          let none = at_nothing es singleton (not_noted singleton es (c.singletons_of-present.ensures es spells (fold_byte singleton) unmarked)) in
           c.loop-singleton.invariant.so_far es spells new
           (pushes_same _ _ _ new
           (sym (at_drop_more (flat_map of) singletons k 0 c.loop-singleton-test.true ∙ ap (λ put. put ++ flat_map of (drop (k + 1) singletons)) none)) these);
