@@ -9,6 +9,7 @@ use Rattle.std.specs.Option.{option_map_or}
 use Rattle.langtag_extension.proofs.ExtensionLookUp.{extension_found, first_byte-spelling}
 use Rattle.langtag_extension.specs.Spelling.{SpellsExtension, SpellsExtensions, extension_spelling, find_extension}
 use Rattle.langtag_registry.specs.Noted.{of_singleton}
+use Rattle.langtag_scan.specs.Case.{fold_byte}
 use Rattle.langtag_scan.proofs.Joins.{length-join}
 use Rattle.langtag_scan.specs.Class as class
 use Rattle.langtag_scan.specs.Class.{is_singleton}
