@@ -25,10 +25,10 @@ build() {
     cc -std=c11 -O2 -Wall -Wextra "${@:2}" "$archive" "$(dirname "$(rt doc)")/c/liblibc_c.a" \
         -o "$target/$1"
 }
-# Some functions are not counted here. canonical_bound reads no text, and canonical calls singletons_of. bindings/c counts functions
+# Some functions are not counted here. canonical calls singletons_of. bindings/c counts functions
 # that the C library also calls: is_canonical, write_canonical, and fault_at, which does all the work of validate; for tags eq_str,
 # cmp and repeated_singleton_index.
-for name in $(sed -n 's/^pub fn \([a-z_]*\).*/\1/p' "$here"/../crates/langtag_registry/src/*.rt | grep -vx 'canonical_bound\|singletons_of\|fault_at\|validate\|is_canonical\|write_canonical'); do
+for name in $(sed -n 's/^pub fn \([a-z_]*\).*/\1/p' "$here"/../crates/langtag_registry/src/*.rt | grep -vx 'singletons_of\|fault_at\|validate\|is_canonical\|write_canonical'); do
     grep -qw "$name" "$crate"/src/*.rt || { echo "growth: no entry calls $name of langtag_registry"; exit 1; }
 done
 

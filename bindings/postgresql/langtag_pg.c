@@ -483,10 +483,10 @@ static void check_length(const char *what, struct varlena *text, size_t limit) {
 
 typedef size_t (*form_of)(const char *, size_t, char *, size_t);
 
-/* Returns a form of a tag in its recommended case, or NULL if the library writes none. A canonical form has at most twice as many
- * bytes as the tag, plus 14. */
+/* Returns a form of a tag in its recommended case, or NULL if the library writes none. It is written again if the guess at its
+ * length was too small. */
 static struct varlena *form_of_tag(struct varlena *tag, form_of write) {
-    size_t room = 2 * LEN(tag) + 14, len;
+    size_t room = LEN(tag) + 32, len;
     struct varlena *form = palloc(VARHDRSZ + room);
     len = write(BYTES(tag), LEN(tag), VARDATA(form), room);
     if (len > room) {

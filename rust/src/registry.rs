@@ -21,7 +21,7 @@ use crate::{memory::or_abort, AllocError, LangTagBuf};
 use crate::{LangTag, TooShort};
 
 pub use crate::erased::registry::{
-    canonical_bound, extlang_prefix, is_deprecated_extlang, is_deprecated_language,
+    extlang_prefix, is_deprecated_extlang, is_deprecated_language,
     is_deprecated_region, is_deprecated_tag, is_deprecated_variant, is_registered_extlang,
     is_registered_language, is_registered_region, is_registered_script, is_registered_variant,
     macrolanguage, misplaced_extlang, misplaced_variant, preferred_language, preferred_region,
@@ -127,7 +127,7 @@ pub fn is_canonical<'a>(tag: impl Into<LangTag<'a>>) -> bool {
 /// Writes the canonical form of a tag to a buffer, as `canonical` returns it, and returns what was
 /// written.
 ///
-/// It does not allocate. A buffer of [`canonical_bound`] bytes is long enough.
+/// It does not allocate.
 ///
 /// # Errors
 ///

@@ -9,6 +9,7 @@ use Rattle.std.specs.Option.{option_map_or}
 use Rattle.langtag_extension.proofs.ExtensionLookUp.{extension_found, first_byte-spelling}
 use Rattle.langtag_extension.specs.Spelling.{SpellsExtension, SpellsExtensions, extension_spelling, find_extension}
 use Rattle.langtag_registry.specs.Noted.{of_singleton}
+use Rattle.langtag_scan.specs.Case.{fold_byte}
 use Rattle.langtag_scan.proofs.Joins.{length-join}
 use Rattle.langtag_scan.specs.Class as class
 use Rattle.langtag_scan.specs.Class.{is_singleton}
@@ -96,7 +97,7 @@ none_spelled [] text spells none = refl
 none_spelled (e ∷ es) text spells none = absurd (omega (arith, length-join (e.singleton ∷ []) (e.subtags ++ flat_map extension_flat es), ap length (spells.joined ∙ none)))
 
 -- a singleton with which no text begins
-pub not_noted : (singleton : ℕ) (es : List Extension) → of_singleton singleton (map extension_spelling es) ≡ [] → find_extension singleton es ≡ None
+pub not_noted : (singleton : ℕ) (es : List Extension) → of_singleton (fold_byte singleton) (map extension_spelling es) ≡ [] → find_extension singleton es ≡ None
 not_noted singleton [] none = refl
 not_noted singleton (e ∷ es) none = grind (arith, common_steps, not_noted singleton es, first_byte-spelling)
 

@@ -1,7 +1,5 @@
 -- The canonical forms of alike texts are alike.
 use Rattle.std.proofs.Common.{◌≡◌, ℕ, List, [], ◌∷◌, map, Option, option_map, ◌⊎◌, refl, sym, ap, ◌∙◌, arith, rules}
-use Rattle.std.specs.List.{flat_map}
-use Rattle.std.proofs.lemmas.List.{map-append}
 use Rattle.std.proofs.lemmas.Grind.{common_steps}
 use Rattle.langtag_scan.specs.AlikeRecords.{fold_extension, fold_private_use, fold_record, AlikeRecords}
 use Rattle.langtag_scan.specs.Case.{fold_text, Alike}
@@ -9,17 +7,20 @@ use Rattle.langtag_scan.specs.Record.{Extension, PrivateUse, Record, spell}
 use Rattle.langtag_scan.specs.Tag.{IsNormal}
 use Rattle.langtag_scan.proofs.CaseLaw.{alike_normal, alike_parts, fold_byte-twice, fold_text-twice, map-twice, spelled_alike}
 use Rattle.langtag.specs.Registered.{IsGrandfathered, IsGrandfatheredAt}
-use Rattle.langtag_registry.specs.Canonical.{singletons, in_order, canonical_primary, canonical_extended, canonical_region, canonical_variants, canonical_record, IsCanonicalForm}
+use Rattle.langtag_registry.specs.Canonical.{sorted_by, in_order, canonical_primary, canonical_extended, canonical_region, canonical_variants, canonical_record, IsCanonicalForm}
 use Rattle.langtag_registry.specs.Fields.{preferred_region, preferred_variant, preferred_tag}
 use Rattle.langtag_registry.specs.Subtags.{tag_preferred}
 use Rattle.langtag_registry.proofs.ReplacedSubtags.{replaced-alike, IgnoresCase, value_for-alike, language-alike, region-alike, variant-alike, extlang-alike, registered_extlang-alike}
 use Rattle.langtag_registry.proofs.TwiceLaws.{Way, as_whole, as_it_is, by_parts, way_of}
-use Rattle.langtag_registry.proofs.ExtensionOrder.{those_of}
+use Rattle.langtag_registry.proofs.OrderLaws.{key, sorted_by-map}
 
 -- ---- what is folded once is folded
 
 fold_private_use-twice : (p : PrivateUse) → fold_private_use (fold_private_use p) ≡ fold_private_use p
 fold_private_use-twice p = grind (arith, common_steps, fold_byte-twice, map-twice, fold_text-twice)
+
+fold_extension-twice : (e : Extension) → fold_extension (fold_extension e) ≡ fold_extension e
+fold_extension-twice e = grind (arith, common_steps, fold_byte-twice, map-twice, fold_text-twice)
 
 -- ---- the canonical record of a folded record
 
@@ -36,20 +37,12 @@ variants-fold : (vs : List (List ℕ)) → map fold_text (canonical_variants (ma
 variants-fold [] = refl
 variants-fold (v ∷ vs) = grind (arith, common_steps, replaced-alike preferred_variant variant-alike (fold_text v) v, fold_text-twice v, variants-fold vs)
 
-of_singleton-fold :
-    (b : ℕ) (es : List Extension) → map fold_extension (those_of b (map fold_extension es)) ≡ map fold_extension (those_of b es)
-of_singleton-fold b [] = refl
-of_singleton-fold b (e ∷ es) = grind (arith, common_steps, fold_byte-twice, map-twice, fold_text-twice, of_singleton-fold b es)
-
-of_singletons-fold :
-    (bs : List ℕ) (es : List Extension) →
-    map fold_extension (flat_map (λ b. those_of b (map fold_extension es)) bs) ≡ map fold_extension (flat_map (λ b. those_of b es) bs)
-of_singletons-fold [] es = refl
-of_singletons-fold (b ∷ bs) es = grind (arith, common_steps, map-append fold_extension, of_singleton-fold b es, of_singletons-fold bs es)
-
 in_order-fold : (es : List Extension) → map fold_extension (in_order (map fold_extension es)) ≡ map fold_extension (in_order es)
 unfolding in_order
-in_order-fold es = of_singletons-fold singletons es
+in_order-fold es =
+    let moved : (xs : List Extension) → map fold_extension (sorted_by key xs) ≡ sorted_by key (map fold_extension xs) =
+    sorted_by-map fold_extension key key (λ e. fold_byte-twice e.singleton) in
+    moved (map fold_extension es) ∙ ap (sorted_by key) (map-twice fold_extension fold_extension-twice es) ∙ sym (moved es)
 
 canonical_record-fold : (r : Record) → AlikeRecords (canonical_record (fold_record r)) (canonical_record r)
 unfolding canonical_record

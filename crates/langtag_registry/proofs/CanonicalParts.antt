@@ -1,10 +1,12 @@
 -- The canonical record, part by part, and what a tag becomes by it.
-use Rattle.std.proofs.Common.{◌≡◌, ℕ, List, Option, None, Some, unwrap_or, ◌⊎◌, refl, sym, ap, subst, ◌∙◌, arith, inl}
+use Rattle.std.proofs.Common.{◌≡◌, ◌++◌, ◌<◌, ℕ, List, drop, Option, None, Some, unwrap_or, ◌⊎◌, refl, sym, ap, subst, ◌∙◌, arith, inl}
 use Rattle.std.proofs.lemmas.Grind.{common_steps}
 use Rattle.langtag_scan.specs.Record.{Record, Spells, spell}
 use Rattle.langtag_scan.specs.Tag.{IsNormal, IsTag}
 use Rattle.langtag_scan.proofs.NormalTexts.{spelled_once}
 use Rattle.langtag.specs.Registered.{IsGrandfathered}
+use Rattle.langtag_output.specs.Writes.{Writes}
+use Rattle.langtag_output.specs.WritesWhole.{WritesWhole}
 use Rattle.langtag_registry.specs.Canonical.{canonical_primary, canonical_extended, canonical_region, canonical_variants, in_order, canonical_record, canonical_text, IsCanonicalForm}
 use Rattle.langtag_registry.specs.Fields.{preferred_tag}
 use Rattle.langtag_registry.proofs.TwiceLaws.{whole_settled, preferred_record_stays, form_of, Form, whole_form, own_form, parts_form, again_form}
@@ -48,6 +50,17 @@ form_is_tag old new is p = by_form (form_of old new p)
     by_form (own_form none why same) = subst IsTag (sym same) is
     by_form (parts_form new_one r spells becomes none) = inl (canonical_record r, becomes)
     by_form (again_form r spells found) = preferred_is_tag _ new found
+
+-- a text that was written is written as the canonical form that it is
+pub form_written :
+    (old text before after : List ℕ) (len : ℕ) → len < 18446744073709551616 → IsCanonicalForm old text → Writes (λ new. new ≡ text) before after len →
+    WritesWhole (IsCanonicalForm old) before after len
+form_written old text before after len fits is w = record {
+  text = w.text;
+  is_so = subst (IsCanonicalForm old) (sym w.is_so) is;
+  whole = omega (arith, w.whole);
+  written = λ room. w.written (omega (arith, w.whole, room)) ∙ ap (λ k. w.text ++ drop k before) w.whole;
+}
 
 -- ---- where it is its own canonical form
 

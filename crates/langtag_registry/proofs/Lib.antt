@@ -25,4 +25,3 @@ pub mod PrefixTables
 pub mod PrefixLaws
 pub mod MisplacedLaws
 pub mod ExtlangForms
-pub mod FormLengths

@@ -1,16 +1,16 @@
 -- Extensions in order repeat no singleton where they repeated none before.
-use Rattle.std.proofs.Common.{◌≡◌, ℕ, ◌+◌, ◌≤◌, true, false, Bool, cond, List, [], ◌∷◌, ◌++◌, length, map, filter, length-append, append_assoc, append-nil, None, Some, refl, sym, subst, ◌∙◌, arith}
-use Rattle.std.specs.List.{list_any, AllByRecursion}
+use Rattle.std.proofs.Common.{◌≡◌, ℕ, ◌+◌, ◌≤◌, true, false, Bool, cond, List, [], ◌∷◌, ◌++◌, length, map, filter, length-append, append_assoc, append-nil, None, Some, refl, sym, ap, subst, ◌∙◌, arith}
+use Rattle.std.specs.List.{list_any}
 use Rattle.std.proofs.lemmas.Bool.{or_parts}
 use Rattle.std.proofs.lemmas.Bool.Decides.{eqb_tells}
 use Rattle.std.proofs.lemmas.List.Elements.{filter-append}
 use Rattle.std.proofs.lemmas.Grind.{common_steps}
 use Rattle.langtag_scan.specs.Case.{fold_byte}
-use Rattle.langtag_scan.specs.Record.{Extension, IsWellFormedExtension}
+use Rattle.langtag_scan.specs.Record.{Extension}
 use Rattle.langtag.specs.Repeat.{repeat, are_alike_bytes}
-use Rattle.langtag_registry.specs.Canonical.{in_order}
+use Rattle.langtag_registry.specs.Canonical.{sorted_by, in_order}
 use Rattle.langtag_registry.proofs.FaultLaws.{repeat_after, repeat-after}
-use Rattle.langtag_registry.proofs.OrderLaws.{in_order-same}
+use Rattle.langtag_registry.proofs.OrderLaws.{key, sorted_by-counted, sorted_by-map}
 
 -- how often a byte stands in a list, in either case
 abbrev times : ℕ → List ℕ → ℕ
@@ -47,17 +47,12 @@ none_from_once seen [] once = refl
 none_from_once seen (x ∷ xs) once =
     grind (arith, common_steps, append_assoc seen (x ∷ []) xs, times-append x seen (x ∷ xs), times-some x seen, eqb_tells, once x, none_from_once (seen ++ x ∷ []) xs)
 
-abbrev singletons_of : List Extension → List ℕ
-singletons_of es = map (λ e. e.singleton) es
+sorted-once : (bytes : List ℕ) → repeat are_alike_bytes bytes ≡ None → repeat are_alike_bytes (sorted_by fold_byte bytes) ≡ None
+sorted-once bytes none =
+    let once = once_from_none [] bytes (λ b. omega arith) (sym (repeat-after are_alike_bytes bytes) ∙ none) in
+    repeat-after are_alike_bytes (sorted_by fold_byte bytes)
+    ∙ none_from_once [] (sorted_by fold_byte bytes) (λ b. omega (arith, once b, sorted_by-counted fold_byte (are_alike_bytes b) bytes))
 
-times-singletons : (b : ℕ) (es : List Extension) → times b (singletons_of es) ≡ length (filter (λ e. are_alike_bytes b e.singleton) es)
-times-singletons b [] = refl
-times-singletons b (e ∷ es) = grind (arith, common_steps, times-singletons b es)
-
-pub in_order-once :
-    (es : List Extension) → AllByRecursion IsWellFormedExtension es → repeat are_alike_bytes (map (λ e. e.singleton) es) ≡ None →
-    repeat are_alike_bytes (map (λ e. e.singleton) (in_order es)) ≡ None
-in_order-once es well none =
-    let once = once_from_none [] (singletons_of es) (λ b. omega arith) (sym (repeat-after are_alike_bytes (singletons_of es)) ∙ none) in
-    repeat-after are_alike_bytes (singletons_of (in_order es))
-    ∙ none_from_once [] (singletons_of (in_order es)) (λ b. grind (arith, common_steps, once b, times-singletons b, in_order-same es well b))
+pub in_order-once : (es : List Extension) → repeat are_alike_bytes (map (λ e. e.singleton) es) ≡ None → repeat are_alike_bytes (map (λ e. e.singleton) (in_order es)) ≡ None
+unfolding in_order
+in_order-once es none = ap (repeat are_alike_bytes) (sorted_by-map (λ e. e.singleton) key fold_byte (λ e. refl) es) ∙ sorted-once (map (λ e. e.singleton) es) none

@@ -1,12 +1,10 @@
 -- The canonical form of a tag (RFC 5646 section 4.5).
-use Rattle.std.specs.Prelude.{◌≡◌, ℕ, ◌+◌, ◌*◌, ◌==◌, ◌⊎◌, Bool, List, [], ◌∷◌, length, map, filter, find, codes, Option, None, Some, if◌then◌else◌, unwrap_or}
-use Rattle.std.specs.List.{flat_map}
+use Rattle.std.specs.Prelude.{◌≡◌, ℕ, ◌==◌, ltb, ◌⊎◌, Bool, List, [], ◌∷◌, length, map, find, codes, Option, None, Some, if◌then◌else◌, unwrap_or}
 use Rattle.std.specs.Option.{option_map, option_map_or}
-use Rattle.langtag_scan.specs.Case.{are_alike}
+use Rattle.langtag_scan.specs.Case.{are_alike, fold_byte}
 use Rattle.langtag_scan.specs.Record.{Extension, Record, EachRecord, spell}
 use Rattle.langtag_scan.specs.Tag.{IsNormal}
 use Rattle.langtag.specs.Registered.{IsGrandfathered}
-use Rattle.langtag.specs.Repeat.{are_alike_bytes}
 use Rattle.langtag_registry.specs.Fields.{preferred_language, preferred_region, preferred_variant, preferred_tag, extlang_prefix}
 use Rattle.langtag_registry.specs.Registered.{is_registered_extlang}
 use Rattle.langtag_registry.specs.Subtags.{extlang_subtags}
@@ -14,12 +12,23 @@ use Rattle.langtag_registry.specs.Subtags.{extlang_subtags}
 -- ---- step 1: the extensions are sorted by their singletons, ignoring case; extensions with the same singleton keep
 -- their order
 
+module _ {A : Type 0} (key : A → ℕ) where
+  -- an element before the first one whose key is not less
+  abbrev pub put_by : A → List A → List A
+  put_by x [] = x ∷ []
+  put_by x (y ∷ ys) = if ltb (key y) (key x) then y ∷ put_by x ys else x ∷ y ∷ ys
+
+  -- the elements sorted by their keys; those with the same key keep their order
+  abbrev pub sorted_by : List A → List A
+  sorted_by [] = []
+  sorted_by (x ∷ xs) = put_by x (sorted_by xs)
+
+unfoldable pub in_order : List Extension → List Extension
+in_order extensions = sorted_by (λ e. fold_byte e.singleton) extensions
+
 -- all singletons (section 2.2.6), in order
 abbrev pub singletons : List ℕ
 singletons = codes "0123456789abcdefghijklmnopqrstuvwyz"
-
-unfoldable pub in_order : List Extension → List Extension
-in_order extensions = flat_map (λ singleton. filter (λ e. are_alike_bytes singleton e.singleton) extensions) singletons
 
 -- ---- step 3: each subtag is replaced by its Preferred-Value
 
@@ -73,10 +82,6 @@ pub record IsCanonicalForm (old new : List ℕ) : Type 0 where
   pub whole : (w : List ℕ) → preferred_tag old ≡ Some w → new ≡ w
   pub kept : preferred_tag old ≡ None → IsGrandfathered old ⊎ (IsNormal old → ⊥) → new ≡ old
   pub parts : preferred_tag old ≡ None → (IsGrandfathered old → ⊥) → EachRecord old (λ r. new ≡ canonical_text r)
-
--- the greatest length of the canonical form of a text of this length
-abbrev pub canonical_bound : ℕ → ℕ
-canonical_bound len = 2 * len + 14
 
 -- ---- the extlang form: the canonical form, in which a language that is also registered as an extended language gets
 -- its Prefix before it (section 3.1.8). A tag with three extended subtags, which is never valid, has no room for a

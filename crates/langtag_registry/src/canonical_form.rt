@@ -1,15 +1,14 @@
 //! The canonical form of a tag (RFC 5646 section 4.5).
-ghost use Rattle.std.specs.Prelude.{◌≡◌, ◌↔◌, ℕ, ◌-◌, ◌^◌, ◌≤◌, List, length, min, unwrap_or, true, IfOk};
+ghost use Rattle.std.specs.Prelude.{◌≡◌, ◌↔◌, ℕ, ◌<◌, List, length, unwrap_or, true, IfOk};
 ghost use Rattle.langtag_scan.specs.Case.{Alike};
 ghost use Rattle.langtag_scan.specs.Record.{EachRecord};
 ghost use Rattle.langtag.specs.Text.{lang_tag_text, lang_tag_buf_text, normal_lang_tag_text};
 ghost use Rattle.langtag_registry.specs.CanonicalLaws.{IsOnlyCanonicalForm, IsAlikeCanonicalForm, IsValidForm, HasNoExtlang};
-ghost use Rattle.langtag_registry.specs.Canonical as form;
 ghost use Rattle.langtag_registry.specs.Canonical.{IsCanonicalForm, canonical_text};
 ghost use Rattle.langtag_registry.specs.Fields as field;
 ghost use Rattle.langtag_registry.specs.Form.{IsCanonicalAs};
 ghost use Rattle.langtag_registry.specs.declared.form.Form.TheVariants.{Parts};
-ghost use Rattle.langtag_output.specs.Writes.{Writes};
+ghost use Rattle.langtag_output.specs.WritesWhole.{WritesWhole};
 
 use crate::canonical_parts::put_canonical_parts;
 use crate::form::{Form, form_of};
@@ -21,8 +20,8 @@ use std::alloc::{AllocError, Global};
 /// An upper bound on the number of bytes of a whole tag that has a Preferred-Value.
 const LONGEST_REPLACED: usize = 16;
 
-/// An upper bound on the number of bytes of the Preferred-Value of a whole tag.
-const LONGEST_PREFERRED: usize = 14;
+/// A guess at how many bytes longer than the tag the canonical form is.
+const SPARE: usize = 32;
 
 /// Returns the canonical form of a tag (RFC 5646 section 4.5): `he` for `iw`, `yue` for `zh-yue`, `en-MM` for `en-BU`,
 /// `jbo` for `art-lojban`, and `en-a-aaa-b-ccc` for `en-b-ccc-a-aaa`.
@@ -83,8 +82,7 @@ pub fn is_canonical(tag: LangTag<'_>) -> bool
 }
 
 /// Writes the canonical form of a tag to a buffer, as `canonical` returns it, and returns its length in bytes. If
-/// the buffer is too short, it stays unchanged, and the length says how long a buffer must be. A buffer of
-/// [`canonical_bound`] bytes is always long enough. It does not allocate.
+/// the buffer is too short, it stays unchanged, and the length says how long a buffer must be. It does not allocate.
 ///
 /// ```
 /// use langtag::LangTag;
@@ -94,31 +92,15 @@ pub fn is_canonical(tag: LangTag<'_>) -> bool
 /// let length = write_canonical(LangTag::new("en-BU")?, &mut buffer);
 /// buffer.get(..length); // Some(&b"en-MM"[..])
 /// ```
-#[tactic(auto, using(crate::proofs::FormLengths::form_bounded))]
 pub fn write_canonical(tag: LangTag<'_>, buffer: &mut [u8]) -> usize
-    ensures canonical { Writes (IsCanonicalForm (lang_tag_text tag.entry)) buffer.old buffer.new result }
-    // law: no form is longer than 2 len + 14 bytes (`canonical_bound`)
-    ensures bounded { result ≤ form.canonical_bound (length (lang_tag_text tag.entry)) }
+    ensures canonical { WritesWhole (IsCanonicalForm (lang_tag_text tag.entry)) buffer.old buffer.new result }
+    ensures untouched { length buffer.old < result → buffer.new ≡ buffer.old }
 {
     match form_of(tag) {
         Form::Same => write_text(tag.as_bytes(), buffer),
         Form::Whole(preferred) => write_text(preferred.as_bytes(), buffer),
         Form::Parts(normal) => write_parts(normal, buffer),
     }
-}
-
-/// Returns the greatest length in bytes that the canonical form of a tag of a given length can have. It is twice the
-/// length plus 14. A buffer of this size is long enough for [`write_canonical`].
-///
-/// ```
-/// use langtag_registry::canonical_bound;
-///
-/// canonical_bound(5); // 24
-/// ```
-pub fn canonical_bound(tag_len: usize) -> usize
-    ensures { result ≡ min (form.canonical_bound tag_len) (2 ^ 64 - 1) }
-{
-    tag_len.saturating_mul(2).saturating_add(LONGEST_PREFERRED)
 }
 
 /// Returns the canonical form of a tag. If it is a copy of the tag or of a Preferred-Value, it is not parsed again.
@@ -145,8 +127,9 @@ fn parts_as_tag(
     Ok(tag_of(parts_as_bytes(alloc, tag, normal)?))
 }
 
-/// Returns the bytes of the canonical form, as [`parts_as_tag`] describes it.
-#[tactic(auto, using(crate::proofs::FormLengths::form_bounded))]
+/// Returns the bytes of the canonical form, as [`parts_as_tag`] describes it. They are written once if they fit into a
+/// guess of their number, and otherwise again.
+#[tactic(auto, using(langtag_output::proofs::Taken::whole_taken))]
 fn parts_as_bytes(
     alloc: Global,
     tag: LangTag<'_>,
@@ -155,16 +138,29 @@ fn parts_as_bytes(
     requires { IsCanonicalAs (lang_tag_text tag) (Parts normal) }
     ensures { IfOk result (λ bytes. IsCanonicalForm (lang_tag_text tag.entry) bytes.items) }
 {
-    let mut bytes = vec![in alloc; 0; canonical_bound(tag.as_bytes().len())]?;
+    let mut bytes = vec![in alloc; 0; tag.as_bytes().len().saturating_add(SPARE)]?;
     let len = write_parts(normal, &mut bytes);
+    if len > bytes.len() {
+        return counted_bytes(alloc, normal);
+    }
     bytes.truncate(len);
     Ok(bytes)
 }
 
+/// Returns the bytes of the form, which are counted before they are written.
+fn counted_bytes(alloc: Global, tag: NormalLangTag<'_>) -> Result<Vec<u8>, AllocError>
+    ensures { IfOk result (λ bytes. EachRecord (normal_lang_tag_text tag.entry) (λ r. bytes.items ≡ canonical_text r)) }
+{
+    let mut bytes = vec![in alloc; 0; write_parts(tag, &mut [])]?;
+    write_parts(tag, &mut bytes);
+    Ok(bytes)
+}
+
 /// Writes a tag with its parts in their canonical forms, or the Preferred-Value of the tag that these parts make up.
-#[tactic(auto, using(crate::proofs::FormLengths::form_length, crate::proofs::WholeTags::none_longer))]
+#[tactic(auto, using(crate::proofs::WholeTags::none_longer))]
 fn write_parts(tag: NormalLangTag<'_>, buffer: &mut [u8]) -> usize
-    ensures { EachRecord (normal_lang_tag_text tag.entry) (λ r. Writes (λ form. form ≡ canonical_text r) buffer.old buffer.new result) }
+    ensures form { EachRecord (normal_lang_tag_text tag.entry) (λ r. WritesWhole (λ form. form ≡ canonical_text r) buffer.old buffer.new result) }
+    ensures untouched { length buffer.old < result → buffer.new ≡ buffer.old }
 {
     let mut start = [0; LONGEST_REPLACED];
     let len = put_canonical_parts(tag, &mut start);

@@ -15,7 +15,7 @@ ghost use Rattle.langtag_registry.specs.Canonical.{canonical_record, canonical_l
 ghost use Rattle.langtag_registry.specs.Noted.{of_singleton};
 ghost use Rattle.langtag_output.specs.Output.{Pushes, IsCounted};
 
-use crate::extension_order::{SINGLETONS, are_in_order, folded_singleton, singletons_of};
+use crate::extension_order::{are_in_order, folded_singleton, singletons_of};
 use crate::language_fields::preferred_language;
 use crate::preferred::{preferred_region, preferred_variant};
 use crate::subtags::is_registered_extlang;
@@ -24,7 +24,6 @@ use langtag_extension::Extensions;
 use langtag_language::{ExtendedLangTag, Language, PrimaryLanguage};
 use langtag_output::Output;
 use langtag_place::{Region, Script, Variants};
-use langtag_scan::into_smallcase;
 
 /// Writes a tag with its parts in their canonical forms into a buffer, as far as it fits, and returns the length of
 /// the form.
@@ -127,21 +126,21 @@ fn push_extensions(out: &mut Output<'_>, extensions: Extensions<'_>)
         return out.push_subtag(extensions.as_bytes());
     }
     let present = singletons_of(extensions);
-    for singleton in SINGLETONS {
-        if !present[usize::from(into_smallcase(singleton))] {
+    for singleton in b'0'..=b'z' {
+        if !present[usize::from(singleton)] {
             continue;
         }
         push_extensions_of(out, extensions, singleton);
     }
 }
 
-/// Adds the extensions with a singleton, ignoring its case.
+/// Adds the extensions with a singleton, which is given in lowercase.
 fn push_extensions_of(out: &mut Output<'_>, extensions: Extensions<'_>, singleton: u8)
     ensures { (es : List model.Extension) → SpellsExtensions es (extensions_text extensions.entry)
         → Pushes (of_singleton singleton (map extension_spelling es)) out.old out.new }
 {
     for extension in extensions.iter() {
-        if folded_singleton(extension) != into_smallcase(singleton) {
+        if folded_singleton(extension) != singleton {
             continue;
         }
         out.push_subtag(extension.as_bytes());

@@ -40,7 +40,7 @@ mod table;
 mod tables;
 mod validity;
 
-pub use canonical_form::{canonical, canonical_bound, is_canonical, write_canonical};
+pub use canonical_form::{canonical, is_canonical, write_canonical};
 pub use deprecated::{
     is_deprecated_extlang, is_deprecated_language, is_deprecated_region, is_deprecated_tag,
     is_deprecated_variant,

@@ -64,7 +64,6 @@ pub fn canonical_form(text: &str) -> String {
         (tag == form, true)
     );
     let (len, mut buffer) = (form.len(), vec![b'~'; form.len() + 1]);
-    assert!(len <= canonical_bound(text.len()));
     assert_eq!(length(write_canonical(tag, &mut buffer)), len);
     assert_eq!((&buffer[..len], buffer[len]), (form.as_bytes(), b'~'));
     buffer.fill(b'~');

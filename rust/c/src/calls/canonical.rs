@@ -7,8 +7,7 @@ use crate::spans::tag_of;
 
 /// Writes the canonical form of a tag, and returns its length in bytes: `he` for `iw`, `yue` for
 /// `zh-yue`. Replacements are in the case of the registry, and everything else keeps its case. If
-/// the buffer is too short, it stays unchanged, and the length says how long a buffer must be. The
-/// length is at most twice the length of the tag plus 14.
+/// the buffer is too short, it stays unchanged, and the length says how long a buffer must be.
 ///
 /// Returns 0 and writes nothing if the bytes are not a tag.
 #[inline]

@@ -17,8 +17,8 @@ use alloc::vec::Vec;
 /// An upper bound on the number of bytes of a whole tag that has a Preferred-Value.
 const LONGEST_REPLACED: usize = 16;
 
-/// An upper bound on the number of bytes of the Preferred-Value of a whole tag.
-const LONGEST_PREFERRED: usize = 14;
+/// A guess at how many bytes longer than the tag the canonical form is.
+const SPARE: usize = 32;
 
 /// Returns the canonical form of a tag ([RFC 5646 section 4.5]): `he` for `iw`, `yue` for `zh-yue`,
 /// `en-MM` for `en-BU`, `jbo` for `art-lojban`, and `en-a-aaa-b-ccc` for `en-b-ccc-a-aaa`.
@@ -79,8 +79,7 @@ pub fn is_canonical(tag: LangTag<'_>) -> bool {
 
 /// Writes the canonical form of a tag to a buffer, as `canonical` returns it, and returns its
 /// length in bytes. If the buffer is too short, it stays unchanged, and the length says how long a
-/// buffer must be. A buffer of [`canonical_bound`] bytes is always long enough. It does not
-/// allocate.
+/// buffer must be. It does not allocate.
 ///
 /// ```
 /// # fn main() -> Result<(), Box<dyn std::error::Error>> {
@@ -99,21 +98,6 @@ pub fn write_canonical(tag: LangTag<'_>, buffer: &mut [u8]) -> usize {
         Form::Whole(preferred) => write_text(preferred.as_bytes(), buffer),
         Form::Parts(normal) => write_parts(normal, buffer),
     }
-}
-
-/// Returns the greatest length in bytes that the canonical form of a tag of a given length can
-/// have. It is twice the length plus 14. A buffer of this size is long enough for
-/// [`write_canonical`].
-///
-/// ```
-/// use langtag::registry::canonical_bound;
-///
-/// assert_eq!(canonical_bound(5), 24);
-/// ```
-#[inline]
-#[must_use]
-pub fn canonical_bound(tag_len: usize) -> usize {
-    tag_len.saturating_mul(2).saturating_add(LONGEST_PREFERRED)
 }
 
 /// Returns the canonical form of a tag. If it is a copy of the tag or of a Preferred-Value, it is
@@ -135,12 +119,25 @@ fn parts_as_tag(tag: LangTag<'_>, normal: NormalLangTag<'_>) -> Result<LangTagBu
     Ok(tag_of(parts_as_bytes(tag, normal)?))
 }
 
-/// Returns the bytes of the canonical form, as [`parts_as_tag`] describes it.
+/// Returns the bytes of the canonical form, as [`parts_as_tag`] describes it. They are written once
+/// if they fit into a guess of their number, and otherwise again.
 #[cfg(feature = "alloc")]
 fn parts_as_bytes(tag: LangTag<'_>, normal: NormalLangTag<'_>) -> Result<Vec<u8>, AllocError> {
-    let mut bytes = try_vec(0, canonical_bound(tag.as_bytes().len()))?;
+    let mut bytes = try_vec(0, tag.as_bytes().len().saturating_add(SPARE))?;
     let len = write_parts(normal, &mut bytes);
+    if len > bytes.len() {
+        return counted_bytes(normal);
+    }
     bytes.truncate(len);
+    Ok(bytes)
+}
+
+/// Returns the bytes of the form, which are counted before they are written.
+#[cfg(feature = "alloc")]
+#[inline]
+fn counted_bytes(tag: NormalLangTag<'_>) -> Result<Vec<u8>, AllocError> {
+    let mut bytes = try_vec(0, write_parts(tag, &mut []))?;
+    write_parts(tag, &mut bytes);
     Ok(bytes)
 }
 

@@ -7,13 +7,10 @@ use crate::erased::extension::Extensions;
 use crate::erased::language::{ExtendedLangTag, Language, PrimaryLanguage};
 use crate::erased::output::Output;
 use crate::erased::place::{Region, Script, Variants};
-use crate::erased::registry::extension_order::{
-    are_in_order, folded_singleton, singletons_of, SINGLETONS,
-};
+use crate::erased::registry::extension_order::{are_in_order, folded_singleton, singletons_of};
 use crate::erased::registry::language_fields::preferred_language;
 use crate::erased::registry::preferred::{preferred_region, preferred_variant};
 use crate::erased::registry::subtags::is_registered_extlang;
-use crate::erased::scan::into_smallcase;
 use crate::erased::tag::{push_private_use, NormalLangTag};
 
 /// Writes a tag with its parts in their canonical forms into a buffer, as far as it fits, and
@@ -101,19 +98,19 @@ fn push_extensions(out: &mut Output<'_>, extensions: Extensions<'_>) {
         return out.push_subtag(extensions.as_bytes());
     }
     let present = singletons_of(extensions);
-    for singleton in SINGLETONS {
-        if !present[usize::from(into_smallcase(singleton))] {
+    for singleton in b'0'..=b'z' {
+        if !present[usize::from(singleton)] {
             continue;
         }
         push_extensions_of(out, extensions, singleton);
     }
 }
 
-/// Adds the extensions with a singleton, ignoring its case.
+/// Adds the extensions with a singleton, which is given in lowercase.
 #[inline]
 fn push_extensions_of(out: &mut Output<'_>, extensions: Extensions<'_>, singleton: u8) {
     for extension in extensions.iter() {
-        if folded_singleton(extension) != into_smallcase(singleton) {
+        if folded_singleton(extension) != singleton {
             continue;
         }
         out.push_subtag(extension.as_bytes());

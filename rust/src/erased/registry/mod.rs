@@ -50,7 +50,7 @@ mod validity;
 
 #[cfg(feature = "alloc")]
 pub use canonical_form::canonical;
-pub use canonical_form::{canonical_bound, is_canonical, write_canonical};
+pub use canonical_form::{is_canonical, write_canonical};
 pub use deprecated::{
     is_deprecated_extlang, is_deprecated_language, is_deprecated_region, is_deprecated_tag,
     is_deprecated_variant,

@@ -2,6 +2,7 @@ use Rattle.std.proofs.Common.{ℕ, List, ◌+◌, ◌++◌, false, drop, get_or,
 use Rattle.std.proofs.lemmas.List.{at_drop_all, at_drop_more, nil_from_length}
 use Rattle.std.specs.List.{flat_map}
 use Rattle.langtag_output.proofs.Pushed.{pushes_both, pushes_ended, pushes_same}
+use Rattle.langtag_scan.specs.Case.{fold_byte}
 use Rattle.langtag_scan.specs.Record.{extension_flat}
 use Rattle.langtag_registry.specs.Canonical.{singletons}
 use Rattle.langtag_locale.specs.LocaleForm.{extension_at, extensions_in_order}
@@ -26,7 +27,7 @@ loop-singleton-preserved-then-not-present-from c =
     λ es spells new these.
     let of : ℕ → List (List ℕ) = λ singleton. flat_map extension_flat (extension_at es singleton) in
     let unmarked = ap (λ at. get_or c.singletons_of-present.result at false) (sym (c.from.ensures ∙ c.into_smallcase.ensures)) ∙ c.if-not-present-from.true in
-    let none = at_nothing es singleton (not_noted singleton es (c.singletons_of-present.ensures es spells singleton unmarked)) in
+    let none = at_nothing es singleton (not_noted singleton es (c.singletons_of-present.ensures es spells (fold_byte singleton) unmarked)) in
     c.loop-singleton.invariant es spells new
     (pushes_same _ _ _ new
     (sym (at_drop_more (flat_map of) singletons k 0 c.loop-singleton-test.true ∙ ap (λ put. put ++ flat_map of (drop (k + 1) singletons)) none)) these)

@@ -1,11 +1,10 @@
-use Rattle.std.proofs.Common.{◌+◌, ◌≤◌, ◌∷◌, ◌++◌, [], false, length, get_or, drop, sym, ap, ◌∙◌, arith, eqb-true}
+use Rattle.std.proofs.Common.{◌≡◌, ◌≤◌, ◌∷◌, [], false, length, get_or, sym, ap, ◌∙◌, arith, eqb-true}
 use Rattle.std.proofs.lemmas.Bool.Decides.{nat_tests}
-use Rattle.std.proofs.lemmas.List.{at_drop_more, at_drop_all, nil_from_length}
+use Rattle.std.proofs.lemmas.List.{nil_from_length}
 use Rattle.langtag_extension.specs.Text.{extensions_text}
-use Rattle.langtag_registry.specs.Canonical.{singletons}
 use Rattle.langtag_registry.specs.Noted.{of_singleton}
-use Rattle.langtag_registry.proofs.ExtensionOrder.{by_singletons, spellings, spelled_in_order, none_in_order, all_in_order}
-use Rattle.langtag_output.proofs.Pushed.{pushes_same, pushes_both, pushes_ended}
+use Rattle.langtag_registry.proofs.ExtensionOrder.{spellings, left_from, left_from-first, left_from-last, pushes_one_more, spelled_in_order, none_in_order, all_in_order}
+use Rattle.langtag_output.proofs.Pushed.{pushes_same, pushes_ended}
 use Rattle.langtag_registry.proofs.canonical_parts.push_extensions.Goals as goal
 
 pub returns-then-is_empty : goal.returns-then-is_empty
@@ -22,30 +21,24 @@ returns-then-are_in_order c =
     (pushes_same _ _ _ _ (ap (λ t. t ∷ []) c.as_bytes.ensures) c.push_subtag.ensures)
 
 pub loop-singleton-init : goal.loop-singleton-init
-loop-singleton-init c = λ es spells new these. these
+loop-singleton-init c = λ es spells new these. pushes_same _ _ _ new (left_from-first es spells.members) these
 
 pub loop-singleton-preserved-then-not-present-from : goal.loop-singleton-preserved-then-not-present-from
 loop-singleton-preserved-then-not-present-from c =
-    let k = c.loop-singleton.singleton-index in
+    let small = c.loop-singleton.singleton in
     λ es spells new these.
-    let none = c.singletons_of-present.ensures es spells (get_or singletons k 0)
-    (ap (λ at. get_or c.singletons_of-present.result at false) (sym (c.from.ensures ∙ c.into_smallcase.ensures)) ∙ c.if-not-present-from.true) in
-    c.loop-singleton.invariant es spells new
-    (pushes_same _ _ _ new
-    (sym (at_drop_more (λ ss. by_singletons ss (spellings es)) singletons k 0 c.loop-singleton-test.true
-    ∙ ap (λ ts. ts ++ by_singletons (drop (k + 1) singletons) (spellings es)) none)) these)
+    let none = c.singletons_of-present.ensures es spells small
+    (ap (λ at. get_or c.singletons_of-present.result at false) (sym c.from.ensures) ∙ c.if-not-present-from.true) in
+    c.loop-singleton.invariant es spells new (pushes_one_more small (spellings es) _ _ new (pushes_ended (of_singleton small (spellings es)) _ none) these)
 
 pub loop-singleton-preserved : goal.loop-singleton-preserved
 loop-singleton-preserved c =
-    let k = c.loop-singleton.singleton-index in
     λ es spells new these.
-    c.loop-singleton.invariant es spells new
-    (pushes_same _ _ _ new (sym (at_drop_more (λ ss. by_singletons ss (spellings es)) singletons k 0 c.loop-singleton-test.true))
-    (pushes_both (of_singleton (get_or singletons k 0) (spellings es)) _ _ _ new (c.push_extensions_of.ensures es spells) these))
+    c.loop-singleton.invariant es spells new (pushes_one_more c.loop-singleton.singleton (spellings es) _ _ new (c.push_extensions_of.ensures es spells) these)
 
 pub returns : goal.returns
 returns c =
-    let k = c.loop-singleton.singleton-index in
+    let at : c.loop-singleton.singleton ≡ 123 = omega arith in
     λ es spells.
     spelled_in_order es _ _ (c.loop-singleton.invariant es spells _
-    (pushes_ended _ _ (at_drop_all (λ ss. by_singletons ss (spellings es)) singletons k c.loop-singleton-test.false)))
+    (pushes_ended _ _ (ap (λ n. left_from n (spellings es)) at ∙ left_from-last es spells.members)))

@@ -1,8 +1,8 @@
-use Rattle.std.proofs.Common.{true, false, sym, ap, ◌∙◌, arith}
+use Rattle.std.proofs.Common.{◌≡◌, ◌==◌, true, false, sym, ap, ◌∙◌, arith}
 use Rattle.std.proofs.lemmas.Bool.{eq-eqb, ne_eqb}
 use Rattle.std.proofs.lemmas.Grind.{common_steps}
 use Rattle.langtag_extension.specs.Text.{extension_text, extensions_left}
-use Rattle.langtag_registry.specs.Noted.{of_singleton}
+use Rattle.langtag_registry.specs.Noted.{of_singleton, small_singleton}
 use Rattle.langtag_registry.proofs.ExtensionOrder.{of_singleton-next}
 use Rattle.langtag_output.proofs.Pushed.{pushes_same, pushes_next, pushes_ended}
 use Rattle.langtag_registry.proofs.canonical_parts.push_extensions_of.Goals as goal
@@ -12,19 +12,21 @@ loop-extension-init c = grind (arith, common_steps, pushes_same)
 
 pub loop-extension-preserved : goal.loop-extension-preserved
 loop-extension-preserved c =
-    let alike = eq-eqb _ _ (sym (sym c.folded_singleton.ensures ∙ c.if-folded_singleton-into_smallcase.false ∙ c.into_smallcase.ensures)) in
+    let small = c.args.singleton in
+    let texts = extensions_left c.next.new.self in
+    let same : (small == small_singleton (extension_text c.in-Some.extension)) ≡ true = eq-eqb _ _ (sym (sym c.folded_singleton.ensures ∙ c.if-folded_singleton-singleton.false)) in
     record {
       can_next = tt;
       is_finite = tt;
       so_far = λ es spells new these.
           c.loop-extension.invariant.so_far es spells new
-          (pushes_same _ _ _ new (sym (of_singleton-next c.args.singleton _ _ _ true c.in-Some.ensures.steps alike))
-          (pushes_next _ (extension_text c.in-Some.extension) (of_singleton c.args.singleton (extensions_left c.next.new.self)) _ _ new c.as_bytes.ensures c.push_subtag.ensures these));
+          (pushes_same _ _ _ new (sym (of_singleton-next small _ texts _ true c.in-Some.ensures.steps same))
+          (pushes_next _ (extension_text c.in-Some.extension) (of_singleton small texts) _ _ new c.as_bytes.ensures c.push_subtag.ensures these));
     }
 
-pub loop-extension-preserved-then-folded_singleton-into_smallcase : goal.loop-extension-preserved-then-folded_singleton-into_smallcase
-loop-extension-preserved-then-folded_singleton-into_smallcase c =
-    let apart = ne_eqb _ _ (λ same. c.if-folded_singleton-into_smallcase.true (c.folded_singleton.ensures ∙ sym same ∙ sym c.into_smallcase.ensures)) in
+pub loop-extension-preserved-then-folded_singleton-singleton : goal.loop-extension-preserved-then-folded_singleton-singleton
+loop-extension-preserved-then-folded_singleton-singleton c =
+    let apart = ne_eqb _ _ (λ same. c.if-folded_singleton-singleton.true (c.folded_singleton.ensures ∙ sym same)) in
     record {
       can_next = tt;
       is_finite = tt;
